@@ -1,0 +1,40 @@
+-- A text as lines, a line as tokens, and what lines build one after the other.
+use Rattle.std.specs.Prelude.{ℕ, ◌+◌, ◌==◌, Bool, true, ◌&&◌, nat_le, List, [], ◌∷◌, Option, None, Some, Result, Ok, Err}
+use Rattle.std.specs.List.{slice_split, list_all}
+use Rattle.mh_base.specs.declared.lines.LineFault.{LineFault}
+
+-- LF ends a line; what stands behind the last LF is a line too
+abbrev pub lines_of : List ℕ → List (List ℕ)
+lines_of text = slice_split (λ b. b == 10) text
+
+-- the tokens of a line, between single spaces
+abbrev pub tokens_of : List ℕ → List (List ℕ)
+tokens_of line = slice_split (λ b. b == 32) line
+
+-- a line that is passed over: an empty one, or one that begins with `#`
+abbrev pub is_passed : List ℕ → Bool
+is_passed [] = true
+is_passed (b ∷ bs) = b == 35
+
+-- a line of the bytes 0x20 to 0x7E alone
+abbrev pub is_plain : List ℕ → Bool
+is_plain line = list_all (λ b. nat_le 0x20 b && nat_le b 0x7E) line
+
+-- the fault of a line
+abbrev pub fault_at : {K : Type 0} → ℕ → K → LineFault K
+fault_at n kind = record { line = n; kind = kind }
+
+-- goes on behind a line that was taken, and stops at one that has a fault
+abbrev pub behind : {S K : Type 0} → ℕ → Result S K → (S → Result S (LineFault K)) → Result S (LineFault K)
+behind n (Ok next) rest = rest next
+behind n (Err kind) rest = Err (fault_at n kind)
+
+-- what lines, counted from a number, build from a start; or the first that has no meaning there
+abbrev pub built_from : {S K : Type 0} → (S → List ℕ → Result S K) → ℕ → S → List (List ℕ) → Result S (LineFault K)
+built_from step n so_far [] = Ok so_far
+built_from step n so_far (line ∷ lines) = behind n (step so_far line) (λ next. built_from step (n + 1) next lines)
+
+-- what a line leaves, where a reader says what is wrong with it, if anything is
+abbrev pub taken_or : {S K : Type 0} → Option K → S → Result S K
+taken_or None next = Ok next
+taken_or (Some kind) next = Err kind

@@ -1,0 +1,14 @@
+//! What every layer names: want of memory, lists, and the lines of a text.
+#![tactic(auto)]
+
+mod copied;
+mod lines;
+mod memory;
+mod seq;
+mod split;
+
+pub use copied::Copied;
+pub use lines::{LineFault, is_passed, is_plain};
+pub use memory::NoMemory;
+pub use seq::Seq;
+pub use split::split_at_byte;

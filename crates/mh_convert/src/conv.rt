@@ -1,0 +1,21 @@
+use mh_values::Ty;
+
+/// An allowed conversion of an argument from one type to another.
+#[derive(Clone, Copy, Debug, PartialEq, Eq)]
+pub struct Conv {
+    pub from: Ty,
+    pub to: Ty,
+}
+
+/// An allowed conversion of what a method returns.
+#[derive(Clone, Copy, Debug, PartialEq, Eq)]
+pub enum RetConv {
+    /// Both types are void.
+    Keep,
+    /// The result is dropped, since void is wanted.
+    Discard,
+    /// Void gives the default of the type: null, false or zero.
+    Default(Ty),
+    /// The result is converted as an argument is.
+    Value(Conv),
+}

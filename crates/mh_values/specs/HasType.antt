@@ -1,0 +1,81 @@
+-- Which values have a type, and which types are below one.
+use Rattle.std.specs.Prelude.{◌==◌, Bool, true, false, List, [], ◌∷◌, IsTrue}
+use Rattle.mh_values.specs.declared.class.Class.{Class}
+use Rattle.mh_values.specs.declared.class.ClassId.{ClassId}
+use Rattle.mh_values.specs.declared.types.Primitive.{Primitive}
+use Rattle.mh_values.specs.declared.types.Primitive.TheVariants as primitive
+use Rattle.mh_values.specs.declared.types.Comp.{Comp}
+use Rattle.mh_values.specs.declared.types.Comp.TheVariants as comp
+use Rattle.mh_values.specs.declared.types.Ty.{Ty}
+use Rattle.mh_values.specs.declared.types.Ty.TheVariants as ty
+use Rattle.mh_values.specs.declared.value.Num.{Num}
+use Rattle.mh_values.specs.declared.value.Num.TheVariants as num
+use Rattle.mh_values.specs.declared.value.Value.{Value}
+use Rattle.mh_values.specs.declared.value.Value.TheVariants as value
+use Rattle.mh_values.specs.Class.{is_subclass, object_class, string_class, integer_class, long_class, boolean_class}
+
+-- the primitive type of a number
+abbrev pub primitive_of : Num → Primitive
+primitive_of (num.Z b) = primitive.Z
+primitive_of (num.I n) = primitive.I
+primitive_of (num.J n) = primitive.J
+
+-- the class of the boxed values of a primitive type
+abbrev pub wrapper_of : Primitive → ClassId
+wrapper_of primitive.Z = boolean_class
+wrapper_of primitive.I = integer_class
+wrapper_of primitive.J = long_class
+
+-- whether two primitive types are one
+abbrev pub is_same_primitive : Primitive → Primitive → Bool
+is_same_primitive primitive.Z primitive.Z = true
+is_same_primitive primitive.I primitive.I = true
+is_same_primitive primitive.J primitive.J = true
+is_same_primitive _ _ = false
+
+-- whether arrays of one component are arrays of the other: the same primitive type, or a class at or below it
+abbrev pub is_component_below : List Class → Comp → Comp → Bool
+is_component_below classes (comp.Prim p) (comp.Prim q) = is_same_primitive p q
+is_component_below classes (comp.Class c) (comp.Class d) = is_subclass classes c d
+is_component_below classes _ _ = false
+
+-- a class that is at or above the class of the value
+abbrev pub has_class : List Class → Value → ClassId → Bool
+has_class classes (value.Prim n) t = false
+has_class classes (value.Boxed n) t = is_subclass classes (wrapper_of (primitive_of n)) t
+has_class classes (value.Text s) t = is_subclass classes string_class t
+has_class classes (value.Object c k) t = is_subclass classes c t
+has_class classes (value.Thrown e) t = is_subclass classes e.class t
+has_class classes (value.Array c items) t = t.0 == object_class.0
+has_class classes value.Null t = true
+
+-- a number of the primitive type
+abbrev pub has_primitive : Value → Primitive → Bool
+has_primitive (value.Prim n) p = is_same_primitive (primitive_of n) p
+has_primitive _ p = false
+
+-- an array of such components, or null
+abbrev pub has_component : List Class → Value → Comp → Bool
+has_component classes (value.Array c items) d = is_component_below classes c d
+has_component classes value.Null d = true
+has_component classes _ d = false
+
+-- whether a value has a type
+abbrev pub has_type : List Class → Value → Ty → Bool
+has_type classes v (ty.Prim p) = has_primitive v p
+has_type classes v (ty.Class t) = has_class classes v t
+has_type classes v (ty.Array d) = has_component classes v d
+
+-- whether each value of the one type has the other: equal types, a class below a class, an array and Object, arrays of such classes
+abbrev pub is_type_below : List Class → Ty → Ty → Bool
+is_type_below classes (ty.Prim p) (ty.Prim q) = is_same_primitive p q
+is_type_below classes (ty.Class c) (ty.Class d) = is_subclass classes c d
+is_type_below classes (ty.Array c) (ty.Class d) = d.0 == object_class.0
+is_type_below classes (ty.Array c) (ty.Array d) = is_component_below classes c d
+is_type_below classes _ _ = false
+
+-- the values of a list have the types of another list, one for each
+abbrev pub HaveTypes : List Class → List Value → List Ty → Type 0
+HaveTypes classes [] [] = Unit {0}
+HaveTypes classes (v ∷ vs) (t ∷ ts) = IsTrue (has_type classes v t) × HaveTypes classes vs ts
+HaveTypes classes _ _ = ⊥

@@ -1,0 +1,4 @@
+pub mod Class
+pub mod Computation
+pub mod HasType
+pub mod Literal

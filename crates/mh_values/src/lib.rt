@@ -1,0 +1,15 @@
+//! Types, values, exceptions and outcomes, and what is said of them in text.
+#![tactic(auto)]
+
+mod class;
+mod copies;
+mod literal;
+mod types;
+mod value;
+
+pub use class::{Class, ClassId};
+pub use literal::{read_int, show_int};
+pub use types::{Comp, MethodTy, Primitive, Ty, Tys};
+pub use value::{
+    Calls, Cause, Cell, Cells, Exc, Items, LeafCall, LeafId, Num, Outcome, Str, Value,
+};

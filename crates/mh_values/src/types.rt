@@ -1,0 +1,36 @@
+use crate::ClassId;
+use mh_base::Seq;
+
+/// A primitive type, by its letter in a descriptor: `boolean`, `int`, `long` (JVMS SE 17, 4.3.2).
+#[derive(Clone, Copy, Debug, PartialEq, Eq)]
+pub enum Primitive {
+    Z,
+    I,
+    J,
+}
+
+/// The component type of an array. Arrays have one dimension.
+#[derive(Clone, Copy, Debug, PartialEq, Eq)]
+pub enum Comp {
+    Prim(Primitive),
+    Class(ClassId),
+}
+
+/// The type of a value (JVMS SE 17, 4.3.2).
+#[derive(Clone, Copy, Debug, PartialEq, Eq)]
+pub enum Ty {
+    Prim(Primitive),
+    Class(ClassId),
+    Array(Comp),
+}
+
+/// A list of types, as the parameters of a method.
+pub type Tys = Seq<Ty>;
+
+/// A method type (JVMS SE 17, 4.3.3; `java.lang.invoke.MethodType`).
+#[derive(Debug, Drop)]
+pub struct MethodTy {
+    pub params: Tys,
+    /// `None` is void.
+    pub ret: Option<Ty>,
+}

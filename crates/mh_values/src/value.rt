@@ -1,0 +1,79 @@
+use crate::{ClassId, Comp};
+use mh_base::Seq;
+
+/// A number of a primitive type.
+#[derive(Clone, Copy, Debug, PartialEq, Eq)]
+pub enum Num {
+    Z(bool),
+    I(i32),
+    J(i64),
+}
+
+/// A text, as its characters; at most 4,096 of them in a value.
+pub type Str = Seq<char>;
+
+/// The cause of an exception.
+#[derive(Debug, Drop)]
+pub struct Cause {
+    pub class: ClassId,
+    pub message: Str,
+}
+
+/// An exception: its class, its message, and what it was caused by.
+#[derive(Debug, Drop)]
+pub struct Exc {
+    pub class: ClassId,
+    pub message: Str,
+    pub cause: Option<Cause>,
+}
+
+/// An item of an array: the values that are no arrays, so no value holds itself.
+#[derive(Debug, Drop)]
+pub enum Cell {
+    Prim(Num),
+    Boxed(Num),
+    Text(Str),
+    Object(ClassId, u32),
+    Thrown(Exc),
+    Null,
+}
+
+/// The items of an array, at most 254.
+pub type Cells = Seq<Cell>;
+
+/// A value that a leaf takes or gives: a number, a boxed number, a text, an object of a class with
+/// a number of its own, an exception, an array, or null.
+#[derive(Debug, Drop)]
+pub enum Value {
+    Prim(Num),
+    Boxed(Num),
+    Text(Str),
+    Object(ClassId, u32),
+    Thrown(Exc),
+    Array(Comp, Cells),
+    Null,
+}
+
+/// A list of values, as the arguments of a call.
+pub type Items = Seq<Value>;
+
+/// How a call ends: with a value, without one where the return type is void, or with an exception.
+#[derive(Debug, Drop)]
+pub enum Outcome {
+    Return(Option<Value>),
+    Throw(Exc),
+}
+
+/// A leaf, by its number in the manifest, from 0.
+#[derive(Clone, Copy, Debug, PartialEq, Eq)]
+pub struct LeafId(pub u32);
+
+/// One run of a leaf, with the arguments that it got.
+#[derive(Debug, Drop)]
+pub struct LeafCall {
+    pub leaf: LeafId,
+    pub args: Items,
+}
+
+/// Leaf calls, in the order in which they were made.
+pub type Calls = Seq<LeafCall>;
