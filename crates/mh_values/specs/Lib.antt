@@ -1,4 +1,7 @@
 pub mod Class
 pub mod Computation
+pub mod Exception
 pub mod HasType
 pub mod Literal
+pub mod Same
+pub mod Slots
