@@ -1,0 +1,125 @@
+-- Which conversions of a value from one type to another are allowed, and what each gives (`MethodHandle.asType`, SE 17).
+use Rattle.std.specs.Prelude.{Bool, true, false, ◌&&◌, ◌||◌, if◌then◌else◌, pos, List, [], ◌∷◌, Option, Some, None, Result, Ok, Err}
+use Rattle.std.specs.List.{list_any}
+use Rattle.std.specs.Result.{result_map_both}
+use Rattle.mh_values.specs.declared.class.Class.{Class}
+use Rattle.mh_values.specs.declared.class.ClassId.{ClassId}
+use Rattle.mh_values.specs.declared.types.Primitive.{Primitive}
+use Rattle.mh_values.specs.declared.types.Primitive.TheVariants as primitive
+use Rattle.mh_values.specs.declared.types.Ty.{Ty}
+use Rattle.mh_values.specs.declared.types.Ty.TheVariants as ty
+use Rattle.mh_values.specs.declared.value.Num.{Num}
+use Rattle.mh_values.specs.declared.value.Num.TheVariants as num
+use Rattle.mh_values.specs.declared.value.Value.{Value}
+use Rattle.mh_values.specs.declared.value.Value.TheVariants as value
+use Rattle.mh_values.specs.declared.value.Exc.{Exc}
+use Rattle.mh_values.specs.Class.{is_subclass, class_cast_class, null_pointer_class}
+use Rattle.mh_values.specs.Exception.{bare}
+use Rattle.mh_values.specs.HasType.{primitive_of, wrapper_of, is_same_primitive, has_type, is_type_below}
+use Rattle.mh_convert.specs.declared.conv.Conv.{Conv}
+use Rattle.mh_convert.specs.declared.conv.RetConv.{RetConv}
+use Rattle.mh_convert.specs.declared.conv.RetConv.TheVariants as ret
+
+-- a primitive type widens to another one: int to long
+abbrev pub widens : Primitive → Primitive → Bool
+widens primitive.I primitive.J = true
+widens _ _ = false
+
+-- a number of the first primitive type serves as one of the second: they are one, or the first widens to the second
+abbrev pub serves_as : Primitive → Primitive → Bool
+serves_as p q = is_same_primitive p q || widens p q
+
+-- the primitive types
+abbrev pub primitives : List Primitive
+primitives = primitive.Z ∷ primitive.I ∷ primitive.J ∷ []
+
+-- a value of the class may be a boxed number that serves as the primitive type: some wrapper is at or below the class, and its primitive serves
+abbrev pub may_unbox : List Class → ClassId → Primitive → Bool
+may_unbox classes s q = list_any (λ p. is_subclass classes (wrapper_of p) s && serves_as p q) primitives
+
+-- whether a value of the first type may be converted to the second
+abbrev pub can : List Class → Ty → Ty → Bool
+can classes (ty.Prim p) (ty.Prim q) = serves_as p q
+can classes (ty.Prim p) (ty.Class t) = is_subclass classes (wrapper_of p) t
+can classes (ty.Prim p) (ty.Array d) = false
+can classes (ty.Class s) (ty.Prim q) = may_unbox classes s q
+can classes (ty.Array c) (ty.Prim q) = false
+can classes _ _ = true
+
+-- a number as one of a primitive type that it serves as
+abbrev pub widened : Num → Primitive → Num
+widened (num.I n) primitive.J = num.J n
+widened n q = n
+
+-- a primitive value, widened
+abbrev pub widened_value : Value → Primitive → Value
+widened_value (value.Prim n) q = value.Prim (widened n q)
+widened_value v q = v
+
+-- a primitive value, boxed
+abbrev pub boxed : Value → Value
+boxed (value.Prim n) = value.Boxed n
+boxed v = v
+
+-- a reference as a value of a reference type: itself, if it has the type
+abbrev pub cast : List Class → Value → Ty → Result Value Exc
+cast classes v t = if has_type classes v t then Ok v else Err (bare class_cast_class)
+
+-- a reference as a number of a primitive type: a boxed number that serves as one, widened
+abbrev pub unboxed : Value → Primitive → Result Value Exc
+unboxed value.Null q = Err (bare null_pointer_class)
+unboxed (value.Boxed n) q = if serves_as (primitive_of n) q then Ok (value.Prim (widened n q)) else Err (bare class_cast_class)
+unboxed v q = Err (bare class_cast_class)
+
+-- what the conversion of a value of the first type to the second gives, or the exception that it throws
+abbrev pub conv : List Class → Ty → Ty → Value → Result Value Exc
+conv classes (ty.Prim p) (ty.Prim q) v = Ok (widened_value v q)
+conv classes (ty.Prim p) _ v = Ok (boxed v)
+conv classes _ (ty.Prim q) v = unboxed v q
+conv classes _ t v = cast classes v t
+
+-- a bound or constant value as a value of a type
+abbrev pub fit : List Class → Value → Ty → Result Value Exc
+fit classes v (ty.Prim q) = unboxed v q
+fit classes v t = cast classes v t
+
+-- the conversion from one type to another, where it is allowed
+abbrev pub conversion_of : List Class → Ty → Ty → Option Conv
+conversion_of classes s t = if can classes s t then Some (record { from = s; to = t }) else None
+
+-- the conversion of a result, where it is allowed
+abbrev pub value_conversion : Option Conv → Option RetConv
+value_conversion (Some c) = Some (ret.Value c)
+value_conversion None = None
+
+-- the conversion from one return type to another, where it is allowed; void may become any type, and any type void
+abbrev pub ret_conversion_of : List Class → Option Ty → Option Ty → Option RetConv
+ret_conversion_of classes None None = Some ret.Keep
+ret_conversion_of classes (Some s) None = Some ret.Discard
+ret_conversion_of classes None (Some t) = Some (ret.Default t)
+ret_conversion_of classes (Some s) (Some t) = value_conversion (conversion_of classes s t)
+
+-- the default of a type: false, zero or null
+abbrev pub default_of : Ty → Value
+default_of (ty.Prim primitive.Z) = value.Prim (num.Z false)
+default_of (ty.Prim primitive.I) = value.Prim (num.I (pos 0))
+default_of (ty.Prim primitive.J) = value.Prim (num.J (pos 0))
+default_of t = value.Null
+
+-- what a return conversion gives of what was returned
+abbrev pub ret_conv : List Class → RetConv → Option Value → Result (Option Value) Exc
+ret_conv classes ret.Keep r = Ok r
+ret_conv classes ret.Discard r = Ok None
+ret_conv classes (ret.Default t) r = Ok (Some (default_of t))
+ret_conv classes (ret.Value c) (Some v) = result_map_both (λ w. Some w) (λ e. e) (conv classes c.from c.to v)
+ret_conv classes (ret.Value c) None = Ok None
+
+-- a conversion that changes nothing: each value of the first type has the second
+abbrev pub is_trivial : List Class → Ty → Ty → Bool
+is_trivial classes s t = is_type_below classes s t
+
+-- a conversion of a return type that changes nothing
+abbrev pub is_trivial_ret : List Class → Option Ty → Option Ty → Bool
+is_trivial_ret classes None None = true
+is_trivial_ret classes (Some s) (Some t) = is_trivial classes s t
+is_trivial_ret classes _ _ = false
