@@ -1,0 +1,39 @@
+ghost use Rattle.std.specs.Prelude.{◌≡◌, ◌≤◌, List, ℕ, OnOk, OnErr, IfOk, length};
+ghost use Rattle.mh_outside.specs.Told.{Told, HasRead};
+ghost use Rattle.mh_outside.specs.Causes.{Rose, AreSame};
+
+use std::error::Error;
+use std::fmt;
+
+/// The outside did not do what it was asked.
+#[derive(Clone, Copy, Debug, PartialEq, Eq)]
+pub struct Failed;
+
+impl fmt::Display for Failed {
+    fn fmt<W: fmt::Write>(&self, f: &mut fmt::Formatter<W>) -> fmt::Result {
+        f.write_str("the outside failed")
+    }
+}
+
+impl Error for Failed {}
+
+/// Where files are read. What is told of a file never changes, and a count of faults never falls; a
+/// count stands at 2^64 - 1 once it has come there.
+pub trait Inputs {
+    /// What is told of the file of a name.
+    ghost told: { Self → List ℕ → Told };
+
+    /// How often the calls for a name have failed.
+    ghost faults: { Self → List ℕ → ℕ };
+
+    /// Reads bytes of the file from the place `at` on, into the front of the buffer, and says how
+    /// many. It is none only where the buffer is empty or the file ends at `at` or before. A name that
+    /// cannot be opened is a fault.
+    fn read(&mut self, name: &str, at: u64, buf: &mut [u8]) -> Result<usize, Failed>
+        ensures told { (n : List ℕ) → told self.new n ≡ told self.old n }
+        ensures later { (n : List ℕ) → faults self.old n ≤ faults self.new n }
+        ensures cause { OnErr result (Rose (faults self.old name.now) (faults self.new name.now)) }
+        ensures no_fault { OnOk result (AreSame (faults self.old) (faults self.new)) }
+        ensures count { IfOk result (λ n. n ≤ length buf.new) }
+        ensures bytes { IfOk result (λ n. HasRead (told self.old name.now) at n buf.new) };
+}
