@@ -1,0 +1,27 @@
+use mh_base::Seq;
+
+/// What a type becomes when it is erased, so that forms can be shared between types that differ:
+/// references, the numbers of 32 bits and `boolean`, and the numbers of 64 bits.
+#[derive(Clone, Copy, Debug, PartialEq, Eq)]
+pub enum Basic {
+    L,
+    I,
+    J,
+}
+
+/// A list of basic types, as the parameters of a form.
+pub type Basics = Seq<Basic>;
+
+/// What a return type becomes: nothing where it is void.
+#[derive(Clone, Copy, Debug, PartialEq, Eq)]
+pub enum BasicRet {
+    V,
+    Is(Basic),
+}
+
+/// An erased method type.
+#[derive(Debug, Drop)]
+pub struct Shape {
+    pub params: Basics,
+    pub ret: BasicRet,
+}

@@ -1,0 +1,13 @@
+use mh_base::Seq;
+use mh_values::Value;
+
+/// A value whose type is erased: a `boolean` is int 0 or 1.
+#[derive(Debug, Drop)]
+pub enum Slot {
+    I(i32),
+    J(i64),
+    L(Value),
+}
+
+/// A list of slots, as the arguments of a form.
+pub type Slots = Seq<Slot>;
