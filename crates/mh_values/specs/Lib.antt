@@ -1,3 +1,4 @@
+pub mod Array
 pub mod Class
 pub mod Computation
 pub mod Exception
