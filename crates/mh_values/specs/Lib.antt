@@ -2,6 +2,7 @@ pub mod Array
 pub mod Class
 pub mod Computation
 pub mod Exception
+pub mod Grammar
 pub mod HasType
 pub mod Literal
 pub mod Same

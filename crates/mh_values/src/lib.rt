@@ -3,11 +3,14 @@
 
 mod class;
 mod copies;
+mod descriptor;
+mod grammar;
 mod literal;
 mod types;
 mod value;
 
 pub use class::{Class, ClassId};
+pub use descriptor::{BadAt, descriptor_text};
 pub use literal::{read_int, show_int};
 pub use types::{Comp, MethodTy, Primitive, Ty, Tys};
 pub use value::{

@@ -1,0 +1,66 @@
+-- Method descriptors, byte by byte: which byte continues one (JVMS SE 17, 4.3.2 and 4.3.3).
+use Rattle.std.specs.Prelude.{ℕ, ◌+◌, ◌==◌, nat_le, Bool, true, false, ◌||◌, if◌then◌else◌, List, [], ◌∷◌, Option, None, Some}
+use Rattle.std.specs.Option.{option_map_or}
+use Rattle.mh_values.specs.declared.grammar.Place.{Place}
+use Rattle.mh_values.specs.declared.grammar.Place.TheVariants as place
+use Rattle.mh_values.specs.declared.grammar.Standing.{Standing}
+use Rattle.mh_values.specs.declared.grammar.Standing.TheVariants as standing
+
+-- a primitive type, by its letter: one of B C D F I J S Z
+abbrev pub is_base : ℕ → Bool
+is_base b = b == 66 || b == 67 || b == 68 || b == 70 || b == 73 || b == 74 || b == 83 || b == 90
+
+-- behind a whole type
+abbrev pub behind : Place → Standing
+behind (place.Parameter slots) = standing.Parameters slots
+behind place.Return = standing.End
+
+-- a type that is no array begins with `L` or is one letter
+abbrev pub element : Place → ℕ → Option Standing
+element p b = if b == 76 then Some (standing.Name p false) else (if is_base b then Some (behind p) else None)
+
+-- a type begins with `[` or with what is no array
+abbrev pub begun : Place → ℕ → Option Standing
+begun p b = if b == 91 then Some (standing.Dimensions p 1) else element p b
+
+-- an array has at most 255 dimensions
+abbrev pub within_array : Place → ℕ → ℕ → Option Standing
+within_array p dimensions b =
+    if b == 91 then (if nat_le (dimensions + 1) 255 then Some (standing.Dimensions p (dimensions + 1)) else None) else element p b
+
+-- a name has one or more bytes other than `;`, `.` and `[`, and ends with `;`
+abbrev pub within_name : Place → Bool → ℕ → Option Standing
+within_name p has_bytes b =
+    if b == 59 then (if has_bytes then Some (behind p) else None)
+    else (if b == 46 || b == 91 then None else Some (standing.Name p true))
+
+-- the slots of a parameter, by its first byte: J and D take two
+abbrev pub slots_from : ℕ → ℕ
+slots_from b = if b == 74 || b == 68 then 2 else 1
+
+-- a parameter begins, where the slots are at most 255 with it
+abbrev pub parameter : ℕ → ℕ → Option Standing
+parameter slots b = if nat_le (slots + slots_from b) 255 then begun (place.Parameter (slots + slots_from b)) b else None
+
+-- behind one more byte, where it continues a method descriptor
+abbrev pub next : Standing → ℕ → Option Standing
+next standing.Front b = if b == 40 then Some (standing.Parameters 0) else None
+next (standing.Parameters slots) b = if b == 41 then Some standing.Close else parameter slots b
+next standing.Close b = if b == 86 then Some standing.End else begun place.Return b
+next (standing.Dimensions p dimensions) b = within_array p dimensions b
+next (standing.Name p has_bytes) b = within_name p has_bytes b
+next standing.End b = None
+
+-- whether a text may end here
+abbrev pub is_end : Standing → Bool
+is_end standing.End = true
+is_end _ = false
+
+-- the first place, counted from a number, of a text that does not go on to a whole descriptor from where it stands
+abbrev pub first_bad : ℕ → Standing → List ℕ → Option ℕ
+first_bad at s [] = if is_end s then None else Some at
+first_bad at s (b ∷ bs) = option_map_or (λ n. first_bad (at + 1) n bs) (next s b) (Some at)
+
+-- the first byte that continues no method descriptor, or the length of a text that ends early; nothing for a method descriptor
+abbrev pub descriptor_fault : List ℕ → Option ℕ
+descriptor_fault text = first_bad 0 standing.Front text
