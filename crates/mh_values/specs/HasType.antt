@@ -1,5 +1,6 @@
 -- Which values have a type, and which types are below one.
-use Rattle.std.specs.Prelude.{◌==◌, Bool, true, false, List, [], ◌∷◌, IsTrue}
+use Rattle.std.specs.Prelude.{◌==◌, Bool, true, false, ◌&&◌, List, [], ◌∷◌, IsTrue}
+use Rattle.std.specs.List.{list_all}
 use Rattle.mh_values.specs.declared.class.Class.{Class}
 use Rattle.mh_values.specs.declared.class.ClassId.{ClassId}
 use Rattle.mh_values.specs.declared.types.Primitive.{Primitive}
@@ -8,6 +9,8 @@ use Rattle.mh_values.specs.declared.types.Comp.{Comp}
 use Rattle.mh_values.specs.declared.types.Comp.TheVariants as comp
 use Rattle.mh_values.specs.declared.types.Ty.{Ty}
 use Rattle.mh_values.specs.declared.types.Ty.TheVariants as ty
+use Rattle.mh_values.specs.declared.value.Cell.{Cell}
+use Rattle.mh_values.specs.declared.value.Cell.TheVariants as cell
 use Rattle.mh_values.specs.declared.value.Num.{Num}
 use Rattle.mh_values.specs.declared.value.Num.TheVariants as num
 use Rattle.mh_values.specs.declared.value.Value.{Value}
@@ -39,6 +42,21 @@ is_component_below classes (comp.Prim p) (comp.Prim q) = is_same_primitive p q
 is_component_below classes (comp.Class c) (comp.Class d) = is_subclass classes c d
 is_component_below classes _ _ = false
 
+-- an item that an array of the component may have: a number of the primitive type, or a value of the class
+abbrev pub is_item_of : List Class → Comp → Cell → Bool
+is_item_of classes (comp.Prim p) (cell.Prim n) = is_same_primitive (primitive_of n) p
+is_item_of classes (comp.Prim p) _ = false
+is_item_of classes (comp.Class t) (cell.Prim n) = false
+is_item_of classes (comp.Class t) (cell.Boxed n) = is_subclass classes (wrapper_of (primitive_of n)) t
+is_item_of classes (comp.Class t) (cell.Text s) = is_subclass classes string_class t
+is_item_of classes (comp.Class t) (cell.Object c k) = is_subclass classes c t
+is_item_of classes (comp.Class t) (cell.Thrown e) = is_subclass classes e.class t
+is_item_of classes (comp.Class t) cell.Null = true
+
+-- the items of an array have its component's type; an array with other items has no type
+abbrev pub are_items_of : List Class → Comp → List Cell → Bool
+are_items_of classes c items = list_all (is_item_of classes c) items
+
 -- a class that is at or above the class of the value
 abbrev pub has_class : List Class → Value → ClassId → Bool
 has_class classes (value.Prim n) t = false
@@ -46,8 +64,13 @@ has_class classes (value.Boxed n) t = is_subclass classes (wrapper_of (primitive
 has_class classes (value.Text s) t = is_subclass classes string_class t
 has_class classes (value.Object c k) t = is_subclass classes c t
 has_class classes (value.Thrown e) t = is_subclass classes e.class t
-has_class classes (value.Array c items) t = t.0 == object_class.0
+has_class classes (value.Array c items) t = t.0 == object_class.0 && are_items_of classes c items
 has_class classes value.Null t = true
+
+-- the type of the items of an array
+abbrev pub type_of_component : Comp → Ty
+type_of_component (comp.Prim p) = ty.Prim p
+type_of_component (comp.Class c) = ty.Class c
 
 -- a number of the primitive type
 abbrev pub has_primitive : Value → Primitive → Bool
@@ -56,7 +79,7 @@ has_primitive _ p = false
 
 -- an array of such components, or null
 abbrev pub has_component : List Class → Value → Comp → Bool
-has_component classes (value.Array c items) d = is_component_below classes c d
+has_component classes (value.Array c items) d = is_component_below classes c d && are_items_of classes c items
 has_component classes value.Null d = true
 has_component classes _ d = false
 
