@@ -1,1 +1,2 @@
 pub mod LeafTable
+pub mod Outcome
