@@ -1,6 +1,9 @@
 -- Arrays: their items as values, and values as items.
 use Rattle.std.specs.Prelude.{ℕ, ◌==◌, List, [], ◌∷◌, codes, length, map, Option, None, Some, Result, Ok, Err, if◌then◌else◌}
 use Rattle.mh_values.specs.declared.types.Comp.{Comp}
+use Rattle.mh_values.specs.declared.types.Comp.TheVariants as comp
+use Rattle.mh_values.specs.declared.types.Ty.{Ty}
+use Rattle.mh_values.specs.declared.types.Ty.TheVariants as ty
 use Rattle.mh_values.specs.declared.value.Cell.{Cell}
 use Rattle.mh_values.specs.declared.value.Cell.TheVariants as cell
 use Rattle.mh_values.specs.declared.value.Exc.{Exc}
@@ -41,12 +44,12 @@ items_of_values (v ∷ vs) = item_and_more (item_of_value v) (items_of_values vs
 
 -- the array of these items; an array in place of an item throws
 abbrev pub array_or_nested : Comp → Option (List Cell) → Result Value Exc
-array_or_nested comp (Some items) = Ok (value.Array comp items)
-array_or_nested comp None = Err (saying internal_error_class (codes "nested array"))
+array_or_nested c (Some items) = Ok (value.Array c items)
+array_or_nested c None = Err (saying internal_error_class (codes "nested array"))
 
 -- the array, of a component type, of these values; one of them that is an array throws
 abbrev pub array_of : Comp → List Value → Result Value Exc
-array_of comp vs = array_or_nested comp (items_of_values vs)
+array_of c vs = array_or_nested c (items_of_values vs)
 
 -- the values of an array's items; null has none
 abbrev pub values_of_array : Value → List Value
@@ -59,3 +62,8 @@ spread_values n value.Null = if n == 0 then Gave [] [] else Threw (bare null_poi
 spread_values n (value.Array c items) =
     if length items == n then Gave (map value_of_item items) [] else Threw (saying illegal_argument_class (codes "spread")) []
 spread_values n v = Stuck
+
+-- the type of an array's items
+abbrev pub item_type : Comp → Ty
+item_type (comp.Prim p) = ty.Prim p
+item_type (comp.Class c) = ty.Class c

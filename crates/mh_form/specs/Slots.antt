@@ -1,0 +1,99 @@
+-- What is done on slots: conversions, arrays and exceptions.
+use Rattle.std.specs.Prelude.{ℕ, ℤ, pos, ◌==◌, Bool, false, List, [], Option, None, Some, Result, Ok, Err, map, slice_get, if◌then◌else◌}
+use Rattle.mh_values.specs.declared.class.Class.{Class}
+use Rattle.mh_values.specs.declared.class.ClassId.{ClassId}
+use Rattle.mh_values.specs.declared.types.Comp.{Comp}
+use Rattle.mh_values.specs.declared.value.Exc.{Exc}
+use Rattle.mh_values.specs.declared.value.Value.{Value}
+use Rattle.mh_values.specs.declared.value.Value.TheVariants as value
+use Rattle.mh_values.specs.Array.{array_of, item_type, spread_values, values_of_array}
+use Rattle.mh_values.specs.Class.{is_subclass, null_pointer_class, class_cast_class}
+use Rattle.mh_values.specs.Computation.{Ran, Gave, Threw, Stuck, and_then}
+use Rattle.mh_values.specs.Exception.{bare}
+use Rattle.mh_convert.specs.declared.conv.Conv.{Conv}
+use Rattle.mh_convert.specs.declared.conv.RetConv.{RetConv}
+use Rattle.mh_convert.specs.declared.conv.RetConv.TheVariants as ret
+use Rattle.mh_convert.specs.Conversion.{can, conv, default_of}
+use Rattle.mh_form.specs.declared.slot.Slot.{Slot}
+use Rattle.mh_form.specs.declared.slot.Slot.TheVariants as slot
+use Rattle.mh_form.specs.Erasure.{erased, typed, all_typed}
+
+-- goes on with what was found, or is stuck
+abbrev pub found : {A B : Type 0} → Option A → (A → Ran B) → Ran B
+found None next = Stuck
+found (Some a) next = next a
+
+-- the number is 1
+abbrev pub is_one : ℤ → Bool
+is_one (pos n) = n == 1
+is_one n = false
+
+-- the slot holds int 1, as the result of a test that is true does
+abbrev pub holds_one : Slot → Bool
+holds_one (slot.I n) = is_one n
+holds_one s = false
+
+-- what a name leaves that gives nothing: int 0
+abbrev pub none_as_zero : Option Slot → Slot
+none_as_zero None = slot.I (pos 0)
+none_as_zero (Some s) = s
+
+-- a run that fills a slot, also where it gives nothing
+abbrev pub filled : Ran (Option Slot) → Ran Slot
+filled (Gave r calls) = Gave (none_as_zero r) calls
+filled (Threw e calls) = Threw e calls
+filled Stuck = Stuck
+
+-- a run of which the slot is the result
+abbrev pub as_result : Ran Slot → Ran (Option Slot)
+as_result (Gave s calls) = Gave (Some s) calls
+as_result (Threw e calls) = Threw e calls
+as_result Stuck = Stuck
+
+-- a value or an exception, without leaf calls
+abbrev pub slot_or_throw : Result Value Exc → Ran Slot
+slot_or_throw (Ok v) = Gave (erased v) []
+slot_or_throw (Err e) = Threw e []
+
+-- an allowed conversion of a slot that is the erasure of a value of the type that it converts from
+abbrev pub converted : List Class → Conv → Slot → Ran Slot
+converted classes c s =
+    if can classes c.from c.to then found (typed classes c.from s) (λ v. slot_or_throw (conv classes c.from c.to v)) else Stuck
+
+-- a return conversion of a result
+abbrev pub ret_converted : List Class → RetConv → Option Slot → Ran (Option Slot)
+ret_converted classes ret.Keep r = Gave r []
+ret_converted classes ret.Discard r = Gave None []
+ret_converted classes (ret.Default t) r = Gave (Some (erased (default_of t))) []
+ret_converted classes (ret.Value c) (Some s) = as_result (converted classes c s)
+ret_converted classes (ret.Value c) None = Stuck
+
+-- the exceptions of a class or a class below it
+abbrev pub is_caught : List Class → ClassId → Exc → Bool
+is_caught classes c e = is_subclass classes e.class c
+
+-- the array of these slots, each the erasure of an item
+abbrev pub made_array : List Class → Comp → List Slot → Ran Slot
+made_array classes c slots =
+    found (all_typed classes (map (λ s. item_type c) slots) slots) (λ vs. slot_or_throw (array_of c vs))
+
+-- the items of an array in a slot from which so many are wanted, erased
+abbrev pub spread_slots : ℕ → Slot → Ran (List Slot)
+spread_slots n (slot.L v) = and_then (spread_values n v) n (λ vs k. Gave (map erased vs) [])
+spread_slots n s = Stuck
+
+-- a check that gives nothing but an exception
+abbrev pub checked_array : ℕ → Slot → Ran (Option Slot)
+checked_array n s = and_then (spread_slots n s) n (λ items k. Gave None [])
+
+-- the item at a place of the array in a slot, erased
+abbrev pub item_in : Slot → ℕ → Option Slot
+item_in (slot.L v) k = slice_get (map erased (values_of_array v)) k
+item_in s k = None
+
+-- throwing the exception in a slot
+abbrev pub raised_slot : {B : Type 0} → Slot → Ran B
+raised_slot (slot.L (value.Thrown e)) = Threw e []
+raised_slot (slot.L value.Null) = Threw (bare null_pointer_class) []
+raised_slot (slot.L v) = Threw (bare class_cast_class) []
+raised_slot s = Stuck
