@@ -8,7 +8,7 @@ use Rattle.mh_values.specs.declared.types.Ty.TheVariants as ty
 use Rattle.mh_values.specs.declared.value.Num.TheVariants as num
 use Rattle.mh_values.specs.declared.value.Value.{Value}
 use Rattle.mh_values.specs.declared.value.Value.TheVariants as value
-use Rattle.mh_values.specs.Computation.{Ran, Gave, Threw, Stuck}
+use Rattle.mh_values.specs.Computation.{Ran, mapped}
 use Rattle.mh_values.specs.HasType.{has_type}
 use Rattle.mh_form.specs.declared.basic.Basic.{Basic}
 use Rattle.mh_form.specs.declared.basic.Basic.TheVariants as basic
@@ -48,9 +48,7 @@ erased_option (Some v) = Some (erased v)
 
 -- a computation with the type of its result erased
 abbrev pub erased_ran : Ran (Option Value) → Ran (Option Slot)
-erased_ran (Gave r calls) = Gave (erased_option r) calls
-erased_ran (Threw e calls) = Threw e calls
-erased_ran Stuck = Stuck
+erased_ran r = mapped erased_option r
 
 -- the boolean that an int stands for
 abbrev pub boolean_of : ℤ → Option Value

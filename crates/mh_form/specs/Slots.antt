@@ -8,7 +8,7 @@ use Rattle.mh_values.specs.declared.value.Value.{Value}
 use Rattle.mh_values.specs.declared.value.Value.TheVariants as value
 use Rattle.mh_values.specs.Array.{array_of, item_type, spread_values, values_of_array}
 use Rattle.mh_values.specs.Class.{is_subclass, null_pointer_class, class_cast_class}
-use Rattle.mh_values.specs.Computation.{Ran, Gave, Threw, Stuck, and_then}
+use Rattle.mh_values.specs.Computation.{Ran, Gave, Threw, Stuck, found, mapped}
 use Rattle.mh_values.specs.Exception.{bare}
 use Rattle.mh_convert.specs.declared.conv.Conv.{Conv}
 use Rattle.mh_convert.specs.declared.conv.RetConv.{RetConv}
@@ -17,11 +17,6 @@ use Rattle.mh_convert.specs.Conversion.{can, conv, default_of}
 use Rattle.mh_form.specs.declared.slot.Slot.{Slot}
 use Rattle.mh_form.specs.declared.slot.Slot.TheVariants as slot
 use Rattle.mh_form.specs.Erasure.{erased, typed, all_typed}
-
--- goes on with what was found, or is stuck
-abbrev pub found : {A B : Type 0} → Option A → (A → Ran B) → Ran B
-found None next = Stuck
-found (Some a) next = next a
 
 -- the number is 1
 abbrev pub is_one : ℤ → Bool
@@ -40,15 +35,7 @@ none_as_zero (Some s) = s
 
 -- a run that fills a slot, also where it gives nothing
 abbrev pub filled : Ran (Option Slot) → Ran Slot
-filled (Gave r calls) = Gave (none_as_zero r) calls
-filled (Threw e calls) = Threw e calls
-filled Stuck = Stuck
-
--- a run of which the slot is the result
-abbrev pub as_result : Ran Slot → Ran (Option Slot)
-as_result (Gave s calls) = Gave (Some s) calls
-as_result (Threw e calls) = Threw e calls
-as_result Stuck = Stuck
+filled r = mapped none_as_zero r
 
 -- a value or an exception, without leaf calls
 abbrev pub slot_or_throw : Result Value Exc → Ran Slot
@@ -65,7 +52,7 @@ abbrev pub ret_converted : List Class → RetConv → Option Slot → Ran (Optio
 ret_converted classes ret.Keep r = Gave r []
 ret_converted classes ret.Discard r = Gave None []
 ret_converted classes (ret.Default t) r = Gave (Some (erased (default_of t))) []
-ret_converted classes (ret.Value c) (Some s) = as_result (converted classes c s)
+ret_converted classes (ret.Value c) (Some s) = mapped Some (converted classes c s)
 ret_converted classes (ret.Value c) None = Stuck
 
 -- the exceptions of a class or a class below it
@@ -79,12 +66,12 @@ made_array classes c slots =
 
 -- the items of an array in a slot from which so many are wanted, erased
 abbrev pub spread_slots : ℕ → Slot → Ran (List Slot)
-spread_slots n (slot.L v) = and_then (spread_values n v) n (λ vs k. Gave (map erased vs) [])
+spread_slots n (slot.L v) = mapped (map erased) (spread_values n v)
 spread_slots n s = Stuck
 
 -- a check that gives nothing but an exception
 abbrev pub checked_array : ℕ → Slot → Ran (Option Slot)
-checked_array n s = and_then (spread_slots n s) n (λ items k. Gave None [])
+checked_array n s = mapped (λ items. None) (spread_slots n s)
 
 -- the item at a place of the array in a slot, erased
 abbrev pub item_in : Slot → ℕ → Option Slot

@@ -1,5 +1,5 @@
 -- What a computation gives that runs leaves: a result or an exception, with the leaf calls that it made, in order.
-use Rattle.std.specs.Prelude.{ℕ, ◌+◌, ◌%◌, ◌^◌, List, [], ◌∷◌, ◌++◌, ◌≡◌, Bool, take, drop, if◌then◌else◌}
+use Rattle.std.specs.Prelude.{ℕ, ◌+◌, ◌%◌, ◌^◌, List, [], ◌∷◌, ◌++◌, ◌≡◌, Bool, take, drop, Option, None, Some, if◌then◌else◌}
 use Rattle.mh_values.specs.declared.value.Exc.{Exc}
 use Rattle.mh_values.specs.declared.value.LeafCall.{LeafCall}
 
@@ -29,6 +29,17 @@ abbrev pub and_then : {A B : Type 0} → Ran A → ℕ → (A → ℕ → Ran B)
 and_then (Gave a calls) n next = after calls (next a (raised n calls))
 and_then (Threw e calls) n next = Threw e calls
 and_then Stuck n next = Stuck
+
+-- goes on with what was found, or is stuck
+abbrev pub found : {A B : Type 0} → Option A → (A → Ran B) → Ran B
+found None next = Stuck
+found (Some a) next = next a
+
+-- what a computation gives, with a function applied
+abbrev pub mapped : {A B : Type 0} → (A → B) → Ran A → Ran B
+mapped f (Gave a calls) = Gave (f a) calls
+mapped f (Threw e calls) = Threw e calls
+mapped f Stuck = Stuck
 
 -- an exception that the test takes goes to the handler, with n raised by the calls that were made
 abbrev pub guarded : {A : Type 0} → Ran A → (Exc → Bool) → ℕ → (Exc → ℕ → Ran A) → Ran A

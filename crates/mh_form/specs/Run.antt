@@ -1,0 +1,140 @@
+-- What running a body does: its names in order, each putting one slot at the end of a list that begins with the arguments.
+use Rattle.std.specs.Prelude.{ℕ, Bool, List, [], ◌∷◌, ◌++◌, Option, Some, None, if◌then◌else◌, slice_get, map, take}
+use Rattle.mh_values.specs.declared.value.Exc.{Exc}
+use Rattle.mh_values.specs.declared.value.LeafCall.{LeafCall}
+use Rattle.mh_values.specs.declared.value.Value.TheVariants as value
+use Rattle.mh_values.specs.Computation.{Ran, Gave, Threw, Stuck, and_then, found, guarded}
+use Rattle.mh_leaf.specs.LeafTable.{LeafTable}
+use Rattle.mh_form.specs.declared.body.FormBody.{FormBody}
+use Rattle.mh_form.specs.declared.name.Name.{Name}
+use Rattle.mh_form.specs.declared.name.Name.TheVariants.{Get, Call, Link, Select, Guarded, Conv, Cast, Ret, MakeArray, CheckArray, Elem, Raise}
+use Rattle.mh_form.specs.declared.slot.Slot.{Slot}
+use Rattle.mh_form.specs.declared.slot.Slot.TheVariants as slot
+use Rattle.mh_form.specs.declared.outcome.Ran.{Ran as Done}
+use Rattle.mh_form.specs.declared.outcome.SlotOutcome.{SlotOutcome}
+use Rattle.mh_form.specs.declared.outcome.SlotOutcome.TheVariants.{Return, Throw}
+use Rattle.mh_form.specs.declared.field.Bound.{Bound, Row_of-Field, end_of-Field, more_of-Field}
+use Rattle.mh_form.specs.declared.field.Field.{Field}
+use Rattle.mh_form.specs.declared.field.Field.TheVariants.{Part'}
+use Rattle.mh_form.specs.declared.field.Field.TheVariants as field
+use Rattle.mh_form.specs.Slots.{filled, holds_one, is_caught, converted, ret_converted, made_array, checked_array, item_in, raised_slot}
+
+-- what runs on a list of slots, where n leaf calls were made before
+abbrev pub Part : Type 0
+Part = List Slot → ℕ → Ran (Option Slot)
+
+-- what a field stands for: a slot, a leaf, a part, the exceptions that a class takes, a conversion, a return conversion, or the making of arrays of a component type
+pub data Sense : Type 0 where
+  IsSlot : Slot → Sense
+  IsLeaf : Part → Sense
+  IsPart : Part → Sense
+  IsClass : (Exc → Bool) → Sense
+  IsConv : (Slot → Ran Slot) → Sense
+  IsRet : (Option Slot → Ran (Option Slot)) → Sense
+  IsComp : (List Slot → Ran Slot) → Sense
+
+-- the slot of a field
+abbrev pub slot_of : Sense → Option Slot
+slot_of (IsSlot s) = Some s
+slot_of _ = None
+
+-- the leaf of a field
+abbrev pub leaf_of : Sense → Option Part
+leaf_of (IsLeaf f) = Some f
+leaf_of _ = None
+
+-- the part of a field
+abbrev pub part_of : Sense → Option Part
+part_of (IsPart f) = Some f
+part_of _ = None
+
+-- the class of a field
+abbrev pub class_of : Sense → Option (Exc → Bool)
+class_of (IsClass test) = Some test
+class_of _ = None
+
+-- the conversion of a field
+abbrev pub conv_of : Sense → Option (Slot → Ran Slot)
+conv_of (IsConv f) = Some f
+conv_of _ = None
+
+-- the return conversion of a field
+abbrev pub ret_of : Sense → Option (Option Slot → Ran (Option Slot))
+ret_of (IsRet f) = Some f
+ret_of _ = None
+
+-- the component type of a field
+abbrev pub comp_of : Sense → Option (List Slot → Ran Slot)
+comp_of (IsComp f) = Some f
+comp_of _ = None
+
+-- a field of a kind, if it is there
+abbrev pub of_kind : {A : Type 0} → (Sense → Option A) → Option Sense → Option A
+of_kind kind None = None
+of_kind kind (Some s) = kind s
+
+-- the field of a number, if it is of the kind that is asked for
+abbrev pub field_of : {A : Type 0} → (Sense → Option A) → List Sense → ℕ → Option A
+field_of kind senses f = of_kind kind (slice_get senses f)
+
+-- goes on with the field of a number, or is stuck
+abbrev pub with_field : {A B : Type 0} → (Sense → Option A) → List Sense → ℕ → (A → Ran B) → Ran B
+with_field kind senses f next = found (field_of kind senses f) next
+
+-- a slot in front of slots, where all are there
+abbrev pub picked_more : Option Slot → Option (List Slot) → Option (List Slot)
+picked_more (Some s) (Some ss) = Some (s ∷ ss)
+picked_more _ _ = None
+
+-- the slots at these places
+abbrev pub picked : List Slot → List ℕ → Option (List Slot)
+picked slots [] = Some []
+picked slots (p ∷ ps) = picked_more (slice_get slots p) (picked slots ps)
+
+-- goes on with the slot at the place of a result, or with nothing where there is no place
+abbrev pub with_result : {B : Type 0} → Option ℕ → List Slot → (Option Slot → Ran B) → Ran B
+with_result None slots next = next None
+with_result (Some p) slots next = found (slice_get slots p) (λ s. next (Some s))
+
+-- the part in a field, run on these slots
+abbrev pub run_field : List Sense → ℕ → List Slot → ℕ → Ran (Option Slot)
+run_field senses f slots n = with_field part_of senses f (λ part. part slots n)
+
+-- the part in one field, and where it throws an exception that the test takes, the part in another on the exception and the first arguments
+abbrev pub guarded_field : List Sense → ℕ → (Exc → Bool) → ℕ → ℕ → List Slot → ℕ → Ran (Option Slot)
+guarded_field senses f test h kept xs n =
+    guarded (run_field senses f xs n) test n (λ e k. run_field senses h (slot.L (value.Thrown e) ∷ take kept xs) k)
+
+-- what one name gives
+abbrev pub step : Name → List Sense → List Slot → ℕ → Ran Slot
+step (Get f) senses slots n = with_field slot_of senses f (λ s. Gave s [])
+step (Call f args) senses slots n =
+    found (picked slots args) (λ xs. with_field leaf_of senses f (λ leaf. filled (leaf xs n)))
+step (Link f args) senses slots n = found (picked slots args) (λ xs. filled (run_field senses f xs n))
+step (Select i f g args) senses slots n =
+    found (slice_get slots i) (λ s. found (picked slots args) (λ xs.
+    filled (run_field senses (if holds_one s then f else g) xs n)))
+step (Guarded f c h args kept) senses slots n =
+    found (picked slots args) (λ xs. with_field class_of senses c (λ test.
+    filled (guarded_field senses f test h kept xs n)))
+step (Conv f i) senses slots n = with_field conv_of senses f (λ conv. found (slice_get slots i) conv)
+step (Cast f i) senses slots n = with_field conv_of senses f (λ conv. found (slice_get slots i) conv)
+step (Ret f i) senses slots n = with_field ret_of senses f (λ conv. with_result i slots (λ r. filled (conv r)))
+step (MakeArray f args) senses slots n = found (picked slots args) (λ xs. with_field comp_of senses f (λ make. make xs))
+step (CheckArray i count) senses slots n = found (slice_get slots i) (λ s. filled (checked_array count s))
+step (Elem i k) senses slots n = found (slice_get slots i) (λ s. found (item_in s k) (λ item. Gave item []))
+step (Raise i) senses slots n = found (slice_get slots i) raised_slot
+
+-- the names in order, and then what comes at their end; a name that throws ends the run
+abbrev pub run_names : {B : Type 0} → List Name → List Sense → List Slot → ℕ → (List Slot → ℕ → Ran B) → Ran B
+run_names [] senses slots n end = end slots n
+run_names (x ∷ xs) senses slots n end =
+    and_then (step x senses slots n) n (λ s k. run_names xs senses (slots ++ s ∷ []) k end)
+
+-- the slot at the result's place, or nothing
+abbrev pub ended : Option ℕ → List Slot → ℕ → Ran (Option Slot)
+ended out slots n = with_result out slots (λ r. Gave r [])
+
+-- a body on fields of which it is known what they stand for
+abbrev pub run_body : FormBody → List Sense → Part
+run_body body senses slots n = run_names body.names senses slots n (ended body.out)
