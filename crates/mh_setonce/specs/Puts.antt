@@ -1,0 +1,25 @@
+-- What a put of a value into a chain gives.
+use Rattle.std.specs.Prelude.{◌≡◌, ℕ, List, [], ◌∷◌, ◌++◌, length}
+use Rattle.mh_setonce.specs.declared.put.Put.{Put}
+use Rattle.mh_setonce.specs.declared.put.Put.TheVariants.{Mine, Theirs}
+use Rattle.mh_setonce.specs.declared.put.PutRefused.{PutRefused}
+use Rattle.mh_setonce.specs.declared.put.PutRefused.TheVariants.{NoMemory, Full}
+use Rattle.mh_setonce.specs.declared.put.Tried.{Tried}
+use Rattle.mh_setonce.specs.declared.put.Tried.TheVariants as tried
+use Rattle.mh_setonce.specs.Walks.{Lacks, Has, StartsWith}
+
+-- ours is the last node of the walk; or ours is handed back, and the walk has a node with its key
+abbrev pub PutIn : {V K : Type 0} → (V → K) → List V → List V → V → Put V → Type 0
+PutIn {V} key before after value (Mine node) = (node.now ≡ value) × ((rest : List V) × (after ≡ (before ++ rest) ++ value ∷ []))
+PutIn key before after value (Theirs node back) = (back ≡ value) × Has key after (key value) node.now
+
+-- ours is handed back; where the chain is full, the walk has a node for each cell, and none with its key
+abbrev pub Refused : {V K : Type 0} → (V → K) → List V → List ℕ → V → PutRefused V → Type 0
+Refused key after cells value (NoMemory back) = back ≡ value
+Refused key after cells value (Full back) = (back ≡ value) × (length after ≡ length cells) × Lacks key after (key value)
+
+-- ours is the next node, or it is handed back, where another one may have been learnt
+abbrev pub TriedOnce : {V : Type 0} → List V → List V → V → Tried V → Type 0
+TriedOnce before after value (tried.Mine node) = (node.now ≡ value) × (after ≡ before ++ value ∷ [])
+TriedOnce before after value (tried.Again back) = (back ≡ value) × StartsWith after before
+TriedOnce before after value (tried.NoMemory back) = (back ≡ value) × (after ≡ before)

@@ -1,0 +1,22 @@
+-- Walks, as lists of the nodes that were learnt of a chain.
+use Rattle.std.specs.Prelude.{◌≡◌, ◌≢◌, ℕ, List, ◌++◌, length, min, take, slice_get, Some}
+
+-- the nodes so far stand first
+abbrev pub StartsWith : {V : Type 0} → List V → List V → Type 0
+StartsWith {V} more nodes = (rest : List V) × (more ≡ nodes ++ rest)
+
+-- no two nodes have one key
+abbrev pub Distinct : {V K : Type 0} → (V → K) → List V → Type 0
+Distinct {V} key nodes = (i j : ℕ) (v w : V) → slice_get nodes i ≡ Some v → slice_get nodes j ≡ Some w → key v ≡ key w → i ≡ j
+
+-- no node has the key
+abbrev pub Lacks : {V K : Type 0} → (V → K) → List V → K → Type 0
+Lacks {V} key nodes k = (i : ℕ) (v : V) → slice_get nodes i ≡ Some v → key v ≢ k
+
+-- this is a node with the key
+abbrev pub Has : {V K : Type 0} → (V → K) → List V → K → V → Type 0
+Has key nodes k v = (i : ℕ) × (slice_get nodes i ≡ Some v) × (key v ≡ k)
+
+-- so many nodes are the length of the shorter walk, and the other one begins with them
+abbrev pub Meet : {V : Type 0} → List V → List V → ℕ → Type 0
+Meet a b n = (n ≡ min (length a) (length b)) × (take n a ≡ take n b)
