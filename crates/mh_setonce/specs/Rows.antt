@@ -11,6 +11,10 @@ node_of l = l.node.now
 abbrev pub nodes_of : {V : Type 0} → List (Learnt V) → List V
 nodes_of ls = map node_of ls
 
+-- the node is the value of the cell of this name, for good
+abbrev pub IsOf : {V : Type 0} → ℕ → Learnt V → Type 0
+IsOf name l = (l.mark.cell ≡ name) × (l.mark.value ≡ l.node.now)
+
 -- each node is the value of the cell at its place, for good
 abbrev pub Noted : {V : Type 0} → List ℕ → List (Learnt V) → Type 0
 Noted {V} cells ls = (i : ℕ) (l : Learnt V) → slice_get ls i ≡ Some l → (slice_get cells i ≡ Some l.mark.cell) × (l.mark.value ≡ l.node.now)

@@ -1,5 +1,6 @@
 -- Walks, as lists of the nodes that were learnt of a chain.
-use Rattle.std.specs.Prelude.{◌≡◌, ◌≢◌, ℕ, List, ◌++◌, length, min, take, slice_get, Some}
+use Rattle.std.specs.Prelude.{◌≡◌, ◌≢◌, ℕ, List, ◌++◌, length, min, take, slice_get, Option, Some, None}
+use denote.Ref.{Bor}
 
 -- the nodes so far stand first
 abbrev pub StartsWith : {V : Type 0} → List V → List V → Type 0
@@ -16,6 +17,11 @@ Lacks {V} key nodes k = (i : ℕ) (v : V) → slice_get nodes i ≡ Some v → k
 -- this is a node with the key
 abbrev pub Has : {V K : Type 0} → (V → K) → List V → K → V → Type 0
 Has key nodes k v = (i : ℕ) × (slice_get nodes i ≡ Some v) × (key v ≡ k)
+
+-- the node with the key, or none where no node has it
+abbrev pub Finds : {V K : Type 0} → (V → K) → List V → K → Option (Bor V) → Type 0
+Finds key nodes k None = Lacks key nodes k
+Finds key nodes k (Some node) = Has key nodes k node.now
 
 -- so many nodes are the length of the shorter walk, and the other one begins with them
 abbrev pub Meet : {V : Type 0} → List V → List V → ℕ → Type 0

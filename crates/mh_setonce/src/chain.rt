@@ -1,7 +1,7 @@
-ghost use Rattle.std.specs.Prelude.{◌≡◌, ℕ, ◌≤◌, [], length, IfOk, OnErr, MatchOption, MatchResult, slice_get, Some};
+ghost use Rattle.std.specs.Prelude.{◌≡◌, ℕ, ◌≤◌, [], length, IfOk, OnErr, IfSome, IfNone, slice_get, Some};
 ghost use Rattle.once_cell.specs.Once.{cell_name};
-ghost use Rattle.mh_setonce.specs.Walks.{StartsWith, Lacks, Has, Distinct, Meet};
-ghost use Rattle.mh_setonce.specs.Puts.{PutIn, Refused};
+ghost use Rattle.mh_setonce.specs.Walks.{StartsWith, Lacks, Finds, Distinct, Meet};
+ghost use Rattle.mh_setonce.specs.Puts.{Puts};
 
 use crate::keyed::Keyed;
 use crate::put::{Put, PutRefused, Tried};
@@ -61,7 +61,7 @@ impl<V: Keyed> Chain<V> {
         ensures cells { walk.new.cells ≡ walk.old.cells }
         ensures nodes { StartsWith walk.new.nodes walk.old.nodes }
         ensures once { Distinct V.key_of walk.new.nodes }
-        ensures found { IfOk result (λ o. MatchOption o (Lacks V.key_of walk.new.nodes key.now) (λ r. Has V.key_of walk.new.nodes key.now r.now)) }
+        ensures found { IfOk result (Finds V.key_of walk.new.nodes key.now) }
         ensures seen { OnErr result (Lacks V.key_of walk.old.nodes key.now) }
     {
         if let Some(node) = walk.seen(key) {
@@ -87,7 +87,7 @@ impl<V: Keyed> Chain<V> {
         ensures cells { walk.new.cells ≡ walk.old.cells }
         ensures nodes { StartsWith walk.new.nodes walk.old.nodes }
         ensures once { Distinct V.key_of walk.new.nodes }
-        ensures put { MatchResult result (PutIn V.key_of walk.old.nodes walk.new.nodes value) (Refused V.key_of walk.new.nodes walk.new.cells value) }
+        ensures put { Puts V.key_of walk.old walk.new value result }
     {
         for _ in rt.forever() {
             if walk.learn().is_err() {
@@ -125,7 +125,8 @@ impl<V: Drop> Chain<V> {
     }
 
     pub(crate) fn cell(&self, at: usize) -> Option<&OnceBox<V>>
-        ensures { MatchOption result (length self.entry.now ≤ at) (λ r. slice_get self.entry.now at ≡ Some (cell_name r.now)) }
+        ensures past { IfNone result (length self.entry.now ≤ at) }
+        ensures name { IfSome result (λ r. slice_get self.entry.now at ≡ Some (cell_name r.now)) }
     {
         if at < self.cells.len() {
             Some(&self.cells[at])

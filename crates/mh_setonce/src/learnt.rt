@@ -1,5 +1,6 @@
-ghost use Rattle.std.specs.Prelude.{◌≡◌, IfSome, MatchOption};
+ghost use Rattle.std.specs.Prelude.{◌≡◌, IfSome, IfNone};
 ghost use Rattle.once_cell.specs.Once.{cell_name};
+ghost use Rattle.mh_setonce.specs.Rows.{IsOf};
 
 use crate::mark::Mark;
 use once_cell::race::OnceBox;
@@ -14,7 +15,7 @@ pub(crate) struct Learnt<'t, V> {
 impl<'t, V> Learnt<'t, V> {
     /// What the cell shows now, if anything.
     pub(crate) fn look(cell: &'t OnceBox<V>) -> Option<Learnt<'t, V>>
-        ensures { IfSome result (λ l. (l.mark.cell ≡ cell_name cell.entry.now) × (l.mark.value ≡ l.node.now)) }
+        ensures { IfSome result (IsOf (cell_name cell.entry.now)) }
     {
         let mut note = cell.note();
         let node = cell.get_as(&mut note)?;
@@ -28,8 +29,9 @@ impl<'t, V> Learnt<'t, V> {
 impl<'t, V: Drop> Learnt<'t, V> {
     /// What the cell shows from now on, and the value where the cell had another one.
     pub(crate) fn put(cell: &'t OnceBox<V>, value: Box<V>) -> (Learnt<'t, V>, Option<Box<V>>)
-        ensures noted { (result.0.mark.cell ≡ cell_name cell.entry.now) × (result.0.mark.value ≡ result.0.node.now) }
-        ensures back { MatchOption result.1 (result.0.node.now ≡ value.value) (λ b. b.value ≡ value.value) }
+        ensures noted { IsOf (cell_name cell.entry.now) result.0 }
+        ensures mine { IfNone result.1 (result.0.node.now ≡ value.value) }
+        ensures back { IfSome result.1 (λ back. back.value ≡ value.value) }
     {
         let mut note = cell.note();
         let back = match cell.set_as(value, &mut note) {

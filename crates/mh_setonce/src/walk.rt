@@ -1,6 +1,6 @@
-ghost use Rattle.std.specs.Prelude.{◌≡◌, ◌≢◌, [], length, IfOk, MatchOption, IsTrue};
+ghost use Rattle.std.specs.Prelude.{◌≡◌, ◌≢◌, [], length, IfOk, IsTrue};
 ghost use mathlib.Core.Logic.{◌↔◌};
-ghost use Rattle.mh_setonce.specs.Walks.{StartsWith, Lacks, Has, Distinct};
+ghost use Rattle.mh_setonce.specs.Walks.{StartsWith, Lacks, Distinct, Finds};
 ghost use Rattle.mh_setonce.specs.Puts.{TriedOnce};
 
 use crate::chain::Chain;
@@ -68,13 +68,13 @@ impl<'t, V: Keyed> Walk<'t, V> {
     /// The learnt node with the key.
     pub fn seen(&self, key: &V::Key) -> Option<&'t V>
         ensures once { Distinct V.key_of self.now.nodes }
-        ensures seen { MatchOption result (Lacks V.key_of self.now.nodes key.now) (λ r. Has V.key_of self.now.nodes key.now r.now) }
+        ensures seen { Finds V.key_of self.now.nodes key.now result }
     {
         scan::with_key(self.learnt.as_slice(), key)
     }
 
     pub(crate) fn same(&self, value: &V) -> Option<&'t V>
-        ensures { MatchOption result (Lacks V.key_of self.now.nodes (V.key_of value.now)) (λ r. Has V.key_of self.now.nodes (V.key_of value.now) r.now) }
+        ensures { Finds V.key_of self.now.nodes (V.key_of value.now) result }
     {
         scan::with_key_of(self.learnt.as_slice(), value)
     }
