@@ -67,11 +67,6 @@ has_class classes (value.Thrown e) t = is_subclass classes e.class t
 has_class classes (value.Array c items) t = t.0 == object_class.0 && are_items_of classes c items
 has_class classes value.Null t = true
 
--- the type of the items of an array
-abbrev pub type_of_component : Comp → Ty
-type_of_component (comp.Prim p) = ty.Prim p
-type_of_component (comp.Class c) = ty.Class c
-
 -- a number of the primitive type
 abbrev pub has_primitive : Value → Primitive → Bool
 has_primitive (value.Prim n) p = is_same_primitive (primitive_of n) p

@@ -7,3 +7,4 @@ pub mod HasType
 pub mod Literal
 pub mod Same
 pub mod Slots
+pub mod TypeText
