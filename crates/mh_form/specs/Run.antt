@@ -17,7 +17,7 @@ use Rattle.mh_form.specs.declared.field.Bound.{Bound, Row_of-Field, end_of-Field
 use Rattle.mh_form.specs.declared.field.Field.{Field}
 use Rattle.mh_form.specs.declared.field.Field.TheVariants.{Part'}
 use Rattle.mh_form.specs.declared.field.Field.TheVariants as field
-use Rattle.mh_form.specs.Slots.{filled, holds_one, is_caught, converted, ret_converted, made_array, checked_array, item_in, raised_slot}
+use Rattle.mh_form.specs.Slots.{called, filled, holds_one, is_caught, converted, ret_converted, made_array, checked_array, item_in, raised_slot}
 
 -- what runs on a list of slots, where n leaf calls were made before
 abbrev pub Part : Type 0
@@ -138,3 +138,35 @@ ended out slots n = with_result out slots (λ r. Gave r [])
 -- a body on fields of which it is known what they stand for
 abbrev pub run_body : FormBody → List Sense → Part
 run_body body senses slots n = run_names body.names senses slots n (ended body.out)
+
+-- what each field stands for; a part stands for its own run
+abbrev mutual
+  pub sense : LeafTable → Field → Sense
+  sense table (field.Val s) = IsSlot s
+  sense table (field.Leaf l) = IsLeaf (called table l)
+  sense table (Part' p body shape fields) = IsPart (run_body body.now (senses_of table fields))
+  sense table (field.Class c) = IsClass (is_caught table.classes c)
+  sense table (field.Conv c) = IsConv (converted table.classes c)
+  sense table (field.Ret c) = IsRet (ret_converted table.classes c)
+  sense table (field.Comp c) = IsComp (made_array table.classes c)
+
+  pub senses_of : {m : _} → LeafTable → Row_of-Field m → List Sense
+  senses_of table end_of-Field = []
+  senses_of table (more_of-Field f rest) = sense table f ∷ senses_of table rest
+
+-- a body on fields
+abbrev pub run_on : LeafTable → FormBody → List Field → Part
+run_on table body fields = run_body body (map (sense table) fields)
+
+-- a body on the fields that it is bound to
+abbrev pub run_bound : LeafTable → Bound → Part
+run_bound table bound = run_on table bound.body.now bound.fields.items
+
+-- an outcome with the leaf calls that were made
+abbrev pub ran_of_outcome : SlotOutcome → List LeafCall → Ran (Option Slot)
+ran_of_outcome (Return r) calls = Gave r calls
+ran_of_outcome (Throw e) calls = Threw e calls
+
+-- a run of the program as a computation
+abbrev pub ran_of_run : Done → Ran (Option Slot)
+ran_of_run done = ran_of_outcome done.outcome done.calls

@@ -4,19 +4,23 @@ use Rattle.mh_values.specs.declared.class.Class.{Class}
 use Rattle.mh_values.specs.declared.class.ClassId.{ClassId}
 use Rattle.mh_values.specs.declared.types.Comp.{Comp}
 use Rattle.mh_values.specs.declared.value.Exc.{Exc}
+use Rattle.mh_values.specs.declared.value.LeafId.{LeafId}
 use Rattle.mh_values.specs.declared.value.Value.{Value}
 use Rattle.mh_values.specs.declared.value.Value.TheVariants as value
-use Rattle.mh_values.specs.Array.{array_of, item_type, spread_values, values_of_array}
+use Rattle.mh_values.specs.Array.{array_of, spread_values, values_of_array}
 use Rattle.mh_values.specs.Class.{is_subclass, null_pointer_class, class_cast_class}
 use Rattle.mh_values.specs.Computation.{Ran, Gave, Threw, Stuck, found, mapped}
 use Rattle.mh_values.specs.Exception.{bare}
+use Rattle.mh_values.specs.HasType.{type_of_component}
 use Rattle.mh_convert.specs.declared.conv.Conv.{Conv}
 use Rattle.mh_convert.specs.declared.conv.RetConv.{RetConv}
 use Rattle.mh_convert.specs.declared.conv.RetConv.TheVariants as ret
 use Rattle.mh_convert.specs.Conversion.{can, conv, default_of}
+use Rattle.mh_leaf.specs.LeafTable.{LeafTable}
+use Rattle.mh_leaf.specs.Outcome.{leaf_mean}
 use Rattle.mh_form.specs.declared.slot.Slot.{Slot}
 use Rattle.mh_form.specs.declared.slot.Slot.TheVariants as slot
-use Rattle.mh_form.specs.Erasure.{erased, typed, all_typed}
+use Rattle.mh_form.specs.Erasure.{erased, erased_ran, typed, all_typed}
 
 -- the number is 1
 abbrev pub is_one : ℤ → Bool
@@ -36,6 +40,12 @@ none_as_zero (Some s) = s
 -- a run that fills a slot, also where it gives nothing
 abbrev pub filled : Ran (Option Slot) → Ran Slot
 filled r = mapped none_as_zero r
+
+-- a leaf of the table on slots that are the erasures of values of its types
+abbrev pub called : LeafTable → LeafId → List Slot → ℕ → Ran (Option Slot)
+called table l slots n =
+    found (slice_get table.leaves l.0) (λ leaf.
+    found (all_typed table.classes leaf.ty.params slots) (λ args. erased_ran (leaf_mean table l args n)))
 
 -- a value or an exception, without leaf calls
 abbrev pub slot_or_throw : Result Value Exc → Ran Slot
@@ -62,7 +72,7 @@ is_caught classes c e = is_subclass classes e.class c
 -- the array of these slots, each the erasure of an item
 abbrev pub made_array : List Class → Comp → List Slot → Ran Slot
 made_array classes c slots =
-    found (all_typed classes (map (λ s. item_type c) slots) slots) (λ vs. slot_or_throw (array_of c vs))
+    found (all_typed classes (map (λ s. type_of_component c) slots) slots) (λ vs. slot_or_throw (array_of c vs))
 
 -- the items of an array in a slot from which so many are wanted, erased
 abbrev pub spread_slots : ℕ → Slot → Ran (List Slot)
