@@ -1,0 +1,149 @@
+-- What a tree does with arguments of its types: a result or an exception, with the leaf calls that it makes in order.
+use Rattle.std.specs.Prelude.{ℕ, ◌-◌, Bool, true, false, List, [], ◌∷◌, ◌++◌, length, take, drop, if◌then◌else◌, Option, Some, slice_get, option_to_list, Result, Ok, Err}
+use Rattle.mh_values.specs.declared.class.Class.{Class}
+use Rattle.mh_values.specs.declared.class.ClassId.{ClassId}
+use Rattle.mh_values.specs.declared.types.Ty.{Ty}
+use Rattle.mh_values.specs.declared.types.MethodTy.{MethodTy}
+use Rattle.mh_values.specs.declared.value.Exc.{Exc}
+use Rattle.mh_values.specs.declared.value.Num.TheVariants as num
+use Rattle.mh_values.specs.declared.value.Value.{Value}
+use Rattle.mh_values.specs.declared.value.Value.TheVariants as value
+use Rattle.mh_values.specs.Array.{array_of, spread_values}
+use Rattle.mh_values.specs.Class.{is_subclass, class_cast_class, null_pointer_class}
+use Rattle.mh_values.specs.Computation.{Ran, Gave, Threw, Stuck, and_then, guarded, found, spliced}
+use Rattle.mh_values.specs.Exception.{bare}
+use Rattle.mh_values.specs.Same.{is_same_method_type}
+use Rattle.mh_convert.specs.Conversion.{conv, fit, ret_conversion_of, ret_conv}
+use Rattle.mh_leaf.specs.LeafTable.{LeafTable}
+use Rattle.mh_leaf.specs.Outcome.{leaf_mean}
+use Rattle.mh_tree.specs.Tree.{Tree}
+use Rattle.mh_tree.specs.Tree as tree
+use Rattle.mh_tree.specs.Rows.{Checked, component_of, mismatch}
+use Rattle.mh_tree.specs.Typing.{type_of, arity}
+
+-- how a call of a tree ends, nothing being returned where its return type is void
+abbrev pub Done : Type 0
+Done = Ran (Option Value)
+
+-- goes on with a type that is known
+abbrev pub known : {A : Type 0} → Checked → (MethodTy → Ran A) → Ran A
+known (Ok t) next = next t
+known (Err e) next = Stuck
+
+-- goes on with a value, or throws
+abbrev pub or_throw : {A B : Type 0} → Result A Exc → (A → Ran B) → Ran B
+or_throw (Ok a) next = next a
+or_throw (Err e) next = Threw e []
+
+-- goes on with a value that fits
+abbrev pub fitted : {A : Type 0} → Result Value Exc → (Value → Ran A) → Ran A
+fitted (Ok v) next = next v
+fitted (Err e) next = Stuck
+
+-- gives a value
+abbrev pub giving : Value → Done
+giving v = Gave (Some v) []
+
+-- throws a value: null and what is no exception throw exceptions of their own
+abbrev pub thrown : Value → Done
+thrown (value.Thrown e) = Threw e []
+thrown value.Null = Threw (bare null_pointer_class) []
+thrown v = Threw (bare class_cast_class) []
+
+-- the items of a list at these places
+abbrev pub picked : {A : Type 0} → List A → List ℕ → List A
+picked xs [] = []
+picked xs (i ∷ places) = option_to_list (slice_get xs i) ++ picked xs places
+
+-- the arguments of a part, so many, from a place on
+abbrev pub part_of : {A : Type 0} → ℕ → ℕ → List A → List A
+part_of place count args = take count (drop place args)
+
+-- a value in front of values, where none throws
+abbrev pub value_and_more : Value → Result (List Value) Exc → Result (List Value) Exc
+value_and_more v (Ok vs) = Ok (v ∷ vs)
+value_and_more v (Err e) = Err e
+
+-- a converted value, and then the others; the first exception ends
+abbrev pub then_others : Result Value Exc → Result (List Value) Exc → Result (List Value) Exc
+then_others (Ok v) others = value_and_more v others
+then_others (Err e) others = Err e
+
+-- arguments converted from left to right
+abbrev pub conv_all : List Class → List Ty → List Ty → List Value → Result (List Value) Exc
+conv_all classes (s ∷ ss) (t ∷ ts) (v ∷ vs) = then_others (conv classes s t v) (conv_all classes ss ts vs)
+conv_all classes _ _ _ = Ok []
+
+-- a result converted to what is asked for
+abbrev pub conv_result : List Class → Option Ty → Option Ty → Option Value → Done
+conv_result classes s t r = found (ret_conversion_of classes s t) (λ c. or_throw (ret_conv classes c r) (λ v. Gave v []))
+
+-- one of two calls, by the boolean that a test gave
+abbrev pub decided : Option Value → Done → Done → Done
+decided (Some (value.Prim (num.Z true))) a b = a
+decided (Some (value.Prim (num.Z false))) a b = b
+decided _ a b = Stuck
+
+-- an exception of the class or of one below it
+abbrev pub is_caught : List Class → ClassId → Exc → Bool
+is_caught classes class e = is_subclass classes e.class class
+
+-- what a tree does with these arguments, where n leaf calls were made before
+abbrev pub mean : LeafTable → Tree → List Value → ℕ → Done
+mean table (tree.Leaf l) args n = leaf_mean table l args n
+mean table (tree.Constant t v) args n = found t (λ r. fitted (fit table.classes v r) giving)
+mean table (tree.Identity t) args n = found (slice_get args 0) giving
+mean table (tree.Throw ret class) args n = found (slice_get args 0) thrown
+mean table (tree.Bind t place v) args n =
+    known (type_of table t) (λ ty. found (slice_get ty.params place) (λ p. fitted (fit table.classes v p) (λ w.
+    mean table t (spliced place 0 (w ∷ []) args) n)))
+mean table (tree.Drop t place types) args n = mean table t (spliced place (length types) [] args) n
+mean table (tree.Permute t asked reorder) args n = mean table t (picked args reorder) n
+mean table (tree.FilterArg t place f) args n =
+    and_then (mean table f (part_of place 1 args) n) n (λ r k. mean table t (spliced place 1 (option_to_list r) args) k)
+mean table (tree.FilterRet t f) args n = and_then (mean table t args n) n (λ r k. mean table f (option_to_list r) k)
+mean table (tree.Fold t place c) args n =
+    and_then (mean table c (part_of place (arity table c) args) n) n (λ r k. mean table t (spliced place 0 (option_to_list r) args) k)
+mean table (tree.Collect t place f) args n =
+    and_then (mean table f (part_of place (arity table f) args) n) n
+    (λ r k. mean table t (spliced place (arity table f) (option_to_list r) args) k)
+mean table (tree.Spread t array count) args n =
+    found (slice_get args (arity table t - count)) (λ v.
+    and_then (spread_values count v) n (λ items k. mean table t (spliced (arity table t - count) 1 items args) k))
+mean table (tree.Gather t array count) args n =
+    found (component_of array) (λ c.
+    or_throw (array_of c (part_of (arity table t - 1) count args)) (λ v.
+    mean table t (spliced (arity table t - 1) count (v ∷ []) args) n))
+mean table (tree.AsType t asked) args n =
+    known (type_of table t) (λ ty.
+    or_throw (conv_all table.classes asked.params ty.params args) (λ converted.
+    and_then (mean table t converted n) n (λ r k. conv_result table.classes ty.ret asked.ret r)))
+mean table (tree.Guard c t e) args n =
+    and_then (mean table c (take (arity table c) args) n) n (λ r k. decided r (mean table t args k) (mean table e args k))
+mean table (tree.Catch t class h) args n =
+    guarded (mean table t args n) (is_caught table.classes class) n
+    (λ e k. mean table h (value.Thrown e ∷ take (arity table h - 1) args) k)
+
+-- a call by a type, at a tree of another one
+abbrev pub exact_at : LeafTable → Tree → MethodTy → MethodTy → List Value → ℕ → Done
+exact_at table t ty asked args n =
+    if is_same_method_type ty asked then mean table t args n else Threw (mismatch table.classes ty asked) []
+
+-- a call by a type that must be the tree's (`MethodHandle.invokeExact`)
+abbrev pub exact : LeafTable → Tree → MethodTy → List Value → ℕ → Done
+exact table t asked args n = known (type_of table t) (λ ty. exact_at table t ty asked args n)
+
+-- a call of what may have no type
+abbrev pub unless_refused : Checked → Done → Done
+unless_refused (Ok t) run = run
+unless_refused (Err e) run = Threw e []
+
+-- a call by a type as which the tree is used (`MethodHandle.invoke`)
+abbrev pub generic_at : LeafTable → Tree → MethodTy → MethodTy → List Value → ℕ → Done
+generic_at table t ty asked args n =
+    if is_same_method_type ty asked then mean table t args n
+    else unless_refused (type_of table (tree.AsType t asked)) (mean table (tree.AsType t asked) args n)
+
+-- a call by a type as which the tree is used (`MethodHandle.invoke`)
+abbrev pub generic : LeafTable → Tree → MethodTy → List Value → ℕ → Done
+generic table t asked args n = known (type_of table t) (λ ty. generic_at table t ty asked args n)

@@ -1,0 +1,208 @@
+-- For each combinator, the type that it makes of the types of its parts, or the exception with which it is refused.
+use Rattle.std.specs.Prelude.{ℕ, ◌+◌, ◌-◌, ◌==◌, nat_lt, nat_le, Bool, true, false, ◌&&◌, List, [], ◌∷◌, ◌++◌, length, drop, replicate, codes, Option, Some, None, is_some, option_to_list, slice_get, Result, Ok, Err}
+use Rattle.std.specs.List.{list_all}
+use Rattle.mh_values.specs.declared.class.Class.{Class}
+use Rattle.mh_values.specs.declared.class.ClassId.{ClassId}
+use Rattle.mh_values.specs.declared.types.Comp.{Comp}
+use Rattle.mh_values.specs.declared.types.Ty.{Ty}
+use Rattle.mh_values.specs.declared.types.Ty.TheVariants as ty
+use Rattle.mh_values.specs.declared.types.MethodTy.{MethodTy}
+use Rattle.mh_values.specs.declared.value.Exc.{Exc}
+use Rattle.mh_values.specs.declared.value.Value.{Value}
+use Rattle.mh_values.specs.Array.{item_type}
+use Rattle.mh_values.specs.Class.{is_subclass, throwable_class, illegal_argument_class, internal_error_class, wrong_method_type_class}
+use Rattle.mh_values.specs.Computation.{spliced}
+use Rattle.mh_values.specs.Exception.{saying, bare, with_message}
+use Rattle.mh_values.specs.HasType.{is_type_below}
+use Rattle.mh_values.specs.Same.{is_same_type, is_same_return, are_same_types, begins_with_types, is_same_method_type}
+use Rattle.mh_values.specs.Slots.{slots_of_all}
+use Rattle.mh_values.specs.TypeText.{method_type_text}
+use Rattle.mh_convert.specs.Conversion.{can, fit, ret_conversion_of}
+use Rattle.mh_leaf.specs.declared.leaf.Leaf.{Leaf}
+use Rattle.mh_leaf.specs.Outcome.{boolean_type}
+
+-- a type, or the exception of a refusal
+abbrev pub Checked : Type 0
+Checked = Result MethodTy Exc
+
+-- an IllegalArgumentException with a word as its message
+abbrev pub illegal : List ℕ → Exc
+illegal word = saying illegal_argument_class word
+
+-- goes on where the condition holds, and is refused where it does not
+abbrev pub provided : Bool → Exc → Checked → Checked
+provided true e next = next
+provided false e next = Err e
+
+-- goes on with what is there, and is refused where nothing is
+abbrev pub provided_some : {A : Type 0} → Option A → Exc → (A → Checked) → Checked
+provided_some (Some a) e next = next a
+provided_some None e next = Err e
+
+-- goes on where the value fits, and is refused with the fit's exception under the combinator's word where it does not
+abbrev pub provided_fit : Result Value Exc → List ℕ → Checked → Checked
+provided_fit (Ok v) word next = next
+provided_fit (Err e) word next = Err (with_message word e)
+
+-- a type within the limits: at most 254 slots, and a weight of at most 256
+abbrev pub limited : List ℕ → ℕ → MethodTy → Checked
+limited word weight t =
+    provided (nat_le (slots_of_all t.params) 254) (illegal word)
+    (provided (nat_le weight 256) (saying internal_error_class (codes "weight")) (Ok t))
+
+-- the same type with other parameters
+abbrev pub taking : List Ty → MethodTy → MethodTy
+taking params t = record { params = params; ret = t.ret }
+
+-- how many arguments the result of a part takes the place of: one, or none where it is void
+abbrev pub count_of : Option Ty → ℕ
+count_of ret = length (option_to_list ret)
+
+-- the result of a part serves as the parameter at a place; a void part may stand in front of any parameter and behind the last
+abbrev pub gives_at : Option Ty → ℕ → List Ty → Bool
+gives_at None place params = nat_le place (length params)
+gives_at (Some r) place params = is_same_return (slice_get params place) (Some r)
+
+-- the component of an array type
+abbrev pub component_of : Option Ty → Option Comp
+component_of (Some (ty.Array c)) = Some c
+component_of _ = None
+
+-- a parameter to which an array of the component can be passed
+abbrev pub takes_array : List Class → Comp → Option Ty → Bool
+takes_array classes c None = false
+takes_array classes c (Some t) = is_type_below classes (ty.Array c) t
+
+-- a leaf has the type with which it is registered
+abbrev pub leaf_row : Option Leaf → Checked
+leaf_row (Some leaf) = Ok leaf.ty
+leaf_row None = Err (bare illegal_argument_class)
+
+-- a constant takes nothing and gives a value that fits its type, which is not void
+abbrev pub constant_row : List Class → Option Ty → Value → Checked
+constant_row classes t v =
+    provided_some t (illegal (codes "constant")) (λ r.
+    provided_fit (fit classes v r) (codes "constant") (limited (codes "constant") 1 (record { params = []; ret = Some r })))
+
+-- an identity takes a value and gives it, so its type is not void
+abbrev pub identity_row : Option Ty → Checked
+identity_row t =
+    provided_some t (illegal (codes "identity")) (λ r. limited (codes "identity") 1 (record { params = r ∷ []; ret = Some r }))
+
+-- what throws takes an exception, of a class at or below Throwable, and may have any return type
+abbrev pub throw_row : List Class → Option Ty → ClassId → Checked
+throw_row classes ret class =
+    provided (is_subclass classes class throwable_class) (illegal (codes "throw"))
+    (limited (codes "throw") 1 (record { params = ty.Class class ∷ []; ret = ret }))
+
+-- Bind takes out a parameter, which the value fits
+abbrev pub bind_row : List Class → MethodTy → ℕ → ℕ → Value → Checked
+bind_row classes t weight place v =
+    provided_some (slice_get t.params place) (illegal (codes "bind")) (λ p.
+    provided_fit (fit classes v p) (codes "bind") (limited (codes "bind") (1 + weight) (taking (spliced place 1 [] t.params) t)))
+
+-- Drop puts in parameters
+abbrev pub drop_row : MethodTy → ℕ → ℕ → List Ty → Checked
+drop_row t weight place types =
+    provided (nat_le place (length t.params)) (illegal (codes "drop"))
+    (limited (codes "drop") (1 + weight) (taking (spliced place 0 types t.params) t))
+
+-- each number names a parameter of the type that is wanted there
+abbrev pub names_types : List Ty → List ℕ → List Ty → Bool
+names_types params [] [] = true
+names_types params (i ∷ reorder) (t ∷ types) = is_same_return (slice_get params i) (Some t) && names_types params reorder types
+names_types params _ _ = false
+
+-- Permute has the type that is asked for, whose named parameters are those of the part
+abbrev pub permute_row : MethodTy → ℕ → MethodTy → List ℕ → Checked
+permute_row t weight asked reorder =
+    provided (names_types asked.params reorder t.params && is_same_return asked.ret t.ret) (illegal (codes "permute"))
+    (limited (codes "permute") (1 + weight) asked)
+
+-- FilterArg takes what the filter takes, in the place of the parameter for which the filter gives a value
+abbrev pub filter_row : MethodTy → ℕ → ℕ → MethodTy → ℕ → Checked
+filter_row t weight place f f_weight =
+    provided (length f.params == 1 && is_some f.ret && gives_at f.ret place t.params) (illegal (codes "filter"))
+    (limited (codes "filter") (1 + weight + f_weight) (taking (spliced place 1 f.params t.params) t))
+
+-- FilterRet returns what the filter makes of the result, if there is one
+abbrev pub filterret_row : MethodTy → ℕ → MethodTy → ℕ → Checked
+filterret_row t weight f f_weight =
+    provided (are_same_types f.params (option_to_list t.ret)) (illegal (codes "filterret"))
+    (limited (codes "filterret") (1 + weight + f_weight) (record { params = t.params; ret = f.ret }))
+
+-- the parameters of a fold: without the one for which the combiner gives a value
+abbrev pub folded : MethodTy → ℕ → MethodTy → List Ty
+folded t place c = spliced place (count_of c.ret) [] t.params
+
+-- Fold takes out the parameter that the combiner computes of those that follow
+abbrev pub fold_row : MethodTy → ℕ → ℕ → MethodTy → ℕ → Checked
+fold_row t weight place c c_weight =
+    provided (gives_at c.ret place t.params && begins_with_types (drop place (folded t place c)) c.params) (illegal (codes "fold"))
+    (limited (codes "fold") (1 + weight + c_weight) (taking (folded t place c) t))
+
+-- Collect takes what the filter takes, in the place of the parameter for which the filter gives a value, if it gives one
+abbrev pub collect_row : MethodTy → ℕ → ℕ → MethodTy → ℕ → Checked
+collect_row t weight place f f_weight =
+    provided (gives_at f.ret place t.params) (illegal (codes "collect"))
+    (limited (codes "collect") (1 + weight + f_weight) (taking (spliced place (count_of f.ret) f.params t.params) t))
+
+-- the last parameters, so many, are all of one type
+abbrev pub ends_with : List Ty → ℕ → Ty → Bool
+ends_with params count t = nat_le count (length params) && list_all (λ p. is_same_type p t) (drop (length params - count) params)
+
+-- Spread takes an array in the place of the last parameters, which have its component's type
+abbrev pub spread_row : MethodTy → ℕ → Option Ty → ℕ → Checked
+spread_row t weight array count =
+    provided_some (component_of array) (illegal (codes "spread")) (λ c.
+    provided (ends_with t.params count (item_type c)) (illegal (codes "spread"))
+    (limited (codes "spread") (1 + weight) (taking (spliced (length t.params - count) count (ty.Array c ∷ []) t.params) t)))
+
+-- Gather takes up to 254 items in the place of the last parameter, to which their array is passed
+abbrev pub gather_row : List Class → MethodTy → ℕ → Option Ty → ℕ → Checked
+gather_row classes t weight array count =
+    provided_some (component_of array) (illegal (codes "gather")) (λ c.
+    provided (nat_lt 0 (length t.params) && takes_array classes c (slice_get t.params (length t.params - 1)) && nat_lt count 255)
+    (illegal (codes "gather"))
+    (limited (codes "gather") (1 + weight) (taking (spliced (length t.params - 1) 1 (replicate count (item_type c)) t.params) t)))
+
+-- each of these types may be converted to the other list's type at its place
+abbrev pub can_all : List Class → List Ty → List Ty → Bool
+can_all classes [] [] = true
+can_all classes (s ∷ ss) (t ∷ ts) = can classes s t && can_all classes ss ts
+can_all classes _ _ = false
+
+-- a method type may be used as another one: its arguments are converted to what it takes, and its result to what is asked for
+abbrev pub can_be_used_as : List Class → MethodTy → MethodTy → Bool
+can_be_used_as classes t asked = can_all classes asked.params t.params && is_some (ret_conversion_of classes t.ret asked.ret)
+
+-- the exception of two types that do not agree
+abbrev pub mismatch : List Class → MethodTy → MethodTy → Exc
+mismatch classes t asked =
+    saying wrong_method_type_class (codes "have " ++ method_type_text classes t ++ codes " want " ++ method_type_text classes asked)
+
+-- AsType has the type that is asked for, where the part may be used as it
+abbrev pub astype_row : List Class → MethodTy → ℕ → MethodTy → Checked
+astype_row classes t weight asked =
+    provided (can_be_used_as classes t asked) (mismatch classes t asked) (limited (codes "astype") (1 + weight) asked)
+
+-- Guard has the type of both branches; the test gives a boolean, and takes the first parameters of that type
+abbrev pub guard_row : MethodTy → ℕ → MethodTy → ℕ → MethodTy → ℕ → Checked
+guard_row c c_weight t weight e e_weight =
+    provided (is_same_method_type e t && is_same_return c.ret (Some boolean_type) && begins_with_types t.params c.params) (illegal (codes "guard"))
+    (limited (codes "guard") (1 + c_weight + weight + e_weight) t)
+
+-- the first parameter takes an exception of the class, and the others are the first of a list
+abbrev pub takes_exception : List Class → ClassId → List Ty → List Ty → Bool
+takes_exception classes class [] types = false
+takes_exception classes class (first ∷ others) types = is_type_below classes (ty.Class class) first && begins_with_types types others
+
+-- a handler takes an exception of the class, then the first parameters of the target, and returns what it returns
+abbrev pub handles : List Class → ClassId → MethodTy → MethodTy → Bool
+handles classes class h t = takes_exception classes class h.params t.params && is_same_return h.ret t.ret
+
+-- Catch has the type of its target; the class is at or below Throwable, and the handler takes its exceptions
+abbrev pub catch_row : List Class → MethodTy → ℕ → ClassId → MethodTy → ℕ → Checked
+catch_row classes t weight class h h_weight =
+    provided (is_subclass classes class throwable_class && handles classes class h t) (illegal (codes "catch"))
+    (limited (codes "catch") (1 + weight + h_weight) t)
