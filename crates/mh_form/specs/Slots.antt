@@ -7,11 +7,10 @@ use Rattle.mh_values.specs.declared.value.Exc.{Exc}
 use Rattle.mh_values.specs.declared.value.LeafId.{LeafId}
 use Rattle.mh_values.specs.declared.value.Value.{Value}
 use Rattle.mh_values.specs.declared.value.Value.TheVariants as value
-use Rattle.mh_values.specs.Array.{array_of, spread_values, values_of_array}
+use Rattle.mh_values.specs.Array.{array_of, item_type, spread_values, values_of_array}
 use Rattle.mh_values.specs.Class.{is_subclass, null_pointer_class, class_cast_class}
 use Rattle.mh_values.specs.Computation.{Ran, Gave, Threw, Stuck, found, mapped}
 use Rattle.mh_values.specs.Exception.{bare}
-use Rattle.mh_values.specs.HasType.{type_of_component}
 use Rattle.mh_convert.specs.declared.conv.Conv.{Conv}
 use Rattle.mh_convert.specs.declared.conv.RetConv.{RetConv}
 use Rattle.mh_convert.specs.declared.conv.RetConv.TheVariants as ret
@@ -72,7 +71,7 @@ is_caught classes c e = is_subclass classes e.class c
 -- the array of these slots, each the erasure of an item
 abbrev pub made_array : List Class → Comp → List Slot → Ran Slot
 made_array classes c slots =
-    found (all_typed classes (map (λ s. type_of_component c) slots) slots) (λ vs. slot_or_throw (array_of c vs))
+    found (all_typed classes (map (λ s. item_type c) slots) slots) (λ vs. slot_or_throw (array_of c vs))
 
 -- the items of an array in a slot from which so many are wanted, erased
 abbrev pub spread_slots : ℕ → Slot → Ran (List Slot)

@@ -1,6 +1,9 @@
 -- Arrays: their items as values, and values as items.
 use Rattle.std.specs.Prelude.{ℕ, ◌==◌, List, [], ◌∷◌, codes, length, map, Option, None, Some, Result, Ok, Err, if◌then◌else◌}
 use Rattle.mh_values.specs.declared.types.Comp.{Comp}
+use Rattle.mh_values.specs.declared.types.Comp.TheVariants as comp
+use Rattle.mh_values.specs.declared.types.Ty.{Ty}
+use Rattle.mh_values.specs.declared.types.Ty.TheVariants as ty
 use Rattle.mh_values.specs.declared.value.Cell.{Cell}
 use Rattle.mh_values.specs.declared.value.Cell.TheVariants as cell
 use Rattle.mh_values.specs.declared.value.Exc.{Exc}
@@ -59,3 +62,8 @@ spread_values n value.Null = if n == 0 then Gave [] [] else Threw (bare null_poi
 spread_values n (value.Array c items) =
     if length items == n then Gave (map value_of_item items) [] else Threw (saying illegal_argument_class (codes "spread")) []
 spread_values n v = Stuck
+
+-- the type of an array's items
+abbrev pub item_type : Comp → Ty
+item_type (comp.Prim p) = ty.Prim p
+item_type (comp.Class c) = ty.Class c
