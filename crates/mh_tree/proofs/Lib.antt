@@ -1,0 +1,3 @@
+pub mod Host
+mod WorkedAdapters
+mod WorkedBranches
