@@ -1,0 +1,130 @@
+-- The characters that are found are those that the bytes spell, and a half is refused just where it is alone.
+use Rattle.std.proofs.Common.{◌≡◌, ℕ, zero, suc, ◌+◌, ◌-◌, ◌*◌, ◌/◌, ◌%◌, ◌^◌, ◌<◌, ◌≤◌, Bool, true, false, ◌&&◌, cond, ltb, leb, List, [], ◌∷◌, ◌++◌, length, take, drop, Result, Ok, Err, refl, sym, ap, subst, ◌∙◌, append_assoc, take-add, arith}
+use Rattle.std.proofs.lemmas.Bool.Decides.{nat_tests}
+use Rattle.std.proofs.lemmas.List.{append-nil, append_cancel_left, length-append, take_at, drop_at, drop-drop}
+use Rattle.std.proofs.lemmas.List.Concat.{flat_map-cons}
+use Rattle.std.specs.List.{flat_map}
+use Rattle.mh_class_bytes.specs.Mutf8.{AreUnits, unit_bytes, unit_len}
+use Rattle.mh_class_bytes.specs.Chars.{unit_value, units_from, is_high, is_low, is_half, joined, units_of, spelled, IsLoneAt, behind, chars_from, chars_of}
+use Rattle.mh_class_bytes.proofs.Texts.{whole_text, unit_bytes-some}
+use Rattle.mh_class_bytes.proofs.Units.{IsSound, units_in-spelled, value-spelled}
+use Rattle.mh_class_bytes.proofs.FirstChar.{long_half, high_low}
+
+-- ---- the units of a character
+
+units_of-joined : (u v : ℕ) → (is_high u && is_low v) ≡ true → units_of (joined u v) ≡ u ∷ v ∷ []
+units_of-joined u v h =
+    let u1 : 0xD800 ≤ u = grind (arith, nat_tests) in
+    let u2 : u < 0xDC00 = grind (arith, nat_tests) in
+    let v1 : 0xDC00 ≤ v = grind (arith, nat_tests) in
+    let v2 : v < 0xE000 = grind (arith, nat_tests) in
+    let p = u - 0xD800 in
+    let q = v - 0xDC00 in
+    let big : ltb (0x10000 + 1024 * p + q) 0x10000 ≡ false = grind (arith, nat_tests) in
+    let over : (0x10000 + 1024 * p + q) - 0x10000 ≡ 1024 * p + q = omega arith in
+    let d : (1024 * p + q) / 1024 ≡ p = omega arith in
+    let m : (1024 * p + q) % 1024 ≡ q = omega arith in
+    let pu : 0xD800 + p ≡ u = omega arith in
+    let qv : 0xDC00 + q ≡ v = omega arith in
+    rw (big, over, d, m, pu, qv) refl
+
+units_of-small : (u : ℕ) → u < 2 ^ 16 → units_of u ≡ u ∷ []
+units_of-small u h = let small : ltb u 0x10000 ≡ true = grind (arith, nat_tests) in rw small refl
+
+abbrev char_bytes : ℕ → List ℕ
+char_bytes c = flat_map unit_bytes (units_of c)
+
+char_bytes-small : (u : ℕ) → u < 2 ^ 16 → char_bytes u ≡ unit_bytes u
+char_bytes-small u h = ap (flat_map unit_bytes) (units_of-small u h) ∙ flat_map-cons unit_bytes u [] ∙ append-nil (unit_bytes u)
+
+char_bytes-joined : (u v : ℕ) → (is_high u && is_low v) ≡ true → char_bytes (joined u v) ≡ unit_bytes u ++ unit_bytes v
+char_bytes-joined u v h = ap (flat_map unit_bytes) (units_of-joined u v h) ∙ flat_map-cons unit_bytes u (v ∷ []) ∙ ap (λ (x : List ℕ). unit_bytes u ++ x) (flat_map-cons unit_bytes v [] ∙ append-nil (unit_bytes v))
+
+-- ---- what is found
+
+-- what a search from a place finds of the bytes of units
+abbrev Finds : ℕ → List ℕ → Result (List ℕ) ℕ → Type 0
+Finds at bytes (Ok cs) = bytes ≡ spelled cs
+Finds at bytes (Err place) = (k : ℕ) × (place ≡ at + k) × IsLoneAt bytes k
+
+-- behind a character
+after_char : (at n c : ℕ) (bytes : List ℕ) (r : Result (List ℕ) ℕ) → length (char_bytes c) ≡ n → Finds (at + n) bytes r → Finds at (char_bytes c ++ bytes) (behind (c ∷ []) r)
+after_char at n c bytes (Ok cs) len f = ap (λ (x : List ℕ). char_bytes c ++ x) f ∙ sym (flat_map-cons char_bytes c cs)
+after_char at n c bytes (Err place) len f =
+    let l = f.2 in (
+      n + f.0,
+      omega (arith, f.1),
+      record {
+        chars = c ∷ l.chars;
+        before = take-both n (char_bytes c) bytes f.0 len ∙ ap (λ (x : List ℕ). char_bytes c ++ x) l.before ∙ sym (flat_map-cons char_bytes c l.chars);
+        half = l.half;
+        rest = l.rest;
+        is_half = l.is_half;
+        here = drop-both n (char_bytes c) bytes f.0 len ∙ l.here;
+        alone = l.alone;
+      },
+    )
+  where
+    take-both : (n : ℕ) (front rest : List ℕ) (k : ℕ) → length front ≡ n → take (n + k) (front ++ rest) ≡ front ++ take k rest
+    take-both n front rest k e = take-add n k (front ++ rest) ∙ ap (λ (x : List ℕ). x ++ take k (drop n (front ++ rest))) (take_at front rest n e) ∙ ap (λ (x : List ℕ). front ++ take k x) (drop_at front rest n e)
+
+    drop-both : (n : ℕ) (front rest : List ℕ) (k : ℕ) → length front ≡ n → drop (n + k) (front ++ rest) ≡ drop k rest
+    drop-both n front rest k e = sym (drop-drop k n (front ++ rest)) ∙ ap (drop k) (drop_at front rest n e)
+
+half_range : (u : ℕ) → is_half u ≡ true → (0xD800 ≤ u) × (u < 0xE000)
+half_range u h = (grind (arith, nat_tests), grind (arith, nat_tests))
+
+-- a half by itself
+lone : (at u : ℕ) (rest : List ℕ) → is_half u ≡ true → ((low : ℕ) (more : List ℕ) → is_high u ≡ true → is_low low ≡ true → ¬ (rest ≡ unit_bytes low ++ more)) → Finds at (unit_bytes u ++ rest) (Err at)
+lone at u rest h alone = (0, omega arith, record { chars = []; before = refl; half = u; rest = rest; is_half = half_range u h; here = refl; alone = alone })
+
+low_small : (v : ℕ) → is_low v ≡ true → v < 2 ^ 16
+low_small v h = grind (arith, nat_tests)
+
+-- Two units whose spellings begin the same bytes are one.
+same_unit : (v w : ℕ) (a b : List ℕ) → v < 2 ^ 16 → w < 2 ^ 16 → unit_bytes v ++ a ≡ unit_bytes w ++ b → v ≡ w
+same_unit v w a b hv hw e = sym (value-spelled v a hv) ∙ ap (λ (x : List ℕ). unit_value (unit_len x) x) e ∙ value-spelled w b hw
+
+not_a_pair : (u v low : ℕ) → (is_high u && is_low v) ≡ false → is_high u ≡ true → is_low low ≡ true → ¬ (v ≡ low)
+not_a_pair u v low no hu hl e = absurd (go (is_high u) (is_low v) hu (ap is_low e ∙ hl) no)
+  where
+    go : (a b : Bool) → a ≡ true → b ≡ true → (a && b) ≡ false → ⊥
+    go true true p q r = absurd cc
+    go true false p q r = absurd cc
+    go false b p q r = absurd cc
+
+pub found : (at : ℕ) (units : List ℕ) → AreUnits units → Finds at (flat_map unit_bytes units) (chars_from at units)
+unfolding chars_from
+found at [] h = refl
+found at (u ∷ []) h = go (is_half u) refl
+  where
+    go : (t : Bool) → is_half u ≡ t → Finds at (flat_map unit_bytes (u ∷ [])) (cond t (Err at) (Ok (u ∷ [])))
+    go true e = rw flat_map-cons (lone at u [] e (λ low more hu hl same. absurd (omega (arith, ap length same, length-append (unit_bytes low) more, unit_bytes-some low))))
+    go false e = flat_map-cons unit_bytes u [] ∙ ap (λ (x : List ℕ). x ++ []) (sym (char_bytes-small u h.0)) ∙ sym (flat_map-cons char_bytes u [])
+found at (u ∷ v ∷ units) h = first (is_high u && is_low v) refl
+  where
+    second : (t : Bool) → is_half u ≡ t → (is_high u && is_low v) ≡ false → Finds at (unit_bytes u ++ flat_map unit_bytes (v ∷ units)) (cond t (Err at) (behind (u ∷ []) (chars_from (at + length (unit_bytes u)) (v ∷ units))))
+    second true e no = lone at u (flat_map unit_bytes (v ∷ units)) e (λ low more hu hl same. not_a_pair u v low no hu hl (same_unit v low (flat_map unit_bytes units) more h.1.0 (low_small low hl) (sym (flat_map-cons unit_bytes v units) ∙ same)))
+    second false e no =
+        let b = char_bytes-small u h.0 in
+        let next = after_char at (length (unit_bytes u)) u (flat_map unit_bytes (v ∷ units)) (chars_from (at + length (unit_bytes u)) (v ∷ units)) (ap length b) (found (at + length (unit_bytes u)) (v ∷ units) h.1) in
+        subst (λ (x : List ℕ). Finds at (x ++ flat_map unit_bytes (v ∷ units)) (behind (u ∷ []) (chars_from (at + length (unit_bytes u)) (v ∷ units)))) b next
+
+    first : (t : Bool) → (is_high u && is_low v) ≡ t → Finds at (flat_map unit_bytes (u ∷ v ∷ units)) (cond t (behind (joined u v ∷ []) (chars_from (at + 6) units)) (cond (is_half u) (Err at) (behind (u ∷ []) (chars_from (at + length (unit_bytes u)) (v ∷ units)))))
+    first true e =
+        let b = char_bytes-joined u v e in
+        let hl = high_low u v e in
+        let len : length (char_bytes (joined u v)) ≡ 6 = omega (arith, ap length b, length-append (unit_bytes u) (unit_bytes v), long_half u hl.0, long_half v hl.1) in
+        let next = after_char at 6 (joined u v) (flat_map unit_bytes units) (chars_from (at + 6) units) len (found (at + 6) units h.1.1) in
+        let whole : char_bytes (joined u v) ++ flat_map unit_bytes units ≡ flat_map unit_bytes (u ∷ v ∷ units) =
+        ap (λ (x : List ℕ). x ++ flat_map unit_bytes units) b ∙ append_assoc (unit_bytes u) (unit_bytes v) (flat_map unit_bytes units)
+        ∙ ap (λ (x : List ℕ). unit_bytes u ++ x) (sym (flat_map-cons unit_bytes v units)) ∙ sym (flat_map-cons unit_bytes u (v ∷ units)) in
+        subst (λ (x : List ℕ). Finds at x (behind (joined u v ∷ []) (chars_from (at + 6) units))) whole next
+    first false e = rw flat_map-cons (second (is_half u) refl e)
+
+-- What the search in a text finds.
+pub chars_law : (bytes : List ℕ) → IsSound bytes → Finds 0 bytes (chars_of bytes)
+chars_law bytes sound =
+    let t = whole_text bytes sound in
+    let units : units_from 0 bytes ≡ t.0 = ap (units_from 0) t.2 ∙ units_in-spelled t.0 t.1 in
+    rw units (subst (λ (x : List ℕ). Finds 0 x (chars_from 0 t.0)) (sym t.2) (found 0 t.0 t.1))

@@ -1,0 +1,11 @@
+pub mod UnitSpelling
+pub mod UnitLen
+pub mod SoundLen
+pub mod Texts
+pub mod FormatSound
+pub mod FormatComplete
+pub mod Repeated
+pub mod Units
+pub mod FirstChar
+pub mod CharLoops
+pub mod CharLaw

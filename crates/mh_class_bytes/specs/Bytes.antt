@@ -1,0 +1,31 @@
+-- Big-endian numbers and runs of bytes at a place (JVMS 4).
+use Rattle.std.specs.Prelude.{◌≡◌, ℕ, ◌+◌, ◌≤◌, List, length, take, drop, nat_lt, Result, Ok, Err, if◌then◌else◌}
+use Rattle.byteorder.specs.Endian.{big_number}
+use Rattle.mh_class_bytes.specs.Position.{Position}
+use Rattle.mh_class_bytes.specs.declared.cursor.Short.{Short}
+
+-- a value with the position behind it, or the place where it does not fit
+abbrev pub Found : Type 0 → Type 0
+Found X = Result (X × Position) Short
+
+-- the position n bytes on
+abbrev pub skip : ℕ → Position → Position
+skip n p = record { bytes = p.bytes; at = p.at + n }
+
+-- the next n bytes, where so many are left
+abbrev pub bytes_at : ℕ → Position → Found (List ℕ)
+bytes_at n p = if nat_lt (length p.bytes) (p.at + n) then Err (record { at = p.at }) else Ok (take n (drop p.at p.bytes), skip n p)
+
+-- the number in the next n bytes, the highest byte first
+abbrev pub number_at : ℕ → Position → Found ℕ
+number_at n p = if nat_lt (length p.bytes) (p.at + n) then Err (record { at = p.at }) else Ok (big_number n (drop p.at p.bytes), skip n p)
+
+-- a call on a cursor answered what stands at its old position; after a refusal the cursor is where it was
+abbrev pub Takes : {X Y : Type 0} → (X → Y) → Position → Result X Short → Position → Found Y → Type 0
+Takes view old (Ok x) new found = found ≡ Ok (view x, new)
+Takes view old (Err e) new found = (found ≡ Err e) × (new ≡ old)
+
+-- a cursor never goes back, nor over other bytes
+pub record Moves (old new : Position) : Type 0 where
+  pub bytes : new.bytes ≡ old.bytes
+  pub onward : old.at ≤ new.at
