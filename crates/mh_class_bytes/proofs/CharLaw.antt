@@ -86,41 +86,41 @@ same_unit : (v w : ℕ) (a b : List ℕ) → v < 2 ^ 16 → w < 2 ^ 16 → unit_
 same_unit v w a b hv hw e = sym (value-spelled v a hv) ∙ ap (λ (x : List ℕ). unit_value (unit_len x) x) e ∙ value-spelled w b hw
 
 not_a_pair : (u v low : ℕ) → (is_high u && is_low v) ≡ false → is_high u ≡ true → is_low low ≡ true → ¬ (v ≡ low)
-not_a_pair u v low no hu hl e = absurd (go (is_high u) (is_low v) hu (ap is_low e ∙ hl) no)
+not_a_pair u v low apart hu hl e = absurd (go (is_high u) (is_low v) hu (ap is_low e ∙ hl) apart)
   where
     go : (a b : Bool) → a ≡ true → b ≡ true → (a && b) ≡ false → ⊥
     go true true p q r = absurd cc
     go true false p q r = absurd cc
     go false b p q r = absurd cc
 
+found-last : (at u : ℕ) → u < 2 ^ 16 → (t : Bool) → is_half u ≡ t → Finds at (flat_map unit_bytes (u ∷ [])) (cond t (Err at) (Ok (u ∷ [])))
+found-last at u h true e = rw flat_map-cons (lone at u [] e (λ low more hu hl same. absurd (omega (arith, ap length same, length-append (unit_bytes low) more, unit_bytes-some low))))
+found-last at u h false e = flat_map-cons unit_bytes u [] ∙ ap (λ (x : List ℕ). x ++ []) (sym (char_bytes-small u h)) ∙ sym (flat_map-cons char_bytes u [])
+
+found-apart : (at u v : ℕ) (units : List ℕ) → u < 2 ^ 16 → v < 2 ^ 16 → (is_high u && is_low v) ≡ false → (r : Result (List ℕ) ℕ) → Finds (at + length (unit_bytes u)) (flat_map unit_bytes (v ∷ units)) r
+    → (t : Bool) → is_half u ≡ t → Finds at (unit_bytes u ++ flat_map unit_bytes (v ∷ units)) (cond t (Err at) (behind (u ∷ []) r))
+found-apart at u v units hu hv apart r f true e = lone at u (flat_map unit_bytes (v ∷ units)) e (λ low more high is_low same. not_a_pair u v low apart high is_low (same_unit v low (flat_map unit_bytes units) more hv (low_small low is_low) (sym (flat_map-cons unit_bytes v units) ∙ same)))
+found-apart at u v units hu hv apart r f false e =
+    let b = char_bytes-small u hu in
+    subst (λ (x : List ℕ). Finds at (x ++ flat_map unit_bytes (v ∷ units)) (behind (u ∷ []) r)) b (after_char at (length (unit_bytes u)) u (flat_map unit_bytes (v ∷ units)) r (ap length b) f)
+
+found-two : (at u v : ℕ) (units : List ℕ) → u < 2 ^ 16 → v < 2 ^ 16 → (r s : Result (List ℕ) ℕ) → Finds (at + 6) (flat_map unit_bytes units) s → Finds (at + length (unit_bytes u)) (flat_map unit_bytes (v ∷ units)) r
+    → (t : Bool) → (is_high u && is_low v) ≡ t → Finds at (flat_map unit_bytes (u ∷ v ∷ units)) (cond t (behind (joined u v ∷ []) s) (cond (is_half u) (Err at) (behind (u ∷ []) r)))
+found-two at u v units hu hv r s g f true e =
+    let b = char_bytes-joined u v e in
+    let hl = high_low u v e in
+    let len : length (char_bytes (joined u v)) ≡ 6 = omega (arith, ap length b, length-append (unit_bytes u) (unit_bytes v), long_half u hl.0, long_half v hl.1) in
+    let whole : char_bytes (joined u v) ++ flat_map unit_bytes units ≡ flat_map unit_bytes (u ∷ v ∷ units) =
+    ap (λ (x : List ℕ). x ++ flat_map unit_bytes units) b ∙ append_assoc (unit_bytes u) (unit_bytes v) (flat_map unit_bytes units)
+    ∙ ap (λ (x : List ℕ). unit_bytes u ++ x) (sym (flat_map-cons unit_bytes v units)) ∙ sym (flat_map-cons unit_bytes u (v ∷ units)) in
+    subst (λ (x : List ℕ). Finds at x (behind (joined u v ∷ []) s)) whole (after_char at 6 (joined u v) (flat_map unit_bytes units) s len g)
+found-two at u v units hu hv r s g f false e = subst (λ (x : List ℕ). Finds at x (cond (is_half u) (Err at) (behind (u ∷ []) r))) (sym (flat_map-cons unit_bytes u (v ∷ units))) (found-apart at u v units hu hv e r f (is_half u) refl)
+
 pub found : (at : ℕ) (units : List ℕ) → AreUnits units → Finds at (flat_map unit_bytes units) (chars_from at units)
 unfolding chars_from
 found at [] h = refl
-found at (u ∷ []) h = go (is_half u) refl
-  where
-    go : (t : Bool) → is_half u ≡ t → Finds at (flat_map unit_bytes (u ∷ [])) (cond t (Err at) (Ok (u ∷ [])))
-    go true e = rw flat_map-cons (lone at u [] e (λ low more hu hl same. absurd (omega (arith, ap length same, length-append (unit_bytes low) more, unit_bytes-some low))))
-    go false e = flat_map-cons unit_bytes u [] ∙ ap (λ (x : List ℕ). x ++ []) (sym (char_bytes-small u h.0)) ∙ sym (flat_map-cons char_bytes u [])
-found at (u ∷ v ∷ units) h = first (is_high u && is_low v) refl
-  where
-    second : (t : Bool) → is_half u ≡ t → (is_high u && is_low v) ≡ false → Finds at (unit_bytes u ++ flat_map unit_bytes (v ∷ units)) (cond t (Err at) (behind (u ∷ []) (chars_from (at + length (unit_bytes u)) (v ∷ units))))
-    second true e no = lone at u (flat_map unit_bytes (v ∷ units)) e (λ low more hu hl same. not_a_pair u v low no hu hl (same_unit v low (flat_map unit_bytes units) more h.1.0 (low_small low hl) (sym (flat_map-cons unit_bytes v units) ∙ same)))
-    second false e no =
-        let b = char_bytes-small u h.0 in
-        let next = after_char at (length (unit_bytes u)) u (flat_map unit_bytes (v ∷ units)) (chars_from (at + length (unit_bytes u)) (v ∷ units)) (ap length b) (found (at + length (unit_bytes u)) (v ∷ units) h.1) in
-        subst (λ (x : List ℕ). Finds at (x ++ flat_map unit_bytes (v ∷ units)) (behind (u ∷ []) (chars_from (at + length (unit_bytes u)) (v ∷ units)))) b next
-
-    first : (t : Bool) → (is_high u && is_low v) ≡ t → Finds at (flat_map unit_bytes (u ∷ v ∷ units)) (cond t (behind (joined u v ∷ []) (chars_from (at + 6) units)) (cond (is_half u) (Err at) (behind (u ∷ []) (chars_from (at + length (unit_bytes u)) (v ∷ units)))))
-    first true e =
-        let b = char_bytes-joined u v e in
-        let hl = high_low u v e in
-        let len : length (char_bytes (joined u v)) ≡ 6 = omega (arith, ap length b, length-append (unit_bytes u) (unit_bytes v), long_half u hl.0, long_half v hl.1) in
-        let next = after_char at 6 (joined u v) (flat_map unit_bytes units) (chars_from (at + 6) units) len (found (at + 6) units h.1.1) in
-        let whole : char_bytes (joined u v) ++ flat_map unit_bytes units ≡ flat_map unit_bytes (u ∷ v ∷ units) =
-        ap (λ (x : List ℕ). x ++ flat_map unit_bytes units) b ∙ append_assoc (unit_bytes u) (unit_bytes v) (flat_map unit_bytes units)
-        ∙ ap (λ (x : List ℕ). unit_bytes u ++ x) (sym (flat_map-cons unit_bytes v units)) ∙ sym (flat_map-cons unit_bytes u (v ∷ units)) in
-        subst (λ (x : List ℕ). Finds at x (behind (joined u v ∷ []) (chars_from (at + 6) units))) whole next
-    first false e = rw flat_map-cons (second (is_half u) refl e)
+found at (u ∷ []) h = found-last at u h.0 (is_half u) refl
+found at (u ∷ v ∷ units) h = found-two at u v units h.0 h.1.0 (chars_from (at + length (unit_bytes u)) (v ∷ units)) (chars_from (at + 6) units) (found (at + 6) units h.1.1) (found (at + length (unit_bytes u)) (v ∷ units) h.1) (is_high u && is_low v) refl
 
 -- What the search in a text finds.
 pub chars_law : (bytes : List ℕ) → IsSound bytes → Finds 0 bytes (chars_of bytes)
