@@ -1,0 +1,128 @@
+-- The body that a key makes of a body.
+use Rattle.std.specs.Prelude.{ℕ, ◌+◌, ◌-◌, List, [], ◌∷◌, Option, None, Some, length, map, replicate}
+use Rattle.std.specs.List.{range_with_len}
+use Rattle.mh_form.specs.declared.basic.Basic.{Basic}
+use Rattle.mh_form.specs.declared.basic.Basic.TheVariants as basic
+use Rattle.mh_form.specs.declared.basic.BasicRet.{BasicRet}
+use Rattle.mh_form.specs.declared.basic.BasicRet.TheVariants as basic_ret
+use Rattle.mh_form.specs.declared.body.FormBody.{FormBody}
+use Rattle.mh_form.specs.declared.name.Name.{Name}
+use Rattle.mh_form.specs.declared.name.Name.TheVariants as name
+use Rattle.mh_edit.specs.declared.key.Key.{Key}
+use Rattle.mh_edit.specs.declared.key.Key.TheVariants as key
+use Rattle.mh_edit.specs.declared.key.RetEntry.{RetEntry}
+use Rattle.mh_edit.specs.declared.key.RetEntry.TheVariants as entry
+use Rattle.mh_edit.specs.Fit.{taken_by}
+use Rattle.mh_edit.specs.Rename.{reframed, table, edited, ending_with}
+
+-- what stands for the result of a part: nothing where the part is void
+abbrev pub given : {A : Type 0} → BasicRet → A → List A
+given basic_ret.V a = []
+given (basic_ret.Is b) a = a ∷ []
+
+-- the place of a result: none where it is void
+abbrev pub out_of : BasicRet → ℕ → Option ℕ
+out_of basic_ret.V p = None
+out_of (basic_ret.Is b) p = Some p
+
+-- the name of a conversion: both basic types are those of references, or not
+abbrev pub conv_name : Basic → Basic → ℕ → ℕ → Name
+conv_name basic.L basic.L f i = name.Cast f i
+conv_name b c f i = name.Conv f i
+
+-- a name for each entry, from a field and a place on
+abbrev pub conv_names : List (Option Basic) → List Basic → ℕ → ℕ → List Name
+conv_names (None ∷ entries) (c ∷ params) f i = conv_names entries params f (i + 1)
+conv_names (Some b ∷ entries) (c ∷ params) f i = conv_name b c f i ∷ conv_names entries params (f + 1) (i + 1)
+conv_names _ _ f i = []
+
+-- where the old parameters stand: at their place, or where they are made
+abbrev pub conv_table : List (Option Basic) → ℕ → ℕ → List ℕ
+conv_table [] i made = []
+conv_table (None ∷ entries) i made = i ∷ conv_table entries (i + 1) made
+conv_table (Some b ∷ entries) i made = made ∷ conv_table entries (i + 1) (made + 1)
+
+-- the new parameters
+abbrev pub conv_params : List (Option Basic) → List Basic → List Basic
+conv_params (None ∷ entries) (c ∷ params) = c ∷ conv_params entries params
+conv_params (Some b ∷ entries) (c ∷ params) = b ∷ conv_params entries params
+conv_params _ _ = []
+
+-- how many entries there are
+abbrev pub conv_count : List (Option Basic) → ℕ
+conv_count [] = 0
+conv_count (None ∷ entries) = conv_count entries
+conv_count (Some b ∷ entries) = conv_count entries + 1
+
+-- a body with its parameters converted
+abbrev pub converting : List (Option Basic) → FormBody → FormBody
+converting entries body =
+    reframed body (conv_params entries body.params) (conv_names entries body.params body.fields 0)
+    (conv_table entries 0 (length body.params)) (conv_count entries)
+
+-- a body whose last name takes its result
+abbrev pub finishing : (Option ℕ → Name) → BasicRet → FormBody → FormBody
+finishing last ret body = ending_with body (last body.out) (out_of ret (length body.params + length body.names))
+
+-- a body with its result converted, where there is an entry
+abbrev pub returning : RetEntry → FormBody → FormBody
+returning entry.Keep body = body
+returning (entry.New ret) body = finishing (name.Ret body.fields) ret body
+
+-- the places of a result, if any
+abbrev pub places_of : Option ℕ → List ℕ
+places_of None = []
+places_of (Some p) = p ∷ []
+
+-- an element of the array at a place, for each of so many items from one on
+abbrev pub elem_names : ℕ → ℕ → ℕ → List Name
+elem_names array from count = map (λ k. name.Elem array k) (range_with_len from count)
+
+-- the new body
+abbrev pub applied : Key → FormBody → FormBody
+applied (key.LeafRoot shape) body =
+    record {
+      params = shape.params;
+      fields = 1;
+      names = name.Call 0 (range_with_len 0 (length shape.params)) ∷ [];
+      out = out_of shape.ret (length shape.params);
+    }
+applied (key.ConstRoot b) body = record { params = []; fields = 1; names = name.Get 0 ∷ []; out = Some 0 }
+applied (key.IdentityRoot b) body = record { params = b ∷ []; fields = 0; names = []; out = Some 0 }
+applied (key.ThrowRoot ret) body =
+    record { params = basic.L ∷ []; fields = 0; names = name.Raise 0 ∷ []; out = out_of ret 1 }
+applied (key.GuardRoot shape test) body =
+    let count = length shape.params in
+    record {
+      params = shape.params;
+      fields = 3;
+      names = name.Link 0 (range_with_len 0 test) ∷ name.Select count 1 2 (range_with_len 0 count) ∷ [];
+      out = out_of shape.ret (count + 1);
+    }
+applied (key.CatchRoot shape handler) body =
+    let count = length shape.params in
+    record {
+      params = shape.params;
+      fields = 3;
+      names = name.Guarded 0 1 2 (range_with_len 0 count) handler ∷ [];
+      out = out_of shape.ret count;
+    }
+applied (key.Bind pos) body = edited body pos 1 [] (name.Get body.fields ∷ []) ((length body.params - 1) ∷ []) 1
+applied (key.Add pos basics) body = edited body pos 0 basics [] [] 0
+applied (key.Permute basics reorder) body = reframed body basics [] reorder 0
+applied (key.Collect pos basics ret) body =
+    edited body pos (taken_by ret) basics
+    (name.Link body.fields (range_with_len pos (length basics)) ∷ [])
+    (given ret (length body.params + length basics - taken_by ret)) 1
+applied (key.Fold pos count ret) body =
+    edited body pos (taken_by ret) []
+    (name.Link body.fields (range_with_len pos count) ∷ [])
+    (given ret (length body.params - taken_by ret)) 1
+applied (key.FilterReturn ret) body = finishing (λ out. name.Link body.fields (places_of out)) ret body
+applied (key.Convert params ret) body = returning ret (converting params body)
+applied (key.Spread count b) body =
+    let pos = length body.params - count in
+    edited body pos count (basic.L ∷ []) (name.CheckArray pos count ∷ elem_names pos 0 count) (range_with_len (pos + 2) count) 0
+applied (key.Gather count b) body =
+    let pos = length body.params - 1 in
+    edited body pos 1 (replicate count b) (name.MakeArray body.fields (range_with_len pos count) ∷ []) ((pos + count) ∷ []) 1

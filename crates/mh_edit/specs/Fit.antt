@@ -1,0 +1,76 @@
+-- Which keys fit which bodies.
+use Rattle.std.specs.Prelude.{ℕ, zero, ◌+◌, ◌-◌, ◌==◌, nat_le, nat_lt, Bool, true, false, not, ◌&&◌, List, [], ◌∷◌, Option, None, Some, drop, length, slice_get}
+use Rattle.std.specs.List.{list_all}
+use Rattle.std.specs.Option.{option_map_or}
+use Rattle.mh_form.specs.declared.basic.Basic.{Basic}
+use Rattle.mh_form.specs.declared.basic.Basic.TheVariants as basic
+use Rattle.mh_form.specs.declared.basic.BasicRet.{BasicRet}
+use Rattle.mh_form.specs.declared.basic.BasicRet.TheVariants as basic_ret
+use Rattle.mh_form.specs.declared.body.FormBody.{FormBody}
+use Rattle.mh_form.specs.declared.name.Name.{Name}
+use Rattle.mh_edit.specs.declared.key.Key.{Key}
+use Rattle.mh_edit.specs.declared.key.Key.TheVariants as key
+
+-- whether two basic types are one
+abbrev pub is_same_basic : Basic → Basic → Bool
+is_same_basic basic.L basic.L = true
+is_same_basic basic.I basic.I = true
+is_same_basic basic.J basic.J = true
+is_same_basic _ _ = false
+
+-- there are no names
+abbrev pub no_names : List Name → Bool
+no_names [] = true
+no_names names = false
+
+-- there is no result
+abbrev pub no_out : Option ℕ → Bool
+no_out None = true
+no_out (Some p) = false
+
+-- the body of which roots make a form: it takes nothing, has nothing and does nothing
+abbrev pub is_nothing : FormBody → Bool
+is_nothing body = length body.params == 0 && (body.fields == 0 && (no_names body.names && no_out body.out))
+
+-- the parameter at a place has this basic type
+abbrev pub is_basic_at : List Basic → ℕ → Basic → Bool
+is_basic_at params place b = option_map_or (is_same_basic b) (slice_get params place) false
+
+-- how many parameters the result of a part stands for
+abbrev pub taken_by : BasicRet → ℕ
+taken_by basic_ret.V = 0
+taken_by (basic_ret.Is b) = 1
+
+-- the result of a part can stand at a position: for the parameter there, or for nothing
+abbrev pub takes_result : List Basic → ℕ → BasicRet → Bool
+takes_result params pos basic_ret.V = nat_le pos (length params)
+takes_result params pos (basic_ret.Is b) = is_basic_at params pos b
+
+-- there is a place for each parameter, and the parameter there has its basic type
+abbrev pub names_each : List Basic → List ℕ → List Basic → Bool
+names_each basics [] [] = true
+names_each basics (r ∷ reorder) (b ∷ params) = is_basic_at basics r b && names_each basics reorder params
+names_each basics _ _ = false
+
+-- the last parameters, so many, have this basic type
+abbrev pub ends_with : List Basic → ℕ → Basic → Bool
+ends_with params count b = nat_le count (length params) && list_all (is_same_basic b) (drop (length params - count) params)
+
+-- a root fits the body that is nothing, and any other key a body that was made
+abbrev pub fits : Key → FormBody → Bool
+fits (key.LeafRoot shape) body = is_nothing body
+fits (key.ConstRoot b) body = is_nothing body
+fits (key.IdentityRoot b) body = is_nothing body
+fits (key.ThrowRoot ret) body = is_nothing body
+fits (key.GuardRoot shape test) body = is_nothing body && nat_le test (length shape.params)
+fits (key.CatchRoot shape handler) body = is_nothing body && nat_le handler (length shape.params)
+fits (key.Bind pos) body = not (is_nothing body) && nat_lt pos (length body.params)
+fits (key.Add pos basics) body = not (is_nothing body) && nat_le pos (length body.params)
+fits (key.Permute basics reorder) body = not (is_nothing body) && names_each basics reorder body.params
+fits (key.Collect pos basics ret) body = not (is_nothing body) && takes_result body.params pos ret
+fits (key.Fold pos count ret) body =
+    not (is_nothing body) && (takes_result body.params pos ret && nat_le (pos + count + taken_by ret) (length body.params))
+fits (key.FilterReturn ret) body = not (is_nothing body)
+fits (key.Convert params ret) body = not (is_nothing body) && length params == length body.params
+fits (key.Spread count b) body = not (is_nothing body) && ends_with body.params count b
+fits (key.Gather count b) body = not (is_nothing body) && is_basic_at body.params (length body.params - 1) basic.L

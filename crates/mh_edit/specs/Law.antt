@@ -1,0 +1,213 @@
+-- What each key does to the run of a body.
+use Rattle.std.specs.Prelude.{ℕ, ◌+◌, ◌-◌, ◌≡◌, List, [], ◌∷◌, ◌++◌, Option, Some, None, take, drop, length, map, slice_get, if◌then◌else◌}
+use Rattle.std.specs.declared.boxed.Box.{Box}
+use Rattle.std.specs.declared.alloc.Global.{Global}
+use Rattle.mh_values.specs.declared.class.ClassId.{ClassId}
+use Rattle.mh_values.specs.declared.types.Comp.{Comp}
+use Rattle.mh_values.specs.declared.value.LeafId.{LeafId}
+use Rattle.mh_values.specs.declared.value.Value.TheVariants as value
+use Rattle.mh_values.specs.Computation.{Ran, Gave, Threw, Stuck, Refines, and_then, found, mapped, guarded, spliced}
+use Rattle.mh_convert.specs.declared.conv.Conv.{Conv}
+use Rattle.mh_convert.specs.declared.conv.RetConv.{RetConv}
+use Rattle.mh_leaf.specs.LeafTable.{LeafTable}
+use Rattle.mh_form.specs.declared.basic.Basic.{Basic}
+use Rattle.mh_form.specs.declared.basic.BasicRet.{BasicRet}
+use Rattle.mh_form.specs.declared.basic.BasicRet.TheVariants as basic_ret
+use Rattle.mh_form.specs.declared.body.FormBody.{FormBody}
+use Rattle.mh_form.specs.declared.slot.Slot.{Slot}
+use Rattle.mh_form.specs.declared.slot.Slot.TheVariants as slot
+use Rattle.mh_form.specs.declared.field.Bound.{Bound}
+use Rattle.mh_form.specs.declared.field.Field.{Field}
+use Rattle.mh_form.specs.declared.field.Field.TheVariants as field
+use Rattle.mh_form.specs.Slots.{called, converted, filled, holds_one, is_caught, made_array, none_as_zero, raised_slot, ret_converted, spread_slots}
+use Rattle.mh_form.specs.Run.{picked, run_on, run_bound}
+use Rattle.mh_edit.specs.declared.key.Key.{Key}
+use Rattle.mh_edit.specs.declared.key.Key.TheVariants as key
+use Rattle.mh_edit.specs.declared.key.RetEntry.{RetEntry}
+use Rattle.mh_edit.specs.declared.key.RetEntry.TheVariants as entry
+use Rattle.mh_edit.specs.Applied.{conv_count, given, places_of}
+use Rattle.mh_edit.specs.Fit.{taken_by}
+
+-- a result as one of a basic return type: nothing where that is void, and a slot else
+abbrev pub result_as : BasicRet → Option Slot → Option Slot
+result_as basic_ret.V r = None
+result_as (basic_ret.Is b) r = Some (none_as_zero r)
+
+-- a run whose result is one of a basic return type
+abbrev pub returned : BasicRet → Ran (Option Slot) → Ran (Option Slot)
+returned ret r = mapped (result_as ret) r
+
+-- the slots of a result, if any
+abbrev pub slots_of_result : Option Slot → List Slot
+slots_of_result None = []
+slots_of_result (Some s) = s ∷ []
+
+-- the arguments that have an entry are converted from left to right, each by the next conversion; the first exception ends
+abbrev pub converting_slots : {B : Type 0} → List (Option Basic) → List (Slot → Ran Slot) → List Slot → ℕ → (List Slot → ℕ → Ran B) → Ran B
+converting_slots [] convs [] n next = next [] n
+converting_slots (None ∷ entries) convs (x ∷ xs) n next = converting_slots entries convs xs n (λ ys k. next (x ∷ ys) k)
+converting_slots (Some b ∷ entries) (conv ∷ convs) (x ∷ xs) n next =
+    and_then (conv x) n (λ y k. converting_slots entries convs xs k (λ ys m. next (y ∷ ys) m))
+converting_slots _ _ _ n next = Stuck
+
+-- the fields of a return conversion: one where there is an entry
+abbrev pub ret_fields : RetEntry → RetConv → List Field
+ret_fields entry.Keep c = []
+ret_fields (entry.New ret) c = field.Ret c ∷ []
+
+-- a result, converted where there is an entry
+abbrev pub ret_entry_on : LeafTable → RetEntry → RetConv → Option Slot → Ran (Option Slot)
+ret_entry_on table entry.Keep c r = Gave r []
+ret_entry_on table (entry.New ret) c r = returned ret (ret_converted table.classes c r)
+
+-- a leaf, on all arguments
+abbrev pub LeafRootLaw : List Basic → BasicRet → FormBody → Type 0
+LeafRootLaw params ret new =
+    (table : LeafTable) (l : LeafId) (args : List Slot) (n : ℕ) →
+    length args ≡ length params →
+    Refines (returned ret (called table l args n)) (run_on table new (field.Leaf l ∷ []) args n)
+
+-- the slot of the field
+abbrev pub ConstRootLaw : FormBody → Type 0
+ConstRootLaw new =
+    (table : LeafTable) (s : Slot) (n : ℕ) → run_on table new (field.Val s ∷ []) [] n ≡ Gave (Some s) []
+
+-- the argument
+abbrev pub IdentityRootLaw : FormBody → Type 0
+IdentityRootLaw new = (table : LeafTable) (s : Slot) (n : ℕ) → run_on table new [] (s ∷ []) n ≡ Gave (Some s) []
+
+-- throws the argument
+abbrev pub ThrowRootLaw : FormBody → Type 0
+ThrowRootLaw new =
+    (table : LeafTable) (s : Slot) (n : ℕ) → Refines (raised_slot s) (run_on table new [] (s ∷ []) n)
+
+-- a test on the first arguments, and then one of two parts on all
+abbrev pub GuardRootLaw : List Basic → BasicRet → ℕ → FormBody → Type 0
+GuardRootLaw params ret test new =
+    (table : LeafTable) (c t e : Box Bound Global) (args : List Slot) (n : ℕ) →
+    length args ≡ length params →
+    Refines
+    (and_then (filled (run_bound table c.value (take test args) n)) n
+    (λ s k. returned ret (run_bound table (if holds_one s then t.value else e.value) args k)))
+    (run_on table new (field.Part c ∷ field.Part t ∷ field.Part e ∷ []) args n)
+
+-- a part on all arguments; where it throws an exception of the class or below it, the handler on that and the first arguments
+abbrev pub CatchRootLaw : List Basic → BasicRet → ℕ → FormBody → Type 0
+CatchRootLaw params ret kept new =
+    (table : LeafTable) (t : Box Bound Global) (c : ClassId) (h : Box Bound Global) (args : List Slot) (n : ℕ) →
+    length args ≡ length params →
+    Refines
+    (returned ret
+    (guarded (run_bound table t.value args n) (is_caught table.classes c) n
+    (λ e k. run_bound table h.value (slot.L (value.Thrown e) ∷ take kept args) k)))
+    (run_on table new (field.Part t ∷ field.Class c ∷ field.Part h ∷ []) args n)
+
+-- the old body on the arguments with the slot of the field put in
+abbrev pub BindLaw : ℕ → FormBody → FormBody → Type 0
+BindLaw pos old new =
+    (table : LeafTable) (fields : List Field) (s : Slot) (args : List Slot) (n : ℕ) →
+    length fields ≡ old.fields →
+    length args + 1 ≡ length old.params →
+    Refines
+    (run_on table old fields (spliced pos 0 (s ∷ []) args) n)
+    (run_on table new (fields ++ field.Val s ∷ []) args n)
+
+-- the old body on the arguments without the new ones
+abbrev pub AddLaw : ℕ → ℕ → FormBody → FormBody → Type 0
+AddLaw pos put old new =
+    (table : LeafTable) (fields : List Field) (args : List Slot) (n : ℕ) →
+    length fields ≡ old.fields →
+    length args ≡ length old.params + put →
+    Refines (run_on table old fields (spliced pos put [] args) n) (run_on table new fields args n)
+
+-- the old body on the arguments that are named
+abbrev pub PermuteLaw : ℕ → List ℕ → FormBody → FormBody → Type 0
+PermuteLaw count reorder old new =
+    (table : LeafTable) (fields : List Field) (args : List Slot) (n : ℕ) →
+    length fields ≡ old.fields →
+    length args ≡ count →
+    Refines (found (picked args reorder) (λ xs. run_on table old fields xs n)) (run_on table new fields args n)
+
+-- a part on its arguments, and then the old body with the result in their place, or without them where it is void
+abbrev pub CollectLaw : ℕ → ℕ → BasicRet → FormBody → FormBody → Type 0
+CollectLaw pos put ret old new =
+    (table : LeafTable) (fields : List Field) (part : Box Bound Global) (args : List Slot) (n : ℕ) →
+    length fields ≡ old.fields →
+    length args + taken_by ret ≡ length old.params + put →
+    Refines
+    (and_then (filled (run_bound table part.value (take put (drop pos args)) n)) n
+    (λ s k. run_on table old fields (spliced pos put (given ret s) args) k))
+    (run_on table new (fields ++ field.Part part ∷ []) args n)
+
+-- a part on arguments from a position on, and then the old body with the result put in there, or with nothing put in where it is void
+abbrev pub FoldLaw : ℕ → ℕ → BasicRet → FormBody → FormBody → Type 0
+FoldLaw pos count ret old new =
+    (table : LeafTable) (fields : List Field) (part : Box Bound Global) (args : List Slot) (n : ℕ) →
+    length fields ≡ old.fields →
+    length args + taken_by ret ≡ length old.params →
+    Refines
+    (and_then (filled (run_bound table part.value (take count (drop pos args)) n)) n
+    (λ s k. run_on table old fields (spliced pos 0 (given ret s) args) k))
+    (run_on table new (fields ++ field.Part part ∷ []) args n)
+
+-- the old body, and then a part on its result, if any
+abbrev pub FilterReturnLaw : BasicRet → FormBody → FormBody → Type 0
+FilterReturnLaw ret old new =
+    (table : LeafTable) (fields : List Field) (part : Box Bound Global) (args : List Slot) (n : ℕ) →
+    length fields ≡ old.fields →
+    length args ≡ length old.params →
+    Refines
+    (and_then (run_on table old fields args n) n
+    (λ r k. returned ret (run_bound table part.value (slots_of_result r) k)))
+    (run_on table new (fields ++ field.Part part ∷ []) args n)
+
+-- the arguments that have an entry converted, then the old body, and then the result converted
+abbrev pub ConvertLaw : List (Option Basic) → RetEntry → FormBody → FormBody → Type 0
+ConvertLaw entries ret old new =
+    (table : LeafTable) (fields : List Field) (convs : List Conv) (c : RetConv) (args : List Slot) (n : ℕ) →
+    length fields ≡ old.fields →
+    length convs ≡ conv_count entries →
+    length args ≡ length old.params →
+    Refines
+    (converting_slots entries (map (converted table.classes) convs) args n
+    (λ xs k. and_then (run_on table old fields xs k) k (λ r m. ret_entry_on table ret c r)))
+    (run_on table new (fields ++ (map (λ d. field.Conv d) convs ++ ret_fields ret c)) args n)
+
+-- the items of the argument at a position, checked to be so many, and then the old body with them in its place
+abbrev pub SpreadLaw : ℕ → ℕ → FormBody → FormBody → Type 0
+SpreadLaw pos count old new =
+    (table : LeafTable) (fields : List Field) (args : List Slot) (n : ℕ) →
+    length fields ≡ old.fields →
+    length args + count ≡ length old.params + 1 →
+    Refines
+    (found (slice_get args pos) (λ s. and_then (spread_slots count s) n (λ items k. run_on table old fields (spliced pos 1 items args) k)))
+    (run_on table new fields args n)
+
+-- the array of the arguments from a position on, so many, and then the old body with it in their place
+abbrev pub GatherLaw : ℕ → ℕ → FormBody → FormBody → Type 0
+GatherLaw pos count old new =
+    (table : LeafTable) (fields : List Field) (c : Comp) (args : List Slot) (n : ℕ) →
+    length fields ≡ old.fields →
+    length args + 1 ≡ length old.params + count →
+    Refines
+    (and_then (made_array table.classes c (take count (drop pos args))) n
+    (λ s k. run_on table old fields (spliced pos count (s ∷ []) args) k))
+    (run_on table new (fields ++ field.Comp c ∷ []) args n)
+
+-- the run of the new body by the run of the old body: that it is well formed where all that runs is well formed, and what it then gives
+abbrev pub Law : Key → FormBody → FormBody → Type 0
+Law (key.LeafRoot shape) old new = LeafRootLaw shape.params shape.ret new
+Law (key.ConstRoot b) old new = ConstRootLaw new
+Law (key.IdentityRoot b) old new = IdentityRootLaw new
+Law (key.ThrowRoot ret) old new = ThrowRootLaw new
+Law (key.GuardRoot shape test) old new = GuardRootLaw shape.params shape.ret test new
+Law (key.CatchRoot shape handler) old new = CatchRootLaw shape.params shape.ret handler new
+Law (key.Bind pos) old new = BindLaw pos old new
+Law (key.Add pos basics) old new = AddLaw pos (length basics) old new
+Law (key.Permute basics reorder) old new = PermuteLaw (length basics) reorder old new
+Law (key.Collect pos basics ret) old new = CollectLaw pos (length basics) ret old new
+Law (key.Fold pos count ret) old new = FoldLaw pos count ret old new
+Law (key.FilterReturn ret) old new = FilterReturnLaw ret old new
+Law (key.Convert params ret) old new = ConvertLaw params ret old new
+Law (key.Spread count b) old new = SpreadLaw (length old.params - count) count old new
+Law (key.Gather count b) old new = GatherLaw (length old.params - 1) count old new

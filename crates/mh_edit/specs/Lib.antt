@@ -1,0 +1,4 @@
+pub mod Applied
+pub mod Fit
+pub mod Law
+pub mod Rename

@@ -1,0 +1,61 @@
+use mh_base::Seq;
+use mh_form::{Basic, BasicRet, Basics, Shape};
+
+/// Places of parameters, from 0.
+pub type Places = Seq<u8>;
+
+/// For each parameter its new basic type, or `None` where it stays as it is.
+pub type Entries = Seq<Option<Basic>>;
+
+/// What becomes of a result.
+#[derive(Clone, Copy, Debug, PartialEq, Eq)]
+pub enum RetEntry {
+    Keep,
+    New(BasicRet),
+}
+
+/// An edit of a form, by basic types and positions alone, so that handles share the form that it
+/// makes (the idea of OpenJDK's `LambdaFormEditor`). A root makes a form of nothing. What the new
+/// form uses beside its arguments it finds in new fields behind the old ones, in the order named
+/// here.
+#[derive(Debug, Drop)]
+pub enum Key {
+    /// A call of a leaf. Field: the leaf.
+    LeafRoot { shape: Shape },
+    /// A constant. Field: its slot.
+    ConstRoot { basic: Basic },
+    /// The one argument.
+    IdentityRoot { basic: Basic },
+    /// Throws the one argument.
+    ThrowRoot { ret: BasicRet },
+    /// A test on the first arguments, which picks one of two parts. Fields: the three parts.
+    GuardRoot { shape: Shape, test: u8 },
+    /// A part, with a handler that takes the exception and the first arguments. Fields: the part,
+    /// the class of exceptions, and the handler.
+    CatchRoot { shape: Shape, handler: u8 },
+    /// A parameter becomes a constant. Field: its slot.
+    Bind { pos: u8 },
+    /// Parameters are put in, and not used.
+    Add { pos: u8, basics: Basics },
+    /// Parameters are replaced: the old parameter i is the new one at `reorder[i]`.
+    Permute { basics: Basics, reorder: Places },
+    /// A part runs first on parameters that are put in, and its result stands for a parameter.
+    /// Field: the part.
+    Collect {
+        pos: u8,
+        basics: Basics,
+        ret: BasicRet,
+    },
+    /// A part runs first on parameters that stay, and its result stands for a parameter before
+    /// them. Field: the part.
+    Fold { pos: u8, count: u8, ret: BasicRet },
+    /// A part runs last, on the result. Field: the part.
+    FilterReturn { ret: BasicRet },
+    /// Parameters are converted, from left to right, and then the result. Fields: the conversions
+    /// of the parameters that have an entry, and the return conversion where there is one.
+    Convert { params: Entries, ret: RetEntry },
+    /// The last parameters become one array.
+    Spread { count: u8, basic: Basic },
+    /// The last parameter, an array, becomes its items. Field: the component type.
+    Gather { count: u8, basic: Basic },
+}

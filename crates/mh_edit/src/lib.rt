@@ -1,0 +1,6 @@
+//! Edits of forms: fifteen kinds of key, the body that each makes of another, and its law.
+#![tactic(auto)]
+
+mod key;
+
+pub use key::{Entries, Key, Places, RetEntry};
