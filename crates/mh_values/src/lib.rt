@@ -4,6 +4,7 @@
 mod class;
 mod copies;
 mod descriptor;
+mod exception;
 mod grammar;
 mod literal;
 mod types;
