@@ -1,5 +1,5 @@
 -- What each kind of leaf does, and which types it may have.
-use Rattle.std.specs.Prelude.{ℕ, zero, ◌==◌, ℤ, pos, negsuc, ◌+ℤ◌, ◌-ℤ◌, ◌*ℤ◌, int_div, int_lt, nat_lt, nat_le, Bool, true, false, not, ◌&&◌, if◌then◌else◌, List, [], ◌∷◌, ◌++◌, length, codes, sum_by, Option, Some, None, slice_get}
+use Rattle.std.specs.Prelude.{ℕ, zero, ◌==◌, ℤ, pos, negsuc, ◌+ℤ◌, ◌-ℤ◌, ◌*ℤ◌, int_div, int_lt, nat_lt, nat_le, Bool, true, false, not, ◌&&◌, if◌then◌else◌, List, [], ◌∷◌, ◌++◌, length, codes, sum_by, Option, Some, None, option_map, slice_get}
 use Rattle.std.specs.Int.{w32, w64, int_wrap, cast_signed}
 use Rattle.mh_values.specs.declared.class.Class.{Class}
 use Rattle.mh_values.specs.declared.types.Primitive.TheVariants as primitive
@@ -22,17 +22,21 @@ use Rattle.mh_leaf.specs.declared.leaf.Kind.TheVariants as kind
 use Rattle.mh_leaf.specs.declared.leaf.Leaf.{Leaf}
 use Rattle.mh_leaf.specs.LeafTable.{LeafTable}
 
+-- a value as a result
+abbrev pub returned : Value → Outcome
+returned v = Return (Some v)
+
 -- an int as a result
 abbrev pub int : ℤ → Outcome
-int n = Return (Some (value.Prim (num.I n)))
+int n = returned (value.Prim (num.I n))
 
 -- a long as a result
 abbrev pub long : ℤ → Outcome
-long n = Return (Some (value.Prim (num.J n)))
+long n = returned (value.Prim (num.J n))
 
 -- a boolean as a result
 abbrev pub boolean : Bool → Outcome
-boolean b = Return (Some (value.Prim (num.Z b)))
+boolean b = returned (value.Prim (num.Z b))
 
 -- the quotient, cut toward zero; the least int by -1 is itself, and 0 divides nothing
 abbrev pub divided : ℤ → ℤ → Outcome
@@ -53,7 +57,7 @@ characters_of v = None
 
 -- a text as a result, if it has no more characters than a text may have
 abbrev pub text : List ℕ → Outcome
-text s = if nat_lt 4096 (length s) then Throw (saying internal_error_class (codes "string too long")) else Return (Some (value.Text s))
+text s = if nat_lt 4096 (length s) then Throw (saying internal_error_class (codes "string too long")) else returned (value.Text s)
 
 -- two texts joined
 abbrev pub joined : Option (List ℕ) → Option (List ℕ) → Outcome
@@ -70,25 +74,60 @@ measured (value.Text s) = int (pos (sum_by units_of s))
 measured value.Null = Throw (bare null_pointer_class)
 measured v = Throw (bare class_cast_class)
 
+-- two ints as arguments
+abbrev pub two_ints : List Value → Option (ℤ × ℤ)
+two_ints (value.Prim (num.I a) ∷ value.Prim (num.I b) ∷ []) = Some (a, b)
+two_ints _ = None
+
+-- two longs as arguments
+abbrev pub two_longs : List Value → Option (ℤ × ℤ)
+two_longs (value.Prim (num.J a) ∷ value.Prim (num.J b) ∷ []) = Some (a, b)
+two_longs _ = None
+
+-- one boolean as argument
+abbrev pub one_boolean : List Value → Option Bool
+one_boolean (value.Prim (num.Z b) ∷ []) = Some b
+one_boolean _ = None
+
+-- one value as argument
+abbrev pub one_value : List Value → Option Value
+one_value (v ∷ []) = Some v
+one_value _ = None
+
+-- two values as arguments
+abbrev pub two_values : List Value → Option (Value × Value)
+two_values (v ∷ w ∷ []) = Some (v, w)
+two_values _ = None
+
+-- the first of two or more arguments
+abbrev pub first_value : List Value → Option Value
+first_value (v ∷ w ∷ vs) = Some v
+first_value _ = None
+
+-- the second argument where the first is true, the third where it is false
+abbrev pub picked_value : List Value → Option Value
+picked_value (value.Prim (num.Z true) ∷ v ∷ w ∷ []) = Some v
+picked_value (value.Prim (num.Z false) ∷ v ∷ w ∷ []) = Some w
+picked_value _ = None
+
 -- what a leaf of a kind does with these arguments, where n leaf calls were made before; nothing is said where it cannot have them
 abbrev pub kind_on : Kind → List Value → ℕ → Option Outcome
-kind_on kind.Iadd (value.Prim (num.I a) ∷ value.Prim (num.I b) ∷ []) n = Some (int (int_wrap w32 (a +ℤ b)))
-kind_on kind.Isub (value.Prim (num.I a) ∷ value.Prim (num.I b) ∷ []) n = Some (int (int_wrap w32 (a -ℤ b)))
-kind_on kind.Imul (value.Prim (num.I a) ∷ value.Prim (num.I b) ∷ []) n = Some (int (int_wrap w32 (a *ℤ b)))
-kind_on kind.Idiv (value.Prim (num.I a) ∷ value.Prim (num.I b) ∷ []) n = Some (divided a b)
-kind_on kind.Ladd (value.Prim (num.J a) ∷ value.Prim (num.J b) ∷ []) n = Some (long (int_wrap w64 (a +ℤ b)))
-kind_on kind.Ieq (value.Prim (num.I a) ∷ value.Prim (num.I b) ∷ []) n = Some (boolean (is_same_int a b))
-kind_on kind.Ilt (value.Prim (num.I a) ∷ value.Prim (num.I b) ∷ []) n = Some (boolean (int_lt a b))
-kind_on kind.Not (value.Prim (num.Z b) ∷ []) n = Some (boolean (not b))
-kind_on kind.Concat (v ∷ w ∷ []) n = Some (joined (characters_of v) (characters_of w))
-kind_on kind.Length (v ∷ []) n = Some (measured v)
-kind_on kind.Same (v ∷ []) n = Some (Return (Some v))
-kind_on kind.First (v ∷ w ∷ vs) n = Some (Return (Some v))
-kind_on kind.Pick (value.Prim (num.Z b) ∷ v ∷ w ∷ []) n = Some (Return (Some (if b then v else w)))
-kind_on kind.Tick vs n = Some (int (cast_signed w32 n))
-kind_on kind.Note vs n = Some (Return None)
-kind_on (kind.Throw class) vs n = Some (Throw (bare class))
-kind_on _ _ n = None
+kind_on kind.Iadd args n = option_map (λ p. int (int_wrap w32 (p.0 +ℤ p.1))) (two_ints args)
+kind_on kind.Isub args n = option_map (λ p. int (int_wrap w32 (p.0 -ℤ p.1))) (two_ints args)
+kind_on kind.Imul args n = option_map (λ p. int (int_wrap w32 (p.0 *ℤ p.1))) (two_ints args)
+kind_on kind.Idiv args n = option_map (λ p. divided p.0 p.1) (two_ints args)
+kind_on kind.Ladd args n = option_map (λ p. long (int_wrap w64 (p.0 +ℤ p.1))) (two_longs args)
+kind_on kind.Ieq args n = option_map (λ p. boolean (is_same_int p.0 p.1)) (two_ints args)
+kind_on kind.Ilt args n = option_map (λ p. boolean (int_lt p.0 p.1)) (two_ints args)
+kind_on kind.Not args n = option_map (λ b. boolean (not b)) (one_boolean args)
+kind_on kind.Concat args n = option_map (λ p. joined (characters_of p.0) (characters_of p.1)) (two_values args)
+kind_on kind.Length args n = option_map measured (one_value args)
+kind_on kind.Same args n = option_map returned (one_value args)
+kind_on kind.First args n = option_map returned (first_value args)
+kind_on kind.Pick args n = option_map returned (picked_value args)
+kind_on kind.Tick args n = Some (int (cast_signed w32 n))
+kind_on kind.Note args n = Some (Return None)
+kind_on (kind.Throw class) args n = Some (Throw (bare class))
 
 -- whether a leaf is called on null as its receiver
 abbrev pub lacks_receiver : Leaf → List Value → Bool
