@@ -6,6 +6,7 @@ mod copies;
 mod descriptor;
 mod exception;
 mod grammar;
+mod known;
 mod literal;
 mod types;
 mod value;

@@ -1,0 +1,17 @@
+use crate::ClassId;
+
+/// The built-in classes that rules name, by their numbers.
+impl ClassId {
+    pub const OBJECT: ClassId = ClassId(0);
+    pub const INTEGER: ClassId = ClassId(2);
+    pub const LONG: ClassId = ClassId(3);
+    pub const BOOLEAN: ClassId = ClassId(6);
+    pub const STRING: ClassId = ClassId(8);
+    pub const THROWABLE: ClassId = ClassId(9);
+    pub const INTERNAL_ERROR: ClassId = ClassId(19);
+    pub const WRONG_METHOD_TYPE: ClassId = ClassId(20);
+    pub const CLASS_CAST: ClassId = ClassId(21);
+    pub const NULL_POINTER: ClassId = ClassId(22);
+    pub const ILLEGAL_ARGUMENT: ClassId = ClassId(23);
+    pub const ARITHMETIC: ClassId = ClassId(24);
+}
