@@ -3,6 +3,7 @@
 
 mod basic;
 mod body;
+mod copies;
 mod field;
 mod name;
 mod outcome;
