@@ -1,7 +1,9 @@
 pub mod Edited
+pub mod Finishing
 pub mod Parameters
 pub mod Parts
 pub mod Places
 pub mod Ranges
 pub mod Reframing
 pub mod Renaming
+pub mod Results
