@@ -1,5 +1,8 @@
 pub mod Array
+pub mod Builtin
 pub mod Class
+pub mod ClassNumbers
+pub mod Classes
 pub mod Computation
 pub mod Exception
 pub mod Grammar

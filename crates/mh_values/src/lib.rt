@@ -1,6 +1,7 @@
 //! Types, values, exceptions and outcomes, and what is said of them in text.
 #![tactic(auto)]
 
+mod builtin;
 mod class;
 mod copies;
 mod descriptor;
@@ -8,6 +9,7 @@ mod exception;
 mod grammar;
 mod known;
 mod literal;
+mod registry;
 mod types;
 mod value;
 

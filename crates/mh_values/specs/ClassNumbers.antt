@@ -1,0 +1,23 @@
+-- The map by which a class is found by its name.
+use Rattle.std.specs.Prelude.{◌≡◌, ℕ, List, ◌<◌, Option, Some}
+use Rattle.std.specs.BTreeMap.{BTreeMap, get_by}
+use Rattle.std.specs.Cmp.Lexicographic.{slice_cmp}
+use Rattle.std.specs.Global.{Vec}
+use Rattle.std.specs.Ordering.{nat_cmp}
+use Rattle.mh_values.specs.declared.class.Class.{Class}
+use Rattle.mh_values.specs.declared.class.ClassId.{ClassId}
+use Rattle.mh_values.specs.Classes.{class_named, IsAscending, IsDistinct}
+
+-- what the map has at a name
+abbrev pub number_at : BTreeMap (Vec ℕ) ClassId → List ℕ → Option ClassId
+number_at numbers name = get_by (λ k. slice_cmp nat_cmp name k.items) numbers
+
+-- a superclass, where there is one, has a number below this one
+abbrev pub IsWithin : ℕ → Option ClassId → Type 0
+IsWithin n superclass = (b : ClassId) → superclass ≡ Some b → b.0 < n
+
+-- classes in order, with distinct names, and a map that finds each of them by its name
+pub record IsRegistry (numbers : BTreeMap (Vec ℕ) ClassId) (classes : List Class) : Type 0 where
+  pub ascending : IsAscending classes
+  pub distinct : IsDistinct classes
+  pub found : (name : List ℕ) → number_at numbers name ≡ class_named classes name
