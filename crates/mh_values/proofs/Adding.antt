@@ -1,21 +1,22 @@
 -- A class put behind a list of classes: what the list and the map of names then say.
-use Rattle.std.proofs.Common.{◌≡◌, refl, sym, ap, subst, ◌∙◌, zero, suc, ℕ, ◌+◌, ◌<◌, ◌≤◌, ◌⊎◌, inl, inr, Bool, true, false, cond, if◌then◌else◌, List, [], ◌∷◌, ◌++◌, length, Option, None, Some, slice_get, arith, length-append}
-use Rattle.std.proofs.lemmas.Bool.{cases_Bool, cond-true, cond-false}
+use Rattle.std.proofs.Common.{◌≡◌, refl, sym, ap, subst, ◌∙◌, zero, suc, ℕ, ◌+◌, ◌<◌, ◌≤◌, ◌⊎◌, inl, inr, Bool, true, false, if◌then◌else◌, List, [], ◌∷◌, ◌++◌, length, Option, None, Some, slice_get, arith, length-append, length-take, take}
+use Rattle.std.proofs.lemmas.List.{take-append-le}
+use Rattle.std.proofs.lemmas.Bool.{cases_Bool}
 use Rattle.std.proofs.lemmas.Map.Text.{is_eq-slice_cmp}
 use Rattle.std.proofs.lemmas.Slice.Eq.{bytes_eq-Decides}
-use Rattle.std.specs.BTreeMap.{BTreeMap, UpdatesBy, get_by, is_at}
+use Rattle.std.specs.BTreeMap.{BTreeMap, UpdatesBy, is_at}
 use Rattle.std.specs.Cmp.{eq_by_cmp_equiv}
 use Rattle.std.specs.Cmp.Lexicographic.{slice_cmp, nat_list_cmp_total, nat_list_eq_equiv}
 use Rattle.std.specs.Global.{Vec}
 use Rattle.std.specs.Map.{lookup, IsKeyTest, AreApart, KeepsOthers}
 use Rattle.std.specs.Option.{option_map_or}
-use Rattle.std.specs.Ordering.{nat_cmp, eq_by_cmp}
+use Rattle.std.specs.Ordering.{nat_cmp}
 use Rattle.std.specs.Str.{bytes_eq}
 use Rattle.mh_values.specs.declared.class.Class.{Class}
 use Rattle.mh_values.specs.declared.class.ClassId.{ClassId}
 use Rattle.mh_values.specs.Class.{class_at, superclass_of}
 use Rattle.mh_values.specs.ClassNumbers.{number_at, IsRegistry, IsWithin}
-use Rattle.mh_values.specs.Classes.{name_of, named_from, class_named, IsAscending, IsDistinct}
+use Rattle.mh_values.specs.Classes.{name_of, named_from, class_named, IsAscending, IsDistinct, AreClasses, AreOrdered, most_classes}
 
 -- ---- a list with one item more
 
@@ -47,8 +48,8 @@ ascending-add : (xs : List Class) (y : Class) → IsAscending xs → IsWithin (l
 ascending-add xs y old within a b h =
     let f = superclass_of-some (xs ++ y ∷ []) a b h in
     elim (at_end xs y f.0 a.0 f.1) [
-        inl w ↦ old a b (ap (λ o. option_map_or (λ class. class.superclass) o None) w.1 ∙ f.2)
-        | inr w ↦ subst (λ n. b.0 < n) (sym w.0) (within b (ap (λ (z : Class). z.superclass) w.1 ∙ f.2))
+      | inl w ↦ old a b (ap (λ o. option_map_or (λ class. class.superclass) o None) w.1 ∙ f.2)
+      | inr w ↦ subst (λ n. b.0 < n) (sym w.0) (within b (ap (λ (z : Class). z.superclass) w.1 ∙ f.2))
     ]
 
 -- ---- names
@@ -62,10 +63,10 @@ named_from-add : (n : ℕ) (xs : List Class) (y : Class) (name : List ℕ) → n
 named_from-add n [] y name = ap (λ k. if bytes_eq y.name name then Some (class_at k) else None) (omega arith)
 named_from-add n (x ∷ xs) y name =
     let later : named_from (n + 1) (xs ++ y ∷ []) name ≡ or_else (named_from (n + 1) xs name) (if bytes_eq y.name name then Some (class_at (n + suc (length xs))) else None) =
-        named_from-add (n + 1) xs y name ∙ ap (λ k. or_else (named_from (n + 1) xs name) (if bytes_eq y.name name then Some (class_at k) else None)) (omega arith) in
+    named_from-add (n + 1) xs y name ∙ ap (λ k. or_else (named_from (n + 1) xs name) (if bytes_eq y.name name then Some (class_at k) else None)) (omega arith) in
     elim (bytes_eq x.name name) as (λ b. (if b then Some (class_at n) else named_from (n + 1) (xs ++ y ∷ []) name) ≡ or_else (if b then Some (class_at n) else named_from (n + 1) xs name) (if bytes_eq y.name name then Some (class_at (n + suc (length xs))) else None)) [
-        true ↦ refl
-        | false ↦ later
+      | true ↦ refl
+      | false ↦ later
     ]
 
 same_bytes : (a b : List ℕ) → a ≡ b → bytes_eq a b ≡ true
@@ -106,8 +107,8 @@ distinct-add : (xs : List Class) (y : Class) → IsDistinct xs → class_named x
 distinct-add xs y old new c within =
     let fits : c.0 < length xs + 1 = omega (arith, length-append xs (y ∷ [])) in
     elim (last_or_before c.0 (length xs) fits) [
-        inl w ↦ ap (class_named (xs ++ y ∷ [])) (name_of-old xs y c w) ∙ class_named-kept xs y (name_of xs c) c (old c w)
-        | inr w ↦ ap (class_named (xs ++ y ∷ [])) (name_of-seam xs y c w) ∙ class_named-new xs y y.name new refl ∙ ap (λ n. Some (class_at n)) (sym w)
+      | inl w ↦ ap (class_named (xs ++ y ∷ [])) (name_of-old xs y c w) ∙ class_named-kept xs y (name_of xs c) c (old c w)
+      | inr w ↦ ap (class_named (xs ++ y ∷ [])) (name_of-seam xs y c w) ∙ class_named-new xs y y.name new refl ∙ ap (λ n. Some (class_at n)) (sym w)
     ]
 
 -- ---- the map
@@ -125,16 +126,31 @@ number_at-other m n key name w h e = other_entries _ _ _ _ h.3 _ (λ x y. (eq_by
 found-add : (m n : BTreeMap (Vec ℕ) ClassId) (xs : List Class) (y : Class) (key : List ℕ) (v : ClassId) → ((name : List ℕ) → number_at m name ≡ class_named xs name) → UpdatesBy (λ (x y : Vec ℕ). slice_cmp nat_cmp x.items y.items) (λ k. slice_cmp nat_cmp key k.items) m n (Some v) → class_named xs key ≡ None → y.name ≡ key → v ≡ class_at (length xs) → (name : List ℕ) → number_at n name ≡ class_named (xs ++ y ∷ []) name
 found-add m n xs y key v old updates new same here name =
     elim (cases_Bool (bytes_eq key name)) [
-        inl e ↦
-            let is : key ≡ name = (bytes_eq-Decides key name).0 e in
-            subst (λ l. number_at n l ≡ class_named (xs ++ y ∷ []) l) is (updates.1 ∙ ap Some here ∙ sym (class_named-new xs y key new same))
-        | inr e ↦ number_at-other m n key name (Some v) updates e ∙ old name ∙ sym (class_named-other xs y name (ap (λ l. bytes_eq l name) same ∙ e))
+      | inl e ↦
+          let is : key ≡ name = (bytes_eq-Decides key name).0 e in
+          subst (λ l. number_at n l ≡ class_named (xs ++ y ∷ []) l) is (updates.1 ∙ ap Some here ∙ sym (class_named-new xs y key new same))
+      | inr e ↦ number_at-other m n key name (Some v) updates e ∙ old name ∙ sym (class_named-other xs y name (ap (λ l. bytes_eq l name) same ∙ e))
     ]
 
 pub registry-add : (m n : BTreeMap (Vec ℕ) ClassId) (xs ys : List Class) (y : Class) (key : List ℕ) (v : ClassId) → IsRegistry m xs → UpdatesBy (λ (x y : Vec ℕ). slice_cmp nat_cmp x.items y.items) (λ k. slice_cmp nat_cmp key k.items) m n (Some v) → class_named xs key ≡ None → y.name ≡ key → IsWithin (length xs) y.superclass → v.0 ≡ length xs → ys ≡ xs ++ y ∷ [] → IsRegistry n ys
 registry-add m n xs ys y key v old updates new same within here pushed =
     subst (λ l. IsRegistry n l) (sym pushed) (record {
-        ascending = ascending-add xs y old.ascending within;
-        distinct = distinct-add xs y old.distinct (ap (class_named xs) same ∙ new);
-        found = found-add m n xs y key v old.found updates new same (ap class_at here);
+      ordered = record {
+        ascending = ascending-add xs y old.ordered.ascending within;
+        distinct = distinct-add xs y old.ordered.distinct (ap (class_named xs) same ∙ new);
+      };
+      found = found-add m n xs y key v old.found updates new same (ap class_at here);
     })
+
+-- ---- behind the built-in classes
+
+pub classes-add : (xs ys : List Class) (y : Class) → AreClasses xs → (length xs ≡ most_classes → ⊥) → ys ≡ xs ++ y ∷ [] → AreOrdered ys → AreClasses ys
+classes-add xs ys y old not_most pushed ordered =
+    let front : length (take 28 xs) ≡ 28 = ap length old.builtin in
+    let enough : 28 ≤ length xs = omega (arith, length-take 28 xs) in
+    let more : length ys ≡ length xs + 1 = ap length pushed ∙ length-append xs (y ∷ []) in
+    record {
+      builtin = ap (take 28) pushed ∙ take-append-le 28 xs (y ∷ []) enough ∙ old.builtin;
+      few = omega (arith, old.few, not_most);
+      ordered = ordered;
+    }

@@ -1,5 +1,5 @@
 -- Rows of a table of classes.
-use Rattle.std.specs.Prelude.{ℕ, nat_lt, Bool, true, ◌&&◌, not, List, [], ◌∷◌, ◌++◌, length, map, Option, None, Some, option_map, is_some}
+use Rattle.std.specs.Prelude.{ℕ, nat_lt, Bool, true, ◌&&◌, not, List, [], ◌∷◌, ◌++◌, length, map, Option, option_map, is_some}
 use Rattle.std.specs.Option.{option_map_or}
 use denote.Ref.{Bor}
 use Rattle.mh_values.specs.declared.class.Class.{Class}

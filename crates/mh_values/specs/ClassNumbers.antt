@@ -6,7 +6,7 @@ use Rattle.std.specs.Global.{Vec}
 use Rattle.std.specs.Ordering.{nat_cmp}
 use Rattle.mh_values.specs.declared.class.Class.{Class}
 use Rattle.mh_values.specs.declared.class.ClassId.{ClassId}
-use Rattle.mh_values.specs.Classes.{class_named, IsAscending, IsDistinct}
+use Rattle.mh_values.specs.Classes.{class_named, AreOrdered}
 
 -- what the map has at a name
 abbrev pub number_at : BTreeMap (Vec ℕ) ClassId → List ℕ → Option ClassId
@@ -16,8 +16,7 @@ number_at numbers name = get_by (λ k. slice_cmp nat_cmp name k.items) numbers
 abbrev pub IsWithin : ℕ → Option ClassId → Type 0
 IsWithin n superclass = (b : ClassId) → superclass ≡ Some b → b.0 < n
 
--- classes in order, with distinct names, and a map that finds each of them by its name
+-- classes in order, and a map that finds each of them by its name
 pub record IsRegistry (numbers : BTreeMap (Vec ℕ) ClassId) (classes : List Class) : Type 0 where
-  pub ascending : IsAscending classes
-  pub distinct : IsDistinct classes
+  pub ordered : AreOrdered classes
   pub found : (name : List ℕ) → number_at numbers name ≡ class_named classes name

@@ -31,13 +31,17 @@ IsAscending classes = (a b : ClassId) → superclass_of classes a ≡ Some b →
 abbrev pub IsDistinct : List Class → Type 0
 IsDistinct classes = (c : ClassId) → c.0 < length classes → class_named classes (name_of classes c) ≡ Some c
 
+-- classes in order: each behind its superclass, no two of one name
+pub record AreOrdered (classes : List Class) : Type 0 where
+  pub ascending : IsAscending classes
+  pub distinct : IsDistinct classes
+
 -- as many classes as are built in, and as many as may be declared behind them
 abbrev pub most_classes : ℕ
 most_classes = 28 + 1024
 
--- what holds of each list of classes
+-- what holds of each list of classes: the built-in ones stand in front
 pub record AreClasses (classes : List Class) : Type 0 where
   pub builtin : take 28 classes ≡ builtin_classes
   pub few : length classes ≤ most_classes
-  pub ascending : IsAscending classes
-  pub distinct : IsDistinct classes
+  pub ordered : AreOrdered classes

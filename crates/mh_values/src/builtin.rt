@@ -1,6 +1,7 @@
 ghost use Rattle.std.specs.Prelude.{◌≡◌, ◌<◌, ◌^◌, [], ◌∷◌, ◌++◌, length, IfOk, OnOk, IsTrue};
 ghost use Rattle.mh_values.specs.Builtin.{class_of_row, classes_of_rows, may_follow, may_follow_each};
 ghost use Rattle.mh_values.specs.Class.{builtin_classes};
+ghost use Rattle.mh_values.specs.Classes.{AreOrdered};
 
 use crate::ClassId;
 use crate::registry::Registry;
@@ -44,7 +45,8 @@ const BUILTIN: [(&str, Option<u32>); 28] = [
 fn add_row(registry: &mut Registry, name: &str, superclass: Option<u32>) -> Result<(), NoMemory>
     requires new { IsTrue (may_follow registry.old (class_of_row name.now superclass)) }
     requires few { length registry.old < 2 ^ 32 }
-    ensures { OnOk result (registry.new ≡ registry.old ++ class_of_row name.now superclass ∷ []) }
+    ensures ok { OnOk result (registry.new ≡ registry.old ++ class_of_row name.now superclass ∷ []) }
+    ensures ordered { OnOk result (AreOrdered registry.new) }
 {
     let superclass = match superclass {
         None => None,
@@ -57,7 +59,8 @@ fn add_row(registry: &mut Registry, name: &str, superclass: Option<u32>) -> Resu
 fn registered(alloc: Global, rows: &[(&str, Option<u32>)]) -> Result<Registry, NoMemory>
     requires new { IsTrue (may_follow_each [] (classes_of_rows rows.now)) }
     requires few { length rows.now < 2 ^ 32 }
-    ensures { IfOk result (λ registry. registry ≡ classes_of_rows rows.now) }
+    ensures ok { IfOk result (λ registry. registry ≡ classes_of_rows rows.now) }
+    ensures ordered { IfOk result AreOrdered }
 {
     let mut registry = Registry::new(alloc);
     for (name, superclass) in rows {
@@ -68,7 +71,8 @@ fn registered(alloc: Global, rows: &[(&str, Option<u32>)]) -> Result<Registry, N
 
 /// The built-in classes alone.
 pub(crate) fn builtin_registry(alloc: Global) -> Result<Registry, NoMemory>
-    ensures { IfOk result (λ registry. registry ≡ builtin_classes) }
+    ensures ok { IfOk result (λ registry. registry ≡ builtin_classes) }
+    ensures ordered { IfOk result AreOrdered }
 {
     registered(alloc, &BUILTIN)
 }

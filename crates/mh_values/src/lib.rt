@@ -3,6 +3,7 @@
 
 mod builtin;
 mod class;
+mod classes;
 mod copies;
 mod descriptor;
 mod exception;
@@ -14,6 +15,7 @@ mod types;
 mod value;
 
 pub use class::{Class, ClassId};
+pub use classes::{Classes, DeclareError};
 pub use descriptor::{BadAt, descriptor_text};
 pub use literal::{read_int, show_int};
 pub use types::{Comp, MethodTy, Primitive, Ty, Tys};

@@ -1,5 +1,5 @@
 ghost use Rattle.std.specs.Prelude.{◌≡◌, ◌<◌, ◌^◌, [], ◌∷◌, ◌++◌, length, None, OnOk, OnErr, slice_get, Some};
-ghost use Rattle.mh_values.specs.Classes.{class_named, class_of};
+ghost use Rattle.mh_values.specs.Classes.{AreOrdered, class_named, class_of};
 ghost use Rattle.mh_values.specs.ClassNumbers.{IsWithin};
 
 use crate::{Class, ClassId};
@@ -30,7 +30,8 @@ impl Model for Registry {
 impl Registry {
     /// No classes.
     pub(crate) fn new(alloc: Global) -> Registry
-        ensures { result ≡ [] }
+        ensures empty { result ≡ [] }
+        ensures ordered { AreOrdered result }
     {
         Registry {
             list: Vec::new(alloc),
@@ -66,6 +67,7 @@ impl Registry {
         requires behind { IsWithin (length self.old) superclass }
         requires few { length self.old < 2 ^ 32 }
         ensures ok { OnOk result (self.new ≡ self.old ++ class_of name.now superclass ∷ []) }
+        ensures ordered { OnOk result (AreOrdered self.new) }
         ensures err { OnErr result (self.new ≡ self.old) }
     {
         let alloc = *self.list.allocator();
