@@ -4,45 +4,6 @@ use mh_base::Seq;
 #[derive(Clone, Copy, Debug, PartialEq, Eq)]
 pub struct ClassId(pub u32);
 
-/// Built-in classes that the rules of `java.lang.invoke` name.
-impl ClassId {
-    pub const OBJECT: ClassId = ClassId(0);
-
-    pub const INTEGER: ClassId = ClassId(2);
-
-    pub const LONG: ClassId = ClassId(3);
-
-    pub const BOOLEAN: ClassId = ClassId(6);
-
-    pub const STRING: ClassId = ClassId(8);
-
-    pub const THROWABLE: ClassId = ClassId(9);
-
-    pub const BOOTSTRAP_METHOD_ERROR: ClassId = ClassId(14);
-
-    pub const NO_CLASS_DEF_FOUND: ClassId = ClassId(15);
-
-    pub const NO_SUCH_METHOD: ClassId = ClassId(17);
-
-    pub const INTERNAL_ERROR: ClassId = ClassId(19);
-
-    pub const WRONG_METHOD_TYPE: ClassId = ClassId(20);
-
-    pub const CLASS_CAST: ClassId = ClassId(21);
-
-    pub const NULL_POINTER: ClassId = ClassId(22);
-
-    pub const ILLEGAL_ARGUMENT: ClassId = ClassId(23);
-
-    pub const ARITHMETIC: ClassId = ClassId(24);
-
-    pub const UNSUPPORTED_OPERATION: ClassId = ClassId(25);
-
-    pub const STRING_CONCAT: ClassId = ClassId(26);
-
-    pub const STACK_OVERFLOW: ClassId = ClassId(27);
-}
-
 /// A class: its name in internal form, as `java/lang/Object`, and its superclass, which
 /// `java/lang/Object` alone lacks.
 #[derive(Debug, Drop)]
