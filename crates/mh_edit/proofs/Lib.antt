@@ -1,3 +1,4 @@
+pub mod Arrays
 pub mod Edited
 pub mod Finishing
 pub mod Parameters
