@@ -1,6 +1,6 @@
 -- What each kind of leaf does, and which types it may have.
-use Rattle.std.specs.Prelude.{ℕ, zero, ◌==◌, ℤ, pos, negsuc, ◌+ℤ◌, ◌-ℤ◌, ◌*ℤ◌, int_div, int_lt, nat_lt, nat_le, Bool, true, false, not, ◌&&◌, if◌then◌else◌, List, [], ◌∷◌, ◌++◌, length, codes, sum_by, Option, Some, None, option_map, slice_get}
-use Rattle.std.specs.Int.{w32, w64, int_wrap, cast_signed}
+use Rattle.std.specs.Prelude.{ℕ, zero, ◌==◌, ℤ, pos, negsuc, ◌+ℤ◌, ◌-ℤ◌, ◌*ℤ◌, int_lt, nat_lt, nat_le, Bool, true, false, not, ◌&&◌, if◌then◌else◌, List, [], ◌∷◌, ◌++◌, length, codes, sum_by, Option, Some, None, option_map, slice_get}
+use Rattle.std.specs.Int.{w32, w64, int_wrap, int_wrapping_div, cast_signed}
 use Rattle.mh_values.specs.declared.class.Class.{Class}
 use Rattle.mh_values.specs.declared.types.Primitive.TheVariants as primitive
 use Rattle.mh_values.specs.declared.types.Ty.{Ty}
@@ -41,7 +41,7 @@ boolean b = returned (value.Prim (num.Z b))
 -- the quotient, cut toward zero; the least int by -1 is itself, and 0 divides nothing
 abbrev pub divided : ℤ → ℤ → Outcome
 divided a (pos zero) = Throw (saying arithmetic_class (codes "/ by zero"))
-divided a b = int (int_wrap w32 (int_div a b))
+divided a b = int (int_wrapping_div w32 a b)
 
 -- whether two ints are equal
 abbrev pub is_same_int : ℤ → ℤ → Bool

@@ -1,0 +1,76 @@
+ghost use Rattle.std.specs.Prelude.{◌≡◌, ◌++◌, ◌≤◌, option_copied, sum_by, IfOk, pos};
+ghost use Rattle.mh_leaf.specs.Outcome.{characters_of, joined, text, units_of, measured};
+
+use mh_base::{NoMemory, Seq};
+use mh_values::{ClassId, Exc, Num, Outcome, Value};
+use std::alloc::Global;
+
+const NULL_TEXT: [char; 4] = ['n', 'u', 'l', 'l'];
+
+/// How many characters a text may have.
+const LONGEST_TEXT: usize = 4096;
+
+/// The characters of a text, or of the word `null`; nothing else has any.
+fn characters_of(value: &Value) -> Option<&[char]>
+    ensures { option_copied result ≡ characters_of value.now }
+{
+    match value {
+        Value::Text(text) => Some(text.as_slice()),
+        Value::Null => Some(&NULL_TEXT),
+        _ => None,
+    }
+}
+
+/// Two texts joined, where the whole is not too long for a text.
+fn text(alloc: Global, front: &[char], back: &[char]) -> Result<Outcome, NoMemory>
+    ensures { IfOk result (λ outcome. outcome ≡ text (front.now ++ back.now)) }
+{
+    if front.len() > LONGEST_TEXT || back.len() > LONGEST_TEXT - front.len() {
+        let refusal = Exc::saying(alloc, ClassId::INTERNAL_ERROR, b"string too long")?;
+        return Ok(Outcome::Throw(refusal));
+    }
+    let mut chars = Vec::from_slice(alloc, front)?;
+    chars.extend_from_slice(back)?;
+    Ok(Outcome::Return(Some(Value::Text(Seq::from_vec(chars)))))
+}
+
+/// `concat`: the texts of two arguments joined.
+pub fn joined(alloc: Global, first: &Value, second: &Value) -> Result<Outcome, NoMemory>
+    ensures { IfOk result
+        (λ outcome. outcome ≡ joined (characters_of first.now) (characters_of second.now)) }
+{
+    let (Some(front), Some(back)) = (characters_of(first), characters_of(second)) else {
+        return Ok(Outcome::Throw(Exc::bare(alloc, ClassId::CLASS_CAST)));
+    };
+    text(alloc, front, back)
+}
+
+/// How many UTF-16 units a character takes.
+fn units_of(character: char) -> u64
+    ensures value { result ≡ units_of character }
+    ensures most { result ≤ 2 }
+{
+    if u32::from(character) < 65536 { 1 } else { 2 }
+}
+
+/// The number of UTF-16 units of a text. One that no int can tell is want of memory.
+fn units(text: &[char]) -> Result<i32, NoMemory>
+    ensures { IfOk result (λ units. units ≡ pos (sum_by units_of text.now)) }
+{
+    let mut units = 0u64;
+    for character in text {
+        units += units_of(*character);
+    }
+    i32::try_from(units).map_err(|_| NoMemory)
+}
+
+/// `length`: the number of UTF-16 units of the argument.
+pub fn measured(alloc: Global, value: &Value) -> Result<Outcome, NoMemory>
+    ensures { IfOk result (λ outcome. outcome ≡ measured value.now) }
+{
+    Ok(match value {
+        Value::Text(text) => Outcome::Return(Some(Value::Prim(Num::I(units(text.as_slice())?)))),
+        Value::Null => Outcome::Throw(Exc::bare(alloc, ClassId::NULL_POINTER)),
+        _ => Outcome::Throw(Exc::bare(alloc, ClassId::CLASS_CAST)),
+    })
+}
