@@ -1,4 +1,6 @@
 pub mod Arrays
+pub mod Converted
+pub mod Converting
 pub mod Edited
 pub mod Finishing
 pub mod Parameters
@@ -8,3 +10,4 @@ pub mod Ranges
 pub mod Reframing
 pub mod Renaming
 pub mod Results
+pub mod Roots
