@@ -1,11 +1,11 @@
 -- The characters that are found are those that the bytes spell, and a half is refused just where it is alone.
-use Rattle.std.proofs.Common.{◌≡◌, ℕ, zero, suc, ◌+◌, ◌-◌, ◌*◌, ◌/◌, ◌%◌, ◌^◌, ◌<◌, ◌≤◌, Bool, true, false, ◌&&◌, cond, ltb, leb, List, [], ◌∷◌, ◌++◌, length, take, drop, Result, Ok, Err, refl, sym, ap, subst, ◌∙◌, append_assoc, take-add, arith}
+use Rattle.std.proofs.Common.{◌≡◌, ℕ, ◌+◌, ◌-◌, ◌*◌, ◌/◌, ◌%◌, ◌^◌, ◌<◌, ◌≤◌, Bool, true, false, ◌&&◌, cond, ltb, List, [], ◌∷◌, ◌++◌, length, take, drop, Result, Ok, Err, refl, sym, ap, subst, ◌∙◌, append_assoc, take-add, arith}
 use Rattle.std.proofs.lemmas.Bool.Decides.{nat_tests}
-use Rattle.std.proofs.lemmas.List.{append-nil, append_cancel_left, length-append, take_at, drop_at, drop-drop}
+use Rattle.std.proofs.lemmas.List.{append-nil, length-append, take_at, drop_at, drop-drop}
 use Rattle.std.proofs.lemmas.List.Concat.{flat_map-cons}
 use Rattle.std.specs.List.{flat_map}
 use Rattle.mh_class_bytes.specs.Mutf8.{AreUnits, unit_bytes, unit_len}
-use Rattle.mh_class_bytes.specs.Chars.{unit_value, units_from, is_high, is_low, is_half, joined, units_of, spelled, IsLoneAt, behind, chars_from, chars_of}
+use Rattle.mh_class_bytes.specs.Chars.{unit_value, units_from, is_high, is_low, is_half, joined, units_of, spelled, IsLoneAt, behind, chars_from, chars_of, shown, shown_text, IsShownAs}
 use Rattle.mh_class_bytes.proofs.Texts.{whole_text, unit_bytes-some}
 use Rattle.mh_class_bytes.proofs.Units.{IsSound, units_in-spelled, value-spelled}
 use Rattle.mh_class_bytes.proofs.FirstChar.{long_half, high_low}
@@ -128,3 +128,20 @@ chars_law bytes sound =
     let t = whole_text bytes sound in
     let units : units_from 0 bytes ≡ t.0 = ap (units_from 0) t.2 ∙ units_in-spelled t.0 t.1 in
     rw units (subst (λ (x : List ℕ). Finds 0 x (chars_from 0 t.0)) (sym t.2) (found 0 t.0 t.1))
+
+-- A text that is found to have characters spells them.
+pub chars_law-ok : (bytes cs : List ℕ) → IsSound bytes → chars_of bytes ≡ Ok cs → bytes ≡ spelled cs
+chars_law-ok bytes cs sound e = subst (λ (r : Result (List ℕ) ℕ). Finds 0 bytes r) e (chars_law bytes sound)
+
+-- A half that is refused is alone.
+pub chars_law-lone : (bytes : List ℕ) (at : ℕ) → IsSound bytes → chars_of bytes ≡ Err at → IsLoneAt bytes at
+chars_law-lone bytes at sound e =
+    let f = subst (λ (r : Result (List ℕ) ℕ). Finds 0 bytes r) e (chars_law bytes sound) in
+    let same : f.0 ≡ at = omega (arith, f.1) in
+    subst (IsLoneAt bytes) same f.2
+
+-- What is shown of a text is what its units show.
+pub shown_law : (bytes cs : List ℕ) → IsSound bytes → cs ≡ shown_text bytes → IsShownAs bytes cs
+shown_law bytes cs sound e =
+    let t = whole_text bytes sound in
+    (t.0, t.1, t.2, e ∙ ap shown (ap (units_from 0) t.2 ∙ units_in-spelled t.0 t.1))

@@ -9,3 +9,4 @@ pub mod Units
 pub mod FirstChar
 pub mod CharLoops
 pub mod CharLaw
+pub mod Examples

@@ -1,9 +1,9 @@
 -- Going over the bytes of a text, unit by unit.
-use Rattle.std.proofs.Common.{◌≡◌, ℕ, zero, suc, ◌+◌, ◌-◌, ◌<◌, ◌≤◌, List, [], ◌∷◌, length, drop, refl, arith}
+use Rattle.std.proofs.Common.{get_or, drop-cons, ap, sym, ◌∙◌, ◌≡◌, ℕ, zero, suc, ◌+◌, ◌-◌, ◌<◌, ◌≤◌, List, [], ◌∷◌, length, drop, refl, arith}
 use Rattle.std.proofs.lemmas.Bool.Decides.{nat_tests}
 use Rattle.std.proofs.lemmas.List.{drop-drop, length-drop, nil_from_length}
 use Rattle.mh_class_bytes.specs.Mutf8.{unit_len, sound_from}
-use Rattle.mh_class_bytes.proofs.UnitLen.{unit_len-sound}
+use Rattle.mh_class_bytes.proofs.UnitLen.{unit_len-sound, len_1}
 
 pub sound_from-skip : (k : ℕ) (bytes : List ℕ) → k ≤ length bytes → sound_from k bytes ≡ k + sound_from 0 (drop k bytes)
 unfolding sound_from
@@ -51,3 +51,9 @@ sound_end bytes at le ge h =
     let e : drop at bytes ≡ [] = nil_from_length (drop at bytes) (omega (arith, length-drop at bytes)) in
     let z : sound_from 0 (drop at bytes) ≡ 0 = rw e sound_from-nil in
     omega arith
+
+-- one byte that is a unit by itself
+pub sound_plain : (bytes : List ℕ) (at total : ℕ) → at < length bytes → 1 ≤ get_or bytes at 0 → get_or bytes at 0 ≤ 0x7F → at + sound_from 0 (drop at bytes) ≡ total → (at + 1) + sound_from 0 (drop (at + 1) bytes) ≡ total
+sound_plain bytes at total lt low high h =
+    let one : unit_len (drop at bytes) ≡ 1 = ap unit_len (drop-cons bytes at 0 lt) ∙ len_1 (get_or bytes at 0) (drop (suc at) bytes) (omega arith) (omega arith) in
+    sound_step bytes at 1 total (sym one) h (omega arith)

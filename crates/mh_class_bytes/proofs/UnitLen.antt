@@ -95,7 +95,7 @@ unit_len-sound (a ∷ rest) h =
       | inr (inr w) ↦ subst P (sym w.1) (front_3 a rest w.0)
     ]
 
-len_1 : (a : ℕ) (rest : List ℕ) → 0 < a → a < 0x80 → unit_len (a ∷ rest) ≡ 1
+pub len_1 : (a : ℕ) (rest : List ℕ) → 0 < a → a < 0x80 → unit_len (a ∷ rest) ≡ 1
 unfolding unit_len
 len_1 a rest h k = grind (arith, nat_tests)
 

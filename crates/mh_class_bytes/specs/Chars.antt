@@ -1,7 +1,7 @@
 -- The characters of a text: its UTF-16 units, joined in pairs (JVMS 4.4.7; Unicode 3.9, D91).
 use Rattle.std.specs.Prelude.{◌≡◌, ℕ, zero, suc, ◌+◌, ◌-◌, ◌*◌, ◌/◌, ◌%◌, ◌≤◌, ◌<◌, List, [], ◌∷◌, ◌++◌, length, take, drop, nat_lt, nat_le, ◌==◌, slice_index, Bool, true, ◌&&◌, Option, Some, None, Result, Ok, Err, if◌then◌else◌}
 use Rattle.std.specs.List.{flat_map}
-use Rattle.mh_class_bytes.specs.Mutf8.{unit_bytes, unit_len}
+use Rattle.mh_class_bytes.specs.Mutf8.{AreUnits, unit_bytes, unit_len}
 use Rattle.mh_class_bytes.specs.declared.chars.CharsError.{CharsError}
 use Rattle.mh_class_bytes.specs.declared.chars.CharsError.TheVariants.{NoMemory, LoneSurrogate}
 
@@ -66,7 +66,11 @@ shown [] = []
 shown (u ∷ []) = shown_unit u ∷ []
 shown (u ∷ v ∷ units) = if is_high u && is_low v then joined u v ∷ shown units else shown_unit u ∷ shown (v ∷ units)
 
--- a text as it is shown
+-- a text is shown as these characters
+abbrev pub IsShownAs : List ℕ → List ℕ → Type 0
+IsShownAs bytes cs = (units : List ℕ) × AreUnits units × (bytes ≡ flat_map unit_bytes units) × (cs ≡ shown units)
+
+-- how a text is shown
 abbrev pub shown_text : List ℕ → List ℕ
 shown_text bytes = shown (units_in bytes)
 

@@ -1,6 +1,7 @@
 ghost use Rattle.std.specs.Prelude.{◌≡◌, ◌<◌, ◌≤◌, ◌^◌, length, IfOk, IsTrue, Some};
 ghost use Rattle.mh_class_bytes.specs.Mutf8.{unit_len};
-ghost use Rattle.mh_class_bytes.specs.Chars.{unit_value, as_char, joined, is_high, is_low, first_char, first_len, Decodes, chars_of, shown_text};
+ghost use Rattle.mh_class_bytes.specs.Chars.{unit_value, as_char, joined, is_high, is_low, first_char, first_len};
+ghost use Rattle.mh_class_bytes.specs.Chars.{spelled, IfLone, IsLoneAt, Decodes, chars_of, IsShownAs, shown_text};
 
 use crate::text::{Text, unit_len};
 use mh_base::NoMemory;
@@ -108,6 +109,10 @@ impl<'b> Text<'b> {
     /// The characters of the text. `LoneSurrogate` stands at the first half of a pair that has no
     /// partner; without one there are characters.
     pub fn chars(&self, alloc: Global) -> Result<Vec<char>, CharsError>
+        ensures ok { IfOk result (λ v. self.now ≡ spelled v.items) }
+        ensures lone { IfLone result (IsLoneAt self.now) }
+
+        // The same by computation.
         ensures exact { Decodes (λ v. v.items) result (chars_of self.now) }
     {
         let bytes = self.bytes();
@@ -128,7 +133,8 @@ impl<'b> Text<'b> {
     /// The characters of the text as they are shown: U+FFFD stands for each half of a pair that has
     /// no partner.
     pub fn shown(&self, alloc: Global) -> Result<Vec<char>, NoMemory>
-        ensures { IfOk result (λ v. v.items ≡ shown_text self.now) }
+        ensures ok { IfOk result (λ v. IsShownAs self.now v.items) }
+        ensures exact { IfOk result (λ v. v.items ≡ shown_text self.now) }
     {
         let bytes = self.bytes();
         let mut chars = Vec::new(alloc);

@@ -1,4 +1,4 @@
-ghost use Rattle.std.specs.Prelude.{◌≡◌, [], ◌≤◌, ◌<◌, ◌^◌, length, IfOk, OnOk, IfErr};
+ghost use Rattle.std.specs.Prelude.{◌≡◌, [], ◌+◌, ◌≤◌, ◌<◌, ◌^◌, length, drop, IfOk, OnOk, IfErr};
 ghost use Rattle.mh_class_bytes.specs.Mutf8.{IsText, IsBadAt, unit_len, sound_len};
 
 use std::marker::Model;
@@ -65,15 +65,29 @@ pub fn mutf8_check<'b>(bytes: &'b [u8]) -> Result<Text<'b>, BadText>
     ensures within { IfErr result (λ e. e.at < length bytes.now) }
     ensures small { length bytes.now < 2 ^ 63 }
 {
-    let mut at: usize = 0;
+    let mut at = pass_plain(bytes, 0);
     while at < bytes.len() {
         let len = unit_len(&bytes[at..]);
         if len == 0 {
             return Err(BadText { at });
         }
-        at += len;
+        at = pass_plain(bytes, at + len);
     }
     Ok(Text { bytes })
+}
+
+/// The place behind the units of one byte that stand from a place on: most texts have no others.
+fn pass_plain(bytes: &[u8], at: usize) -> usize
+    requires { at ≤ length bytes.now }
+    ensures onward { at ≤ result }
+    ensures within { result ≤ length bytes.now }
+    ensures passed { at + sound_len (drop at bytes.now) ≡ result + sound_len (drop result bytes.now) }
+{
+    let mut end = at;
+    while end < bytes.len() && 1 <= bytes[end] && bytes[end] <= 0x7F {
+        end += 1;
+    }
+    end
 }
 
 /// How many bytes the unit in front takes; 0 where none is spelled there.

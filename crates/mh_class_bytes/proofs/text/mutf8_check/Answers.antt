@@ -1,5 +1,5 @@
 use Rattle.std.proofs.Common.{◌∙◌, ℕ, sym, ap, subst, arith}
-use Rattle.std.proofs.lemmas.List.{take_rest, length-drop}
+use Rattle.std.proofs.lemmas.List.{take_rest}
 use Rattle.mh_class_bytes.specs.Mutf8.{IsBadAt, unit_len}
 use Rattle.mh_class_bytes.proofs.Texts.{bad_place, text_law}
 use Rattle.mh_class_bytes.proofs.SoundLen.{sound_step, sound_stop, sound_end}
@@ -14,7 +14,9 @@ pub loop-at-preserved : goal.loop-at-preserved
 loop-at-preserved c =
     let is = c.unit_len-len.ensures.value ∙ ap unit_len (take_rest c.args.bytes.now c.loop-at.at) in
     let within = c.unit_len-len.ensures.within in
-    (omega (arith, rw (take_rest c.args.bytes.now c.loop-at.at) at within, length-drop c.loop-at.at c.args.bytes.now), sound_step c.args.bytes.now c.loop-at.at c.unit_len-len.result _ is c.loop-at.invariant.1 (omega arith))
+    let step = sound_step c.args.bytes.now c.loop-at.at c.unit_len-len.result _ is c.loop-at.invariant.1 (omega arith) in
+    let passed = c.pass_plain-at-in-loop-at.ensures in
+    (passed.within, sym passed.passed ∙ step)
 
 pub invariant_of-result : goal.invariant_of-result
 invariant_of-result c = sound_end c.args.bytes.now c.loop-at.at c.loop-at.invariant.0 c.loop-at-test.false c.loop-at.invariant.1

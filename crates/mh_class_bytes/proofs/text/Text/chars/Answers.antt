@@ -1,8 +1,9 @@
-use Rattle.std.proofs.Common.{◌≡◌, ◌∙◌, drop, sym, ap, arith, Some, None}
+use Rattle.std.proofs.Common.{Ok, Err, ◌≡◌, ◌∙◌, drop, sym, ap, arith, Some, None}
 use Rattle.std.proofs.lemmas.List.{length-drop}
-use Rattle.mh_class_bytes.specs.Chars.{first_char, first_len}
+use Rattle.mh_class_bytes.specs.Chars.{chars_of, first_char, first_len}
 use Rattle.mh_class_bytes.proofs.Units.{sound-begins}
 use Rattle.mh_class_bytes.proofs.CharLoops.{is_at-next, is_at-more, begins-some, decoding-next, decoding-stops, decoding-done}
+use Rattle.mh_class_bytes.proofs.CharLaw.{chars_law-ok, chars_law-lone}
 use Rattle.mh_class_bytes.proofs.text.Text.chars.Goals as goal
 
 pub read_first-first-requires : goal.read_first-first-requires
@@ -14,7 +15,8 @@ pub returns-in_default : goal.returns-in_default
 returns-in_default c =
     let b = c.bytes-bytes.result.now in
     let none : first_char (drop c.loop-at.at b) ≡ None = ap first_char (sym c.split_at.ensures.back) ∙ sym c.read_first-first.ensures.char ∙ c.in_default.is in
-    record { exact = rw (← c.bytes-bytes.ensures.bytes) (decoding-stops b c.loop-at.at c.loop-at.chars.items c.loop-at.invariant c.loop-at-test.true none) }
+    let exact : chars_of c.args.self.now ≡ Err c.loop-at.at = rw (← c.bytes-bytes.ensures.bytes) (decoding-stops b c.loop-at.at c.loop-at.chars.items c.loop-at.invariant c.loop-at-test.true none) in
+    record { ok = tt; lone = chars_law-lone c.args.self.now c.loop-at.at c.bytes-bytes.ensures.text exact; exact = exact }
 
 pub overflow_add-at : goal.overflow_add-at
 overflow_add-at c =
@@ -41,4 +43,5 @@ loop-at-preserved c =
 pub returns : goal.returns
 returns c =
     let b = c.bytes-bytes.result.now in
-    record { exact = rw (← c.bytes-bytes.ensures.bytes) (decoding-done b c.loop-at.at c.loop-at.chars.items c.loop-at.invariant c.loop-at-test.false) }
+    let exact : chars_of c.args.self.now ≡ Ok c.loop-at.chars.items = rw (← c.bytes-bytes.ensures.bytes) (decoding-done b c.loop-at.at c.loop-at.chars.items c.loop-at.invariant c.loop-at-test.false) in
+    record { ok = chars_law-ok c.args.self.now c.loop-at.chars.items c.bytes-bytes.ensures.text exact; lone = tt; exact = exact }

@@ -4,6 +4,8 @@ use Rattle.std.specs.Prelude.{unwrap_or}
 use Rattle.mh_class_bytes.specs.Chars.{first_char, first_len}
 use Rattle.mh_class_bytes.proofs.Units.{sound-begins}
 use Rattle.mh_class_bytes.proofs.CharLoops.{is_at-next, is_at-more, begins-some, showing-next, showing-done}
+use Rattle.mh_class_bytes.specs.Chars.{shown_text}
+use Rattle.mh_class_bytes.proofs.CharLaw.{shown_law}
 use Rattle.mh_class_bytes.proofs.text.Text.shown.Goals as goal
 
 pub read_first-first-requires : goal.read_first-first-requires
@@ -36,4 +38,5 @@ loop-at-preserved c =
 pub returns : goal.returns
 returns c =
     let b = c.bytes-bytes.result.now in
-    rw (← c.bytes-bytes.ensures.bytes) (showing-done b c.loop-at.at c.loop-at.chars.items c.loop-at.invariant c.loop-at-test.false)
+    let exact : c.loop-at.chars.items ≡ shown_text c.args.self.now = rw (← c.bytes-bytes.ensures.bytes) (showing-done b c.loop-at.at c.loop-at.chars.items c.loop-at.invariant c.loop-at-test.false) in
+    record { ok = shown_law c.args.self.now c.loop-at.chars.items c.bytes-bytes.ensures.text exact; exact = exact }
