@@ -8,6 +8,7 @@ pub mod Exception
 pub mod Grammar
 pub mod HasType
 pub mod Literal
+pub mod Returns
 pub mod Same
 pub mod Slots
 pub mod TypeText
