@@ -1,6 +1,5 @@
 -- Types as descriptors (JVMS SE 17, 4.3.2 and 4.3.3).
-use Rattle.std.specs.Prelude.{ℕ, List, [], ◌++◌, codes, flat_map, Option, Some, None, slice_get}
-use Rattle.std.specs.Option.{option_map_or}
+use Rattle.std.specs.Prelude.{ℕ, List, ◌++◌, codes, flat_map, Option, Some, None}
 use Rattle.mh_values.specs.declared.class.Class.{Class}
 use Rattle.mh_values.specs.declared.class.ClassId.{ClassId}
 use Rattle.mh_values.specs.declared.types.Primitive.{Primitive}
@@ -10,10 +9,11 @@ use Rattle.mh_values.specs.declared.types.Comp.TheVariants as comp
 use Rattle.mh_values.specs.declared.types.Ty.{Ty}
 use Rattle.mh_values.specs.declared.types.Ty.TheVariants as ty
 use Rattle.mh_values.specs.declared.types.MethodTy.{MethodTy}
+use Rattle.mh_values.specs.Classes.{name_of}
 
 -- the name of a class of the list
 abbrev pub name_of_class : List Class → ClassId → List ℕ
-name_of_class classes c = option_map_or (λ class. class.name) (slice_get classes c.0) []
+name_of_class classes c = name_of classes c
 
 -- the letter of a primitive type
 abbrev pub primitive_text : Primitive → List ℕ

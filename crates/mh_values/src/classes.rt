@@ -112,27 +112,30 @@ impl Classes {
         self.registry.find(name)
     }
 
-    /// The name of a class.
+    /// The name of a class. A number that is no class of these has no name: it is empty.
     pub fn name(&self, class: ClassId) -> &[u8]
-        requires { class.0 < length self.now }
         ensures { result.now ≡ name_of self.now class }
     {
-        self.registry.get(class).name.as_slice()
+        match self.registry.get(class) {
+            Some(class) => class.name.as_slice(),
+            None => &[],
+        }
     }
 
     /// The superclass of a class, which `java/lang/Object` alone lacks.
     pub fn superclass(&self, class: ClassId) -> Option<ClassId>
-        requires { class.0 < length self.now }
         ensures superclass { result ≡ superclass_of self.now class }
         ensures classes { AreClasses self.now }
     {
-        self.registry.get(class).superclass
+        match self.registry.get(class) {
+            Some(class) => class.superclass,
+            None => None,
+        }
     }
 
-    /// Whether a class is another one, or below it.
+    /// Whether a class is another one, or below it. A number that is no class of these is below
+    /// itself alone.
     pub fn subclass(&self, class: ClassId, above: ClassId) -> bool
-        requires class { class.0 < length self.now }
-        requires above { above.0 < length self.now }
         ensures reached { IsTrue result ↔ IsSubclass self.now class above }
         ensures same { result ≡ is_subclass self.now class above }
     {

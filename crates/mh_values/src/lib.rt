@@ -12,6 +12,7 @@ mod known;
 mod literal;
 mod registry;
 mod types;
+mod typing;
 mod value;
 
 pub use class::{Class, ClassId};
@@ -19,6 +20,7 @@ pub use classes::{Classes, DeclareError};
 pub use descriptor::{BadAt, descriptor_text};
 pub use literal::{read_int, show_int};
 pub use types::{Comp, MethodTy, Primitive, Ty, Tys};
+pub use typing::{are_items_of, has_type, is_component_below, is_item_of, is_type_below, slots};
 pub use value::{
     Calls, Cause, Cell, Cells, Exc, Items, LeafCall, LeafId, Num, Outcome, Str, Value,
 };

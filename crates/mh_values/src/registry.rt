@@ -1,4 +1,5 @@
-ghost use Rattle.std.specs.Prelude.{◌≡◌, ◌<◌, ◌^◌, [], ◌∷◌, ◌++◌, length, None, OnOk, OnErr, slice_get, Some};
+ghost use Rattle.std.specs.Prelude.{◌≡◌, ◌<◌, ◌^◌, [], ◌∷◌, ◌++◌, length, None, OnOk, OnErr, slice_get};
+ghost use Rattle.std.specs.Option.{option_copied};
 ghost use Rattle.mh_values.specs.Classes.{AreOrdered, class_named, class_of};
 ghost use Rattle.mh_values.specs.ClassNumbers.{IsWithin};
 
@@ -46,12 +47,11 @@ impl Registry {
         self.list.len()
     }
 
-    /// The class of a number.
-    pub(crate) fn get(&self, class: ClassId) -> &Class
-        requires { class.0 < length self.now }
-        ensures { slice_get self.now class.0 ≡ Some result.now }
+    /// The class of a number, if it is one of these.
+    pub(crate) fn get(&self, class: ClassId) -> Option<&Class>
+        ensures { option_copied result ≡ slice_get self.now class.0 }
     {
-        &self.list[class.0 as usize]
+        self.list.as_slice().get(class.0 as usize)
     }
 
     /// The class of a name.

@@ -7,7 +7,7 @@ use Rattle.mh_values.proofs.classes.Classes.subclass.Goals as goal
 ends : (c : goal.In_default) → is_subclass c.args.self.now c.args.class c.args.above ≡ false
 ends c =
     let top = is_subclass-top c.args.self.now c.loop-above.class c.args.above (sym c.in_default.ensures.superclass) (other_class c.loop-above.class c.args.above c.loop-above-test.ensures) in
-    sym c.loop-above.invariant.same ∙ top
+    sym c.loop-above.invariant ∙ top
 
 pub returns-in_default-clause-reached : goal.returns-in_default-clause-reached
 returns-in_default-clause-reached c =
@@ -23,18 +23,13 @@ loop-above-smaller c = c.in-Some.ensures.classes.ordered.ascending c.loop-above.
 pub loop-above-preserved : goal.loop-above-preserved
 loop-above-preserved c =
     let ascending = c.in-Some.ensures.classes.ordered.ascending in
-    let lower : c.in-Some.superclass.0 < c.loop-above.class.0 = ascending c.loop-above.class c.in-Some.superclass (sym c.in-Some.ensures.superclass) in
-    let inside : c.loop-above.class.0 < length c.args.self.now = c.loop-above.invariant.within in
-    record {
-      within = omega arith;
-      same = sym (is_subclass-up c.args.self.now ascending c.loop-above.class c.args.above c.in-Some.superclass (sym c.in-Some.ensures.superclass) (other_class c.loop-above.class c.args.above c.loop-above-test.ensures)) ∙ c.loop-above.invariant.same;
-    }
+    sym (is_subclass-up c.args.self.now ascending c.loop-above.class c.args.above c.in-Some.superclass (sym c.in-Some.ensures.superclass) (other_class c.loop-above.class c.args.above c.loop-above-test.ensures)) ∙ c.loop-above.invariant
 
 -- at the class itself the way is found
 found : (c : goal.After-loop-above) → is_subclass c.args.self.now c.args.class c.args.above ≡ true
 found c =
     let here = one_class c.loop-above.class c.args.above c.loop-above-test.ensures in
-    sym c.loop-above.invariant.same ∙ ap (λ d. is_subclass c.args.self.now d c.args.above) here ∙ is_subclass-itself c.args.self.now c.args.above
+    sym c.loop-above.invariant ∙ ap (λ d. is_subclass c.args.self.now d c.args.above) here ∙ is_subclass-itself c.args.self.now c.args.above
 
 pub returns-clause-reached : goal.returns-clause-reached
 returns-clause-reached c = (λ h. reaches-sound (length c.args.self.now) c.args.self.now c.args.class c.args.above (found c), λ way. refl)

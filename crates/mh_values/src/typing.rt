@@ -1,0 +1,160 @@
+ghost use Rattle.std.specs.Prelude.{◌≡◌, ◌<◌, ◌^◌};
+ghost use Rattle.mh_values.specs.HasType.{primitive_of, wrapper_of, is_component_below, is_item_of, are_items_of, has_class, has_primitive, has_component, has_type, is_type_below};
+ghost use Rattle.mh_values.specs.Slots.{slots_of, slots_of_all};
+
+use crate::{Cell, ClassId, Classes, Comp, MethodTy, Num, Primitive, Ty, Value};
+
+impl Num {
+    /// The primitive type of the number.
+    pub fn primitive(self) -> Primitive
+        ensures { result ≡ primitive_of self }
+    {
+        match self {
+            Num::Z(_) => Primitive::Z,
+            Num::I(_) => Primitive::I,
+            Num::J(_) => Primitive::J,
+        }
+    }
+}
+
+impl Primitive {
+    /// The class of the boxed values of the type, as `java/lang/Integer` of `int`.
+    pub fn wrapper(self) -> ClassId
+        ensures { result ≡ wrapper_of self }
+    {
+        match self {
+            Primitive::Z => ClassId::BOOLEAN,
+            Primitive::I => ClassId::INTEGER,
+            Primitive::J => ClassId::LONG,
+        }
+    }
+}
+
+impl Ty {
+    /// The slots that a parameter of the type takes: a `long` takes two.
+    pub fn slots(self) -> u32
+        ensures { result ≡ slots_of self }
+    {
+        match self {
+            Ty::Prim(Primitive::J) => 2,
+            _ => 1,
+        }
+    }
+}
+
+/// The slots of all parameters (JVMS SE 17, 4.3.3).
+pub fn slots(ty: &MethodTy) -> u32
+    requires { slots_of_all ty.now.params < 2 ^ 32 }
+    ensures { result ≡ slots_of_all ty.now.params }
+{
+    let mut all = 0;
+    for parameter in ty.params.as_slice() {
+        all += parameter.slots();
+    }
+    all
+}
+
+/// Whether each array of the one component is an array of the other.
+pub fn is_component_below(from: Comp, to: Comp, classes: &Classes) -> bool
+    ensures { result ≡ is_component_below classes.now from to }
+{
+    match (from, to) {
+        (Comp::Prim(from), Comp::Prim(to)) => from == to,
+        (Comp::Class(from), Comp::Class(to)) => classes.subclass(from, to),
+        _ => false,
+    }
+}
+
+/// Whether each value of the one type has the other, as `MethodHandle.asType` takes for granted of
+/// references: the types are equal, a class is below a class, an array is an `Object`, or the
+/// components of arrays are classes one of which is below the other.
+pub fn is_type_below(from: Ty, to: Ty, classes: &Classes) -> bool
+    ensures { result ≡ is_type_below classes.now from to }
+{
+    match (from, to) {
+        (Ty::Prim(from), Ty::Prim(to)) => from == to,
+        (Ty::Class(from), Ty::Class(to)) => classes.subclass(from, to),
+        (Ty::Array(_), Ty::Class(to)) => to == ClassId::OBJECT,
+        (Ty::Array(from), Ty::Array(to)) => is_component_below(from, to, classes),
+        _ => false,
+    }
+}
+
+/// Whether an array of the component may have the item.
+pub fn is_item_of(component: Comp, item: &Cell, classes: &Classes) -> bool
+    ensures { result ≡ is_item_of classes.now component item.now }
+{
+    match component {
+        Comp::Prim(primitive) => match item {
+            Cell::Prim(number) => number.primitive() == primitive,
+            _ => false,
+        },
+        Comp::Class(class) => match item {
+            Cell::Prim(_) => false,
+            Cell::Boxed(number) => classes.subclass(number.primitive().wrapper(), class),
+            Cell::Text(_) => classes.subclass(ClassId::STRING, class),
+            Cell::Object(own, _) => classes.subclass(*own, class),
+            Cell::Thrown(exc) => classes.subclass(exc.class, class),
+            Cell::Null => true,
+        },
+    }
+}
+
+/// Whether all items are such that an array of the component may have.
+pub fn are_items_of(component: Comp, items: &[Cell], classes: &Classes) -> bool
+    ensures { result ≡ are_items_of classes.now component items.now }
+{
+    items
+        .iter()
+        .all(|item| is_item_of(component, item, classes))
+}
+
+fn has_primitive(v: &Value, primitive: Primitive) -> bool
+    ensures { result ≡ has_primitive v.now primitive }
+{
+    match v {
+        Value::Prim(number) => number.primitive() == primitive,
+        _ => false,
+    }
+}
+
+fn has_class(v: &Value, class: ClassId, classes: &Classes) -> bool
+    ensures { result ≡ has_class classes.now v.now class }
+{
+    match v {
+        Value::Prim(_) => false,
+        Value::Boxed(number) => classes.subclass(number.primitive().wrapper(), class),
+        Value::Text(_) => classes.subclass(ClassId::STRING, class),
+        Value::Object(own, _) => classes.subclass(*own, class),
+        Value::Thrown(exc) => classes.subclass(exc.class, class),
+        Value::Array(own, items) => {
+            class == ClassId::OBJECT && are_items_of(*own, items.as_slice(), classes)
+        }
+        Value::Null => true,
+    }
+}
+
+fn has_component(v: &Value, component: Comp, classes: &Classes) -> bool
+    ensures { result ≡ has_component classes.now v.now component }
+{
+    match v {
+        Value::Array(own, items) => {
+            is_component_below(*own, component, classes)
+                && are_items_of(*own, items.as_slice(), classes)
+        }
+        Value::Null => true,
+        _ => false,
+    }
+}
+
+/// Whether a value has a type: a number its primitive type, any other value each class at or above
+/// its own, an array also the arrays of such classes, and null each reference type.
+pub fn has_type(v: &Value, ty: Ty, classes: &Classes) -> bool
+    ensures { result ≡ has_type classes.now v.now ty }
+{
+    match ty {
+        Ty::Prim(primitive) => has_primitive(v, primitive),
+        Ty::Class(class) => has_class(v, class, classes),
+        Ty::Array(component) => has_component(v, component, classes),
+    }
+}
