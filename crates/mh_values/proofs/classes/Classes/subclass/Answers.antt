@@ -1,4 +1,4 @@
-use Rattle.std.proofs.Common.{◌≡◌, ◌∙◌, sym, refl, false, true, ap, ◌<◌, length, arith}
+use Rattle.std.proofs.Common.{◌≡◌, ◌∙◌, sym, refl, false, true, ap, length}
 use Rattle.mh_values.specs.Class.{is_subclass}
 use Rattle.mh_values.proofs.Subclasses.{reaches-sound, is_subclass-complete, is_subclass-up, is_subclass-top, is_subclass-itself, other_class, one_class}
 use Rattle.mh_values.proofs.classes.Classes.subclass.Goals as goal
