@@ -3,6 +3,8 @@ pub mod Converted
 pub mod Converting
 pub mod Edited
 pub mod Finishing
+pub mod Fitting
+pub mod Laws
 pub mod Parameters
 pub mod Parts
 pub mod Places
