@@ -1,4 +1,4 @@
--- Method descriptors, byte by byte: which byte continues one (JVMS SE 17, 4.3.2 and 4.3.3).
+-- Method descriptors and other texts of types, byte by byte: which byte continues one (JVMS SE 17, 4.3.2 and 4.3.3).
 use Rattle.std.specs.Prelude.{ℕ, ◌+◌, ◌==◌, nat_le, Bool, true, false, ◌||◌, if◌then◌else◌, List, [], ◌∷◌, Option, None, Some}
 use Rattle.std.specs.Option.{option_map_or}
 use Rattle.mh_values.specs.declared.grammar.Place.{Place}
@@ -13,7 +13,8 @@ is_base b = b == 66 || b == 67 || b == 68 || b == 70 || b == 73 || b == 74 || b 
 -- behind a whole type
 abbrev pub behind : Place → Standing
 behind (place.Parameter slots) = standing.Parameters slots
-behind place.Return = standing.End
+behind place.Listed = standing.Types true
+behind place.Last = standing.End
 
 -- a type that is no array begins with `L` or is one letter
 abbrev pub element : Place → ℕ → Option Standing
@@ -42,11 +43,13 @@ slots_from b = if b == 74 || b == 68 then 2 else 1
 abbrev pub parameter : ℕ → ℕ → Option Standing
 parameter slots b = if nat_le (slots + slots_from b) 255 then begun (place.Parameter (slots + slots_from b)) b else None
 
--- behind one more byte, where it continues a method descriptor
+-- behind one more byte, where the text may go on with it
 abbrev pub next : Standing → ℕ → Option Standing
 next standing.Front b = if b == 40 then Some (standing.Parameters 0) else None
 next (standing.Parameters slots) b = if b == 41 then Some standing.Close else parameter slots b
-next standing.Close b = if b == 86 then Some standing.End else begun place.Return b
+next standing.Close b = if b == 86 then Some standing.End else begun place.Last b
+next standing.Alone b = begun place.Last b
+next (standing.Types some) b = begun place.Listed b
 next (standing.Dimensions p dimensions) b = within_array p dimensions b
 next (standing.Name p has_bytes) b = within_name p has_bytes b
 next standing.End b = None
@@ -54,9 +57,10 @@ next standing.End b = None
 -- whether a text may end here
 abbrev pub is_end : Standing → Bool
 is_end standing.End = true
+is_end (standing.Types some) = some
 is_end _ = false
 
--- the first place, counted from a number, of a text that does not go on to a whole descriptor from where it stands
+-- the first place, counted from a number, at which a text does not go on to a whole one from where it stands
 abbrev pub first_bad : ℕ → Standing → List ℕ → Option ℕ
 first_bad at s [] = if is_end s then None else Some at
 first_bad at s (b ∷ bs) = option_map_or (λ n. first_bad (at + 1) n bs) (next s b) (Some at)
@@ -64,3 +68,11 @@ first_bad at s (b ∷ bs) = option_map_or (λ n. first_bad (at + 1) n bs) (next 
 -- the first byte that continues no method descriptor, or the length of a text that ends early; nothing for a method descriptor
 abbrev pub descriptor_fault : List ℕ → Option ℕ
 descriptor_fault text = first_bad 0 standing.Front text
+
+-- the same for one type alone
+abbrev pub type_fault : List ℕ → Option ℕ
+type_fault text = first_bad 0 standing.Alone text
+
+-- the same for one or more types, written one after the other
+abbrev pub types_fault : List ℕ → Option ℕ
+types_fault text = first_bad 0 (standing.Types false) text

@@ -4,6 +4,7 @@ pub mod Class
 pub mod ClassNumbers
 pub mod Classes
 pub mod Computation
+pub mod Descriptor
 pub mod Exception
 pub mod Grammar
 pub mod HasType

@@ -1,15 +1,18 @@
 ghost use Rattle.std.specs.Prelude.{◌≡◌, ◌+◌};
-ghost use Rattle.mh_values.specs.Grammar.{is_base, behind, element, begun, within_array, within_name, parameter, next};
+ghost use Rattle.mh_values.specs.Grammar.{is_base, behind, element, begun, within_array, within_name, parameter, next, is_end};
 
-/// What a type stands for in a method descriptor.
+/// What a type stands for in a text of types.
 #[derive(Clone, Copy, Debug, PartialEq, Eq)]
 pub(crate) enum Place {
     /// A parameter; with it the parameters take so many slots.
     Parameter(u8),
-    Return,
+    /// One of several types that are written one after the other.
+    Listed,
+    /// The return type, or a type that is written alone.
+    Last,
 }
 
-/// How far a method descriptor was read (JVMS SE 17, 4.3.2 and 4.3.3).
+/// How far a method descriptor, or another text of types, was read (JVMS SE 17, 4.3.2 and 4.3.3).
 #[derive(Clone, Copy, Debug, PartialEq, Eq)]
 pub(crate) enum Standing {
     /// Nothing was read.
@@ -18,11 +21,15 @@ pub(crate) enum Standing {
     Parameters(u8),
     /// Behind `)`.
     Close,
+    /// Where a type is written alone.
+    Alone,
+    /// Where types are written one after the other, behind some of them or in front of all.
+    Types(bool),
     /// Behind so many `[` of a type.
     Dimensions(Place, u8),
     /// Behind an `L`, with or without bytes of the name.
     Name(Place, bool),
-    /// Behind the return type.
+    /// Behind the last type.
     End,
 }
 
@@ -40,7 +47,8 @@ impl Place {
     {
         match self {
             Place::Parameter(slots) => Standing::Parameters(slots),
-            Place::Return => Standing::End,
+            Place::Listed => Standing::Types(true),
+            Place::Last => Standing::End,
         }
     }
 
@@ -100,7 +108,7 @@ fn parameter(slots: u8, byte: u8) -> Option<Standing>
 }
 
 impl Standing {
-    /// Behind one more byte, where it continues a method descriptor.
+    /// Behind one more byte, where the text may go on with it.
     pub(crate) fn next(self, byte: u8) -> Option<Standing>
         ensures { result ≡ next self byte }
     {
@@ -109,10 +117,21 @@ impl Standing {
             Standing::Parameters(_) if byte == b')' => Some(Standing::Close),
             Standing::Parameters(slots) => parameter(slots, byte),
             Standing::Close if byte == b'V' => Some(Standing::End),
-            Standing::Close => Place::Return.begun(byte),
+            Standing::Close | Standing::Alone => Place::Last.begun(byte),
+            Standing::Types(_) => Place::Listed.begun(byte),
             Standing::Dimensions(place, dimensions) => place.within_array(dimensions, byte),
             Standing::Name(place, has_bytes) => place.within_name(has_bytes, byte),
             Standing::End => None,
+        }
+    }
+
+    /// Whether the text may end here.
+    pub(crate) fn is_end(self) -> bool
+        ensures { result ≡ is_end self }
+    {
+        match self {
+            Standing::End | Standing::Types(true) => true,
+            _ => false,
         }
     }
 }

@@ -17,7 +17,7 @@ mod value;
 
 pub use class::{Class, ClassId};
 pub use classes::{Classes, DeclareError};
-pub use descriptor::{BadAt, descriptor_text};
+pub use descriptor::{BadAt, DescriptorError, descriptor_text, type_text, types_text};
 pub use literal::{read_int, show_int};
 pub use types::{Comp, MethodTy, Primitive, Ty, Tys};
 pub use typing::{are_items_of, has_type, is_component_below, is_item_of, is_type_below, slots};
