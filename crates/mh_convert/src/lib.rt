@@ -1,6 +1,10 @@
 //! Conversions of values between types, by the rules of `MethodHandle.asType`.
 #![tactic(auto)]
 
+mod allowed;
 mod conv;
+mod giving;
 
+pub use allowed::{conversion, ret_conversion};
 pub use conv::{Conv, RetConv};
+pub use giving::{convert, fit};

@@ -1,0 +1,66 @@
+ghost use Rattle.std.specs.Prelude.{◌≡◌};
+ghost use Rattle.mh_convert.specs.Conversion.{widens, serves_as, may_unbox, can, conversion_of, ret_conversion_of};
+
+use crate::{Conv, RetConv};
+use mh_values::{ClassId, Classes, Primitive, Ty};
+
+/// The primitive types.
+const PRIMITIVES: [Primitive; 3] = [Primitive::Z, Primitive::I, Primitive::J];
+
+/// Whether a number of the first primitive type serves as one of the second: the types are one, or
+/// the first widens to the second (JLS SE 17, 5.1.2).
+pub(crate) fn serves_as(from: Primitive, to: Primitive) -> bool
+    ensures { result ≡ serves_as from to }
+{
+    match (from, to) {
+        (Primitive::I, Primitive::J) => true,
+        _ => from == to,
+    }
+}
+
+/// Whether a value of the class may be a boxed number that serves as the primitive type.
+fn may_unbox(from: ClassId, to: Primitive, classes: &Classes) -> bool
+    ensures { result ≡ may_unbox classes.now from to }
+{
+    PRIMITIVES.iter().any(|primitive| classes.subclass(primitive.wrapper(), from)
+        && serves_as(*primitive, to))
+}
+
+/// Whether a value of the first type may be converted to the second.
+fn can(from: Ty, to: Ty, classes: &Classes) -> bool
+    ensures { result ≡ can classes.now from to }
+{
+    match (from, to) {
+        (Ty::Prim(from), Ty::Prim(to)) => serves_as(from, to),
+        (Ty::Prim(from), Ty::Class(to)) => classes.subclass(from.wrapper(), to),
+        (Ty::Class(from), Ty::Prim(to)) => may_unbox(from, to, classes),
+        (Ty::Prim(_), Ty::Array(_)) | (Ty::Array(_), Ty::Prim(_)) => false,
+        _ => true,
+    }
+}
+
+/// The conversion of an argument from one type to another, where it is allowed: the types are
+/// equal, both are references, a primitive type widens or is boxed, or a reference may hold a boxed
+/// number that serves (`MethodHandle.asType`, SE 17).
+pub fn conversion(from: Ty, to: Ty, classes: &Classes) -> Option<Conv>
+    ensures { result ≡ conversion_of classes.now from to }
+{
+    if can(from, to, classes) {
+        Some(Conv { from, to })
+    } else {
+        None
+    }
+}
+
+/// The conversion of what a method returns, where it is allowed: as of an argument, and any type
+/// may become void, and void any type (`MethodHandle.asType`, SE 17).
+pub fn ret_conversion(from: Option<Ty>, to: Option<Ty>, classes: &Classes) -> Option<RetConv>
+    ensures { result ≡ ret_conversion_of classes.now from to }
+{
+    match (from, to) {
+        (None, None) => Some(RetConv::Keep),
+        (Some(_), None) => Some(RetConv::Discard),
+        (None, Some(to)) => Some(RetConv::Default(to)),
+        (Some(from), Some(to)) => conversion(from, to, classes).map(RetConv::Value),
+    }
+}
