@@ -1,11 +1,11 @@
 -- Each key's law holds of the body that it makes.
 use Rattle.std.proofs.Common.{◌≡◌, subst, sym, Result, Ok, Err, IfOk, ℕ, ◌-◌, ◌<◌, ◌≤◌, length, arith}
-use Rattle.std.specs.Prelude.{IsTrue}
+use Rattle.std.specs.Prelude.{IsTrue, not}
 use Rattle.mh_base.specs.declared.memory.NoMemory.{NoMemory}
 use Rattle.mh_form.specs.declared.basic.Basic.TheVariants as basic
 use Rattle.mh_form.specs.declared.body.FormBody.{FormBody}
 use Rattle.mh_edit.specs.Applied.{applied}
-use Rattle.mh_edit.specs.Fit.{fits}
+use Rattle.mh_edit.specs.Fit.{fits, is_nothing}
 use Rattle.mh_edit.specs.Law.{Law}
 use Rattle.mh_edit.specs.declared.key.Key.{Key}
 use Rattle.mh_edit.specs.declared.key.Key.TheVariants.{LeafRoot, ConstRoot, IdentityRoot, ThrowRoot, GuardRoot, CatchRoot, Bind, Add, Permute, Collect, Fold, FilterReturn, Convert, Spread, Gather}
@@ -35,7 +35,7 @@ law-applied (FilterReturn ret) body h = law-FilterReturn ret body
 law-applied (Convert es ret) body h = law-Convert es ret body (same-number _ _ (second-true _ _ h))
 law-applied (Spread count b) body h = law-Spread count b body (has-last body.params count b (second-true _ _ h))
 law-applied (Gather count b) body h =
-    let last : length body.params - 1 < length body.params = is-parameter body.params (length body.params - 1) basic.L (second-true _ _ h) in law-Gather count b body (omega arith)
+    let last : length body.params - 1 < length body.params = is-parameter body.params (length body.params - 1) basic.L (second-true (not (is_nothing body)) _ h) in law-Gather count b body (omega arith)
 
 pub law-made :
     (key : Key) (body : FormBody) (r : Result FormBody NoMemory) →

@@ -1,5 +1,5 @@
 -- Which keys fit which bodies.
-use Rattle.std.specs.Prelude.{ℕ, zero, ◌+◌, ◌-◌, ◌==◌, nat_le, nat_lt, Bool, true, false, not, ◌&&◌, List, [], ◌∷◌, Option, None, Some, drop, length, slice_get}
+use Rattle.std.specs.Prelude.{ℕ, zero, ◌+◌, ◌-◌, ◌==◌, nat_le, nat_lt, Bool, true, false, not, ◌&&◌, List, [], ◌∷◌, Option, None, Some, drop, is_some, length, slice_get}
 use Rattle.std.specs.List.{list_all}
 use Rattle.std.specs.Option.{option_map_or}
 use Rattle.mh_form.specs.declared.basic.Basic.{Basic}
@@ -7,7 +7,6 @@ use Rattle.mh_form.specs.declared.basic.Basic.TheVariants as basic
 use Rattle.mh_form.specs.declared.basic.BasicRet.{BasicRet}
 use Rattle.mh_form.specs.declared.basic.BasicRet.TheVariants as basic_ret
 use Rattle.mh_form.specs.declared.body.FormBody.{FormBody}
-use Rattle.mh_form.specs.declared.name.Name.{Name}
 use Rattle.mh_edit.specs.declared.key.Key.{Key}
 use Rattle.mh_edit.specs.declared.key.Key.TheVariants as key
 
@@ -18,19 +17,9 @@ is_same_basic basic.I basic.I = true
 is_same_basic basic.J basic.J = true
 is_same_basic _ _ = false
 
--- there are no names
-abbrev pub no_names : List Name → Bool
-no_names [] = true
-no_names names = false
-
--- there is no result
-abbrev pub no_out : Option ℕ → Bool
-no_out None = true
-no_out (Some p) = false
-
 -- the body of which roots make a form: it takes nothing, has nothing and does nothing
 abbrev pub is_nothing : FormBody → Bool
-is_nothing body = length body.params == 0 && (body.fields == 0 && (no_names body.names && no_out body.out))
+is_nothing body = length body.params == 0 && (body.fields == 0 && (length body.names == 0 && not (is_some body.out)))
 
 -- the parameter at a place has this basic type
 abbrev pub is_basic_at : List Basic → ℕ → Basic → Bool
@@ -48,9 +37,9 @@ takes_result params pos (basic_ret.Is b) = is_basic_at params pos b
 
 -- there is a place for each parameter, and the parameter there has its basic type
 abbrev pub names_each : List Basic → List ℕ → List Basic → Bool
-names_each basics [] [] = true
+names_each basics [] params = length params == 0
+names_each basics (r ∷ reorder) [] = false
 names_each basics (r ∷ reorder) (b ∷ params) = is_basic_at basics r b && names_each basics reorder params
-names_each basics _ _ = false
 
 -- the last parameters, so many, have this basic type
 abbrev pub ends_with : List Basic → ℕ → Basic → Bool

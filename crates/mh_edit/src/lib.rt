@@ -2,6 +2,11 @@
 #![tactic(auto)]
 
 mod copies;
+mod fit;
 mod key;
+mod names;
+mod narrow;
+mod rename;
 
+pub use fit::key_fits;
 pub use key::{Entries, Key, Places, RetEntry};

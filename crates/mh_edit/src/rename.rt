@@ -1,0 +1,135 @@
+//! Names with their places renamed.
+
+ghost use Rattle.std.specs.Prelude.{◌≡◌, ◌++◌, IfOk, map};
+ghost use Rattle.std.specs.Option.{option_map};
+ghost use Rattle.mh_edit.specs.Rename.{place_by, renamed};
+
+use crate::narrow::narrow;
+use mh_base::{NoMemory, Seq};
+use mh_form::{Name, Names, Operands};
+use std::alloc::Global;
+
+/// The new places of the old parameters, and where the slots begin that the old names put.
+#[derive(Clone, Copy)]
+pub(crate) struct Renaming<'a> {
+    pub(crate) table: &'a [u32],
+    pub(crate) base: u32,
+}
+
+/// The new place of an old one.
+pub(crate) fn place(to: Renaming<'_>, old: u32) -> Result<u32, NoMemory>
+    ensures { IfOk result (λ new. new ≡ place_by to.entry.table.now to.entry.base old) }
+{
+    let at = old as usize;
+    if at < to.table.len() {
+        Ok(to.table[at])
+    } else {
+        narrow((at - to.table.len()) as u64 + to.base as u64)
+    }
+}
+
+pub(crate) fn place_if_any(to: Renaming<'_>, old: Option<u32>) -> Result<Option<u32>, NoMemory>
+    ensures { IfOk result
+        (λ new. new ≡ option_map (place_by to.entry.table.now to.entry.base) old) }
+{
+    match old {
+        None => Ok(None),
+        Some(old) => Ok(Some(place(to, old)?)),
+    }
+}
+
+fn places(alloc: Global, to: Renaming<'_>, old: &Operands) -> Result<Operands, NoMemory>
+    ensures { IfOk result
+        (λ new. new ≡ map (place_by to.entry.table.now to.entry.base) old.now) }
+{
+    let mut new = Seq::new(alloc);
+    for operand in old.as_slice() {
+        new.push(place(to, *operand)?)?;
+    }
+    Ok(new)
+}
+
+fn rename(alloc: Global, to: Renaming<'_>, name: &Name) -> Result<Name, NoMemory>
+    ensures { IfOk result
+        (λ new. new ≡ renamed (place_by to.entry.table.now to.entry.base) name.now) }
+{
+    Ok(match name {
+        Name::Get { field } => Name::Get { field: *field },
+        Name::Call { leaf, args } => Name::Call {
+            leaf: *leaf,
+            args: places(alloc, to, args)?,
+        },
+        Name::Link { part, args } => Name::Link {
+            part: *part,
+            args: places(alloc, to, args)?,
+        },
+        Name::Select {
+            test,
+            yes,
+            no,
+            args,
+        } => Name::Select {
+            test: place(to, *test)?,
+            yes: *yes,
+            no: *no,
+            args: places(alloc, to, args)?,
+        },
+        Name::Guarded {
+            part,
+            class,
+            handler,
+            args,
+            kept,
+        } => Name::Guarded {
+            part: *part,
+            class: *class,
+            handler: *handler,
+            args: places(alloc, to, args)?,
+            kept: *kept,
+        },
+        Name::Conv { conv, slot } => Name::Conv {
+            conv: *conv,
+            slot: place(to, *slot)?,
+        },
+        Name::Cast { conv, slot } => Name::Cast {
+            conv: *conv,
+            slot: place(to, *slot)?,
+        },
+        Name::Ret { conv, slot } => Name::Ret {
+            conv: *conv,
+            slot: place_if_any(to, *slot)?,
+        },
+        Name::MakeArray { comp, args } => Name::MakeArray {
+            comp: *comp,
+            args: places(alloc, to, args)?,
+        },
+        Name::CheckArray { slot, count } => Name::CheckArray {
+            slot: place(to, *slot)?,
+            count: *count,
+        },
+        Name::Elem { slot, item } => Name::Elem {
+            slot: place(to, *slot)?,
+            item: *item,
+        },
+        Name::Raise { slot } => Name::Raise {
+            slot: place(to, *slot)?,
+        },
+    })
+}
+
+/// The old names behind new ones, with their places renamed.
+pub(crate) fn rename_all(
+    alloc: Global,
+    to: Renaming<'_>,
+    before: Names,
+    old: &Names,
+) -> Result<Names, NoMemory>
+    ensures { IfOk result
+        (λ all. all ≡ before ++ map (renamed (place_by to.entry.table.now to.entry.base)) old.now) }
+{
+    let mut all = before;
+    for name in old.as_slice() {
+        all.push(rename(alloc, to, name)?)?;
+    }
+    Ok(all)
+}
