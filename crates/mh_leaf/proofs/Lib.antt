@@ -1,0 +1,2 @@
+pub mod ArgumentTypes
+pub mod Outcomes

@@ -183,3 +183,28 @@ pub fn kind_does(
         Kind::Throw(class) => Ok(Some(Outcome::Throw(Exc::bare(alloc, class)))),
     }
 }
+
+/// Whether a leaf is called on null as its receiver, on which a virtual leaf does not run.
+pub fn lacks_receiver(leaf: &Leaf, args: &Items) -> bool
+    ensures { result ≡ lacks_receiver leaf.now args.now }
+{
+    match args.as_slice() {
+        [Value::Null, ..] => leaf.is_virtual,
+        _ => false,
+    }
+}
+
+/// What a leaf does with these arguments, where `n` leaf calls were made before in the invocation.
+/// A virtual leaf whose receiver is null throws `NullPointerException` and makes no leaf call.
+pub fn leaf_does(alloc: Global, leaf: &Leaf, args: &Items, n: u32) -> Result<Outcome, NoMemory>
+    requires { IsSome (leaf_outcome leaf.now args.now n) }
+    ensures { IfOk result (λ outcome. leaf_outcome leaf.now args.now n ≡ Some outcome) }
+{
+    if lacks_receiver(leaf, args) {
+        return Ok(Outcome::Throw(Exc::bare(alloc, ClassId::NULL_POINTER)));
+    }
+    let Some(outcome) = kind_does(alloc, leaf.kind, args, n)? else {
+        unreachable!()
+    };
+    Ok(outcome)
+}

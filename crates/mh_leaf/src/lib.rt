@@ -6,5 +6,5 @@ mod does;
 mod leaf;
 mod text;
 
-pub use does::kind_does;
+pub use does::{kind_does, lacks_receiver, leaf_does};
 pub use leaf::{Kind, Leaf};
