@@ -4,7 +4,9 @@
 mod allowed;
 mod conv;
 mod giving;
+mod misfits;
 
 pub use allowed::{conversion, ret_conversion};
 pub use conv::{Conv, RetConv};
 pub use giving::{convert, fit};
+pub use misfits::misfit;
