@@ -5,6 +5,7 @@ use Rattle.mh_form.specs.declared.basic.Basic.{Basic}
 use Rattle.mh_form.specs.declared.basic.Basic.TheVariants as basic
 use Rattle.mh_form.specs.declared.basic.BasicRet.{BasicRet}
 use Rattle.mh_form.specs.declared.basic.BasicRet.TheVariants as basic_ret
+use Rattle.mh_form.specs.declared.basic.Shape.{Shape}
 use Rattle.mh_form.specs.declared.body.FormBody.{FormBody}
 use Rattle.mh_form.specs.declared.name.Name.{Name}
 use Rattle.mh_form.specs.declared.name.Name.TheVariants as name
@@ -78,20 +79,27 @@ places_of (Some p) = p ∷ []
 abbrev pub elem_names : ℕ → ℕ → ℕ → List Name
 elem_names array from count = map (λ k. name.Elem array k) (range_with_len from count)
 
--- the new body
-abbrev pub applied : Key → FormBody → FormBody
-applied (key.LeafRoot shape) body =
-    record {
-      params = shape.params;
-      fields = 1;
-      names = name.Call 0 (range_with_len 0 (length shape.params)) ∷ [];
-      out = out_of shape.ret (length shape.params);
-    }
-applied (key.ConstRoot b) body = record { params = []; fields = 1; names = name.Get 0 ∷ []; out = Some 0 }
-applied (key.IdentityRoot b) body = record { params = b ∷ []; fields = 0; names = []; out = Some 0 }
-applied (key.ThrowRoot ret) body =
-    record { params = basic.L ∷ []; fields = 0; names = name.Raise 0 ∷ []; out = out_of ret 1 }
-applied (key.GuardRoot shape test) body =
+-- calls a leaf
+abbrev pub leaf_body : Shape → FormBody
+leaf_body shape =
+    let count = length shape.params in
+    record { params = shape.params; fields = 1; names = name.Call 0 (range_with_len 0 count) ∷ []; out = out_of shape.ret count }
+
+-- gets a constant
+abbrev pub constant_body : FormBody
+constant_body = record { params = []; fields = 1; names = name.Get 0 ∷ []; out = Some 0 }
+
+-- gives its argument
+abbrev pub identity_body : Basic → FormBody
+identity_body b = record { params = b ∷ []; fields = 0; names = []; out = Some 0 }
+
+-- throws its argument
+abbrev pub throw_body : BasicRet → FormBody
+throw_body ret = record { params = basic.L ∷ []; fields = 0; names = name.Raise 0 ∷ []; out = out_of ret 1 }
+
+-- runs a test on the first arguments, and then one of two parts on all
+abbrev pub guard_body : Shape → ℕ → FormBody
+guard_body shape test =
     let count = length shape.params in
     record {
       params = shape.params;
@@ -99,7 +107,10 @@ applied (key.GuardRoot shape test) body =
       names = name.Link 0 (range_with_len 0 test) ∷ name.Select count 1 2 (range_with_len 0 count) ∷ [];
       out = out_of shape.ret (count + 1);
     }
-applied (key.CatchRoot shape handler) body =
+
+-- runs a part on all arguments, guarded by a handler
+abbrev pub catch_body : Shape → ℕ → FormBody
+catch_body shape handler =
     let count = length shape.params in
     record {
       params = shape.params;
@@ -107,22 +118,63 @@ applied (key.CatchRoot shape handler) body =
       names = name.Guarded 0 1 2 (range_with_len 0 count) handler ∷ [];
       out = out_of shape.ret count;
     }
-applied (key.Bind pos) body = edited body pos 1 [] (name.Get body.fields ∷ []) ((length body.params - 1) ∷ []) 1
-applied (key.Add pos basics) body = edited body pos 0 basics [] [] 0
-applied (key.Permute basics reorder) body = reframed body basics [] reorder 0
-applied (key.Collect pos basics ret) body =
+
+-- a constant for a parameter
+abbrev pub binding : ℕ → FormBody → FormBody
+binding pos body = edited body pos 1 [] (name.Get body.fields ∷ []) ((length body.params - 1) ∷ []) 1
+
+-- parameters put in
+abbrev pub adding : ℕ → List Basic → FormBody → FormBody
+adding pos basics body = edited body pos 0 basics [] [] 0
+
+-- parameters replaced
+abbrev pub permuting : List Basic → List ℕ → FormBody → FormBody
+permuting basics reorder body = reframed body basics [] reorder 0
+
+-- a part on parameters that are put in, and its result for one
+abbrev pub collecting : ℕ → List Basic → BasicRet → FormBody → FormBody
+collecting pos basics ret body =
     edited body pos (taken_by ret) basics
     (name.Link body.fields (range_with_len pos (length basics)) ∷ [])
     (given ret (length body.params + length basics - taken_by ret)) 1
-applied (key.Fold pos count ret) body =
+
+-- a part on parameters that stay, and its result for one before them
+abbrev pub folding : ℕ → ℕ → BasicRet → FormBody → FormBody
+folding pos count ret body =
     edited body pos (taken_by ret) []
     (name.Link body.fields (range_with_len pos count) ∷ [])
     (given ret (length body.params - taken_by ret)) 1
-applied (key.FilterReturn ret) body = finishing (λ out. name.Link body.fields (places_of out)) ret body
-applied (key.Convert params ret) body = returning ret (converting params body)
-applied (key.Spread count b) body =
+
+-- a part on the result
+abbrev pub filtering : BasicRet → FormBody → FormBody
+filtering ret body = finishing (λ out. name.Link body.fields (places_of out)) ret body
+
+-- an array for the last parameters, whose items it gives
+abbrev pub spreading : ℕ → FormBody → FormBody
+spreading count body =
     let pos = length body.params - count in
     edited body pos count (basic.L ∷ []) (name.CheckArray pos count ∷ elem_names pos 0 count) (range_with_len (pos + 2) count) 0
-applied (key.Gather count b) body =
+
+-- the items of the last parameter for it, as an array
+abbrev pub gathering : ℕ → Basic → FormBody → FormBody
+gathering count b body =
     let pos = length body.params - 1 in
     edited body pos 1 (replicate count b) (name.MakeArray body.fields (range_with_len pos count) ∷ []) ((pos + count) ∷ []) 1
+
+-- the body that a key makes
+abbrev pub applied : Key → FormBody → FormBody
+applied (key.LeafRoot shape) body = leaf_body shape
+applied (key.ConstRoot b) body = constant_body
+applied (key.IdentityRoot b) body = identity_body b
+applied (key.ThrowRoot ret) body = throw_body ret
+applied (key.GuardRoot shape test) body = guard_body shape test
+applied (key.CatchRoot shape handler) body = catch_body shape handler
+applied (key.Bind pos) body = binding pos body
+applied (key.Add pos basics) body = adding pos basics body
+applied (key.Permute basics reorder) body = permuting basics reorder body
+applied (key.Collect pos basics ret) body = collecting pos basics ret body
+applied (key.Fold pos count ret) body = folding pos count ret body
+applied (key.FilterReturn ret) body = filtering ret body
+applied (key.Convert entries ret) body = returning ret (converting entries body)
+applied (key.Spread count b) body = spreading count body
+applied (key.Gather count b) body = gathering count b body

@@ -51,7 +51,7 @@ pub(crate) fn push_elems(names: &mut Names, array: u32, count: u32) -> Result<()
     ensures { OnOk result (names.new ≡ names.old ++ elem_names array 0 count) }
 {
     for item in 0..count {
-        names.push(Name::Elem { slot: array, item })?;
+        names.push(Name::Elem(array, item))?;
     }
     Ok(())
 }
@@ -61,8 +61,8 @@ fn conv_name(from: Basic, to: Basic, conv: u32, slot: u32) -> Name
     ensures { result ≡ conv_name from to conv slot }
 {
     match (from, to) {
-        (Basic::L, Basic::L) => Name::Cast { conv, slot },
-        _ => Name::Conv { conv, slot },
+        (Basic::L, Basic::L) => Name::Cast(conv, slot),
+        _ => Name::Conv(conv, slot),
     }
 }
 

@@ -54,66 +54,22 @@ fn rename(alloc: Global, to: Renaming<'_>, name: &Name) -> Result<Name, NoMemory
         (λ new. new ≡ renamed (place_by to.entry.table.now to.entry.base) name.now) }
 {
     Ok(match name {
-        Name::Get { field } => Name::Get { field: *field },
-        Name::Call { leaf, args } => Name::Call {
-            leaf: *leaf,
-            args: places(alloc, to, args)?,
-        },
-        Name::Link { part, args } => Name::Link {
-            part: *part,
-            args: places(alloc, to, args)?,
-        },
-        Name::Select {
-            test,
-            yes,
-            no,
-            args,
-        } => Name::Select {
-            test: place(to, *test)?,
-            yes: *yes,
-            no: *no,
-            args: places(alloc, to, args)?,
-        },
-        Name::Guarded {
-            part,
-            class,
-            handler,
-            args,
-            kept,
-        } => Name::Guarded {
-            part: *part,
-            class: *class,
-            handler: *handler,
-            args: places(alloc, to, args)?,
-            kept: *kept,
-        },
-        Name::Conv { conv, slot } => Name::Conv {
-            conv: *conv,
-            slot: place(to, *slot)?,
-        },
-        Name::Cast { conv, slot } => Name::Cast {
-            conv: *conv,
-            slot: place(to, *slot)?,
-        },
-        Name::Ret { conv, slot } => Name::Ret {
-            conv: *conv,
-            slot: place_if_any(to, *slot)?,
-        },
-        Name::MakeArray { comp, args } => Name::MakeArray {
-            comp: *comp,
-            args: places(alloc, to, args)?,
-        },
-        Name::CheckArray { slot, count } => Name::CheckArray {
-            slot: place(to, *slot)?,
-            count: *count,
-        },
-        Name::Elem { slot, item } => Name::Elem {
-            slot: place(to, *slot)?,
-            item: *item,
-        },
-        Name::Raise { slot } => Name::Raise {
-            slot: place(to, *slot)?,
-        },
+        Name::Get(field) => Name::Get(*field),
+        Name::Call(leaf, args) => Name::Call(*leaf, places(alloc, to, args)?),
+        Name::Link(part, args) => Name::Link(*part, places(alloc, to, args)?),
+        Name::Select(test, part, other, args) => {
+            Name::Select(place(to, *test)?, *part, *other, places(alloc, to, args)?)
+        }
+        Name::Guarded(part, class, handler, args, kept) => {
+            Name::Guarded(*part, *class, *handler, places(alloc, to, args)?, *kept)
+        }
+        Name::Conv(conv, slot) => Name::Conv(*conv, place(to, *slot)?),
+        Name::Cast(conv, slot) => Name::Cast(*conv, place(to, *slot)?),
+        Name::Ret(conv, slot) => Name::Ret(*conv, place_if_any(to, *slot)?),
+        Name::MakeArray(comp, args) => Name::MakeArray(*comp, places(alloc, to, args)?),
+        Name::CheckArray(slot, count) => Name::CheckArray(place(to, *slot)?, *count),
+        Name::Elem(slot, item) => Name::Elem(place(to, *slot)?, *item),
+        Name::Raise(slot) => Name::Raise(place(to, *slot)?),
     })
 }
 

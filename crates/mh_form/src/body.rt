@@ -1,4 +1,9 @@
+ghost use Rattle.std.specs.Prelude.{◌≡◌};
+ghost use Rattle.mh_form.specs.Body.{nothing};
+
 use crate::{Basics, Names};
+use mh_base::Seq;
+use std::alloc::Global;
 
 /// What a form does, apart from what its fields hold: it takes slots of these basic types, runs its
 /// names in order, and gives the slot at a place of the list that they made, or nothing.
@@ -10,4 +15,19 @@ pub struct FormBody {
     pub names: Names,
     /// The place of the result.
     pub out: Option<u32>,
+}
+
+impl FormBody {
+    /// The body that is no form yet: it takes nothing, has nothing and does nothing. It takes no
+    /// memory.
+    pub fn nothing(alloc: Global) -> FormBody
+        ensures { result ≡ nothing }
+    {
+        FormBody {
+            params: Seq::new(alloc),
+            fields: 0,
+            names: Seq::new(alloc),
+            out: None,
+        }
+    }
 }

@@ -8,43 +8,35 @@ pub type Operands = Seq<u32>;
 /// slots by their place in that list, both from 0.
 #[derive(Debug, Drop)]
 pub enum Name {
-    /// The slot in a field.
-    Get { field: u32 },
-    /// Calls the leaf in a field.
-    Call { leaf: u32, args: Operands },
-    /// Runs the part in a field.
-    Link { part: u32, args: Operands },
-    /// Runs one of two parts: the first where the slot is int 1, else the other.
-    Select {
-        test: u32,
-        yes: u32,
-        no: u32,
-        args: Operands,
-    },
-    /// Runs a part. An exception of the class in a field, or below it, goes to the handler, which
-    /// is run on the exception and the first `kept` arguments.
-    Guarded {
-        part: u32,
-        class: u32,
-        handler: u32,
-        args: Operands,
-        kept: u32,
-    },
-    /// Converts a slot by the conversion in a field.
-    Conv { conv: u32, slot: u32 },
-    /// The same where both types are references: the slot stays as it is, or an exception ends the
-    /// run.
-    Cast { conv: u32, slot: u32 },
-    /// Converts a result, where there is one, by the return conversion in a field.
-    Ret { conv: u32, slot: Option<u32> },
-    /// Makes an array, of the component type in a field, of these slots.
-    MakeArray { comp: u32, args: Operands },
-    /// Checks that a slot holds an array of so many items, or null where none are wanted.
-    CheckArray { slot: u32, count: u32 },
-    /// An item of the array in a slot.
-    Elem { slot: u32, item: u32 },
-    /// Throws the exception in a slot.
-    Raise { slot: u32 },
+    /// `Get(field)`: the slot in a field.
+    Get(u32),
+    /// `Call(field, arguments)`: calls the leaf in a field.
+    Call(u32, Operands),
+    /// `Link(field, arguments)`: runs the part in a field.
+    Link(u32, Operands),
+    /// `Select(test, field, other, arguments)`: runs one of two parts, the first where the slot of
+    /// the test is int 1, else the other.
+    Select(u32, u32, u32, Operands),
+    /// `Guarded(field, class, handler, arguments, kept)`: runs the part in a field. An exception of
+    /// the class in another, or below it, goes to the handler in a third, which runs on the
+    /// exception and the first arguments, as many as are kept.
+    Guarded(u32, u32, u32, Operands, u32),
+    /// `Conv(field, slot)`: converts a slot by the conversion in a field.
+    Conv(u32, u32),
+    /// `Cast(field, slot)`: the same where both types are references, so that the slot stays as it
+    /// is or an exception ends the run.
+    Cast(u32, u32),
+    /// `Ret(field, slot)`: converts a result, if there is one, by the return conversion in a field.
+    Ret(u32, Option<u32>),
+    /// `MakeArray(field, items)`: makes an array, of the component type in a field, of these slots.
+    MakeArray(u32, Operands),
+    /// `CheckArray(slot, count)`: checks that a slot holds an array of so many items, or null where
+    /// none are wanted.
+    CheckArray(u32, u32),
+    /// `Elem(slot, item)`: an item of the array in a slot.
+    Elem(u32, u32),
+    /// `Raise(slot)`: throws the exception in a slot.
+    Raise(u32),
 }
 
 /// The names of a form.
