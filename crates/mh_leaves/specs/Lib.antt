@@ -1,0 +1,4 @@
+pub mod Fault
+pub mod Find
+pub mod Manifest
+pub mod Registered

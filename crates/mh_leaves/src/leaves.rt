@@ -1,0 +1,202 @@
+ghost use Rattle.std.specs.Prelude.{◌≡◌, ◌≢◌, ◌<◌, ◌≤◌, ◌↔◌, length, IsTrue, IfOk, OnOk, OnErr, slice_get, Some, None, position, IfSome};
+ghost use Rattle.mh_leaves.specs.Find.{is_called};
+ghost use Rattle.mh_leaf.specs.Outcome.{lacks_receiver};
+
+use crate::naming::has_texts;
+use crate::{How, Missing};
+use mh_base::{NoMemory, Seq};
+use mh_leaf::{Leaf, kind_does};
+use mh_values::{ClassId, Classes, Exc, Items, LeafId, MethodTy, Outcome, Value};
+use std::alloc::Global;
+use std::marker::Model;
+
+// Whether a leaf is called on null as its receiver.
+fn lacks_receiver(leaf: &Leaf, args: &[Value]) -> bool
+    ensures { result ≡ lacks_receiver leaf.now args.now }
+{
+    match args {
+        [Value::Null, ..] => leaf.is_virtual,
+        _ => false,
+    }
+}
+
+// The place of the leaf of an owner that has these texts and is called in that way.
+fn position_of(
+    leaves: &[Leaf],
+    owner: ClassId,
+    name: &[u8],
+    descriptor: &[u8],
+    how: How,
+) -> Option<usize>
+    ensures { result ≡ position (is_called owner name.now descriptor.now how) leaves.now }
+{
+    leaves.iter().position(|leaf| has_texts(leaf, owner, name, descriptor) && how.is_way(leaf))
+}
+
+/// How many leaves there may be.
+pub(crate) const MOST_LEAVES: u32 = 4096;
+
+/// How many classes there may be: the built-in ones, and 1,024 that are declared.
+const MOST_CLASSES: usize = 28 + 1024;
+
+/// The classes and the leaf methods of a run, as a manifest registers them.
+#[derive(Drop)]
+pub struct Leaves {
+    classes: Classes,
+    leaves: Seq<Leaf>,
+}
+
+impl Model for Leaves {
+    ghost use Rattle.mh_leaf.specs.LeafTable.{LeafTable};
+    ghost use Rattle.mh_leaves.specs.Registered.{AreRegistered};
+
+    ghost Value = { LeafTable };
+
+    ghost view = { λ l. record { classes = l.classes; leaves = l.leaves } };
+
+    ghost invariant = { λ l. AreRegistered (record { classes = l.classes; leaves = l.leaves }) };
+}
+
+impl Leaves {
+    ghost use Rattle.mh_leaves.specs.Registered.{AreRegistered, IsLeafOf, nothing_registered, with_class, with_leaf, type_of_leaf, outcome_of, most_leaves};
+    ghost use Rattle.mh_leaves.specs.Find.{find_leaf, is_virtual_leaf, has_texts};
+    ghost use Rattle.mh_values.specs.Classes.{class_named, most_classes};
+    ghost use Rattle.std.specs.List.{list_any};
+    ghost use Rattle.std.specs.Prelude.{◌==◌};
+
+    /// The built-in classes, and no leaf.
+    pub(crate) fn new(alloc: Global) -> Result<Leaves, NoMemory>
+        ensures { IfOk result (λ leaves. leaves ≡ nothing_registered) }
+    {
+        Ok(Leaves {
+            classes: Classes::builtin(alloc)?,
+            leaves: Seq::new(alloc),
+        })
+    }
+
+    /// The classes, the built-in ones in front.
+    pub fn classes(&self) -> &Classes
+        ensures { result.now ≡ self.now.classes }
+    {
+        &self.classes
+    }
+
+    /// The class of a name.
+    pub(crate) fn class_of(&self, name: &[u8]) -> Option<ClassId>
+        ensures found { result ≡ class_named self.now.classes name.now }
+        ensures within { IfSome result (λ class. class.0 < length self.now.classes) }
+    {
+        self.classes.find(name)
+    }
+
+    /// Whether as many classes are there as may be.
+    pub(crate) fn has_most_classes(&self) -> bool
+        ensures { result ≡ (length self.now.classes == most_classes) }
+    {
+        self.classes.len() == MOST_CLASSES
+    }
+
+    /// Declares a class.
+    pub(crate) fn add_class(&mut self, name: &[u8], superclass: ClassId) -> Result<(), NoMemory>
+        requires new { class_named self.old.classes name.now ≡ None }
+        requires few { length self.old.classes ≢ most_classes }
+        requires superclass { superclass.0 < length self.old.classes }
+        ensures ok { OnOk result (self.new ≡ with_class self.old name.now superclass) }
+        ensures err { OnErr result (self.new ≡ self.old) }
+    {
+        match self.classes.declare(name, superclass) {
+            Ok(_) => Ok(()),
+            Err(_) => Err(NoMemory),
+        }
+    }
+
+    /// Whether a leaf of the owner has the name and the descriptor.
+    pub(crate) fn is_registered(&self, owner: ClassId, name: &[u8], descriptor: &[u8]) -> bool
+        ensures { result ≡ list_any (has_texts owner name.now descriptor.now) self.now.leaves }
+    {
+        self.leaves
+            .as_slice()
+            .iter()
+            .any(|leaf| has_texts(leaf, owner, name, descriptor))
+    }
+
+    /// Registers a leaf.
+    pub(crate) fn add_leaf(&mut self, leaf: Leaf) -> Result<(), NoMemory>
+        requires few { length self.old.leaves ≢ most_leaves }
+        requires leaf { IsLeafOf self.old.classes leaf }
+        ensures ok { OnOk result (self.new ≡ with_leaf self.old leaf) }
+        ensures err { OnErr result (self.new ≡ self.old) }
+    {
+        self.leaves.push(leaf)
+    }
+
+    /// The number of leaves. They are numbered from 0 in the order of the manifest.
+    pub fn count(&self) -> u32
+        ensures count { result ≡ length self.now.leaves }
+        ensures registered { AreRegistered self.now }
+    {
+        self.leaves.len() as u32
+    }
+
+    /// The leaf with these texts that is called in that way. The descriptor is compared as it is
+    /// written in the manifest, without a receiver.
+    pub fn find(
+        &self,
+        owner: &[u8],
+        name: &[u8],
+        descriptor: &[u8],
+        how: How,
+    ) -> Result<LeafId, Missing>
+        ensures found { result ≡ find_leaf self.now owner.now name.now descriptor.now how }
+        ensures within { IfOk result (λ id. id.0 < length self.now.leaves) }
+    {
+        let Some(owner) = self.classes.find(owner) else {
+            return Err(Missing::NoClass);
+        };
+        match position_of(self.leaves.as_slice(), owner, name, descriptor, how) {
+            Some(at) => Ok(LeafId(at as u32)),
+            None => Err(Missing::NoMethod),
+        }
+    }
+
+    /// The type of a leaf's method handle, a receiver in front.
+    pub fn ty(&self, id: LeafId) -> &MethodTy
+        requires { id.0 < length self.now.leaves }
+        ensures { type_of_leaf self.now id ≡ Some result.now }
+    {
+        &self.leaves.get(id.0 as usize).ty
+    }
+
+    /// Whether a leaf has a receiver.
+    pub fn is_virtual(&self, id: LeafId) -> bool
+        requires { id.0 < length self.now.leaves }
+        ensures { is_virtual_leaf self.now id ≡ Some result }
+    {
+        self.leaves.get(id.0 as usize).is_virtual
+    }
+
+    /// What a leaf does with arguments of its parameter types, where `n` leaf calls were made before in
+    /// the invocation.
+    pub fn leaf_does(
+        &self,
+        alloc: Global,
+        id: LeafId,
+        args: &Items,
+        n: u32,
+    ) -> Result<Outcome, NoMemory>
+        requires { outcome_of self.now id args.now n ≢ None }
+        ensures { IfOk result (λ outcome. outcome_of self.now id args.now n ≡ Some outcome) }
+    {
+        if id.0 >= self.count() {
+            unreachable!()
+        }
+        let leaf = self.leaves.get(id.0 as usize);
+        if lacks_receiver(leaf, args.as_slice()) {
+            return Ok(Outcome::Throw(Exc::bare(alloc, ClassId::NULL_POINTER)));
+        }
+        match kind_does(alloc, leaf.kind, args, n)? {
+            Some(outcome) => Ok(outcome),
+            None => unreachable!(),
+        }
+    }
+}

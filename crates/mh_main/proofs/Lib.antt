@@ -1,0 +1,4 @@
+pub mod Endings
+pub mod Ledger
+pub mod Pieces
+pub mod Refusals

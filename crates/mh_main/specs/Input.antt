@@ -1,0 +1,110 @@
+-- What the words and the files say.
+use Rattle.std.specs.Prelude.{◌≡◌, ℕ, List, [], ◌∷◌, ◌++◌, codes, if◌then◌else◌, nat_lt, ◌≤◌, length, Option, None, Some, Result, Ok, Err}
+use Rattle.std.specs.Fmt.{decimal}
+use Rattle.mh_base.specs.declared.lines.LineFault.{LineFault}
+use Rattle.mh_outside.specs.Told.{Told, nothing, absent, file}
+use Rattle.mh_leaf.specs.LeafTable.{LeafTable}
+use Rattle.mh_leaves.specs.Manifest.{manifest, kind_word as manifest_word}
+use Rattle.mh_plan.specs.Plan.{plan, kind_word as plan_word}
+use Rattle.mh_main.specs.declared.program.Program.{Program}
+use Rattle.mh_main.specs.declared.stop.ScriptsKind.{ScriptsKind}
+use Rattle.mh_main.specs.declared.stop.ScriptsKind.TheVariants.{NotBuilt}
+use Rattle.mh_main.specs.Words.{Named, names_of}
+
+-- the words are refused, an input is refused with its line, there is a program, or some input is not told
+pub data Input : Type 0 where
+  usage : Input
+  refused : List ℕ → Input
+  program : Program → Input
+  untold : Input
+
+-- the line for an input over its limit
+abbrev pub too_long_line : List ℕ → List ℕ
+too_long_line name = codes "refused " ++ name ++ codes " too long\n"
+
+-- the line for an input with a faulty line, of a kind that has this word
+abbrev pub fault_line : List ℕ → ℕ → List ℕ → List ℕ
+fault_line name number word = codes "refused " ++ name ++ codes " line " ++ decimal number ++ codes " " ++ word ++ codes "\n"
+
+-- goes on with an input of at most that many bytes
+abbrev pub within : List ℕ → ℕ → Told → (List ℕ → Input) → Input
+within name limit (file bytes) next = if nat_lt limit (length bytes) then refused (too_long_line name) else next bytes
+within name limit nothing next = untold
+within name limit absent next = untold
+
+-- goes on with an input that has a meaning
+abbrev pub meant : {T K : Type 0} → List ℕ → (K → List ℕ) → Result T (LineFault K) → (T → Input) → Input
+meant name word (Ok value) next = next value
+meant name word (Err fault) next = refused (fault_line name fault.line (word fault.kind))
+
+-- how many bytes a manifest may have, and likewise the scripts
+abbrev pub leaves_limit : ℕ
+leaves_limit = 262144
+
+-- how many bytes a plan may have
+abbrev pub plan_limit : ℕ
+plan_limit = 1048576
+
+-- the name of the fault of scripts
+abbrev pub scripts_word : ScriptsKind → List ℕ
+scripts_word NotBuilt = codes "NotBuilt"
+
+-- scripts must have no bytes yet
+abbrev pub scripts : List ℕ → Result (Unit {0}) (LineFault ScriptsKind)
+scripts [] = Ok tt
+scripts (b ∷ bs) = Err (record { line = 1; kind = NotBuilt })
+
+-- the inputs are taken in the order manifest, scripts, plan
+abbrev pub told_input : Named → Told → Told → Told → Input
+told_input names leaves_file scripts_file plan_file =
+    within names.leaves leaves_limit leaves_file (λ leaves_bytes. meant names.leaves manifest_word (manifest leaves_bytes) (λ leaves.
+    within names.scripts leaves_limit scripts_file (λ scripts_bytes. meant names.scripts scripts_word (scripts scripts_bytes) (λ _.
+    within names.plan plan_limit plan_file (λ plan_bytes. meant names.plan plan_word (plan plan_bytes leaves) (λ threads.
+    program (record { leaves = leaves; plan = threads })))))))
+
+-- what the inputs of these names say
+abbrev pub named_input : Named → (List ℕ → Told) → Input
+named_input names files = told_input names (files names.leaves) (files names.scripts) (files names.plan)
+
+-- the same where there may be no names
+abbrev pub input_of_names : Option Named → (List ℕ → Told) → Input
+input_of_names None files = usage
+input_of_names (Some names) files = named_input names files
+
+-- what the words and the files say
+abbrev pub input : List (List ℕ) → (List ℕ → Told) → Input
+input words files = input_of_names (names_of words) files
+
+-- where all inputs are told, they are a program, and P holds of it
+abbrev pub IfProgram : Input → (Program → Type 0) → Type 0
+IfProgram usage P = ⊥
+IfProgram (refused line) P = ⊥
+IfProgram (program p) P = P p
+IfProgram untold P = Unit {0}
+
+-- where the inputs are told as far as the first that is refused, there is one, and P holds of its line
+abbrev pub IfRefused : Input → (List ℕ → Type 0) → Type 0
+IfRefused usage P = ⊥
+IfRefused (refused line) P = P line
+IfRefused (program p) P = ⊥
+IfRefused untold P = Unit {0}
+
+-- an input is refused
+abbrev pub IsRefused : Input → Type 0
+IsRefused usage = ⊥
+IsRefused (refused line) = Unit {0}
+IsRefused (program p) = ⊥
+IsRefused untold = ⊥
+
+-- the inputs are accepted
+abbrev pub IsAccepted : Input → Type 0
+IsAccepted usage = ⊥
+IsAccepted (refused line) = ⊥
+IsAccepted (program p) = Unit {0}
+IsAccepted untold = ⊥
+
+-- where it is told, a file within its limit has this meaning
+abbrev pub Means : {T K : Type 0} → ℕ → (List ℕ → Result T K) → Told → T → Type 0
+Means limit meaning (file bytes) value = (meaning bytes ≡ Ok value) × (length bytes ≤ limit)
+Means limit meaning nothing value = Unit {0}
+Means limit meaning absent value = ⊥

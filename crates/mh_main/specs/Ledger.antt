@@ -1,0 +1,42 @@
+-- By which attempt each site is linked.
+use Rattle.std.specs.Prelude.{◌≡◌, ◌≢◌, ℕ, ◌==◌, ◌↔◌, List, [], ◌∷◌, Bool, if◌then◌else◌, Option, Some, IsSome, length, map, filter, slice_get, Contains, AllPairs}
+use Rattle.std.specs.List.{range_with_len, list_any}
+use Rattle.mh_main.specs.declared.answer.Attempt.{Attempt}
+
+-- for each thread the sites that its calls name, in the order of the calls
+abbrev pub Naming : Type 0
+Naming = List (List ℕ)
+
+-- each number where it first stands, but for those that were seen before
+abbrev pub first_places : List ℕ → List ℕ → List ℕ
+first_places seen [] = []
+first_places seen (k ∷ ks) = if list_any (λ s. s == k) seen then first_places seen ks else k ∷ first_places (k ∷ seen) ks
+
+-- some thread's calls name the site
+abbrev pub IsNamed : Naming → ℕ → Type 0
+IsNamed naming site = (thread : ℕ) × (sites : List ℕ) × (slice_get naming thread ≡ Some sites) × Contains sites site
+
+-- the thread of an attempt has a call that names its site
+abbrev pub IsReached : Naming → Attempt → Type 0
+IsReached naming a = (sites : List ℕ) × (slice_get naming a.thread ≡ Some sites) × Contains sites a.site
+
+-- the sites of one thread's attempts, in order
+abbrev pub attempted_by : ℕ → List Attempt → List ℕ
+attempted_by thread attempts = map (λ a. a.site) (filter (λ a. a.thread == thread) attempts)
+
+-- a table with the serial of the attempt by which each site is linked, over all attempts of a run
+pub record Ledger (naming : Naming) (sites : ℕ) (table : List (Option ℕ)) (attempts : List Attempt) : Type 0 where
+  -- there is one entry for each site, and the serials are 1 to the number of attempts, in order
+  pub entries : length table ≡ sites
+  pub serials : map (λ a. a.serial) attempts ≡ range_with_len 1 (length attempts)
+  -- a site has a serial exactly where some call names it
+  pub named : (site : ℕ) (entry : Option ℕ) → slice_get table site ≡ Some entry → (IsSome entry ↔ IsNamed naming site)
+  -- the attempt of that serial is one of that site
+  pub own : (site serial : ℕ) → slice_get table site ≡ Some (Some serial)
+      → (a : Attempt) × Contains attempts a × (a.serial ≡ serial) × (a.site ≡ site)
+  -- no thread attempts a site twice, and each attempt is of a site that its thread names
+  pub once : AllPairs (λ a b. a.thread ≡ b.thread → a.site ≢ b.site) attempts
+  pub reached : (a : Attempt) → Contains attempts a → IsReached naming a
+  -- each thread attempts sites in the order in which its calls first name them
+  pub in_order : (thread : ℕ) (sites : List ℕ) → slice_get naming thread ≡ Some sites
+      → attempted_by thread attempts ≡ filter (λ k. list_any (λ s. s == k) (attempted_by thread attempts)) (first_places [] sites)

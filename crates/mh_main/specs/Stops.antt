@@ -1,0 +1,80 @@
+-- Why there is no program.
+use Rattle.std.specs.Prelude.{◌≡◌, ◌⊎◌, ℕ, List, [], ◌++◌, codes, ◌<◌, ◌≤◌, length, Result, Ok, Err}
+use Rattle.mh_base.specs.declared.lines.LineFault.{LineFault}
+use Rattle.mh_outside.specs.Causes.{Rose, IsStill, AreSame}
+use Rattle.mh_outside.specs.Told.{Told, nothing, absent, file}
+use Rattle.mh_leaf.specs.LeafTable.{LeafTable}
+use Rattle.mh_leaves.specs.Manifest.{manifest}
+use Rattle.mh_main.specs.declared.stop.Stop.{Stop}
+use Rattle.mh_main.specs.declared.stop.Stop.TheVariants.{NoMemory, ReadFault, TooLong, Fault}
+use Rattle.mh_main.specs.Words.{Named}
+use Rattle.mh_main.specs.Input.{Input, IfRefused, Means, too_long_line, fault_line, leaves_limit, scripts}
+
+-- the line for an input that could not be read
+abbrev pub unread_line : List ℕ → List ℕ
+unread_line name = codes "cannot read " ++ name ++ codes "\n"
+
+-- the line that says why there is no program
+abbrev pub stop_line : Stop → List ℕ
+stop_line NoMemory = []
+stop_line (ReadFault at) = unread_line at.now
+stop_line (TooLong at) = too_long_line at.now
+stop_line (Fault at line kind) = fault_line at.now line kind.now
+
+-- the reading stopped at this input: at a read fault the count of its name rose, at a refusal none did
+abbrev pub StopsAt : List ℕ → (List ℕ → ℕ) → (List ℕ → ℕ) → Stop → Type 0
+StopsAt name before now NoMemory = Unit {0}
+StopsAt name before now (ReadFault at) = (at.now ≡ name) × Rose (before name) (now name)
+StopsAt name before now (TooLong at) = (at.now ≡ name) × AreSame before now
+StopsAt name before now (Fault at line kind) = (at.now ≡ name) × AreSame before now
+
+-- what is wrong with a file of a grammar whose faults have these words, where it is told
+abbrev pub StopIn : {T K : Type 0} → ℕ → (K → List ℕ) → (List ℕ → Result T (LineFault K)) → Told → Stop → Type 0
+StopIn limit word meaning (file bytes) NoMemory = Unit {0}
+StopIn limit word meaning (file bytes) (ReadFault at) = Unit {0}
+StopIn limit word meaning (file bytes) (TooLong at) = limit < length bytes
+StopIn {K = K} limit word meaning (file bytes) (Fault at line kind) =
+    (length bytes ≤ limit) × ((fault : LineFault K) × (meaning bytes ≡ Err fault) × (line ≡ fault.line) × (kind.now ≡ word fault.kind))
+StopIn limit word meaning nothing stop = Unit {0}
+StopIn limit word meaning absent stop = Unit {0}
+
+-- the input is one of those named, and each before it was accepted, as far as it is told
+abbrev pub IsReached : Named → (List ℕ → Told) → List ℕ → Type 0
+IsReached names files name =
+    (name ≡ names.leaves)
+    ⊎ ((leaves : LeafTable) × (name ≡ names.scripts) × Means leaves_limit manifest (files names.leaves) leaves)
+    ⊎ ((leaves : LeafTable) × (name ≡ names.plan) × Means leaves_limit manifest (files names.leaves) leaves
+    × Means leaves_limit scripts (files names.scripts) tt)
+
+-- the reading stopped at one of the inputs; at a read fault it was reached and its count rose, at a refusal no count did
+abbrev pub StopsIn : Named → (List ℕ → Told) → (List ℕ → ℕ) → (List ℕ → ℕ) → Stop → Type 0
+StopsIn names files before now NoMemory = Unit {0}
+StopsIn names files before now (ReadFault at) = IsReached names files at.now × Rose (before at.now) (now at.now)
+StopsIn names files before now (TooLong at) = AreSame before now
+StopsIn names files before now (Fault at line kind) = AreSame before now
+
+-- what the inputs say, where one of them is refused
+abbrev pub Refuses : Input → Stop → Type 0
+Refuses said NoMemory = Unit {0}
+Refuses said (ReadFault at) = Unit {0}
+Refuses said (TooLong at) = IfRefused said (λ line. line ≡ too_long_line at.now)
+Refuses said (Fault at number kind) = IfRefused said (λ line. line ≡ fault_line at.now number kind.now)
+
+-- the status that a stop comes with
+abbrev pub stop_status : Stop → ℕ
+stop_status NoMemory = 3
+stop_status (ReadFault at) = 6
+stop_status (TooLong at) = 1
+stop_status (Fault at line kind) = 1
+
+-- no count of a name rose
+abbrev pub AllStill : (List ℕ → ℕ) → (List ℕ → ℕ) → Type 0
+AllStill before now = (name : List ℕ) → IsStill (before name) (now name)
+
+-- the input is refused, or memory was wanting
+abbrev pub IsRefusedOrWant : ℕ → Type 0
+IsRefusedOrWant status = (status ≡ 1) ⊎ (status ≡ 3)
+
+-- the run is complete, or memory was wanting
+abbrev pub IsDoneOrWant : ℕ → Type 0
+IsDoneOrWant status = (status ≡ 0) ⊎ (status ≡ 3)

@@ -1,0 +1,14 @@
+//! The program as a library: its words, its inputs, the run, and what it writes.
+#![tactic(auto)]
+
+mod answer;
+mod lines;
+mod program;
+mod reading;
+mod running;
+mod stop;
+mod words;
+
+pub use answer::{Attempt, Attempts, Serials, TopAnswer};
+pub use program::Program;
+pub use running::top;

@@ -1,0 +1,110 @@
+ghost use Rattle.std.specs.Prelude.{◌≡◌, ◌≤◌, List, ℕ, IfOk, IfErr, OnOk, IfSome, IfNone};
+ghost use Rattle.mh_outside.specs.Causes.{AreSame};
+ghost use Rattle.mh_leaves.specs.Manifest.{manifest, kind_word as manifest_word};
+ghost use Rattle.mh_plan.specs.Plan.{plan, kind_word as plan_word};
+ghost use Rattle.mh_main.specs.Words.{held_names};
+ghost use Rattle.mh_main.specs.Input.{Means, named_input, IfProgram, scripts, scripts_word, leaves_limit, plan_limit};
+ghost use Rattle.mh_main.specs.Stops.{StopsAt, StopIn, StopsIn, Refuses};
+
+use crate::Program;
+use crate::stop::{Stop, no_scripts};
+use crate::words::Names;
+use mh_leaves::{Leaves, ManifestError, read_manifest};
+use mh_outside::{Inputs, ReadWhole, read_whole};
+use mh_plan::{Plan, PlanError, read_plan};
+use std::alloc::Global;
+
+/// How many bytes a manifest may have, and likewise the scripts.
+const LEAVES_LIMIT: usize = 262_144;
+
+/// How many bytes a plan may have.
+const PLAN_LIMIT: usize = 1_048_576;
+
+fn read_leaves<'a, I: Inputs>(
+    alloc: Global,
+    inputs: &mut I,
+    name: &'a str,
+) -> Result<Leaves, Stop<'a>>
+    ensures told { (n : List ℕ) → I.told inputs.new n ≡ I.told inputs.old n }
+    ensures later { (n : List ℕ) → I.faults inputs.old n ≤ I.faults inputs.new n }
+    ensures no_fault { OnOk result (AreSame (I.faults inputs.old) (I.faults inputs.new)) }
+    ensures stop { IfErr result (λ stop. StopsAt name.now (I.faults inputs.old) (I.faults inputs.new) stop) }
+    ensures refuses { IfErr result (λ stop. StopIn leaves_limit manifest_word manifest (I.told inputs.old name.now) stop) }
+    ensures ok { IfOk result (λ leaves. Means leaves_limit manifest (I.told inputs.old name.now) leaves) }
+{
+    let bytes = match read_whole(alloc, inputs, name, LEAVES_LIMIT) {
+        Ok(bytes) => bytes,
+        Err(ReadWhole::NoMemory) => return Err(Stop::NoMemory),
+        Err(ReadWhole::ReadFault) => return Err(Stop::ReadFault(name)),
+        Err(ReadWhole::TooLong) => return Err(Stop::TooLong(name)),
+    };
+    match read_manifest(alloc, &bytes) {
+        Ok(leaves) => Ok(leaves),
+        Err(ManifestError::NoMemory) => Err(Stop::NoMemory),
+        Err(ManifestError::Fault(fault)) => Err(Stop::Fault(name, fault.line, fault.kind.word())),
+    }
+}
+
+fn read_scripts<'a, I: Inputs>(alloc: Global, inputs: &mut I, name: &'a str) -> Result<(), Stop<'a>>
+    ensures told { (n : List ℕ) → I.told inputs.new n ≡ I.told inputs.old n }
+    ensures later { (n : List ℕ) → I.faults inputs.old n ≤ I.faults inputs.new n }
+    ensures no_fault { OnOk result (AreSame (I.faults inputs.old) (I.faults inputs.new)) }
+    ensures stop { IfErr result (λ stop. StopsAt name.now (I.faults inputs.old) (I.faults inputs.new) stop) }
+    ensures refuses { IfErr result (λ stop. StopIn leaves_limit scripts_word scripts (I.told inputs.old name.now) stop) }
+    ensures ok { OnOk result (Means leaves_limit scripts (I.told inputs.old name.now) tt) }
+{
+    let bytes = match read_whole(alloc, inputs, name, LEAVES_LIMIT) {
+        Ok(bytes) => bytes,
+        Err(ReadWhole::NoMemory) => return Err(Stop::NoMemory),
+        Err(ReadWhole::ReadFault) => return Err(Stop::ReadFault(name)),
+        Err(ReadWhole::TooLong) => return Err(Stop::TooLong(name)),
+    };
+    match no_scripts(&bytes) {
+        Ok(()) => Ok(()),
+        Err(fault) => Err(Stop::Fault(name, fault.line, fault.kind.word())),
+    }
+}
+
+fn read_calls<'a, I: Inputs>(
+    alloc: Global,
+    inputs: &mut I,
+    name: &'a str,
+    leaves: &Leaves,
+) -> Result<Plan, Stop<'a>>
+    ensures told { (n : List ℕ) → I.told inputs.new n ≡ I.told inputs.old n }
+    ensures later { (n : List ℕ) → I.faults inputs.old n ≤ I.faults inputs.new n }
+    ensures no_fault { OnOk result (AreSame (I.faults inputs.old) (I.faults inputs.new)) }
+    ensures stop { IfErr result (λ stop. StopsAt name.now (I.faults inputs.old) (I.faults inputs.new) stop) }
+    ensures refuses { IfErr result (λ stop. StopIn plan_limit plan_word (λ bytes. plan bytes leaves.now) (I.told inputs.old name.now) stop) }
+    ensures ok { IfOk result (λ calls. Means plan_limit (λ bytes. plan bytes leaves.now) (I.told inputs.old name.now) calls) }
+{
+    let bytes = match read_whole(alloc, inputs, name, PLAN_LIMIT) {
+        Ok(bytes) => bytes,
+        Err(ReadWhole::NoMemory) => return Err(Stop::NoMemory),
+        Err(ReadWhole::ReadFault) => return Err(Stop::ReadFault(name)),
+        Err(ReadWhole::TooLong) => return Err(Stop::TooLong(name)),
+    };
+    match read_plan(alloc, &bytes, leaves) {
+        Ok(plan) => Ok(plan),
+        Err(PlanError::NoMemory) => Err(Stop::NoMemory),
+        Err(PlanError::Fault(fault)) => Err(Stop::Fault(name, fault.line, fault.kind.word())),
+    }
+}
+
+/// Reads the inputs of a run in the order manifest, scripts, plan, up to the first that stops it.
+pub fn read_program<'a, I: Inputs>(
+    alloc: Global,
+    inputs: &mut I,
+    names: Names<'a>,
+) -> Result<Program, Stop<'a>>
+    ensures told { (n : List ℕ) → I.told inputs.new n ≡ I.told inputs.old n }
+    ensures no_fault { OnOk result (AreSame (I.faults inputs.old) (I.faults inputs.new)) }
+    ensures stop { IfErr result (λ stop. StopsIn (held_names names.entry) (I.told inputs.old) (I.faults inputs.old) (I.faults inputs.new) stop) }
+    ensures refuses { IfErr result (λ stop. Refuses (named_input (held_names names.entry) (I.told inputs.old)) stop) }
+    ensures ok { IfOk result (λ p. IfProgram (named_input (held_names names.entry) (I.told inputs.old)) (λ q. q ≡ p)) }
+{
+    let leaves = read_leaves(alloc, inputs, names.leaves)?;
+    read_scripts(alloc, inputs, names.scripts)?;
+    let plan = read_calls(alloc, inputs, names.plan, &leaves)?;
+    Ok(Program { leaves, plan })
+}

@@ -1,0 +1,206 @@
+ghost use Rattle.std.specs.Prelude.{◌≡◌, ◌≢◌, ◌<◌, [], List, ℕ, None, IfOk};
+ghost use Rattle.std.specs.List.{flat_map};
+ghost use Rattle.std.specs.Io.KnownBytes.{Appends, Keeps};
+ghost use Rattle.mh_outside.specs.Causes.{Rose, IsStill, AppendsPart};
+ghost use Rattle.mh_plan.specs.Results.{results_of, results_said};
+ghost use Rattle.mh_main.specs.Words.{names_of, said};
+ghost use Rattle.mh_main.specs.Ledger.{Ledger, Naming};
+ghost use Rattle.mh_main.specs.Program.{forms, text};
+ghost use Rattle.mh_main.specs.Input.{input, IsRefused, IsAccepted};
+ghost use Rattle.mh_main.specs.Stops.{stop_line, stop_status, AllStill, IsRefusedOrWant, IsDoneOrWant};
+ghost use Rattle.mh_main.specs.Due.{IsReportOf, Reports, RefusesWords, RefusesInput, FailsToRead, IsDue, IsIdle, Writes, WritesPart};
+
+use crate::lines::{USAGE, write_pieces};
+use crate::reading::read_program;
+use crate::stop::Stop;
+use crate::words::read_words;
+use crate::{Program, TopAnswer};
+use itoa::Buffer;
+use mh_base::{NoMemory, Seq};
+use mh_outside::{Failed, Gate, Inputs, Sink, write_whole};
+use mh_plan::{Plan, ThreadAnswers, report, run_plan};
+use std::alloc::Global;
+use std::sync::Wait;
+use std::thread::Threads;
+
+/// What was asked for was written.
+const DONE: u8 = 0;
+
+/// An input was refused.
+const REFUSED: u8 = 1;
+
+/// The words were refused.
+const USAGE_WANTED: u8 = 2;
+
+/// No memory was left.
+const NO_MEMORY: u8 = 3;
+
+/// An input could not be read.
+const READ_FAILED: u8 = 6;
+
+/// The text could not be written.
+const WRITE_FAILED: u8 = 7;
+
+fn nothing_ran(alloc: Global, status: u8) -> TopAnswer
+    ensures status { result.status ≡ status }
+    ensures idle { IsIdle result }
+{
+    TopAnswer {
+        status,
+        table: Seq::new(alloc),
+        attempts: Seq::new(alloc),
+        threads: Seq::new(alloc),
+    }
+}
+
+// Writes a line that takes no memory, and gives the status that it comes with, or that of a write
+// that failed.
+fn answer_line<S: Sink>(alloc: Global, sink: &mut S, status: u8, pieces: &[&[u8]]) -> TopAnswer
+    requires { status ≢ 7 }
+    ensures idle { IsIdle result }
+    ensures status { result.status ≢ 7 → result.status ≡ status }
+    ensures written { result.status ≢ 7 → Appends (S.taken sink.old) (S.taken sink.new) (flat_map (λ p. p.now) pieces.now) }
+    ensures still { result.status ≢ 7 → S.faults sink.new ≡ S.faults sink.old }
+    ensures part { result.status ≡ 7 → AppendsPart (S.taken sink.old) (S.taken sink.new) (flat_map (λ p. p.now) pieces.now) }
+    ensures failed { result.status ≡ 7 → Rose (S.faults sink.old) (S.faults sink.new) }
+    ensures fault { S.faults sink.old < S.faults sink.new → result.status ≡ 7 }
+{
+    match write_pieces(sink, pieces) {
+        Ok(()) => nothing_ran(alloc, status),
+        Err(Failed) => nothing_ran(alloc, WRITE_FAILED),
+    }
+}
+
+fn count_forms(plan: &Plan) -> u32
+    ensures { result ≡ forms plan.now }
+{
+    match plan.as_slice() {
+        [calls, ..] => { if calls.is_empty() { 0 } else { 1 } }
+        [] => 0,
+    }
+}
+
+// The answers of a program's calls, and the text of the run.
+fn run_and_report(alloc: Global, program: &Program) -> Result<(ThreadAnswers, Vec<u8>), NoMemory>
+    ensures answers { IfOk result (λ r. results_said r.0 ≡ results_of program.now.leaves program.now.plan) }
+    ensures text { IfOk result (λ r. r.1.items ≡ text program.now []) }
+{
+    let threads = run_plan(alloc, &program.leaves, &program.plan)?;
+    let forms = count_forms(&program.plan);
+    let text = report(alloc, &threads, 0, forms, 0, &program.leaves)?;
+    Ok((threads, text))
+}
+
+// The answer of a run that has no sites.
+fn answered(alloc: Global, status: u8, threads: ThreadAnswers) -> TopAnswer
+    ensures status { result.status ≡ status }
+    ensures threads { result.threads ≡ threads }
+    ensures ledger { (naming : Naming) → Ledger naming 0 result.table result.attempts }
+    ensures attempts { result.attempts ≡ [] }
+{
+    TopAnswer {
+        status,
+        table: Seq::new(alloc),
+        attempts: Seq::new(alloc),
+        threads,
+    }
+}
+
+// Runs a program, and writes its report.
+fn run_program<S: Sink>(alloc: Global, sink: &mut S, program: &Program) -> TopAnswer
+    ensures done { result.status ≡ 0 → Writes (IsReportOf program.now result) (S.taken sink.old) (S.taken sink.new) }
+    ensures broken { result.status ≡ 7 → WritesPart (IsReportOf program.now result) (S.taken sink.old) (S.taken sink.new) }
+    ensures nothing { result.status ≡ 3 → Keeps (S.taken sink.old) (S.taken sink.new) }
+    ensures idle { result.status ≡ 3 → IsIdle result }
+    ensures status { result.status ≢ 7 → IsDoneOrWant result.status }
+    ensures still { result.status ≢ 7 → S.faults sink.new ≡ S.faults sink.old }
+    ensures failed { result.status ≡ 7 → Rose (S.faults sink.old) (S.faults sink.new) }
+    ensures fault { S.faults sink.old < S.faults sink.new → result.status ≡ 7 }
+{
+    let Ok((threads, text)) = run_and_report(alloc, program) else {
+        return nothing_ran(alloc, NO_MEMORY);
+    };
+    match write_whole(sink, &text) {
+        Ok(()) => answered(alloc, DONE, threads),
+        Err(Failed) => answered(alloc, WRITE_FAILED, threads),
+    }
+}
+
+// Says why there is no program.
+fn answer_stop<S: Sink>(alloc: Global, sink: &mut S, stop: Stop<'_>) -> TopAnswer
+    ensures idle { IsIdle result }
+    ensures status { result.status ≢ 7 → result.status ≡ stop_status stop.entry }
+    ensures written { result.status ≢ 7 → stop_status stop.entry ≢ 3 → Appends (S.taken sink.old) (S.taken sink.new) (stop_line stop.entry) }
+    ensures nothing { stop_status stop.entry ≡ 3 → Keeps (S.taken sink.old) (S.taken sink.new) }
+    ensures still { result.status ≢ 7 → S.faults sink.new ≡ S.faults sink.old }
+    ensures broken { result.status ≡ 7 → AppendsPart (S.taken sink.old) (S.taken sink.new) (stop_line stop.entry) }
+    ensures spoken { result.status ≡ 7 → stop_status stop.entry ≢ 3 }
+    ensures failed { result.status ≡ 7 → Rose (S.faults sink.old) (S.faults sink.new) }
+    ensures fault { S.faults sink.old < S.faults sink.new → result.status ≡ 7 }
+{
+    match stop {
+        Stop::NoMemory => nothing_ran(alloc, NO_MEMORY),
+        Stop::ReadFault(name) => {
+            let line: &[&[u8]] = &[b"cannot read ", name.as_bytes(), b"\n"];
+            answer_line(alloc, sink, READ_FAILED, line)
+        }
+        Stop::TooLong(name) => {
+            let line: &[&[u8]] = &[b"refused ", name.as_bytes(), b" too long\n"];
+            answer_line(alloc, sink, REFUSED, line)
+        }
+        Stop::Fault(name, line, kind) => {
+            answer_line(
+                alloc,
+                sink,
+                REFUSED,
+                &[
+                    b"refused ",
+                    name.as_bytes(),
+                    b" line ",
+                    Buffer::new().format(line).as_bytes(),
+                    b" ",
+                    kind.as_bytes(),
+                    b"\n",
+                ],
+            )
+        }
+    }
+}
+
+/// The program: it reads what the words name, runs it, and writes what it gives. The gate is where the
+/// threads of a run may be held.
+pub fn top<'a, R: Threads + Wait + Sync, I: Inputs, S: Sink, G: Gate + Sync>(
+    _rt: &R,
+    alloc: Global,
+    words: &'a [&'a str],
+    inputs: &mut I,
+    sink: &mut S,
+    _gate: &G,
+) -> TopAnswer
+    // What was written, by the status: at 7 a front part of what was due at another one.
+    ensures headline { result.status ≡ 0 → Writes (Reports (said words.now) (I.told inputs.old) result) (S.taken sink.old) (S.taken sink.new) }
+    ensures refused { result.status ≡ 1 → Writes (RefusesInput (said words.now) (I.told inputs.old) (I.faults inputs.old) (I.faults inputs.new)) (S.taken sink.old) (S.taken sink.new) }
+    ensures usage { result.status ≡ 2 → Writes (RefusesWords (said words.now)) (S.taken sink.old) (S.taken sink.new) }
+    ensures nothing { result.status ≡ 3 → Keeps (S.taken sink.old) (S.taken sink.new) }
+    ensures unread { result.status ≡ 6 → Writes (FailsToRead (names_of (said words.now)) (I.told inputs.old) (I.faults inputs.old) (I.faults inputs.new)) (S.taken sink.old) (S.taken sink.new) }
+    ensures broken { result.status ≡ 7 → WritesPart (IsDue (said words.now) (I.told inputs.old) (I.faults inputs.old) (I.faults inputs.new) result) (S.taken sink.old) (S.taken sink.new) }
+    ensures idle { result.status ≢ 0 → result.status ≢ 7 → IsIdle result }
+
+    // 7 comes exactly where the sink failed.
+    ensures failed { result.status ≡ 7 → Rose (S.faults sink.old) (S.faults sink.new) }
+    ensures fault { S.faults sink.old < S.faults sink.new → result.status ≡ 7 }
+    ensures still { result.status ≢ 7 → S.faults sink.new ≡ S.faults sink.old }
+
+    // Where nothing failed, the words and the inputs decide the status, but for want of memory.
+    ensures usage_wanted { names_of (said words.now) ≡ None → IsStill (S.faults sink.old) (S.faults sink.new) → result.status ≡ 2 }
+    ensures refusal_wanted { IsRefused (input (said words.now) (I.told inputs.old)) → AllStill (I.faults inputs.old) (I.faults inputs.new) → IsStill (S.faults sink.old) (S.faults sink.new) → IsRefusedOrWant result.status }
+    ensures complete { IsAccepted (input (said words.now) (I.told inputs.old)) → AllStill (I.faults inputs.old) (I.faults inputs.new) → IsStill (S.faults sink.old) (S.faults sink.new) → IsDoneOrWant result.status }
+{
+    let Some(names) = read_words(words) else {
+        return answer_line(alloc, sink, USAGE_WANTED, &[USAGE.as_bytes()]);
+    };
+    match read_program(alloc, inputs, names) {
+        Ok(program) => run_program(alloc, sink, &program),
+        Err(stop) => answer_stop(alloc, sink, stop),
+    }
+}

@@ -1,0 +1,47 @@
+-- The report on a run.
+use Rattle.std.specs.Prelude.{ℕ, ◌+◌, List, [], ◌∷◌, ◌++◌, codes, Option, None, Some}
+use Rattle.std.specs.List.{flat_map}
+use Rattle.std.specs.Fmt.{decimal}
+use Rattle.mh_values.specs.declared.value.LeafCall.{LeafCall}
+use Rattle.mh_values.specs.declared.value.Value.{Value}
+use Rattle.mh_values.specs.Computation.{Gave, Threw, Stuck}
+use Rattle.mh_values.specs.declared.class.Class.{Class}
+use Rattle.mh_plan.specs.Results.{Result}
+use Rattle.mh_plan.specs.Interim.{value_text, exception_text}
+
+-- the byte that ends a line
+abbrev pub lf : List ℕ
+lf = 10 ∷ []
+
+-- the value that was returned, or `void`
+abbrev pub returned_text : List Class → Option Value → List ℕ
+returned_text classes None = codes "void"
+returned_text classes (Some value) = value_text classes value
+
+-- the numbers of the leaves, with spaces between, or a dash where there is none
+abbrev pub calls_text : List LeafCall → List ℕ
+calls_text [] = codes "-"
+calls_text (call ∷ calls) = decimal call.leaf.0 ++ flat_map (λ next. codes " " ++ decimal next.leaf.0) calls
+
+-- the line of a call; each call of a plan has a result
+abbrev pub result_line : List Class → Result → List ℕ
+result_line classes (Gave value calls) = codes "returns " ++ returned_text classes value ++ codes " calls " ++ calls_text calls ++ lf
+result_line classes (Threw exc calls) = codes "throws " ++ exception_text classes exc ++ codes " calls " ++ calls_text calls ++ lf
+result_line classes Stuck = []
+
+-- the lines of a thread
+abbrev pub thread_text : List Class → ℕ → List Result → List ℕ
+thread_text classes n results = codes "thread " ++ decimal n ++ lf ++ flat_map (λ result. result_line classes result) results
+
+-- the lines of threads that are counted from a number
+abbrev pub threads_text : List Class → ℕ → List (List Result) → List ℕ
+threads_text classes n [] = []
+threads_text classes n (results ∷ threads) = thread_text classes n results ++ threads_text classes (n + 1) threads
+
+-- the last line: how many attempts were made, how many forms, and how many types the targets hold
+abbrev pub summary_text : ℕ → ℕ → ℕ → List ℕ
+summary_text attempts forms types = codes "attempts " ++ decimal attempts ++ codes " forms " ++ decimal forms ++ codes " types " ++ decimal types ++ lf
+
+-- the report
+abbrev pub report_text : List Class → List (List Result) → ℕ → ℕ → ℕ → List ℕ
+report_text classes threads attempts forms types = threads_text classes 0 threads ++ summary_text attempts forms types

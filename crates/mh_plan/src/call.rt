@@ -1,0 +1,16 @@
+use mh_base::Seq;
+use mh_values::{Items, LeafId, MethodTy};
+
+/// A call that a thread makes.
+#[derive(Debug, Drop)]
+pub enum Call {
+    /// A call of a leaf as `MethodHandle.invokeExact` makes it: with the type of the call, and with
+    /// arguments of that type's parameters.
+    Exact(LeafId, MethodTy, Items),
+}
+
+/// The calls of one thread, in order.
+pub type ThreadCalls = Seq<Call>;
+
+/// The calls of each thread. Threads are numbered from 0.
+pub type Plan = Seq<ThreadCalls>;
