@@ -1,5 +1,5 @@
 -- What descriptors mean among classes: their types, or the first place that has none.
-use Rattle.std.specs.Prelude.{◌≡◌, ℕ, ◌+◌, ◌-◌, ◌==◌, Bool, false, not, ◌||◌, if◌then◌else◌, List, [], ◌∷◌, length, take, drop, Option, None, Some, slice_get, unwrap_or, Result, Ok, Err}
+use Rattle.std.specs.Prelude.{◌≡◌, ℕ, ◌+◌, ◌-◌, ◌==◌, Bool, false, not, ◌||◌, if◌then◌else◌, List, [], ◌∷◌, length, take, drop, Option, None, Some, slice_get, sum_by, unwrap_or, Result, Ok, Err}
 use Rattle.std.specs.Option.{option_map_or}
 use Rattle.mh_values.specs.declared.class.Class.{Class}
 use Rattle.mh_values.specs.declared.descriptor.DescriptorError.{DescriptorError}
@@ -76,13 +76,16 @@ return_meant classes at text = if option_map_or (λ b. b == 86) (slice_get text 
 abbrev pub last_of : List (List ℕ) → List ℕ
 last_of texts = unwrap_or (slice_get texts (length texts - 1)) []
 
--- the method type of a method descriptor: `)` and the return type are the last two pieces
-abbrev pub method_meant : List Class → List ℕ → Result MethodTy DescriptorError
-method_meant classes text =
-    let parts = pieces false (drop 1 text) in
+-- the method type of the pieces behind `(`, which end at a place: `)` and the return type are the last two
+abbrev pub method_of : List Class → ℕ → List (List ℕ) → Result MethodTy DescriptorError
+method_of classes end parts =
     found_then (types_meant classes 1 (take (length parts - 2) parts)) (λ params.
-    found_then (return_meant classes (length text - length (last_of parts)) (last_of parts)) (λ ret.
+    found_then (return_meant classes (end - length (last_of parts)) (last_of parts)) (λ ret.
     Ok (record { params = params; ret = ret })))
+
+-- the method type of a method descriptor
+abbrev pub method_meant : List Class → List ℕ → Result MethodTy DescriptorError
+method_meant classes text = method_of classes (length text) (pieces false (drop 1 text))
 
 -- ---- what texts mean
 
@@ -102,6 +105,10 @@ types_desc classes text = unless_bad (types_fault text) (types_meant classes 0 (
 -- the type of a text, or the first place that has none
 abbrev pub type_desc : List Class → List ℕ → Result Ty DescriptorError
 type_desc classes text = unless_bad (type_fault text) (type_meant classes 0 text)
+
+-- how many bytes texts have together
+abbrev pub bytes_of : List (List ℕ) → ℕ
+bytes_of texts = sum_by (λ text. length text) texts
 
 -- an answer that is what the text means, unless memory ran out
 abbrev pub Means : {A : Type 0} → Result A DescriptorError → Result A DescriptorError → Type 0

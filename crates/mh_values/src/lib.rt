@@ -10,6 +10,7 @@ mod exception;
 mod grammar;
 mod known;
 mod literal;
+mod meaning;
 mod registry;
 mod same;
 mod types;
@@ -23,6 +24,7 @@ pub use literal::{read_int, show_int};
 pub use same::{
     are_same_types, begins_with_types, is_same_method_type, is_same_return, is_same_type,
 };
+pub use meaning::{read_descriptor, read_type, read_types};
 pub use types::{Comp, MethodTy, Primitive, Ty, Tys};
 pub use typing::{are_items_of, has_type, is_component_below, is_item_of, is_type_below, slots};
 pub use value::{
