@@ -1,3 +1,4 @@
+pub mod Check
 pub mod Meaning
 pub mod Rows
 pub mod Tree

@@ -1,0 +1,64 @@
+ghost use Rattle.std.specs.Prelude.{◌≡◌, ◌+◌, ◌≤◌, nat_le, length, IfOk};
+ghost use Rattle.mh_values.specs.Computation.{spliced};
+ghost use Rattle.mh_values.specs.Slots.{slots_of_all};
+ghost use Rattle.mh_tree.specs.Check.{Tells};
+ghost use Rattle.mh_tree.specs.Rows.{limited};
+
+use crate::CheckError;
+use crate::error::refused;
+use mh_base::{NoMemory, Seq};
+use mh_values::{ClassId, Exc, MethodTy, Ty, Tys};
+use std::alloc::Global;
+
+/// The most slots that the parameters of a method handle take.
+const MOST_SLOTS: u64 = 254;
+
+/// The most that a tree weighs.
+const MOST_WEIGHT: u64 = 256;
+
+/// The slots of all these parameters.
+fn all_slots(types: &[Ty]) -> u64
+    ensures { result ≡ slots_of_all types.now }
+{
+    let mut all = 0u64;
+    for parameter in types {
+        all += u64::from(parameter.slots());
+    }
+    all
+}
+
+/// A type within the limits: at most 254 slots, refused under the combinator's word, and a weight
+/// of at most 256.
+pub(crate) fn limited(
+    alloc: Global,
+    word: &[u8],
+    weight: u64,
+    ty: MethodTy,
+) -> Result<MethodTy, CheckError>
+    ensures { Tells result (limited word.now weight ty) }
+{
+    if all_slots(ty.params.as_slice()) > MOST_SLOTS {
+        return Err(refused(alloc, word));
+    }
+    if weight > MOST_WEIGHT {
+        return Err(CheckError::Refused(Exc::saying(alloc, ClassId::INTERNAL_ERROR, b"weight")?));
+    }
+    Ok(ty)
+}
+
+/// These types with others in place of as many as are taken, from a place on.
+pub(crate) fn spliced(
+    alloc: Global,
+    types: &[Ty],
+    place: usize,
+    taken: usize,
+    given: &[Ty],
+) -> Result<Tys, NoMemory>
+    requires { place + taken ≤ length types.now }
+    ensures { IfOk result (λ all. all ≡ spliced place taken given.now types.now) }
+{
+    let mut all = Vec::from_slice(alloc, &types[..place])?;
+    all.extend_from_slice(given)?;
+    all.extend_from_slice(&types[place + taken..])?;
+    Ok(Seq::from_vec(all))
+}

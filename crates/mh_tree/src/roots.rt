@@ -1,0 +1,64 @@
+ghost use Rattle.mh_tree.specs.Check.{Tells};
+ghost use Rattle.mh_tree.specs.Rows.{constant_row, identity_row, throw_row};
+
+use crate::CheckError;
+use crate::error::refused;
+use crate::limits::limited;
+use mh_base::Seq;
+use mh_convert::misfit;
+use mh_values::{ClassId, Classes, MethodTy, Ty, Value};
+use std::alloc::Global;
+
+/// The type of a constant, which takes nothing (`MethodHandles.constant`, SE 17). Refused where the
+/// type is void, and where the value does not fit it.
+pub fn check_constant(
+    alloc: Global,
+    ty: Option<Ty>,
+    v: &Value,
+    classes: &Classes,
+) -> Result<MethodTy, CheckError>
+    ensures { Tells result (constant_row classes.now ty v.now) }
+{
+    let Some(ret) = ty else {
+        return Err(refused(alloc, b"constant"));
+    };
+    if let Some(exc) = misfit(alloc, v, ret, classes) {
+        return Err(CheckError::Refused(exc.with_message(alloc, b"constant")?));
+    }
+    let params = Seq::new(alloc);
+    limited(alloc, b"constant", 1, MethodTy { params, ret: ty })
+}
+
+/// The type of an identity (`MethodHandles.identity`, SE 17). Refused where the type is void.
+pub fn check_identity(
+    alloc: Global,
+    ty: Option<Ty>,
+    _classes: &Classes,
+) -> Result<MethodTy, CheckError>
+    ensures { Tells result (identity_row ty) }
+{
+    let Some(own) = ty else {
+        return Err(refused(alloc, b"identity"));
+    };
+    let mut params = Seq::new(alloc);
+    params.push(own)?;
+    limited(alloc, b"identity", 1, MethodTy { params, ret: ty })
+}
+
+/// The type of what throws its argument (`MethodHandles.throwException`, SE 17). Refused where the
+/// class is not `java/lang/Throwable` or below it.
+pub fn check_throw(
+    alloc: Global,
+    ret: Option<Ty>,
+    class: ClassId,
+    classes: &Classes,
+) -> Result<MethodTy, CheckError>
+    ensures { Tells result (throw_row classes.now ret class) }
+{
+    if !classes.subclass(class, ClassId::THROWABLE) {
+        return Err(refused(alloc, b"throw"));
+    }
+    let mut params = Seq::new(alloc);
+    params.push(Ty::Class(class))?;
+    limited(alloc, b"throw", 1, MethodTy { params, ret })
+}
