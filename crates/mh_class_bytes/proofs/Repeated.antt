@@ -4,15 +4,18 @@ use Rattle.mh_class_bytes.specs.Position.{Position}
 use Rattle.mh_class_bytes.specs.Format.{Format, Reading, reads, repeated, listed}
 use Rattle.mh_class_bytes.specs.declared.fault.Fault.{Fault}
 
-repeated-step : {K S : Type 0} (step : S → Format K S) (n : ℕ) (s t : S) (p q : Position) → reads (step s) p ≡ Ok (t, q) → reads (repeated step (suc n) s) p ≡ reads (repeated step n t) q
+-- one step
+pub repeated-step : {K S : Type 0} (step : S → Format K S) (n : ℕ) (s t : S) (p q : Position) → reads (step s) p ≡ Ok (t, q) → reads (repeated step (suc n) s) p ≡ reads (repeated step n t) q
 unfolding repeated
 repeated-step step n s t p q h = rw h refl
 
-repeated-err : {K S : Type 0} (step : S → Format K S) (n : ℕ) (s : S) (p : Position) (e : Fault K) → reads (step s) p ≡ Err e → reads (repeated step (suc n) s) p ≡ Err e
+-- a step with a fault
+pub repeated-err : {K S : Type 0} (step : S → Format K S) (n : ℕ) (s : S) (p : Position) (e : Fault K) → reads (step s) p ≡ Err e → reads (repeated step (suc n) s) p ≡ Err e
 unfolding repeated
 repeated-err step n s p e h = rw h refl
 
-repeated-zero : {K S : Type 0} (step : S → Format K S) (s : S) (p : Position) → reads (repeated step 0 s) p ≡ Ok (s, p)
+-- no step
+pub repeated-zero : {K S : Type 0} (step : S → Format K S) (s : S) (p : Position) → reads (repeated step 0 s) p ≡ Ok (s, p)
 unfolding repeated
 repeated-zero step s p = refl
 

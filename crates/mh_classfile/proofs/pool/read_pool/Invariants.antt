@@ -1,0 +1,9 @@
+use Rattle.std.proofs.Common.{length, ◌-◌, vec_len}
+use Rattle.mh_classfile.proofs.PoolLoop.{IsReading}
+use Rattle.mh_classfile.proofs.pool.read_pool.Given as goal
+
+abbrev pub invariant-loop-cursor : goal.invariant-loop-cursor
+invariant-loop-cursor l = IsReading l.fn.cursor l.cursor l.places.items l.count
+
+abbrev pub decreases-loop-cursor : goal.decreases-loop-cursor
+decreases-loop-cursor l = l.count - vec_len l.places

@@ -1,0 +1,161 @@
+-- Entries of the constant pool (JVMS 4.4).
+use Rattle.std.specs.Prelude.{◌≡◌, ℕ, zero, suc, ◌+◌, ◌==◌, nat_le, List, [], ◌∷◌, ◌++◌, length, Bool, true, false, ◌&&◌, ◌||◌, not, Option, Some, None, Ok, Err, ◌<◌, is_ok, slice_index, slice_index_or, if◌then◌else◌}
+use Rattle.mh_class_bytes.specs.Position.{Position}
+use Rattle.mh_class_bytes.specs.Mutf8.{sound_len}
+use Rattle.mh_class_bytes.specs.Format.{Format, number, run, here, check, refuse, choose, done, ◌>>=◌, repeated, Reading, reads}
+use Rattle.mh_classfile.specs.declared.entry.Entry.{Entry}
+use Rattle.mh_classfile.specs.declared.entry.Entry.TheVariants.{Utf8, Integer, Float, Long, Double, Class, Str, Fieldref, Methodref, InterfaceMethodref, NameAndType, MethodHandle, MethodType, Dynamic, InvokeDynamic, Module, Package}
+use Rattle.mh_classfile.specs.declared.entry.Kind.{Kind}
+use Rattle.mh_classfile.specs.declared.entry.Kind.TheVariants as kinds
+use Rattle.mh_classfile.specs.declared.fault.ClassKind.{ClassKind}
+use Rattle.mh_classfile.specs.declared.fault.ClassKind.TheVariants.{Truncated, BadTag, BadText, BadIndex}
+
+-- a part of a class file
+abbrev pub Part : Type 0 → Type 1
+Part A = Format ClassKind A
+
+-- a length, and that many bytes
+unfoldable pub utf8_bytes : Part (List ℕ)
+utf8_bytes = do
+  len ← number Truncated 2
+  run Truncated len
+
+-- a text, in modified UTF-8
+unfoldable pub utf8 : Part Entry
+utf8 = do
+  at ← here
+  text ← utf8_bytes
+  sound ← check (sound_len text == length text) ((at + 2) + sound_len text) BadText
+  done (Utf8 text)
+
+-- a number by its tag
+unfoldable pub numeric : ℕ → Part Entry
+numeric tag = do
+  first ← number Truncated 4
+  choose (tag == 3) (done (Integer first))
+      (choose (tag == 4) (done Float)
+      (do
+        second ← number Truncated 4
+        done (if tag == 5 then Long first second else Double)))
+
+-- one index: a class, a string, a method type, a module or a package, by its tag
+unfoldable pub named : ℕ → Part Entry
+named tag = do
+  name ← number Truncated 2
+  done (if tag == 7 then Class name
+      else (if tag == 8 then Str name
+      else (if tag == 16 then MethodType name
+      else (if tag == 19 then Module name
+      else Package name))))
+
+-- two indexes: a member, a name and type, or a dynamic one, by its tag
+unfoldable pub paired : ℕ → Part Entry
+paired tag = do
+  first ← number Truncated 2
+  second ← number Truncated 2
+  done (if tag == 9 then Fieldref first second
+      else (if tag == 10 then Methodref first second
+      else (if tag == 11 then InterfaceMethodref first second
+      else (if tag == 12 then NameAndType first second
+      else (if tag == 17 then Dynamic first second
+      else InvokeDynamic first second)))))
+
+-- a kind of method handle, and what it refers to
+unfoldable pub handle : Part Entry
+handle = do
+  kind ← number Truncated 1
+  reference ← number Truncated 2
+  done (MethodHandle kind reference)
+
+-- the contents of an entry behind its tag, which stands at a place
+unfoldable pub contents : ℕ → ℕ → Part Entry
+contents tag at =
+    choose (nat_le 3 tag && nat_le tag 6) (numeric tag)
+    (choose (tag == 7 || tag == 8 || tag == 16 || tag == 19 || tag == 20) (named tag)
+    (choose ((nat_le 9 tag && nat_le tag 12) || tag == 17 || tag == 18) (paired tag)
+    (choose (tag == 15) handle
+    (refuse at BadTag))))
+
+-- the tags of entries that take two indexes
+abbrev pub is_wide_tag : ℕ → Bool
+is_wide_tag tag = tag == 5 || tag == 6
+
+-- the next entry; at the last index there is no room for one that takes two
+unfoldable pub entry : Bool → Part Entry
+entry is_last = do
+  at ← here
+  tag ← number Truncated 1
+  fits ← check (not (is_last && is_wide_tag tag)) at BadIndex
+  choose (tag == 1) utf8 (contents tag at)
+
+-- a Long or a Double, which takes two indexes
+abbrev pub is_wide : Entry → Bool
+is_wide (Long high low) = true
+is_wide Double = true
+is_wide _ = false
+
+-- what a bootstrap method may be given
+abbrev pub is_argument : Entry → Bool
+is_argument (Integer n) = true
+is_argument Float = true
+is_argument (Long high low) = true
+is_argument Double = true
+is_argument (Class name) = true
+is_argument (Str name) = true
+is_argument (MethodHandle kind reference) = true
+is_argument (MethodType name) = true
+is_argument (Dynamic bootstrap name) = true
+is_argument _ = false
+
+-- an entry is of a kind
+abbrev pub is_kind : Kind → Entry → Bool
+is_kind kinds.Utf8 (Utf8 text) = true
+is_kind kinds.Class (Class name) = true
+is_kind kinds.Fieldref (Fieldref class name) = true
+is_kind kinds.Methodref (Methodref class name) = true
+is_kind kinds.InterfaceMethodref (InterfaceMethodref class name) = true
+is_kind kinds.AnyMethodref (Methodref class name) = true
+is_kind kinds.AnyMethodref (InterfaceMethodref class name) = true
+is_kind kinds.NameAndType (NameAndType name descriptor) = true
+is_kind kinds.MethodHandle (MethodHandle kind reference) = true
+is_kind kinds.InvokeDynamic (InvokeDynamic bootstrap name) = true
+is_kind kinds.Argument e = is_argument e
+is_kind _ _ = false
+
+-- ---- the constant pool, by index
+
+-- what an index of the pool names: the place of an entry's tag and the entry, or nothing that is usable
+abbrev pub Slot : Type 0
+Slot = Option (ℕ × Entry)
+
+-- the indexes that an entry takes: a second one, which is not usable, where it is wide
+abbrev pub indexes_of : ℕ → Entry → List Slot
+indexes_of at e = if is_wide e then Some (at, e) ∷ None ∷ [] else Some (at, e) ∷ []
+
+-- the next entry, where an index below the count is left for it
+abbrev pub next_slots : ℕ → List Slot → Part (List Slot)
+next_slots count so_far = choose (nat_le count (length so_far)) (done so_far) (do
+  at ← here
+  e ← entry (length so_far + 1 == count)
+  done (so_far ++ indexes_of at e))
+
+-- the pool of a count; index 0 is not usable, and each entry takes an index or two
+abbrev pub pool_of : ℕ → Part (List Slot)
+pool_of count = repeated (next_slots count) count (None ∷ [])
+
+-- what an index names; nothing past the end
+abbrev pub slot : List Slot → ℕ → Slot
+slot pool i = slice_index_or pool i None
+
+-- what was read at the place of a tag
+abbrev pub slot_of : ℕ → Reading ClassKind Entry → Slot
+slot_of at (Ok e) = Some (at, e.0)
+slot_of at (Err f) = None
+
+-- what stands at the place of a tag; 0 is no such place
+abbrev pub slot_at : List ℕ → ℕ → Slot
+slot_at bytes at = if at == 0 then None else slot_of at (reads (entry false) (record { bytes = bytes; at = at }))
+
+-- an entry stands at each place that is kept
+pub record Stand (bytes places : List ℕ) : Type 0 where
+  pub each : (k : ℕ) → k < length places → 0 < slice_index places k → is_ok (reads (entry false) (record { bytes = bytes; at = slice_index places k })) ≡ true

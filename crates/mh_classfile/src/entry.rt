@@ -1,0 +1,239 @@
+ghost use Rattle.std.specs.Prelude.{◌≡◌};
+ghost use Rattle.mh_class_bytes.specs.Bytes.{Moves};
+ghost use Rattle.mh_class_bytes.specs.Format.{Reads, reads};
+ghost use Rattle.mh_classfile.specs.Entries.{utf8_bytes, utf8, numeric, named, paired, handle, contents, entry, is_wide_tag, is_wide, is_argument, is_kind};
+
+use crate::fault::{ClassFault, ClassKind};
+use crate::numbers::{run, u1, u2, u4};
+use mh_class_bytes::{Cursor, Text, mutf8_check};
+
+/// An entry of the constant pool (JVMS SE 17, 4.4). The numbers are indexes of the pool, but for
+/// `Integer`, for the two halves of a `Long`, high first, for the kind of a `MethodHandle`, and for
+/// the first of a `Dynamic` and an `InvokeDynamic`, which counts bootstrap methods.
+#[derive(Debug, Drop)]
+pub enum Entry<'b> {
+    Utf8(Text<'b>),
+    Integer(u32),
+    Float,
+    Long(u32, u32),
+    Double,
+    Class(u16),
+    Str(u16),
+    Fieldref(u16, u16),
+    Methodref(u16, u16),
+    InterfaceMethodref(u16, u16),
+    NameAndType(u16, u16),
+    MethodHandle(u8, u16),
+    MethodType(u16),
+    Dynamic(u16, u16),
+    InvokeDynamic(u16, u16),
+    Module(u16),
+    Package(u16),
+}
+
+/// What a reference may name.
+#[derive(Clone, Copy, Debug, PartialEq, Eq)]
+pub enum Kind {
+    Utf8,
+    Class,
+    Fieldref,
+    Methodref,
+    InterfaceMethodref,
+    /// A method of a class or of an interface.
+    AnyMethodref,
+    NameAndType,
+    MethodHandle,
+    InvokeDynamic,
+    /// What a bootstrap method may be given (4.7.23, loadable by 4.4).
+    Argument,
+}
+
+impl<'b> Entry<'b> {
+    /// Whether the entry is of the kind.
+    pub fn is_kind(&self, kind: Kind) -> bool
+        ensures { result ≡ is_kind kind self.now }
+    {
+        match kind {
+            Kind::Utf8 => matches!(self, Entry::Utf8(_)),
+            Kind::Class => matches!(self, Entry::Class(_)),
+            Kind::Fieldref => matches!(self, Entry::Fieldref(_, _)),
+            Kind::Methodref => matches!(self, Entry::Methodref(_, _)),
+            Kind::InterfaceMethodref => matches!(self, Entry::InterfaceMethodref(_, _)),
+            Kind::AnyMethodref => {
+                matches!(
+                    self,
+                    Entry::Methodref(_, _) | Entry::InterfaceMethodref(_, _)
+                )
+            }
+            Kind::NameAndType => matches!(self, Entry::NameAndType(_, _)),
+            Kind::MethodHandle => matches!(self, Entry::MethodHandle(_, _)),
+            Kind::InvokeDynamic => matches!(self, Entry::InvokeDynamic(_, _)),
+            Kind::Argument => self.is_argument(),
+        }
+    }
+
+    fn is_argument(&self) -> bool
+        ensures { result ≡ is_argument self.now }
+    {
+        matches!(
+            self,
+            Entry::Integer(_)
+                | Entry::Float
+                | Entry::Long(_, _)
+                | Entry::Double
+                | Entry::Class(_)
+                | Entry::Str(_)
+                | Entry::MethodHandle(_, _)
+                | Entry::MethodType(_)
+                | Entry::Dynamic(_, _)
+        )
+    }
+
+    /// Whether the entry takes two indexes.
+    pub fn is_wide(&self) -> bool
+        ensures { result ≡ is_wide self.now }
+    {
+        matches!(self, Entry::Long(_, _) | Entry::Double)
+    }
+}
+
+/// The bytes of a Utf8 entry behind its tag.
+#[tactic(auto, unfolding(crate::specs::Entries::utf8_bytes))]
+pub fn read_utf8_bytes<'b>(cursor: &mut Cursor<'b>) -> Result<&'b [u8], ClassFault>
+    ensures reads { Reads (λ x. x.now) result cursor.new (reads utf8_bytes cursor.old) }
+    ensures moves { Moves cursor.old cursor.new }
+{
+    let len = u2(cursor, ClassKind::Truncated)?;
+    run(cursor, len as usize, ClassKind::Truncated)
+}
+
+#[tactic(auto, unfolding(crate::specs::Entries::utf8))]
+fn read_utf8<'b>(cursor: &mut Cursor<'b>) -> Result<Entry<'b>, ClassFault>
+    ensures reads { Reads (λ x. x) result cursor.new (reads utf8 cursor.old) }
+    ensures moves { Moves cursor.old cursor.new }
+{
+    let start = cursor.at();
+    let bytes = read_utf8_bytes(cursor)?;
+    match mutf8_check(bytes) {
+        Ok(text) => Ok(Entry::Utf8(text)),
+        Err(bad) => Err(ClassFault {
+            at: start + 2 + bad.at,
+            kind: ClassKind::BadText,
+        }),
+    }
+}
+
+/// A number, a Long or a Double, behind its tag.
+#[tactic(auto, unfolding(crate::specs::Entries::numeric))]
+fn read_numeric<'b>(tag: u8, cursor: &mut Cursor<'b>) -> Result<Entry<'b>, ClassFault>
+    ensures reads { Reads (λ x. x) result cursor.new (reads (numeric tag) cursor.old) }
+    ensures moves { Moves cursor.old cursor.new }
+{
+    let first = u4(cursor, ClassKind::Truncated)?;
+    match tag {
+        3 => Ok(Entry::Integer(first)),
+        4 => Ok(Entry::Float),
+        5 => {
+            let low = u4(cursor, ClassKind::Truncated)?;
+            Ok(Entry::Long(first, low))
+        }
+        _ => {
+            let _low = u4(cursor, ClassKind::Truncated)?;
+            Ok(Entry::Double)
+        }
+    }
+}
+
+/// An entry of one index, behind its tag.
+#[tactic(auto, unfolding(crate::specs::Entries::named))]
+fn read_named<'b>(tag: u8, cursor: &mut Cursor<'b>) -> Result<Entry<'b>, ClassFault>
+    ensures reads { Reads (λ x. x) result cursor.new (reads (named tag) cursor.old) }
+    ensures moves { Moves cursor.old cursor.new }
+{
+    let name = u2(cursor, ClassKind::Truncated)?;
+    match tag {
+        7 => Ok(Entry::Class(name)),
+        8 => Ok(Entry::Str(name)),
+        16 => Ok(Entry::MethodType(name)),
+        19 => Ok(Entry::Module(name)),
+        _ => Ok(Entry::Package(name)),
+    }
+}
+
+/// An entry of two indexes, behind its tag.
+#[tactic(auto, unfolding(crate::specs::Entries::paired))]
+fn read_paired<'b>(tag: u8, cursor: &mut Cursor<'b>) -> Result<Entry<'b>, ClassFault>
+    ensures reads { Reads (λ x. x) result cursor.new (reads (paired tag) cursor.old) }
+    ensures moves { Moves cursor.old cursor.new }
+{
+    let first = u2(cursor, ClassKind::Truncated)?;
+    let second = u2(cursor, ClassKind::Truncated)?;
+    match tag {
+        9 => Ok(Entry::Fieldref(first, second)),
+        10 => Ok(Entry::Methodref(first, second)),
+        11 => Ok(Entry::InterfaceMethodref(first, second)),
+        12 => Ok(Entry::NameAndType(first, second)),
+        17 => Ok(Entry::Dynamic(first, second)),
+        _ => Ok(Entry::InvokeDynamic(first, second)),
+    }
+}
+
+/// A MethodHandle, behind its tag.
+#[tactic(auto, unfolding(crate::specs::Entries::handle))]
+fn read_handle<'b>(cursor: &mut Cursor<'b>) -> Result<Entry<'b>, ClassFault>
+    ensures reads { Reads (λ x. x) result cursor.new (reads handle cursor.old) }
+    ensures moves { Moves cursor.old cursor.new }
+{
+    let kind = u1(cursor, ClassKind::Truncated)?;
+    let reference = u2(cursor, ClassKind::Truncated)?;
+    Ok(Entry::MethodHandle(kind, reference))
+}
+
+/// The contents of an entry but a Utf8 one, behind its tag, which stands at `at`.
+#[tactic(auto, unfolding(crate::specs::Entries::contents))]
+pub fn read_contents<'b>(
+    tag: u8,
+    at: usize,
+    cursor: &mut Cursor<'b>,
+) -> Result<Entry<'b>, ClassFault>
+    ensures reads { Reads (λ x. x) result cursor.new (reads (contents tag at) cursor.old) }
+    ensures moves { Moves cursor.old cursor.new }
+{
+    match tag {
+        3..=6 => read_numeric(tag, cursor),
+        7 | 8 | 16 | 19 | 20 => read_named(tag, cursor),
+        9..=12 | 17 | 18 => read_paired(tag, cursor),
+        15 => read_handle(cursor),
+        _ => Err(ClassFault {
+            at,
+            kind: ClassKind::BadTag,
+        }),
+    }
+}
+
+/// The next entry; at the last index of the pool it must not take two.
+#[tactic(auto, unfolding(crate::specs::Entries::entry))]
+pub fn read_entry<'b>(is_last: bool, cursor: &mut Cursor<'b>) -> Result<Entry<'b>, ClassFault>
+    ensures reads { Reads (λ x. x) result cursor.new (reads (entry is_last) cursor.old) }
+    ensures moves { Moves cursor.old cursor.new }
+{
+    let at = cursor.at();
+    let tag = u1(cursor, ClassKind::Truncated)?;
+    if is_last && is_wide_tag(tag) {
+        return Err(ClassFault {
+            at,
+            kind: ClassKind::BadIndex,
+        });
+    }
+    if tag == 1 {
+        read_utf8(cursor)
+    } else {
+        read_contents(tag, at, cursor)
+    }
+}
+
+fn is_wide_tag(tag: u8) -> bool
+    ensures { result ≡ is_wide_tag tag }
+{
+    tag == 5 || tag == 6
+}

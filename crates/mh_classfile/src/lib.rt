@@ -1,0 +1,12 @@
+//! The class reader: exactly the class files of JVMS chapter 4, read without copying.
+#![tactic(auto)]
+
+mod entry;
+mod fault;
+mod numbers;
+mod pool;
+mod references;
+
+pub use entry::{Entry, Kind};
+pub use fault::{ClassError, ClassFault, ClassKind};
+pub use pool::Pool;

@@ -1,0 +1,114 @@
+ghost use Rattle.std.specs.Prelude.{◌≡◌, ◌<◌, true, false, is_ok, length, Some};
+ghost use Rattle.mh_class_bytes.specs.Bytes.{Moves};
+ghost use Rattle.mh_class_bytes.specs.Format.{reads};
+ghost use Rattle.mh_classfile.specs.Answers.{Gives};
+ghost use Rattle.mh_classfile.specs.Entries.{entry, slot, slot_at, pool_of};
+
+use crate::entry::{Entry, read_contents, read_entry, read_utf8_bytes};
+use crate::fault::{ClassError, ClassKind};
+use crate::numbers::u1;
+use mh_class_bytes::{Cursor, Text};
+use std::alloc::Global;
+use std::marker::Model;
+
+/// The constant pool: for each index the place of its entry's tag in the file, and 0 where there is
+/// no entry. Contracts see the entries, with their places.
+#[derive(Drop)]
+pub struct Pool<'b> {
+    bytes: &'b [u8],
+    places: Vec<usize>,
+}
+
+impl<'b> Model for Pool<'b> {
+    ghost use Rattle.std.specs.Prelude.{List, map};
+    ghost use Rattle.mh_classfile.specs.Entries.{Slot, slot_at, Stand};
+
+    ghost Value = { List Slot };
+
+    ghost view = { λ p. map (slot_at p.bytes.now) p.places.items };
+
+    ghost invariant = { λ p. Stand p.bytes.now p.places.items };
+}
+
+impl<'b> Pool<'b> {
+    /// The number of indexes, 0 among them.
+    pub fn len(&self) -> usize
+        ensures { result ≡ length self.now }
+    {
+        self.places.len()
+    }
+
+    /// The entry at an index, and the place of its tag.
+    pub fn get(&self, index: usize) -> Option<(usize, Entry<'b>)>
+        ensures { slot self.now index ≡ result }
+    {
+        match self.places.get(index) {
+            None => None,
+            Some(place) => {
+                let at = *place;
+                if at == 0 {
+                    None
+                } else {
+                    Some((at, known(self.bytes, at)))
+                }
+            }
+        }
+    }
+}
+
+/// The entry at a place where one was found before. Its text is not looked at again.
+#[tactic(auto, unfolding(crate::specs::Entries::entry, crate::specs::Entries::utf8))]
+fn known<'b>(bytes: &'b [u8], at: usize) -> Entry<'b>
+    requires place { 0 < at }
+    requires stands { is_ok (reads (entry false) (record { bytes = bytes.now; at = at })) ≡ true }
+    ensures { slot_at bytes.now at ≡ Some (at, result) }
+{
+    let mut cursor = resume(bytes, at);
+    let Ok(tag) = u1(&mut cursor, ClassKind::Truncated) else {
+        unreachable!()
+    };
+    if tag == 1 {
+        let Ok(text) = read_utf8_bytes(&mut cursor) else {
+            unreachable!()
+        };
+        Entry::Utf8(Text::checked(text))
+    } else {
+        let Ok(entry) = read_contents(tag, at, &mut cursor) else {
+            unreachable!()
+        };
+        entry
+    }
+}
+
+#[tactic(auto, unfolding(crate::specs::Entries::entry))]
+fn resume(bytes: &[u8], at: usize) -> Cursor<'_>
+    requires { is_ok (reads (entry false) (record { bytes = bytes.now; at = at })) ≡ true }
+    ensures { result ≡ record { bytes = bytes.now; at = at } }
+{
+    Cursor::resume(bytes, at)
+}
+
+/// Reads the pool behind its count.
+pub fn read_pool<'b>(
+    alloc: Global,
+    count: u16,
+    cursor: &mut Cursor<'b>,
+) -> Result<Pool<'b>, ClassError>
+    requires { 0 < cursor.old.at }
+    ensures gives { Gives (λ p. p) result cursor.new (reads (pool_of count) cursor.old) }
+    ensures moves { Moves cursor.old cursor.new }
+{
+    let bytes = cursor.whole();
+    let mut places = Vec::new(alloc);
+    places.push(0)?;
+    while places.len() < count as usize {
+        let at = cursor.at();
+        let is_last = places.len() + 1 == count as usize;
+        let entry = read_entry(is_last, cursor)?;
+        places.push(at)?;
+        if entry.is_wide() {
+            places.push(0)?;
+        }
+    }
+    Ok(Pool { bytes, places })
+}

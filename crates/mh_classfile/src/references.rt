@@ -1,0 +1,115 @@
+ghost use Rattle.std.specs.Prelude.{◌≡◌, [], ◌≤◌, Ok, IfOk, slice_get, Some, true, length};
+ghost use Rattle.mh_class_bytes.specs.Format.{Finds};
+ghost use Rattle.mh_classfile.specs.Entries.{slot};
+ghost use Rattle.mh_classfile.specs.declared.entry.Entry.TheVariants.{Utf8};
+ghost use Rattle.mh_classfile.specs.References.{names, names_or_none, referred, good_member, good_name, good_handle, own_references};
+ghost use Rattle.mh_classfile.specs.References.{is_descriptor, good_method_name, good_descriptor, good_slot, good_references, AreDescriptors};
+
+use crate::entry::{Entry, Kind};
+use crate::fault::{ClassError, ClassFault, ClassKind};
+use crate::pool::Pool;
+use mh_values::descriptor_text;
+use std::alloc::Global;
+
+fn fault(at: usize, kind: ClassKind) -> Result<(), ClassFault>
+    ensures { result ≡ Err (record { at = at; kind = kind }) }
+{
+    Err(ClassFault { at, kind })
+}
+
+/// That an index names an entry of the kind; the fault stands at `at`.
+pub fn check_name(pool: &Pool<'_>, kind: Kind, index: u16, at: usize) -> Result<(), ClassFault>
+    ensures { Finds (λ x. x) result (names pool.now kind index at) }
+{
+    match pool.get(index as usize) {
+        None => fault(at, ClassKind::BadIndex),
+        Some((_, entry)) => {
+            if entry.is_kind(kind) {
+                Ok(())
+            } else {
+                fault(at, ClassKind::WrongKind)
+            }
+        }
+    }
+}
+
+/// That an index is 0 or names an entry of the kind.
+pub fn check_name_or_none(
+    pool: &Pool<'_>,
+    kind: Kind,
+    index: u16,
+    at: usize,
+) -> Result<(), ClassFault>
+    ensures { Finds (λ x. x) result (names_or_none pool.now kind index at) }
+{
+    if index == 0 {
+        Ok(())
+    } else {
+        check_name(pool, kind, index, at)
+    }
+}
+
+fn referred(kind: u8) -> Kind
+    ensures { result ≡ referred kind }
+{
+    match kind {
+        0..=4 => Kind::Fieldref,
+        5 | 8 => Kind::Methodref,
+        9 => Kind::InterfaceMethodref,
+        _ => Kind::AnyMethodref,
+    }
+}
+
+fn check_member(pool: &Pool<'_>, at: usize, class: u16, name: u16) -> Result<(), ClassFault>
+    ensures { Finds (λ x. x) result (good_member pool.now at class name) }
+{
+    check_name(pool, Kind::Class, class, at)?;
+    check_name(pool, Kind::NameAndType, name, at)
+}
+
+fn check_texts(pool: &Pool<'_>, at: usize, name: u16, descriptor: u16) -> Result<(), ClassFault>
+    ensures { Finds (λ x. x) result (good_name pool.now at name descriptor) }
+{
+    check_name(pool, Kind::Utf8, name, at)?;
+    check_name(pool, Kind::Utf8, descriptor, at)
+}
+
+fn check_handle(pool: &Pool<'_>, at: usize, kind: u8, reference: u16) -> Result<(), ClassFault>
+    ensures { Finds (λ x. x) result (good_handle pool.now at kind reference) }
+{
+    if kind < 1 || kind > 9 {
+        return fault(at, ClassKind::WrongKind);
+    }
+    check_name(pool, referred(kind), reference, at)
+}
+
+#[tactic(auto, unfolding(crate::specs::References::own_references))]
+fn check_own(pool: &Pool<'_>, at: usize, entry: &Entry<'_>) -> Result<(), ClassFault>
+    ensures { Finds (λ x. x) result (own_references pool.now at entry.now) }
+{
+    match entry {
+        Entry::Class(name)
+        | Entry::Str(name)
+        | Entry::MethodType(name)
+        | Entry::Module(name)
+        | Entry::Package(name) => check_name(pool, Kind::Utf8, *name, at),
+        Entry::Fieldref(class, name)
+        | Entry::Methodref(class, name)
+        | Entry::InterfaceMethodref(class, name) => check_member(pool, at, *class, *name),
+        Entry::NameAndType(name, descriptor) => check_texts(pool, at, *name, *descriptor),
+        Entry::MethodHandle(kind, reference) => check_handle(pool, at, *kind, *reference),
+        Entry::Dynamic(_, name) | Entry::InvokeDynamic(_, name) => {
+            check_name(pool, Kind::NameAndType, *name, at)
+        }
+        _ => Ok(()),
+    }
+}
+
+fn check_text(at: usize, text: &[u8]) -> Result<(), ClassFault>
+    ensures { Finds (λ x. x) result (is_descriptor (Some (at, Utf8 text.now))) }
+{
+    match descriptor_text(text) {
+        Ok(()) => Ok(()),
+        Err(_) => fault(at, ClassKind::BadDescriptor),
+    }
+}
