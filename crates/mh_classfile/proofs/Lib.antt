@@ -1,1 +1,3 @@
 pub mod PoolLoop
+pub mod Each
+pub mod SitesLoop

@@ -1,3 +1,5 @@
 pub mod Entries
 pub mod Answers
 pub mod References
+pub mod Code
+pub mod Found

@@ -1,5 +1,5 @@
 -- References between entries of the pool, looked at in order of index once all entries are read (JVMS 4.4).
-use Rattle.std.specs.Prelude.{◌≡◌, ℕ, nat_le, ◌==◌, ◌&&◌, ◌||◌, List, [], ◌∷◌, Option, Some, None, Ok, Err, Bool, true, is_none, slice_get, if◌then◌else◌}
+use Rattle.std.specs.Prelude.{◌≡◌, ℕ, nat_le, ◌==◌, ◌&&◌, ◌||◌, List, [], ◌∷◌, Option, Some, None, Ok, Err, Bool, true, false, is_none, slice_index_or, if◌then◌else◌}
 use Rattle.mh_values.specs.Grammar.{descriptor_fault}
 use Rattle.mh_class_bytes.specs.Format.{Checked, fault}
 use Rattle.mh_classfile.specs.declared.entry.Entry.{Entry}
@@ -119,4 +119,4 @@ good_references pool = each (good_slot pool) pool
 
 -- the texts that are marked were found to be method descriptors
 pub record AreDescriptors (pool : List Slot) (marked : List Bool) : Type 0 where
-  pub each : (k : ℕ) → slice_get marked k ≡ Some true → is_descriptor (slot pool k) ≡ Ok tt
+  pub each : (k : ℕ) → slice_index_or marked k false ≡ true → is_descriptor (slot pool k) ≡ Ok tt

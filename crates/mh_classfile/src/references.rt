@@ -1,6 +1,8 @@
-ghost use Rattle.std.specs.Prelude.{◌≡◌, [], ◌≤◌, Ok, IfOk, slice_get, Some, true, length};
+ghost use Rattle.std.specs.Prelude.{◌≡◌, Ok, IfOk, IfErr, Some, true, false, replicate};
 ghost use Rattle.mh_class_bytes.specs.Format.{Finds};
+ghost use Rattle.mh_classfile.specs.Answers.{Yields};
 ghost use Rattle.mh_classfile.specs.Entries.{slot};
+ghost use Rattle.mh_classfile.specs.declared.fault.ClassError.TheVariants.{NoMemory};
 ghost use Rattle.mh_classfile.specs.declared.entry.Entry.TheVariants.{Utf8};
 ghost use Rattle.mh_classfile.specs.References.{names, names_or_none, referred, good_member, good_name, good_handle, own_references};
 ghost use Rattle.mh_classfile.specs.References.{is_descriptor, good_method_name, good_descriptor, good_slot, good_references, AreDescriptors};
@@ -112,4 +114,104 @@ fn check_text(at: usize, text: &[u8]) -> Result<(), ClassFault>
         Ok(()) => Ok(()),
         Err(_) => fault(at, ClassKind::BadDescriptor),
     }
+}
+
+fn check_slot(pool: &Pool<'_>, index: usize) -> Result<(), ClassFault>
+    ensures { Finds (λ x. x) result (is_descriptor (slot pool.now index)) }
+{
+    match pool.get(index) {
+        Some((at, Entry::Utf8(text))) => check_text(at, text.bytes()),
+        _ => Ok(()),
+    }
+}
+
+/// That the text at an index is a method descriptor. A text that was found to be one is marked, and
+/// not looked at again, so that the work stays linear however many entries name it.
+fn check_descriptor(pool: &Pool<'_>, marked: &mut Vec<bool>, index: u16) -> Result<(), ClassFault>
+    requires { AreDescriptors pool.now marked.old.items }
+    ensures finds { Finds (λ x. x) result (is_descriptor (slot pool.now index)) }
+    ensures marked { AreDescriptors pool.now marked.new.items }
+{
+    let index = index as usize;
+    if index < marked.len() && marked[index] {
+        return Ok(());
+    }
+    check_slot(pool, index)?;
+    if index < marked.len() {
+        marked[index] = true;
+    }
+    Ok(())
+}
+
+/// That a name and type is one of a method.
+#[tactic(auto, unfolding(crate::specs::References::good_method_name))]
+fn check_method_name(pool: &Pool<'_>, marked: &mut Vec<bool>, index: u16) -> Result<(), ClassFault>
+    requires { AreDescriptors pool.now marked.old.items }
+    ensures finds { Finds (λ x. x) result (good_method_name pool.now (slot pool.now index)) }
+    ensures marked { AreDescriptors pool.now marked.new.items }
+{
+    match pool.get(index as usize) {
+        Some((at, Entry::NameAndType(name, descriptor))) => {
+            check_texts(pool, at, name, descriptor)?;
+            check_descriptor(pool, marked, descriptor)
+        }
+        _ => Ok(()),
+    }
+}
+
+#[tactic(auto, unfolding(crate::specs::References::good_descriptor))]
+fn check_entry_descriptor(
+    pool: &Pool<'_>,
+    marked: &mut Vec<bool>,
+    entry: &Entry<'_>,
+) -> Result<(), ClassFault>
+    requires { AreDescriptors pool.now marked.old.items }
+    ensures finds { Finds (λ x. x) result (good_descriptor pool.now entry.now) }
+    ensures marked { AreDescriptors pool.now marked.new.items }
+{
+    match entry {
+        Entry::MethodType(name) => check_descriptor(pool, marked, *name),
+        Entry::Methodref(_, name)
+        | Entry::InterfaceMethodref(_, name)
+        | Entry::InvokeDynamic(_, name) => check_method_name(pool, marked, *name),
+        _ => Ok(()),
+    }
+}
+
+#[tactic(auto, unfolding(crate::specs::References::good_slot))]
+fn check_index(pool: &Pool<'_>, marked: &mut Vec<bool>, index: usize) -> Result<(), ClassFault>
+    requires { AreDescriptors pool.now marked.old.items }
+    ensures finds { Finds (λ x. x) result (good_slot pool.now (slot pool.now index)) }
+    ensures marked { AreDescriptors pool.now marked.new.items }
+{
+    match pool.get(index) {
+        None => Ok(()),
+        Some((at, entry)) => {
+            check_own(pool, at, &entry)?;
+            check_entry_descriptor(pool, marked, &entry)
+        }
+    }
+}
+
+/// Marks for so many texts, none of which was found to be a method descriptor so far.
+fn unmarked(alloc: Global, len: usize) -> Result<Vec<bool>, ClassError>
+    ensures items { IfOk result (λ v. v.items ≡ replicate len false) }
+    ensures err { IfErr result (λ e. e ≡ NoMemory) }
+{
+    let mut marked = Vec::new(alloc);
+    for _ in 0..len {
+        marked.push(false)?;
+    }
+    Ok(marked)
+}
+
+/// The references of every entry, in order of index.
+pub fn check_pool(alloc: Global, pool: &Pool<'_>) -> Result<(), ClassError>
+    ensures { Yields (λ x. x) result (good_references pool.now) }
+{
+    let mut marked = unmarked(alloc, pool.len())?;
+    for index in 0..pool.len() {
+        check_index(pool, &mut marked, index)?;
+    }
+    Ok(())
 }

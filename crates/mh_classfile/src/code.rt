@@ -1,0 +1,218 @@
+ghost use Rattle.std.specs.Prelude.{◌≡◌, ◌≤◌, ◌<◌, ◌+◌, ◌-◌, ◌^◌, length, nat_lt, [], ◌∷◌, ◌++◌, OnOk, IfOk, IsTrue, IsSome};
+ghost use Rattle.std.specs.Option.{option_to_list};
+ghost use Rattle.mh_class_bytes.specs.Bytes.{Moves};
+ghost use Rattle.mh_class_bytes.specs.Format.{Reads, reads};
+ghost use Rattle.mh_classfile.specs.Answers.{Gives};
+ghost use Rattle.mh_classfile.specs.Code.{is_local, fixed_len, table_switch, lookup_switch, wide, passed, ordinary, operands, call_site, instruction, code_sites};
+
+use crate::entry::Kind;
+use crate::fault::{ClassError, ClassFault, ClassKind};
+use crate::numbers::{run, u1, u2, u4};
+use crate::pool::Pool;
+use crate::references::check_name;
+use crate::site::{Method, Site, Sites};
+use mh_class_bytes::Cursor;
+
+fn is_local(opcode: u8) -> bool
+    ensures { result ≡ is_local opcode }
+{
+    matches!(opcode, 21..=25 | 54..=58 | 169)
+}
+
+/// How many bytes an instruction of fixed length takes, with its opcode; 0 for the others
+/// (JVMS SE 17, 6.5).
+fn fixed_len(opcode: u8) -> usize
+    ensures { result ≡ fixed_len opcode }
+{
+    match opcode {
+        0..=15 | 26..=53 | 59..=131 | 133..=152 | 172..=177 | 190 | 191 | 194 | 195 => 1,
+        16 | 18 | 21..=25 | 54..=58 | 169 | 188 => 2,
+        17 | 19 | 20 | 132 | 153..=168 | 178..=184 | 187 | 189 | 192 | 193 | 198 | 199 => 3,
+        197 => 4,
+        185 | 200 | 201 => 5,
+        _ => 0,
+    }
+}
+
+#[tactic(auto, unfolding(crate::specs::Code::table_switch))]
+fn pass_table_switch(start: usize, at: usize, cursor: &mut Cursor<'_>) -> Result<(), ClassFault>
+    requires { start ≤ at }
+    ensures reads { Reads (λ x. x) result cursor.new (reads (table_switch start at) cursor.old) }
+    ensures moves { Moves cursor.old cursor.new }
+{
+    let kind = ClassKind::BadCode;
+    let _padding = run(cursor, 3 - (at - start) % 4, kind)?;
+    let _default = u4(cursor, kind)?;
+    let low = u4(cursor, kind)?.wrapping_add(0x8000_0000);
+    let high = u4(cursor, kind)?.wrapping_add(0x8000_0000);
+    if low > high {
+        return Err(ClassFault { at, kind });
+    }
+    let _entries = run(cursor, 4 * ((high - low) as usize + 1), kind)?;
+    Ok(())
+}
+
+#[tactic(auto, unfolding(crate::specs::Code::lookup_switch))]
+fn pass_lookup_switch(start: usize, at: usize, cursor: &mut Cursor<'_>) -> Result<(), ClassFault>
+    requires { start ≤ at }
+    ensures reads { Reads (λ x. x) result cursor.new (reads (lookup_switch start at) cursor.old) }
+    ensures moves { Moves cursor.old cursor.new }
+{
+    let kind = ClassKind::BadCode;
+    let _padding = run(cursor, 3 - (at - start) % 4, kind)?;
+    let _default = u4(cursor, kind)?;
+    let pairs = u4(cursor, kind)?;
+    if pairs >= 0x8000_0000 {
+        return Err(ClassFault { at, kind });
+    }
+    let _entries = run(cursor, 8 * pairs as usize, kind)?;
+    Ok(())
+}
+
+#[tactic(auto, unfolding(crate::specs::Code::passed))]
+fn pass(len: usize, cursor: &mut Cursor<'_>) -> Result<(), ClassFault>
+    ensures reads { Reads (λ x. x) result cursor.new (reads (passed len) cursor.old) }
+    ensures moves { Moves cursor.old cursor.new }
+{
+    let _bytes = run(cursor, len, ClassKind::BadCode)?;
+    Ok(())
+}
+
+#[tactic(auto, unfolding(crate::specs::Code::wide))]
+fn pass_wide(at: usize, cursor: &mut Cursor<'_>) -> Result<(), ClassFault>
+    ensures reads { Reads (λ x. x) result cursor.new (reads (wide at) cursor.old) }
+    ensures moves { Moves cursor.old cursor.new }
+{
+    let kind = ClassKind::BadCode;
+    let opcode = u1(cursor, kind)?;
+    if opcode == 132 {
+        pass(4, cursor)
+    } else if is_local(opcode) {
+        pass(2, cursor)
+    } else {
+        Err(ClassFault { at, kind })
+    }
+}
+
+/// Passes an instruction but `invokedynamic`, behind its opcode.
+#[tactic(auto, unfolding(crate::specs::Code::ordinary))]
+fn pass_ordinary(
+    opcode: u8,
+    start: usize,
+    at: usize,
+    cursor: &mut Cursor<'_>,
+) -> Result<(), ClassFault>
+    requires { start ≤ at }
+    ensures reads { Reads (λ x. x) result cursor.new (reads (ordinary opcode start at) cursor.old) }
+    ensures moves { Moves cursor.old cursor.new }
+{
+    let kind = ClassKind::BadCode;
+    let passed = match opcode {
+        170 => pass_table_switch(start, at, cursor),
+        171 => pass_lookup_switch(start, at, cursor),
+        196 => pass_wide(at, cursor),
+        _ => {
+            let len = fixed_len(opcode);
+            if len == 0 {
+                return Err(ClassFault { at, kind });
+            }
+            pass(len - 1, cursor)
+        }
+    };
+    match passed {
+        Ok(()) => Ok(()),
+        Err(_) => Err(ClassFault { at, kind }),
+    }
+}
+
+#[tactic(auto, unfolding(crate::specs::Code::operands))]
+fn read_operands(cursor: &mut Cursor<'_>) -> Result<(u16, u16), ClassFault>
+    ensures reads { Reads (λ x. x) result cursor.new (reads operands cursor.old) }
+    ensures moves { Moves cursor.old cursor.new }
+{
+    let index = u2(cursor, ClassKind::BadCode)?;
+    let zeros = u2(cursor, ClassKind::BadCode)?;
+    Ok((index, zeros))
+}
+
+/// The call site of an `invokedynamic`, behind its opcode.
+#[tactic(auto, unfolding(crate::specs::Code::call_site))]
+fn read_call_site(
+    pool: &Pool<'_>,
+    method: Method,
+    has_room: bool,
+    start: usize,
+    at: usize,
+    cursor: &mut Cursor<'_>,
+) -> Result<Site, ClassFault>
+    requires begun { start ≤ at }
+    requires near { at < start + 2 ^ 16 }
+    ensures reads { Reads (λ x. x) result cursor.new (reads (call_site pool.now method has_room start at) cursor.old) }
+    ensures moves { Moves cursor.old cursor.new }
+    ensures room { OnOk result (IsTrue has_room) }
+{
+    let kind = ClassKind::BadCode;
+    let Ok((index, zeros)) = read_operands(cursor) else {
+        return Err(ClassFault { at, kind });
+    };
+    check_name(pool, Kind::InvokeDynamic, index, at)?;
+    if zeros != 0 {
+        return Err(ClassFault { at, kind });
+    }
+    if !has_room {
+        let kind = ClassKind::TooManySites;
+        return Err(ClassFault { at, kind });
+    }
+    let pc = (at - start) as u32;
+    Ok(Site { method, pc, index })
+}
+
+/// The next instruction: its call site, where it is one.
+#[tactic(auto, unfolding(crate::specs::Code::instruction))]
+fn read_instruction(
+    pool: &Pool<'_>,
+    method: Method,
+    has_room: bool,
+    start: usize,
+    cursor: &mut Cursor<'_>,
+) -> Result<Option<Site>, ClassFault>
+    requires begun { start ≤ cursor.old.at }
+    requires near { cursor.old.at < start + 2 ^ 16 }
+    ensures reads { Reads option_to_list result cursor.new (reads (instruction pool.now method has_room start) cursor.old) }
+    ensures moves { Moves cursor.old cursor.new }
+    ensures onward { OnOk result (cursor.old.at < cursor.new.at) }
+    ensures room { IfOk result (λ found. IsSome found → IsTrue has_room) }
+{
+    let at = cursor.at();
+    let opcode = u1(cursor, ClassKind::BadCode)?;
+    if opcode == 186 {
+        let site = read_call_site(pool, method, has_room, start, at, cursor)?;
+        return Ok(Some(site));
+    }
+    pass_ordinary(opcode, start, at, cursor)?;
+    Ok(None)
+}
+
+/// Finds the call sites of code from a start to an end, behind those before it.
+pub fn read_sites(
+    pool: &Pool<'_>,
+    method: Method,
+    start: usize,
+    end: usize,
+    sites: &mut Sites,
+    cursor: &mut Cursor<'_>,
+) -> Result<(), ClassError>
+    requires begun { start ≤ cursor.old.at }
+    requires near { end ≤ start + 2 ^ 16 }
+    ensures gives { Gives (λ _. sites.new.sites) result cursor.new (reads (code_sites pool.now method sites.old.room start end sites.old.sites) cursor.old) }
+    ensures room { sites.new.room ≡ sites.old.room }
+    ensures moves { Moves cursor.old cursor.new }
+{
+    while cursor.at() < end {
+        let has_room = sites.has_room();
+        if let Some(site) = read_instruction(pool, method, has_room, start, cursor)? {
+            sites.push(site)?;
+        }
+    }
+    Ok(())
+}
