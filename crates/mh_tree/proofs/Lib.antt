@@ -1,3 +1,4 @@
 pub mod Host
+mod Lengths
 mod WorkedAdapters
 mod WorkedBranches

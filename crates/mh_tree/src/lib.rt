@@ -2,14 +2,22 @@
 #![tactic(auto)]
 
 mod adapters;
+mod arrays;
+mod branches;
+mod conversions;
 mod error;
 mod limits;
 mod message;
+mod reordering;
 mod roots;
 
 pub use adapters::{
     check_bind, check_collect, check_drop, check_filter, check_filterret, check_fold,
 };
+pub use arrays::{check_gather, check_spread};
+pub use branches::{check_catch, check_guard};
+pub use conversions::check_astype;
 pub use error::CheckError;
 pub use message::mismatch;
+pub use reordering::check_permute;
 pub use roots::{check_constant, check_identity, check_throw};

@@ -1,0 +1,130 @@
+ghost use Rattle.std.specs.Prelude.{◌≡◌, replicate, IfOk};
+ghost use Rattle.std.specs.List.{list_all};
+ghost use Rattle.mh_values.specs.Same.{is_same_type};
+ghost use Rattle.mh_values.specs.Array.{item_type};
+ghost use Rattle.mh_tree.specs.Check.{Tells};
+ghost use Rattle.mh_tree.specs.Rows.{component_of, ends_with, takes_array, spread_row, gather_row};
+
+use crate::CheckError;
+use crate::error::refused;
+use crate::limits::{limited, spliced};
+use mh_base::{NoMemory, Seq};
+use mh_values::{Classes, Comp, MethodTy, Ty, Tys, is_same_type, is_type_below};
+use std::alloc::Global;
+
+/// The component of an array type.
+fn component_of(ty: Option<Ty>) -> Option<Comp>
+    ensures { result ≡ component_of ty }
+{
+    match ty {
+        Some(Ty::Array(component)) => Some(component),
+        _ => None,
+    }
+}
+
+/// The type of an array's items.
+fn item_type(component: Comp) -> Ty
+    ensures { result ≡ item_type component }
+{
+    match component {
+        Comp::Prim(primitive) => Ty::Prim(primitive),
+        Comp::Class(class) => Ty::Class(class),
+    }
+}
+
+/// Whether all these types are one type.
+fn are_all(types: &[Ty], ty: Ty) -> bool
+    ensures { result ≡ list_all (λ t. is_same_type t ty) types.now }
+{
+    types.iter().all(|own| is_same_type(*own, ty))
+}
+
+/// Whether the last parameters, so many, are all of one type.
+fn ends_with(params: &[Ty], count: usize, ty: Ty) -> bool
+    ensures { result ≡ ends_with params.now count ty }
+{
+    count <= params.len() && are_all(params.split_at(params.len() - count).1, ty)
+}
+
+/// The type of a tree whose last arguments come in an array (`MethodHandle.asSpreader`, SE 17).
+/// Refused where the type is no array, and where the last parameters, so many, are not all of its
+/// component's type.
+pub fn check_spread(
+    alloc: Global,
+    t: &MethodTy,
+    t_weight: u32,
+    arr: Option<Ty>,
+    n: u8,
+    _classes: &Classes,
+) -> Result<MethodTy, CheckError>
+    ensures { Tells result (spread_row t.now t_weight arr n) }
+{
+    let count = usize::from(n);
+    let Some(component) = component_of(arr) else {
+        return Err(refused(alloc, b"spread"));
+    };
+    let params = t.params.as_slice();
+    if !ends_with(params, count, item_type(component)) {
+        return Err(refused(alloc, b"spread"));
+    }
+    let params = spliced(
+        alloc,
+        params,
+        params.len() - count,
+        count,
+        &[Ty::Array(component)],
+    )?;
+    limited(
+        alloc,
+        b"spread",
+        1 + u64::from(t_weight),
+        MethodTy { params, ret: t.ret },
+    )
+}
+
+/// Whether an array of the component can be passed to the last parameter.
+fn takes_array(component: Comp, last: Option<Ty>, classes: &Classes) -> bool
+    ensures { result ≡ takes_array classes.now component last }
+{
+    match last {
+        None => false,
+        Some(last) => is_type_below(Ty::Array(component), last, classes),
+    }
+}
+
+/// A type, so often.
+fn repeated(alloc: Global, ty: Ty, count: usize) -> Result<Tys, NoMemory>
+    ensures { IfOk result (λ types. types ≡ replicate count ty) }
+{
+    Ok(Seq::from_vec(vec![in alloc; ty; count]?))
+}
+
+/// The type of a tree whose last argument is an array of several (`MethodHandle.asCollector`, SE
+/// 17). Refused where the type is no array, where such an array cannot be passed to the last
+/// parameter, and for 255 items.
+pub fn check_gather(
+    alloc: Global,
+    t: &MethodTy,
+    t_weight: u32,
+    arr: Option<Ty>,
+    n: u8,
+    classes: &Classes,
+) -> Result<MethodTy, CheckError>
+    ensures { Tells result (gather_row classes.now t.now t_weight arr n) }
+{
+    let Some(component) = component_of(arr) else {
+        return Err(refused(alloc, b"gather"));
+    };
+    let params = t.params.as_slice();
+    if params.is_empty() || n == 255 || !takes_array(component, params.last().copied(), classes) {
+        return Err(refused(alloc, b"gather"));
+    }
+    let items = repeated(alloc, item_type(component), usize::from(n))?;
+    let params = spliced(alloc, params, params.len() - 1, 1, items.as_slice())?;
+    limited(
+        alloc,
+        b"gather",
+        1 + u64::from(t_weight),
+        MethodTy { params, ret: t.ret },
+    )
+}

@@ -1,0 +1,53 @@
+ghost use Rattle.std.specs.Prelude.{◌≡◌};
+ghost use Rattle.mh_tree.specs.Check.{Tells};
+ghost use Rattle.mh_tree.specs.Rows.{can_all, can_be_used_as, astype_row};
+
+use crate::CheckError;
+use crate::limits::limited;
+use crate::message::mismatch;
+use mh_base::Copied;
+use mh_convert::{conversion, ret_conversion};
+use mh_values::{Classes, MethodTy, Ty};
+use std::alloc::Global;
+
+/// Whether each of these types may be converted to the other list's type at its place.
+fn can_all(from: &[Ty], to: &[Ty], classes: &Classes) -> bool
+    ensures { result ≡ can_all classes.now from.now to.now }
+{
+    if from.len() != to.len() {
+        return false;
+    }
+    for i in 0..from.len() {
+        if conversion(from[i], to[i], classes).is_none() {
+            return false;
+        }
+    }
+    true
+}
+
+/// Whether a method type may be used as another one: its arguments are converted to what it takes,
+/// and its result to what is asked for.
+fn can_be_used_as(t: &MethodTy, asked: &MethodTy, classes: &Classes) -> bool
+    ensures { result ≡ can_be_used_as classes.now t.now asked.now }
+{
+    can_all(asked.params.as_slice(), t.params.as_slice(), classes)
+        && ret_conversion(t.ret, asked.ret, classes).is_some()
+}
+
+/// The type of a tree that is used as another type (`MethodHandle.asType`, SE 17): the one that is
+/// asked for. Refused by `WrongMethodTypeException` where an argument or the result cannot be
+/// converted, and where the numbers of parameters differ.
+pub fn check_astype(
+    alloc: Global,
+    t: &MethodTy,
+    t_weight: u32,
+    ty: &MethodTy,
+    classes: &Classes,
+) -> Result<MethodTy, CheckError>
+    ensures { Tells result (astype_row classes.now t.now t_weight ty.now) }
+{
+    if !can_be_used_as(t, ty, classes) {
+        return Err(CheckError::Refused(mismatch(alloc, t, ty, classes)?));
+    }
+    limited(alloc, b"astype", 1 + u64::from(t_weight), ty.copy(alloc)?)
+}
