@@ -14,7 +14,7 @@ use Rattle.mh_edit.proofs.Parameters.{law-Add, law-Bind, law-Permute}
 use Rattle.mh_edit.proofs.Parts.{law-Collect, law-Fold}
 use Rattle.mh_edit.proofs.Results.{law-FilterReturn}
 use Rattle.mh_edit.proofs.Converted.{law-Convert}
-use Rattle.mh_edit.proofs.Roots.{law-LeafRoot, law-ConstRoot, law-IdentityRoot, law-ThrowRoot, law-GuardRoot, law-CatchRoot}
+use Rattle.mh_edit.proofs.RootLaws.{law-LeafRoot, law-ConstRoot, law-IdentityRoot, law-ThrowRoot, law-GuardRoot, law-CatchRoot}
 use Rattle.mh_edit.proofs.Arrays.{law-Spread, law-Gather}
 
 pub law-applied : (key : Key) (body : FormBody) → IsTrue (fits key body) → Law key body (applied key body)

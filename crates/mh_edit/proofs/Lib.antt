@@ -12,4 +12,4 @@ pub mod Ranges
 pub mod Reframing
 pub mod Renaming
 pub mod Results
-pub mod Roots
+pub mod RootLaws

@@ -2,11 +2,15 @@
 #![tactic(auto)]
 
 mod copies;
+mod edit;
 mod fit;
+mod frame;
 mod key;
 mod names;
 mod narrow;
 mod rename;
+mod roots;
 
+pub use edit::apply;
 pub use fit::key_fits;
 pub use key::{Entries, Key, Places, RetEntry};

@@ -1,0 +1,243 @@
+ghost use Rattle.std.specs.Prelude.{◌≡◌, ◌+◌, ◌-◌, ◌<◌, ◌≤◌, ◌∷◌, [], IfOk, IsTrue, length, replicate};
+ghost use Rattle.std.specs.List.{range_with_len};
+ghost use Rattle.mh_form.specs.declared.name.Name.TheVariants.{MakeArray};
+ghost use Rattle.mh_edit.specs.Applied.{adding, applied, binding, collecting, converting, filtering, folding, gathering, given, permuting, places_of, returning, spreading};
+ghost use Rattle.mh_edit.specs.Fit.{fits, taken_by};
+ghost use Rattle.mh_edit.specs.Law.{Law};
+
+use crate::fit::taken_by;
+use crate::frame::{Splice, converting, edited, finished, reframed, returning};
+use crate::names::{push_elems, range, single};
+use crate::narrow::narrow;
+use crate::roots::{
+    catch_body, constant_body, guard_body, identity_body, leaf_body, throw_body,
+};
+use crate::{Key, Places, RetEntry};
+use mh_base::{Copied, NoMemory, Seq};
+use mh_form::{Basic, BasicRet, Basics, FormBody, Name, Names, Operands};
+use std::alloc::Global;
+
+/// The place of what stands for the result of a part, if anything does.
+fn given(alloc: Global, ret: BasicRet, place: u32) -> Result<Operands, NoMemory>
+    ensures { IfOk result (λ places. places ≡ given ret place) }
+{
+    match ret {
+        BasicRet::V => Ok(Seq::new(alloc)),
+        BasicRet::Is(_) => range(alloc, place, 1),
+    }
+}
+
+fn binding(alloc: Global, body: &FormBody, pos: u8) -> Result<FormBody, NoMemory>
+    requires { pos < length body.now.params }
+    ensures { IfOk result (λ new. new ≡ binding pos body.now) }
+{
+    let made = narrow((body.params.len() - 1) as u64)?;
+    let splice = Splice {
+        pos: pos as u32,
+        taken: 1,
+        basics: &Seq::new(alloc),
+    };
+    let before = single(alloc, Name::Get(body.fields))?;
+    edited(alloc, body, splice, before, range(alloc, made, 1)?, 1)
+}
+
+fn adding(
+    alloc: Global,
+    body: &FormBody,
+    pos: u8,
+    basics: &Basics,
+) -> Result<FormBody, NoMemory>
+    requires { pos ≤ length body.now.params }
+    ensures { IfOk result (λ new. new ≡ adding pos basics.now body.now) }
+{
+    let splice = Splice {
+        pos: pos as u32,
+        taken: 0,
+        basics,
+    };
+    edited(alloc, body, splice, Seq::new(alloc), Seq::new(alloc), 0)
+}
+
+/// The same places as numbers of 32 bits.
+fn widened(alloc: Global, places: &Places) -> Result<Operands, NoMemory>
+    ensures { IfOk result (λ wide. wide ≡ places.now) }
+{
+    let mut wide = Seq::new(alloc);
+    for place in places.as_slice() {
+        wide.push(*place as u32)?;
+    }
+    Ok(wide)
+}
+
+fn permuting(
+    alloc: Global,
+    body: &FormBody,
+    basics: &Basics,
+    reorder: &Places,
+) -> Result<FormBody, NoMemory>
+    ensures { IfOk result (λ new. new ≡ permuting basics.now reorder.now body.now) }
+{
+    let table = widened(alloc, reorder)?;
+    reframed(alloc, body, basics.copy()?, Seq::new(alloc), table.as_slice(), 0)
+}
+
+fn collecting(
+    alloc: Global,
+    body: &FormBody,
+    pos: u8,
+    basics: &Basics,
+    ret: BasicRet,
+) -> Result<FormBody, NoMemory>
+    requires { pos + taken_by ret ≤ length body.now.params }
+    ensures { IfOk result (λ new. new ≡ collecting pos basics.now ret body.now) }
+{
+    let put = narrow(basics.len() as u64)?;
+    let splice = Splice {
+        pos: pos as u32,
+        taken: taken_by(ret) as u32,
+        basics,
+    };
+    let width = narrow(body.params.len() as u64)? as u64 + put as u64;
+    let made = narrow(width - splice.taken as u64)?;
+    let part = Name::Link(body.fields, range(alloc, pos as u32, put)?);
+    edited(alloc, body, splice, single(alloc, part)?, given(alloc, ret, made)?, 1)
+}
+
+fn folding(
+    alloc: Global,
+    body: &FormBody,
+    pos: u8,
+    count: u8,
+    ret: BasicRet,
+) -> Result<FormBody, NoMemory>
+    requires { pos + taken_by ret ≤ length body.now.params }
+    ensures { IfOk result (λ new. new ≡ folding pos count ret body.now) }
+{
+    let splice = Splice {
+        pos: pos as u32,
+        taken: taken_by(ret) as u32,
+        basics: &Seq::new(alloc),
+    };
+    let made = narrow((body.params.len() - splice.taken as usize) as u64)?;
+    let part = Name::Link(body.fields, range(alloc, pos as u32, count as u32)?);
+    edited(alloc, body, splice, single(alloc, part)?, given(alloc, ret, made)?, 1)
+}
+
+/// The places of a result, if there is one.
+fn places_of(alloc: Global, out: Option<u32>) -> Result<Operands, NoMemory>
+    ensures { IfOk result (λ places. places ≡ places_of out) }
+{
+    match out {
+        None => Ok(Seq::new(alloc)),
+        Some(place) => range(alloc, place, 1),
+    }
+}
+
+fn filtering(alloc: Global, body: &FormBody, ret: BasicRet) -> Result<FormBody, NoMemory>
+    ensures { IfOk result (λ new. new ≡ filtering ret body.now) }
+{
+    let part = Name::Link(body.fields, places_of(alloc, body.out)?);
+    finished(body.copy(alloc)?, part, ret)
+}
+
+fn spreading(alloc: Global, body: &FormBody, count: u8) -> Result<FormBody, NoMemory>
+    requires { count ≤ length body.now.params }
+    ensures { IfOk result (λ new. new ≡ spreading count body.now) }
+{
+    let pos = narrow((body.params.len() - count as usize) as u64)?;
+    let mut before = single(alloc, Name::CheckArray(pos, count as u32))?;
+    push_elems(&mut before, pos, count as u32)?;
+    let mut array = Seq::new(alloc);
+    array.push(Basic::L)?;
+    let splice = Splice {
+        pos,
+        taken: count as u32,
+        basics: &array,
+    };
+    let items = range(alloc, narrow(pos as u64 + 2)?, count as u32)?;
+    edited(alloc, body, splice, before, items, 0)
+}
+
+/// The same basic type so many times.
+fn repeated(alloc: Global, count: u8, basic: Basic) -> Result<Basics, NoMemory>
+    ensures { IfOk result (λ basics. basics ≡ replicate count basic) }
+{
+    let mut basics = Seq::new(alloc);
+    for _ in 0..count {
+        basics.push(basic)?;
+    }
+    Ok(basics)
+}
+
+/// A name that makes an array of so many slots from a place on.
+fn array_name(alloc: Global, comp: u32, from: u32, count: u8) -> Result<Names, NoMemory>
+    ensures { IfOk result (λ names. names ≡ MakeArray comp (range_with_len from count) ∷ []) }
+{
+    single(alloc, Name::MakeArray(comp, range(alloc, from, count as u32)?))
+}
+
+fn gathering(
+    alloc: Global,
+    body: &FormBody,
+    count: u8,
+    basic: Basic,
+) -> Result<FormBody, NoMemory>
+    requires { 1 ≤ length body.now.params }
+    ensures { IfOk result (λ new. new ≡ gathering count basic body.now) }
+{
+    let pos = narrow((body.params.len() - 1) as u64)?;
+    let items = repeated(alloc, count, basic)?;
+    let splice = Splice {
+        pos,
+        taken: 1,
+        basics: &items,
+    };
+    let before = array_name(alloc, body.fields, pos, count)?;
+    let made = narrow(pos as u64 + count as u64)?;
+    edited(alloc, body, splice, before, range(alloc, made, 1)?, 1)
+}
+
+fn converted(
+    alloc: Global,
+    body: &FormBody,
+    params: &[Option<Basic>],
+    ret: RetEntry,
+) -> Result<FormBody, NoMemory>
+    ensures { IfOk result (λ new. new ≡ returning ret (converting params.now body.now)) }
+{
+    returning(converting(alloc, body, params)?, ret)
+}
+
+fn body_of(alloc: Global, body: &FormBody, key: &Key) -> Result<FormBody, NoMemory>
+    requires { IsTrue (fits key.now body.now) }
+    ensures { IfOk result (λ new. new ≡ applied key.now body.now) }
+{
+    match key {
+        Key::LeafRoot { shape } => leaf_body(alloc, shape),
+        Key::ConstRoot { .. } => constant_body(alloc),
+        Key::IdentityRoot { basic } => identity_body(alloc, *basic),
+        Key::ThrowRoot { ret } => throw_body(alloc, *ret),
+        Key::GuardRoot { shape, test } => guard_body(alloc, shape, *test),
+        Key::CatchRoot { shape, handler } => catch_body(alloc, shape, *handler),
+        Key::Bind { pos } => binding(alloc, body, *pos),
+        Key::Add { pos, basics } => adding(alloc, body, *pos, basics),
+        Key::Permute { basics, reorder } => permuting(alloc, body, basics, reorder),
+        Key::Collect { pos, basics, ret } => collecting(alloc, body, *pos, basics, *ret),
+        Key::Fold { pos, count, ret } => folding(alloc, body, *pos, *count, *ret),
+        Key::FilterReturn { ret } => filtering(alloc, body, *ret),
+        Key::Convert { params, ret } => converted(alloc, body, params.as_slice(), *ret),
+        Key::Spread { count, .. } => spreading(alloc, body, *count),
+        Key::Gather { count, basic } => gathering(alloc, body, *count, *basic),
+    }
+}
+
+/// The body that a key makes of another, which it fits: exactly this one, so that forms can be
+/// found by their keys, and what its run is by that of the other. A body whose numbers need more
+/// than 32 bits is out of memory's reach.
+pub fn apply(alloc: Global, body: &FormBody, key: &Key) -> Result<FormBody, NoMemory>
+    requires { IsTrue (fits key.now body.now) }
+    ensures exact { IfOk result (λ new. new ≡ applied key.now body.now) }
+    ensures law { IfOk result (λ new. Law key.now body.now new) }
+{
+    body_of(alloc, body, key)
+}
