@@ -208,7 +208,7 @@ pub fn read_sites(
     ensures room { sites.new.room ≡ sites.old.room }
     ensures moves { Moves cursor.old cursor.new }
 {
-    while cursor.at() < end {
+    'instructions: while cursor.at() < end {
         let has_room = sites.has_room();
         if let Some(site) = read_instruction(pool, method, has_room, start, cursor)? {
             sites.push(site)?;
