@@ -22,23 +22,21 @@ pub struct RealInputs<'r, R: Files> {
     rt: &'r R,
     alloc: Global,
     opened: Option<Opened<R::File>>,
-    faults: u64,
+    /// How many calls failed; the count of every name.
+    pub faults: u64,
 }
 
 impl<'r, R: Files> RealInputs<'r, R> {
     /// The files that the runtime gives. The allocator is for the name of the file that is open.
-    pub fn new(alloc: Global, rt: &'r R) -> Self {
+    pub fn new(alloc: Global, rt: &'r R) -> Self
+        ensures { result.faults ≡ 0 }
+    {
         RealInputs {
             rt,
             alloc,
             opened: None,
             faults: 0,
         }
-    }
-
-    /// How many calls failed; the count of every name.
-    pub fn faults(&self) -> u64 {
-        self.faults
     }
 
     // The file, at a place: the one that is open where it stands there, else it is opened.
@@ -93,18 +91,16 @@ impl<'r, R: Files> Inputs for RealInputs<'r, R> {
 #[derive(Drop)]
 pub struct RealSink<'r, R> {
     rt: &'r R,
-    faults: u64,
+    /// How many writes failed.
+    pub faults: u64,
 }
 
 impl<'r, R: Print> RealSink<'r, R> {
     /// The standard output of the runtime.
-    pub fn new(rt: &'r R) -> Self {
+    pub fn new(rt: &'r R) -> Self
+        ensures { result.faults ≡ 0 }
+    {
         RealSink { rt, faults: 0 }
-    }
-
-    /// How many writes failed.
-    pub fn faults(&self) -> u64 {
-        self.faults
     }
 }
 

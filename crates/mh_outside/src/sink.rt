@@ -20,6 +20,7 @@ pub trait Sink {
         ensures no_fault { OnOk result (faults self.new ≡ faults self.old) }
         ensures count { IfOk result (λ n. n ≤ length bytes.now) }
         ensures some { IfOk result (λ n. 0 < length bytes.now → 0 < n) }
-        ensures appended { IfOk result (λ n. Appends (taken self.old) (taken self.new) (take n bytes.now)) }
+        ensures appended { IfOk result
+            (λ n. Appends (taken self.old) (taken self.new) (take n bytes.now)) }
         ensures kept { OnErr result (Keeps (taken self.old) (taken self.new)) };
 }

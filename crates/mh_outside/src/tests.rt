@@ -51,7 +51,7 @@ fn real_files_fail_where_they_are_not_there(rt: HostRuntime) -> Result<(), Fail>
     let mut inputs = RealInputs::new(rt.alloc(), &rt);
     let mut buf = [0u8; 8];
     assert!(rt; inputs.read("no such file", 0, &mut buf).is_err());
-    assert_eq!(rt; inputs.faults(), 1);
+    assert_eq!(rt; inputs.faults, 1);
     Ok(())
 }
 
@@ -59,6 +59,6 @@ fn real_files_fail_where_they_are_not_there(rt: HostRuntime) -> Result<(), Fail>
 fn real_output_takes_a_piece(rt: HostRuntime) -> Result<(), Fail> {
     let mut sink = RealSink::new(&rt);
     assert!(rt; matches!(sink.write(b"taken\n"), Ok(1..=6)));
-    assert_eq!(rt; sink.faults(), 0);
+    assert_eq!(rt; sink.faults, 0);
     Ok(())
 }

@@ -54,9 +54,12 @@ fn read_piece<I: Inputs>(
     ensures later { (n : List ℕ) → I.faults inputs.old n ≤ I.faults inputs.new n }
     ensures no_fault { OnOk result (AreSame (I.faults inputs.old) (I.faults inputs.new)) }
     ensures longer { IfOk result (λ n. length bytes.new.items ≡ length bytes.old.items + n) }
-    ensures front { OnOk result (KeepsFront (I.told inputs.old name.now) bytes.old.items bytes.new.items) }
-    ensures end { IfOk result (λ n. n ≡ 0 → EndsAt (I.told inputs.old name.now) bytes.old.items bytes.new.items) }
-    ensures fault { IsErrOf result ReadWhole.ReadFault → Rose (I.faults inputs.old name.now) (I.faults inputs.new name.now) }
+    ensures front { OnOk result
+        (KeepsFront (I.told inputs.old name.now) bytes.old.items bytes.new.items) }
+    ensures end { IfOk result (λ n. n ≡ 0
+        → EndsAt (I.told inputs.old name.now) bytes.old.items bytes.new.items) }
+    ensures fault { IsErrOf result ReadWhole.ReadFault
+        → Rose (I.faults inputs.old name.now) (I.faults inputs.new name.now) }
     ensures short { IsErrOf result ReadWhole.TooLong → ⊥ }
 {
     let mut piece = [0u8; PIECE];
@@ -85,11 +88,14 @@ pub fn read_whole<I: Inputs>(
     ensures within { IfOk result (λ v. length v.items ≤ limit) }
     ensures no_fault { OnOk result (AreSame (I.faults inputs.old) (I.faults inputs.new)) }
 
-    ensures fault { IsErrOf result ReadWhole.ReadFault → Rose (I.faults inputs.old name.now) (I.faults inputs.new name.now) }
+    ensures fault { IsErrOf result ReadWhole.ReadFault
+        → Rose (I.faults inputs.old name.now) (I.faults inputs.new name.now) }
 
     // Where a file is within the limit, `file` excludes that it is longer; so TooLong is exact.
-    ensures too_long { IsErrOf result ReadWhole.TooLong → MayBeLonger (I.told inputs.old name.now) limit }
-    ensures too_long_still { IsErrOf result ReadWhole.TooLong → AreSame (I.faults inputs.old) (I.faults inputs.new) }
+    ensures too_long { IsErrOf result ReadWhole.TooLong
+        → MayBeLonger (I.told inputs.old name.now) limit }
+    ensures too_long_still { IsErrOf result ReadWhole.TooLong
+        → AreSame (I.faults inputs.old) (I.faults inputs.new) }
 {
     let mut bytes = Vec::new(alloc);
     while bytes.len() <= limit {
