@@ -1,0 +1,27 @@
+-- Forms as contracts see them: a number and a recipe, which determines the body.
+use Rattle.std.specs.Prelude.{ℕ, List, [], ◌∷◌, None}
+use Rattle.mh_form.specs.declared.body.FormBody.{FormBody}
+use Rattle.mh_edit.specs.declared.key.Key.{Key}
+use Rattle.mh_edit.specs.Applied.{applied}
+
+-- a form: its number, and the keys that made it, from the first on
+pub record FormView : Type 0 where
+  pub number : ℕ
+  pub recipe : List Key
+
+-- the body that takes nothing, has nothing and does nothing
+abbrev pub nothing : FormBody
+nothing = record { params = []; fields = 0; names = []; out = None }
+
+-- what keys make of a body, in order
+abbrev pub body_from : FormBody → List Key → FormBody
+body_from body [] = body
+body_from body (k ∷ keys) = body_from (applied k body) keys
+
+-- the body of a recipe
+abbrev pub body_of : List Key → FormBody
+body_of keys = body_from nothing keys
+
+-- the form of which every other one is made
+abbrev pub base_form : FormView
+base_form = record { number = 0; recipe = [] }

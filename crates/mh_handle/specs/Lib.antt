@@ -1,0 +1,4 @@
+pub mod Form
+pub mod Index
+pub mod Marks
+pub mod Passes

@@ -1,0 +1,145 @@
+ghost use Rattle.std.specs.Prelude.{◌≡◌, ◌≤◌, ◌++◌, ◌∷◌, [], length, OnOk, OnErr, IfOk};
+ghost use Rattle.mh_setonce.specs.Walks.{Distinct, Finds, Has, Lacks, StartsWith};
+ghost use Rattle.mh_handle.specs.Form.{body_of};
+ghost use Rattle.mh_handle.specs.Index.{recipe_of};
+ghost use Rattle.mh_handle.specs.Passes.{Learns, Makes, pass_at};
+
+use crate::error::EditError;
+use crate::form::Form;
+use crate::recipe::Recipe;
+use crate::seat::FormSeat;
+use crate::seen::SeenForms;
+use mh_base::NoMemory;
+use mh_edit::Key;
+use mh_form::FormBody;
+use mh_setonce::{Chain, Put, PutRefused, Walk};
+use std::alloc::Global;
+use std::marker::Model;
+use std::sync::Wait;
+
+/// What one thread of work knows of a table of forms: what it has learnt of the table's chain, the
+/// forms that it has asked for, each once, and the seat through which it draws their numbers.
+#[derive(Drop)]
+pub struct FormPass<'t> {
+    walk: Walk<'t, Form>,
+    seen: SeenForms<'t>,
+    seat: FormSeat,
+}
+
+impl<'t> Model for FormPass<'t> {
+    ghost use Rattle.mh_handle.specs.Passes.{PassView, AreLearnt};
+
+    ghost Value = { PassView };
+
+    ghost view = { λ p. record { cells = p.walk.cells; nodes = p.walk.nodes; asked = p.seen; seat = p.seat } };
+
+    ghost invariant = { λ p. AreLearnt p.walk.nodes p.seen };
+}
+
+impl<'t> FormPass<'t> {
+    pub(crate) fn new(
+        alloc: Global,
+        walk: Walk<'t, Form>,
+        seat: FormSeat,
+    ) -> Result<FormPass<'t>, NoMemory>
+        requires { walk.nodes ≡ [] }
+        ensures { IfOk result (λ pass. pass ≡ pass_at walk.entry.cells seat) }
+    {
+        Ok(FormPass {
+            walk,
+            seen: SeenForms::new(alloc)?,
+            seat,
+        })
+    }
+
+    /// How many forms were asked for. No two of them have one recipe.
+    pub fn len(&self) -> u32
+        ensures { result ≡ length self.now.asked }
+    {
+        self.seen.len()
+    }
+
+    /// The form of a recipe and one more key, if it was asked for. It takes no memory.
+    pub(crate) fn seen(&self, recipe: &Recipe, key: &Key) -> Option<&'t Form>
+        ensures { Finds recipe_of self.now.asked (recipe.now ++ key.now ∷ []) result }
+    {
+        self.seen.find(recipe, key)
+    }
+
+    /// The form of a recipe, if the chain shows it.
+    pub(crate) fn find(
+        &mut self,
+        alloc: Global,
+        chain: &'t Chain<Form>,
+        recipe: &Recipe,
+    ) -> Result<Option<&'t Form>, NoMemory>
+        requires { self.old.cells ≡ chain.now }
+        ensures learns { Learns self.old self.new }
+        ensures found { IfOk result (Finds recipe_of self.new.nodes recipe.now) }
+    {
+        chain.find(alloc, &mut self.walk, recipe)
+    }
+
+    /// Asks for a form that was learnt, and was not asked for.
+    pub(crate) fn ask(&mut self, form: &'t Form) -> Result<(), NoMemory>
+        requires new { Lacks recipe_of self.old.asked form.now.recipe }
+        requires learnt { Has recipe_of self.old.nodes form.now.recipe form.now }
+        ensures ok { OnOk result (self.new ≡ record self.old { asked = self.old.asked ++ form.entry.now ∷ [] }) }
+        ensures err { OnErr result (self.new ≡ self.old) }
+    {
+        self.seen.add(form)
+    }
+
+    /// Makes a form that was neither asked for nor learnt, with a number of its own, unless another
+    /// pass has made it meanwhile.
+    pub(crate) fn make<R: Wait>(
+        &mut self,
+        rt: &R,
+        alloc: Global,
+        chain: &'t Chain<Form>,
+        recipe: Recipe,
+        body: FormBody,
+    ) -> Result<&'t Form, EditError>
+        requires body { body ≡ body_of recipe }
+        requires pass { self.old.cells ≡ chain.now }
+        requires room { 1 ≤ self.old.seat.room }
+        requires new { Lacks recipe_of self.old.asked recipe }
+        ensures cells { self.new.cells ≡ self.old.cells }
+        ensures learnt { StartsWith self.new.nodes self.old.nodes }
+        ensures makes { Makes recipe self.old self.new result }
+    {
+        self.seen.reserve()?;
+        let number = self.seat.draw();
+        if number > Form::LIMIT {
+            return Err(EditError::FormsFull { drawn: number });
+        }
+        let form = Form::new(number, recipe, body);
+        let made = put_form(rt, alloc, chain, &mut self.walk, form)?;
+        self.ask(made)?;
+        Ok(made)
+    }
+}
+
+/// Puts a form into the chain, unless one with its recipe stands there.
+fn put_form<'t, R: Wait>(
+    rt: &R,
+    alloc: Global,
+    chain: &'t Chain<Form>,
+    walk: &mut Walk<'t, Form>,
+    mut form: Form,
+) -> Result<&'t Form, NoMemory>
+    requires { walk.old.cells ≡ chain.now }
+    ensures cells { walk.new.cells ≡ walk.old.cells }
+    ensures nodes { StartsWith walk.new.nodes walk.old.nodes }
+    ensures put { IfOk result (λ r. Has recipe_of walk.new.nodes form.recipe r.now) }
+{
+    for _ in rt.forever() {
+        match chain.find_or_put(rt, alloc, walk, form) {
+            Ok(Put::Mine(made)) => return Ok(made),
+            Ok(Put::Theirs(made, _)) => return Ok(made),
+            Err(PutRefused::NoMemory(_)) => return Err(NoMemory),
+            Err(PutRefused::Full(back)) => form = back,
+        }
+    }
+    unreachable!()
+}

@@ -1,0 +1,101 @@
+ghost use Rattle.std.specs.Prelude.{◌≡◌, ◌≤◌, ◌++◌, ◌∷◌, [], IfOk, IsTrue};
+ghost use Rattle.mh_setonce.specs.Walks.{StartsWith};
+ghost use Rattle.mh_edit.specs.Fit.{fits};
+ghost use Rattle.mh_handle.specs.Form.{base_form, body_of};
+ghost use Rattle.mh_handle.specs.Passes.{Edits, pass_at, seat_at};
+
+use crate::error::EditError;
+use crate::form::Form;
+use crate::pass::FormPass;
+use crate::seat::FormSeat;
+use crate::stub::apply;
+use mh_base::NoMemory;
+use mh_edit::Key;
+use mh_setonce::Chain;
+use std::alloc::Global;
+use std::marker::Model;
+use std::sync::Wait;
+
+/// The forms of a run, one for each recipe: a chain of 16,384 cells. Contracts see the names of the
+/// cells.
+#[derive(Drop)]
+pub struct FormTable {
+    base: Form,
+    chain: Chain<Form>,
+}
+
+impl Model for FormTable {
+    ghost use Rattle.std.specs.Prelude.{◌≡◌, ℕ, List, length};
+    ghost use Rattle.mh_handle.specs.Form.{base_form};
+
+    ghost Value = { List ℕ };
+
+    ghost view = { λ t. t.chain };
+
+    ghost invariant = { λ t. (t.base ≡ base_form) × (length t.chain ≡ 16384) };
+}
+
+impl FormTable {
+    /// A table without forms but the base, and the seat through which all numbers are drawn.
+    pub fn new(alloc: Global) -> Result<(FormTable, FormSeat), NoMemory>
+        ensures { IfOk result (λ made. made.1 ≡ seat_at 0) }
+    {
+        let table = FormTable {
+            base: Form::base(alloc),
+            chain: Chain::new(alloc, 16384)?,
+        };
+        Ok((table, FormSeat::new()))
+    }
+
+    /// The form of which each other one is made: it takes nothing and does nothing.
+    pub fn base(&self) -> &Form
+        ensures { result.now ≡ base_form }
+    {
+        &self.base
+    }
+
+    /// The first pass, with the table's seat.
+    pub fn first_pass<'t>(
+        &'t self,
+        alloc: Global,
+        seat: FormSeat,
+    ) -> Result<FormPass<'t>, NoMemory>
+        ensures { IfOk result (λ pass. pass ≡ pass_at self.entry.now seat) }
+    {
+        FormPass::new(alloc, self.chain.walk(alloc), seat)
+    }
+
+    /// The form whose recipe is that of `form` followed by the key. One that the pass has asked for
+    /// is answered without memory, and one that the chain shows without drawing a number; any other
+    /// is made.
+    ///
+    /// Where a cell of the chain shows a form that nobody has put, it looks again, for which it takes
+    /// `rt`. It answers `FormsFull` where the number drawn is above 16,384. A refusal may leave a
+    /// number drawn, which is then spent.
+    pub fn edit<'t, R: Wait>(
+        &'t self,
+        rt: &R,
+        alloc: Global,
+        pass: &mut FormPass<'t>,
+        form: &'t Form,
+        key: Key,
+    ) -> Result<&'t Form, EditError>
+        requires fits { IsTrue (fits key (body_of form.now.recipe)) }
+        requires pass { pass.old.cells ≡ self.now }
+        requires room { 1 ≤ pass.old.seat.room }
+        ensures cells { pass.new.cells ≡ pass.old.cells }
+        ensures learnt { StartsWith pass.new.nodes pass.old.nodes }
+        ensures edits { Edits (form.entry.now.recipe ++ key ∷ []) pass.old pass.new result }
+    {
+        if let Some(seen) = pass.seen(form.recipe(), &key) {
+            return Ok(seen);
+        }
+        let recipe = form.recipe().then(alloc, &key)?;
+        if let Some(found) = pass.find(alloc, &self.chain, &recipe)? {
+            pass.ask(found)?;
+            return Ok(found);
+        }
+        let body = apply(alloc, form.body(), &key)?;
+        pass.make(rt, alloc, &self.chain, recipe, body)
+    }
+}
