@@ -3,7 +3,8 @@ use Rattle.std.proofs.Common.{◌≡◌, ℕ, List, [], ◌∷◌, ◌++◌, ref
 use Rattle.mh_form.specs.declared.body.FormBody.{FormBody}
 use Rattle.mh_edit.specs.declared.key.Key.{Key}
 use Rattle.mh_edit.specs.Applied.{applied}
-use Rattle.mh_handle.specs.Form.{body_from, body_of, nothing}
+use Rattle.mh_form.specs.Body.{nothing}
+use Rattle.mh_handle.specs.Form.{body_from, body_of}
 use Rattle.mh_handle.specs.Marks.{mixed, all_mixed, key_mark, mark_of}
 
 pub all_mixed-snoc : {A : Type 0} (part : A → ℕ) (mark : ℕ) (xs : List A) (x : A) → all_mixed part mark (xs ++ x ∷ []) ≡ mixed (all_mixed part mark xs) (part x)

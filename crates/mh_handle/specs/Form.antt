@@ -1,6 +1,7 @@
 -- Forms as contracts see them: a number and a recipe, which determines the body.
-use Rattle.std.specs.Prelude.{ℕ, List, [], ◌∷◌, None}
+use Rattle.std.specs.Prelude.{ℕ, List, [], ◌∷◌}
 use Rattle.mh_form.specs.declared.body.FormBody.{FormBody}
+use Rattle.mh_form.specs.Body.{nothing}
 use Rattle.mh_edit.specs.declared.key.Key.{Key}
 use Rattle.mh_edit.specs.Applied.{applied}
 
@@ -8,10 +9,6 @@ use Rattle.mh_edit.specs.Applied.{applied}
 pub record FormView : Type 0 where
   pub number : ℕ
   pub recipe : List Key
-
--- the body that takes nothing, has nothing and does nothing
-abbrev pub nothing : FormBody
-nothing = record { params = []; fields = 0; names = []; out = None }
 
 -- what keys make of a body, in order
 abbrev pub body_from : FormBody → List Key → FormBody

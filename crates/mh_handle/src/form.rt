@@ -37,7 +37,7 @@ impl Form {
         Form {
             number: 0,
             recipe: Recipe::empty(alloc),
-            body: crate::stub::nothing(alloc),
+            body: FormBody::nothing(alloc),
         }
     }
 

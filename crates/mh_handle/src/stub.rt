@@ -1,9 +1,8 @@
 ghost use Rattle.std.specs.Prelude.{◌≡◌, IfOk, IsTrue};
 ghost use Rattle.mh_edit.specs.Fit.{fits};
 ghost use Rattle.mh_edit.specs.Applied.{applied};
-ghost use Rattle.mh_handle.specs.Form.{nothing};
 
-use mh_base::{NoMemory, Seq};
+use mh_base::NoMemory;
 use mh_edit::Key;
 use mh_form::FormBody;
 use std::alloc::Global;
@@ -13,15 +12,4 @@ pub(crate) fn apply(_alloc: Global, body: &FormBody, key: &Key) -> Result<FormBo
     ensures { IfOk result (λ new. new ≡ applied key.now body.now) }
 {
     Err(NoMemory)
-}
-
-pub(crate) fn nothing(alloc: Global) -> FormBody
-    ensures { result ≡ nothing }
-{
-    FormBody {
-        params: Seq::new(alloc),
-        fields: 0,
-        names: Seq::new(alloc),
-        out: None,
-    }
 }
