@@ -14,8 +14,10 @@ pub fn write_pieces<S: Sink>(sink: &mut S, pieces: &[&[u8]]) -> Result<(), Faile
     ensures later { S.faults sink.old ≤ S.faults sink.new }
     ensures cause { OnErr result (Rose (S.faults sink.old) (S.faults sink.new)) }
     ensures no_fault { OnOk result (S.faults sink.new ≡ S.faults sink.old) }
-    ensures all { OnOk result (Appends (S.taken sink.old) (S.taken sink.new) (flat_map (λ p. p.now) pieces.now)) }
-    ensures part { OnErr result (AppendsPart (S.taken sink.old) (S.taken sink.new) (flat_map (λ p. p.now) pieces.now)) }
+    ensures all { OnOk result
+        (Appends (S.taken sink.old) (S.taken sink.new) (flat_map (λ p. p.now) pieces.now)) }
+    ensures part { OnErr result
+        (AppendsPart (S.taken sink.old) (S.taken sink.new) (flat_map (λ p. p.now) pieces.now)) }
 {
     for at in 0..pieces.len() {
         write_whole(sink, pieces[at])?;

@@ -28,9 +28,12 @@ fn read_leaves<'a, I: Inputs>(
     ensures told { (n : List ℕ) → I.told inputs.new n ≡ I.told inputs.old n }
     ensures later { (n : List ℕ) → I.faults inputs.old n ≤ I.faults inputs.new n }
     ensures no_fault { OnOk result (AreSame (I.faults inputs.old) (I.faults inputs.new)) }
-    ensures stop { IfErr result (λ stop. StopsAt name.now (I.faults inputs.old) (I.faults inputs.new) stop) }
-    ensures refuses { IfErr result (λ stop. StopIn leaves_limit manifest_word manifest (I.told inputs.old name.now) stop) }
-    ensures ok { IfOk result (λ leaves. Means leaves_limit manifest (I.told inputs.old name.now) leaves) }
+    ensures stop { IfErr result
+        (λ stop. StopsAt name.now (I.faults inputs.old) (I.faults inputs.new) stop) }
+    ensures refuses { IfErr result
+        (λ stop. StopIn leaves_limit manifest_word manifest (I.told inputs.old name.now) stop) }
+    ensures ok { IfOk result
+        (λ leaves. Means leaves_limit manifest (I.told inputs.old name.now) leaves) }
 {
     let bytes = match read_whole(alloc, inputs, name, LEAVES_LIMIT) {
         Ok(bytes) => bytes,
@@ -49,8 +52,10 @@ fn read_scripts<'a, I: Inputs>(alloc: Global, inputs: &mut I, name: &'a str) -> 
     ensures told { (n : List ℕ) → I.told inputs.new n ≡ I.told inputs.old n }
     ensures later { (n : List ℕ) → I.faults inputs.old n ≤ I.faults inputs.new n }
     ensures no_fault { OnOk result (AreSame (I.faults inputs.old) (I.faults inputs.new)) }
-    ensures stop { IfErr result (λ stop. StopsAt name.now (I.faults inputs.old) (I.faults inputs.new) stop) }
-    ensures refuses { IfErr result (λ stop. StopIn leaves_limit scripts_word scripts (I.told inputs.old name.now) stop) }
+    ensures stop { IfErr result
+        (λ stop. StopsAt name.now (I.faults inputs.old) (I.faults inputs.new) stop) }
+    ensures refuses { IfErr result
+        (λ stop. StopIn leaves_limit scripts_word scripts (I.told inputs.old name.now) stop) }
     ensures ok { OnOk result (Means leaves_limit scripts (I.told inputs.old name.now) tt) }
 {
     let bytes = match read_whole(alloc, inputs, name, LEAVES_LIMIT) {
@@ -74,9 +79,13 @@ fn read_calls<'a, I: Inputs>(
     ensures told { (n : List ℕ) → I.told inputs.new n ≡ I.told inputs.old n }
     ensures later { (n : List ℕ) → I.faults inputs.old n ≤ I.faults inputs.new n }
     ensures no_fault { OnOk result (AreSame (I.faults inputs.old) (I.faults inputs.new)) }
-    ensures stop { IfErr result (λ stop. StopsAt name.now (I.faults inputs.old) (I.faults inputs.new) stop) }
-    ensures refuses { IfErr result (λ stop. StopIn plan_limit plan_word (λ bytes. plan bytes leaves.now) (I.told inputs.old name.now) stop) }
-    ensures ok { IfOk result (λ calls. Means plan_limit (λ bytes. plan bytes leaves.now) (I.told inputs.old name.now) calls) }
+    ensures stop { IfErr result
+        (λ stop. StopsAt name.now (I.faults inputs.old) (I.faults inputs.new) stop) }
+    ensures refuses { IfErr result
+        (λ stop. StopIn plan_limit plan_word (λ bytes. plan bytes leaves.now)
+        (I.told inputs.old name.now) stop) }
+    ensures ok { IfOk result
+        (λ calls. Means plan_limit (λ bytes. plan bytes leaves.now) (I.told inputs.old name.now) calls) }
 {
     let bytes = match read_whole(alloc, inputs, name, PLAN_LIMIT) {
         Ok(bytes) => bytes,
@@ -99,9 +108,13 @@ pub fn read_program<'a, I: Inputs>(
 ) -> Result<Program, Stop<'a>>
     ensures told { (n : List ℕ) → I.told inputs.new n ≡ I.told inputs.old n }
     ensures no_fault { OnOk result (AreSame (I.faults inputs.old) (I.faults inputs.new)) }
-    ensures stop { IfErr result (λ stop. StopsIn (held_names names.entry) (I.told inputs.old) (I.faults inputs.old) (I.faults inputs.new) stop) }
-    ensures refuses { IfErr result (λ stop. Refuses (named_input (held_names names.entry) (I.told inputs.old)) stop) }
-    ensures ok { IfOk result (λ p. IfProgram (named_input (held_names names.entry) (I.told inputs.old)) (λ q. q ≡ p)) }
+    ensures stop { IfErr result
+        (λ stop. StopsIn (held_names names.entry) (I.told inputs.old) (I.faults inputs.old)
+        (I.faults inputs.new) stop) }
+    ensures refuses { IfErr result
+        (λ stop. Refuses (named_input (held_names names.entry) (I.told inputs.old)) stop) }
+    ensures ok { IfOk result
+        (λ p. IfProgram (named_input (held_names names.entry) (I.told inputs.old)) (λ q. q ≡ p)) }
 {
     let leaves = read_leaves(alloc, inputs, names.leaves)?;
     read_scripts(alloc, inputs, names.scripts)?;

@@ -59,9 +59,11 @@ fn answer_line<S: Sink>(alloc: Global, sink: &mut S, status: u8, pieces: &[&[u8]
     requires { status ≢ 7 }
     ensures idle { IsIdle result }
     ensures status { result.status ≢ 7 → result.status ≡ status }
-    ensures written { result.status ≢ 7 → Appends (S.taken sink.old) (S.taken sink.new) (flat_map (λ p. p.now) pieces.now) }
+    ensures written { result.status ≢ 7
+        → Appends (S.taken sink.old) (S.taken sink.new) (flat_map (λ p. p.now) pieces.now) }
     ensures still { result.status ≢ 7 → S.faults sink.new ≡ S.faults sink.old }
-    ensures part { result.status ≡ 7 → AppendsPart (S.taken sink.old) (S.taken sink.new) (flat_map (λ p. p.now) pieces.now) }
+    ensures part { result.status ≡ 7
+        → AppendsPart (S.taken sink.old) (S.taken sink.new) (flat_map (λ p. p.now) pieces.now) }
     ensures failed { result.status ≡ 7 → Rose (S.faults sink.old) (S.faults sink.new) }
     ensures fault { S.faults sink.old < S.faults sink.new → result.status ≡ 7 }
 {
@@ -82,7 +84,8 @@ fn count_forms(plan: &Plan) -> u32
 
 // The answers of a program's calls, and the text of the run.
 fn run_and_report(alloc: Global, program: &Program) -> Result<(ThreadAnswers, Vec<u8>), NoMemory>
-    ensures answers { IfOk result (λ r. results_said r.0 ≡ results_of program.now.leaves program.now.plan) }
+    ensures answers { IfOk result
+        (λ r. results_said r.0 ≡ results_of program.now.leaves program.now.plan) }
     ensures text { IfOk result (λ r. r.1.items ≡ text program.now []) }
 {
     let threads = run_plan(alloc, &program.leaves, &program.plan)?;
@@ -108,8 +111,10 @@ fn answered(alloc: Global, status: u8, threads: ThreadAnswers) -> TopAnswer
 
 // Runs a program, and writes its report.
 fn run_program<S: Sink>(alloc: Global, sink: &mut S, program: &Program) -> TopAnswer
-    ensures done { result.status ≡ 0 → Writes (IsReportOf program.now result) (S.taken sink.old) (S.taken sink.new) }
-    ensures broken { result.status ≡ 7 → WritesPart (IsReportOf program.now result) (S.taken sink.old) (S.taken sink.new) }
+    ensures done { result.status ≡ 0
+        → Writes (IsReportOf program.now result) (S.taken sink.old) (S.taken sink.new) }
+    ensures broken { result.status ≡ 7
+        → WritesPart (IsReportOf program.now result) (S.taken sink.old) (S.taken sink.new) }
     ensures nothing { result.status ≡ 3 → Keeps (S.taken sink.old) (S.taken sink.new) }
     ensures idle { result.status ≡ 3 → IsIdle result }
     ensures status { result.status ≢ 7 → IsDoneOrWant result.status }
@@ -130,10 +135,12 @@ fn run_program<S: Sink>(alloc: Global, sink: &mut S, program: &Program) -> TopAn
 fn answer_stop<S: Sink>(alloc: Global, sink: &mut S, stop: Stop<'_>) -> TopAnswer
     ensures idle { IsIdle result }
     ensures status { result.status ≢ 7 → result.status ≡ stop_status stop.entry }
-    ensures written { result.status ≢ 7 → stop_status stop.entry ≢ 3 → Appends (S.taken sink.old) (S.taken sink.new) (stop_line stop.entry) }
+    ensures written { result.status ≢ 7 → stop_status stop.entry ≢ 3
+        → Appends (S.taken sink.old) (S.taken sink.new) (stop_line stop.entry) }
     ensures nothing { stop_status stop.entry ≡ 3 → Keeps (S.taken sink.old) (S.taken sink.new) }
     ensures still { result.status ≢ 7 → S.faults sink.new ≡ S.faults sink.old }
-    ensures broken { result.status ≡ 7 → AppendsPart (S.taken sink.old) (S.taken sink.new) (stop_line stop.entry) }
+    ensures broken { result.status ≡ 7
+        → AppendsPart (S.taken sink.old) (S.taken sink.new) (stop_line stop.entry) }
     ensures spoken { result.status ≡ 7 → stop_status stop.entry ≢ 3 }
     ensures failed { result.status ≡ 7 → Rose (S.faults sink.old) (S.faults sink.new) }
     ensures fault { S.faults sink.old < S.faults sink.new → result.status ≡ 7 }
@@ -178,12 +185,20 @@ pub fn top<'a, R: Threads + Wait + Sync, I: Inputs, S: Sink, G: Gate + Sync>(
     _gate: &G,
 ) -> TopAnswer
     // What was written, by the status: at 7 a front part of what was due at another one.
-    ensures headline { result.status ≡ 0 → Writes (Reports (said words.now) (I.told inputs.old) result) (S.taken sink.old) (S.taken sink.new) }
-    ensures refused { result.status ≡ 1 → Writes (RefusesInput (said words.now) (I.told inputs.old) (I.faults inputs.old) (I.faults inputs.new)) (S.taken sink.old) (S.taken sink.new) }
-    ensures usage { result.status ≡ 2 → Writes (RefusesWords (said words.now)) (S.taken sink.old) (S.taken sink.new) }
+    ensures headline { result.status ≡ 0
+        → Writes (Reports (said words.now) (I.told inputs.old) result) (S.taken sink.old) (S.taken sink.new) }
+    ensures refused { result.status ≡ 1
+        → Writes (RefusesInput (said words.now) (I.told inputs.old) (I.faults inputs.old) (I.faults inputs.new))
+        (S.taken sink.old) (S.taken sink.new) }
+    ensures usage { result.status ≡ 2
+        → Writes (RefusesWords (said words.now)) (S.taken sink.old) (S.taken sink.new) }
     ensures nothing { result.status ≡ 3 → Keeps (S.taken sink.old) (S.taken sink.new) }
-    ensures unread { result.status ≡ 6 → Writes (FailsToRead (names_of (said words.now)) (I.told inputs.old) (I.faults inputs.old) (I.faults inputs.new)) (S.taken sink.old) (S.taken sink.new) }
-    ensures broken { result.status ≡ 7 → WritesPart (IsDue (said words.now) (I.told inputs.old) (I.faults inputs.old) (I.faults inputs.new) result) (S.taken sink.old) (S.taken sink.new) }
+    ensures unread { result.status ≡ 6
+        → Writes (FailsToRead (names_of (said words.now)) (I.told inputs.old) (I.faults inputs.old) (I.faults inputs.new))
+        (S.taken sink.old) (S.taken sink.new) }
+    ensures broken { result.status ≡ 7
+        → WritesPart (IsDue (said words.now) (I.told inputs.old) (I.faults inputs.old) (I.faults inputs.new) result)
+        (S.taken sink.old) (S.taken sink.new) }
     ensures idle { result.status ≢ 0 → result.status ≢ 7 → IsIdle result }
 
     // 7 comes exactly where the sink failed.
@@ -192,9 +207,14 @@ pub fn top<'a, R: Threads + Wait + Sync, I: Inputs, S: Sink, G: Gate + Sync>(
     ensures still { result.status ≢ 7 → S.faults sink.new ≡ S.faults sink.old }
 
     // Where nothing failed, the words and the inputs decide the status, but for want of memory.
-    ensures usage_wanted { names_of (said words.now) ≡ None → IsStill (S.faults sink.old) (S.faults sink.new) → result.status ≡ 2 }
-    ensures refusal_wanted { IsRefused (input (said words.now) (I.told inputs.old)) → AllStill (I.faults inputs.old) (I.faults inputs.new) → IsStill (S.faults sink.old) (S.faults sink.new) → IsRefusedOrWant result.status }
-    ensures complete { IsAccepted (input (said words.now) (I.told inputs.old)) → AllStill (I.faults inputs.old) (I.faults inputs.new) → IsStill (S.faults sink.old) (S.faults sink.new) → IsDoneOrWant result.status }
+    ensures usage_wanted { names_of (said words.now) ≡ None
+        → IsStill (S.faults sink.old) (S.faults sink.new) → result.status ≡ 2 }
+    ensures refusal_wanted { IsRefused (input (said words.now) (I.told inputs.old))
+        → AllStill (I.faults inputs.old) (I.faults inputs.new)
+        → IsStill (S.faults sink.old) (S.faults sink.new) → IsRefusedOrWant result.status }
+    ensures complete { IsAccepted (input (said words.now) (I.told inputs.old))
+        → AllStill (I.faults inputs.old) (I.faults inputs.new)
+        → IsStill (S.faults sink.old) (S.faults sink.new) → IsDoneOrWant result.status }
 {
     let Some(names) = read_words(words) else {
         return answer_line(alloc, sink, USAGE_WANTED, &[USAGE.as_bytes()]);

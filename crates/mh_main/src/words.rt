@@ -20,7 +20,9 @@ fn accepted<'a>(
     plan_word: &str,
     plan: &'a str,
 ) -> Option<Names<'a>>
-    ensures { named_words result ≡ accepted_words mode.now run.now leaves_word.now leaves.now scripts_word.now scripts.now plan_word.now plan.now }
+    ensures { named_words result
+        ≡ accepted_words mode.now run.now leaves_word.now leaves.now scripts_word.now scripts.now
+        plan_word.now plan.now }
 {
     if mode == "--mode"
         && run == "run"
