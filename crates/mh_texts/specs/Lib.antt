@@ -1,0 +1,4 @@
+pub mod Literal
+pub mod Number
+pub mod Printed
+pub mod Text

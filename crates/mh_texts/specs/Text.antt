@@ -1,0 +1,102 @@
+-- Texts with escapes: what they are read as, and how they are printed.
+use Rattle.std.specs.Prelude.{ℕ, ◌+◌, ◌-◌, ◌*◌, ◌==◌, nat_le, nat_lt, Bool, true, false, ◌&&◌, ◌||◌, if◌then◌else◌, List, [], ◌∷◌, ◌++◌, codes, length, take, flat_map, Option, None, Some, option_map, option_and_then}
+use Rattle.std.specs.Fmt.{digits}
+use Rattle.mh_texts.specs.declared.escape.Escape.{Escape}
+use Rattle.mh_texts.specs.declared.escape.Escape.TheVariants as escape
+
+-- ---- reading
+
+-- a character that stands for itself: 0x21 to 0x7E
+abbrev pub is_graphic : ℕ → Bool
+is_graphic b = nat_le 0x21 b && nat_le b 0x7E
+
+-- the value of a lower-case hexadecimal digit
+abbrev pub hex_value : ℕ → Option ℕ
+hex_value b =
+    if nat_le 48 b && nat_le b 57 then Some (b - 48)
+    else (if nat_le 97 b && nat_le b 102 then Some (b - 87) else None)
+
+-- a number that is a character: no half of a surrogate pair, none above 10FFFF
+abbrev pub scalar : ℕ → Option ℕ
+scalar n = if nat_lt n 0xD800 || (nat_le 0xE000 n && nat_lt n 0x110000) then Some n else None
+
+-- a whole character was read
+abbrev pub whole : ℕ → Option (Escape × Option ℕ)
+whole c = Some (escape.Outside, Some c)
+
+-- an escape goes on
+abbrev pub goes_on : Escape → Option (Escape × Option ℕ)
+goes_on e = Some (e, None)
+
+-- behind a backslash: `\s` is a space, `\c` a comma, `\n` LF, `\\` a backslash, and `\u` begins a number
+abbrev pub behind_backslash : ℕ → Option (Escape × Option ℕ)
+behind_backslash b =
+    if b == 115 then whole 32
+    else (if b == 99 then whole 44
+    else (if b == 110 then whole 10
+    else (if b == 92 then whole 92
+    else (if b == 117 then goes_on escape.Code else None))))
+
+-- a digit more in `\u{..}`: at most six, and no number above 10FFFF
+abbrev pub one_digit_more : ℕ → ℕ → ℕ → Option (Escape × Option ℕ)
+one_digit_more count value digit =
+    if nat_lt count 6 && nat_le (16 * value + digit) 0x10FFFF then goes_on (escape.Digits (count + 1) (16 * value + digit)) else None
+
+-- within the braces of `\u{..}`: the closing one comes behind one digit or more
+abbrev pub within_braces : ℕ → ℕ → ℕ → Option (Escape × Option ℕ)
+within_braces count value b =
+    if b == 125 then (if nat_lt 0 count then option_and_then whole (scalar value) else None)
+    else option_and_then (one_digit_more count value) (hex_value b)
+
+-- one byte more of a text: what then goes on, and the character that it ends
+abbrev pub step : Escape → ℕ → Option (Escape × Option ℕ)
+step escape.Outside b = if b == 92 then goes_on escape.Backslash else (if is_graphic b then whole b else None)
+step escape.Backslash b = behind_backslash b
+step escape.Code b = if b == 123 then goes_on (escape.Digits 0 0) else None
+step (escape.Digits count value) b = within_braces count value b
+
+-- a character, if there is one, in front of others
+abbrev pub in_front : Option ℕ → List ℕ → List ℕ
+in_front None cs = cs
+in_front (Some c) cs = c ∷ cs
+
+-- no escape is begun
+abbrev pub is_outside : Escape → Bool
+is_outside escape.Outside = true
+is_outside _ = false
+
+-- the characters of the rest of a text
+abbrev pub characters_from : Escape → List ℕ → Option (List ℕ)
+characters_from e [] = if is_outside e then Some [] else None
+characters_from e (b ∷ bs) = option_and_then (λ s. option_map (in_front s.1) (characters_from s.0 bs)) (step e b)
+
+-- a text of at most 4,096 characters
+abbrev pub if_short : List ℕ → Option (List ℕ)
+if_short cs = if nat_le (length cs) 4096 then Some cs else None
+
+-- the characters that are written so
+abbrev pub text_of : List ℕ → Option (List ℕ)
+text_of bytes = option_and_then if_short (characters_from escape.Outside bytes)
+
+-- ---- printing
+
+-- how a character is printed: by its own escape, as itself, or by its number
+abbrev pub escaped_char : ℕ → List ℕ
+escaped_char c =
+    if c == 32 then codes "\\s"
+    else (if c == 44 then codes "\\c"
+    else (if c == 10 then codes "\\n"
+    else (if c == 92 then codes "\\\\"
+    else (if is_graphic c then c ∷ [] else codes "\\u{" ++ digits 16 false c ++ codes "}"))))
+
+-- how characters are printed
+abbrev pub escaped : List ℕ → List ℕ
+escaped cs = flat_map escaped_char cs
+
+-- a printed text is cut behind 1,024 characters
+abbrev pub cut : List ℕ → List ℕ
+cut text = if nat_le (length text) 1024 then text else take 1024 text ++ codes "..."
+
+-- a text as it is printed
+abbrev pub shown_text : List ℕ → List ℕ
+shown_text cs = cut (escaped cs)

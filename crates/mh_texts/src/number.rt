@@ -1,0 +1,48 @@
+ghost use Rattle.std.specs.Prelude.{◌≡◌};
+ghost use Rattle.mh_texts.specs.Number.{long_of, int_of, unsigned_of};
+
+use itoa::Buffer;
+
+/// The number of 64 bits that a text writes.
+pub(crate) fn read_long(bytes: &[u8]) -> Option<i64>
+    ensures { result ≡ long_of bytes.now }
+{
+    let Ok(text) = str::from_utf8(bytes) else {
+        return None;
+    };
+    let Ok(number) = text.parse::<i64>() else {
+        return None;
+    };
+    let mut buffer = Buffer::new();
+    if buffer.format(number) == text || text == "-0" {
+        Some(number)
+    } else {
+        None
+    }
+}
+
+/// The number of 32 bits that a text writes.
+pub(crate) fn read_int(bytes: &[u8]) -> Option<i32>
+    ensures { result ≡ int_of bytes.now }
+{
+    let number = read_long(bytes)?;
+    i32::try_from(number).ok()
+}
+
+/// The number of 32 bits without a sign that a text writes.
+pub(crate) fn read_unsigned(bytes: &[u8]) -> Option<u32>
+    ensures { result ≡ unsigned_of bytes.now }
+{
+    let Ok(text) = str::from_utf8(bytes) else {
+        return None;
+    };
+    let Ok(number) = text.parse::<u32>() else {
+        return None;
+    };
+    let mut buffer = Buffer::new();
+    if buffer.format(number) == text {
+        Some(number)
+    } else {
+        None
+    }
+}
