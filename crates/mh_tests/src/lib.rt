@@ -1,0 +1,5 @@
+//! Whole runs over inputs and a sink in memory.
+#![tactic(auto)]
+
+#[cfg(test)]
+mod runs;
