@@ -13,6 +13,8 @@ use Rattle.mh_form.specs.declared.slot.Slot.TheVariants as slot
 use Rattle.mh_form.specs.declared.outcome.Ran.{Ran as Done}
 use Rattle.mh_form.specs.declared.outcome.SlotOutcome.{SlotOutcome}
 use Rattle.mh_form.specs.declared.outcome.SlotOutcome.TheVariants.{Return, Throw}
+use Rattle.mh_form.specs.declared.outcome.Stepped.{Stepped}
+use Rattle.mh_form.specs.declared.outcome.Stepped.TheVariants.{Filled, Ended}
 use Rattle.mh_form.specs.declared.field.Bound.{Bound, Row_of-Field, end_of-Field, more_of-Field}
 use Rattle.mh_form.specs.declared.field.Field.{Field}
 use Rattle.mh_form.specs.declared.field.Field.TheVariants.{Part'}
@@ -170,3 +172,12 @@ ran_of_outcome (Throw e) calls = Threw e calls
 -- a run of the program as a computation
 abbrev pub ran_of_run : Done → Ran (Option Slot)
 ran_of_run done = ran_of_outcome done.outcome done.calls
+
+-- what the fields of a bound body stand for
+abbrev pub senses_in : LeafTable → Bound → List Sense
+senses_in table bound = map (sense table) bound.fields.items
+
+-- what a name did as a computation
+abbrev pub ran_of_step : Stepped → Ran Slot
+ran_of_step (Filled s calls) = Gave s calls
+ran_of_step (Ended e calls) = Threw e calls

@@ -4,13 +4,16 @@
 mod basic;
 mod body;
 mod copies;
+mod erasure;
 mod field;
+mod lookup;
 mod name;
 mod outcome;
 mod slot;
 
 pub use basic::{Basic, BasicRet, Basics, Shape};
 pub use body::FormBody;
+pub use erasure::{all_typed, erase, erase_all, shape, typed};
 pub use field::{Bound, Field, Fields};
 pub use name::{Name, Names, Operands};
 pub use outcome::{Ran, SlotOutcome};

@@ -1,0 +1,89 @@
+//! What stands in a field, where it is of the kind that is asked for.
+
+ghost use Rattle.std.specs.Prelude.{◌≡◌};
+ghost use Rattle.std.specs.Option.{option_copied, option_map};
+ghost use Rattle.mh_form.specs.Slots.{called, converted, is_caught, made_array, ret_converted};
+ghost use Rattle.mh_form.specs.Run.{class_of, comp_of, conv_of, field_of, leaf_of, ret_of, senses_in, slot_of};
+
+use crate::{Bound, Field, Slot};
+use mh_convert::{Conv, RetConv};
+use mh_leaves::Leaves;
+use mh_values::{ClassId, Comp, LeafId};
+
+pub(crate) fn slot_in<'a>(bound: &'a Bound<'_>, leaves: &Leaves, field: u32) -> Option<&'a Slot>
+    ensures { option_copied result ≡ field_of slot_of (senses_in leaves.now bound.now) field }
+{
+    let at = field as usize;
+    if at >= bound.fields.len() {
+        return None;
+    }
+    match &bound.fields[at] {
+        Field::Val(found) => Some(found),
+        _ => None,
+    }
+}
+
+pub(crate) fn leaf_in(bound: &Bound<'_>, leaves: &Leaves, field: u32) -> Option<LeafId>
+    ensures { option_map (called leaves.now) result ≡ field_of leaf_of (senses_in leaves.now bound.now) field }
+{
+    let at = field as usize;
+    if at >= bound.fields.len() {
+        return None;
+    }
+    match &bound.fields[at] {
+        Field::Leaf(found) => Some(*found),
+        _ => None,
+    }
+}
+
+pub(crate) fn class_in(bound: &Bound<'_>, leaves: &Leaves, field: u32) -> Option<ClassId>
+    ensures { option_map (is_caught leaves.now.classes) result ≡ field_of class_of (senses_in leaves.now bound.now) field }
+{
+    let at = field as usize;
+    if at >= bound.fields.len() {
+        return None;
+    }
+    match &bound.fields[at] {
+        Field::Class(found) => Some(*found),
+        _ => None,
+    }
+}
+
+pub(crate) fn conv_in(bound: &Bound<'_>, leaves: &Leaves, field: u32) -> Option<Conv>
+    ensures { option_map (converted leaves.now.classes) result ≡ field_of conv_of (senses_in leaves.now bound.now) field }
+{
+    let at = field as usize;
+    if at >= bound.fields.len() {
+        return None;
+    }
+    match &bound.fields[at] {
+        Field::Conv(found) => Some(*found),
+        _ => None,
+    }
+}
+
+pub(crate) fn ret_in(bound: &Bound<'_>, leaves: &Leaves, field: u32) -> Option<RetConv>
+    ensures { option_map (ret_converted leaves.now.classes) result ≡ field_of ret_of (senses_in leaves.now bound.now) field }
+{
+    let at = field as usize;
+    if at >= bound.fields.len() {
+        return None;
+    }
+    match &bound.fields[at] {
+        Field::Ret(found) => Some(*found),
+        _ => None,
+    }
+}
+
+pub(crate) fn comp_in(bound: &Bound<'_>, leaves: &Leaves, field: u32) -> Option<Comp>
+    ensures { option_map (made_array leaves.now.classes) result ≡ field_of comp_of (senses_in leaves.now bound.now) field }
+{
+    let at = field as usize;
+    if at >= bound.fields.len() {
+        return None;
+    }
+    match &bound.fields[at] {
+        Field::Comp(found) => Some(*found),
+        _ => None,
+    }
+}
