@@ -1,2 +1,3 @@
 pub mod LeafTable
 pub mod Outcome
+pub mod WellTyped
