@@ -147,6 +147,15 @@ pool_of count = repeated (next_slots count) count (None ∷ [])
 abbrev pub slot : List Slot → ℕ → Slot
 slot pool i = slice_index_or pool i None
 
+-- the text of an entry; none of another one
+abbrev pub text_of : Slot → List ℕ
+text_of (Some (at, Utf8 text)) = text
+text_of _ = []
+
+-- the text at an index
+abbrev pub text : List Slot → ℕ → List ℕ
+text pool i = text_of (slot pool i)
+
 -- what was read at the place of a tag
 abbrev pub slot_of : ℕ → Reading ClassKind Entry → Slot
 slot_of at (Ok e) = Some (at, e.0)

@@ -3,3 +3,4 @@ pub mod Answers
 pub mod References
 pub mod Code
 pub mod Found
+pub mod Members

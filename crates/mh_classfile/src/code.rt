@@ -69,8 +69,9 @@ fn pass_lookup_switch(start: usize, at: usize, cursor: &mut Cursor<'_>) -> Resul
     Ok(())
 }
 
+/// Passes so many bytes of code.
 #[tactic(auto, unfolding(crate::specs::Code::passed))]
-fn pass(len: usize, cursor: &mut Cursor<'_>) -> Result<(), ClassFault>
+pub fn pass(len: usize, cursor: &mut Cursor<'_>) -> Result<(), ClassFault>
     ensures reads { Reads (λ x. x) result cursor.new (reads (passed len) cursor.old) }
     ensures moves { Moves cursor.old cursor.new }
 {

@@ -1,6 +1,7 @@
 //! The class reader: exactly the class files of JVMS chapter 4, read without copying.
 #![tactic(auto)]
 
+mod attributes;
 mod code;
 mod entry;
 mod fault;

@@ -2,7 +2,8 @@ ghost use Rattle.std.specs.Prelude.{◌≡◌, ◌<◌, true, false, is_ok, leng
 ghost use Rattle.mh_class_bytes.specs.Bytes.{Moves};
 ghost use Rattle.mh_class_bytes.specs.Format.{reads};
 ghost use Rattle.mh_classfile.specs.Answers.{Gives};
-ghost use Rattle.mh_classfile.specs.Entries.{entry, slot, slot_at, pool_of};
+ghost use Rattle.mh_classfile.specs.Entries.{entry, slot, slot_at, text, pool_of};
+ghost use Rattle.std.specs.Str.{bytes_eq};
 
 use crate::entry::{Entry, read_contents, read_entry, read_utf8_bytes};
 use crate::fault::{ClassError, ClassKind};
@@ -53,6 +54,23 @@ impl<'b> Pool<'b> {
                 }
             }
         }
+    }
+
+    /// The text at an index of a Utf8 entry.
+    pub fn text(&self, index: u16) -> Text<'b>
+        ensures { result ≡ text self.now index }
+    {
+        match self.get(index as usize) {
+            Some((_, Entry::Utf8(text))) => text,
+            _ => Text::empty(),
+        }
+    }
+
+    /// Whether the text at an index is this one.
+    pub fn is_text(&self, index: u16, word: &[u8]) -> bool
+        ensures { result ≡ bytes_eq (text self.now index) word.now }
+    {
+        self.text(index).bytes() == word
     }
 }
 
