@@ -1,3 +1,1 @@
-pub mod PoolLoop
-pub mod Each
 pub mod SitesLoop

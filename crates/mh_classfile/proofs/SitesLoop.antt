@@ -8,8 +8,8 @@ use Rattle.mh_class_bytes.specs.Format.{Reading, reads, repeated}
 use Rattle.mh_class_bytes.proofs.Repeated.{repeated-step, repeated-err, repeated_idle}
 use Rattle.mh_classfile.specs.declared.site.Method.{Method}
 use Rattle.mh_classfile.specs.declared.site.Site.{Site}
-use Rattle.mh_classfile.specs.declared.fault.ClassKind.{ClassKind}
-use Rattle.mh_classfile.specs.Entries.{Slot}
+use Rattle.mh_class_pool.specs.declared.fault.ClassKind.{ClassKind}
+use Rattle.mh_class_pool.specs.Entries.{Slot}
 use Rattle.mh_classfile.specs.Code.{instruction, next_site, code_sites}
 
 not_yet : (end at : ℕ) → at < end → leb end at ≡ false

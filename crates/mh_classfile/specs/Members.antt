@@ -2,14 +2,14 @@
 use Rattle.std.specs.Prelude.{ℕ, ◌+◌, ◌==◌, nat_lt, ◌&&◌, not, codes, List, [], Bool, true, false}
 use Rattle.std.specs.Str.{bytes_eq}
 use Rattle.mh_class_bytes.specs.Format.{number, run, here, check, verdict, choose, part, done, ◌>>=◌, repeated}
-use Rattle.mh_classfile.specs.declared.entry.Kind.{Kind}
-use Rattle.mh_classfile.specs.declared.entry.Kind.TheVariants as kinds
+use Rattle.mh_class_pool.specs.declared.entry.Kind.{Kind}
+use Rattle.mh_class_pool.specs.declared.entry.Kind.TheVariants as kinds
 use Rattle.mh_classfile.specs.declared.site.Method.{Method}
 use Rattle.mh_classfile.specs.declared.site.Site.{Site}
-use Rattle.mh_classfile.specs.declared.fault.ClassKind.{ClassKind}
-use Rattle.mh_classfile.specs.declared.fault.ClassKind.TheVariants.{Truncated, BadCode}
-use Rattle.mh_classfile.specs.Entries.{Part, Slot, text}
-use Rattle.mh_classfile.specs.References.{names, names_or_none}
+use Rattle.mh_class_pool.specs.declared.fault.ClassKind.{ClassKind}
+use Rattle.mh_class_pool.specs.declared.fault.ClassKind.TheVariants.{Truncated, BadCode}
+use Rattle.mh_class_pool.specs.Entries.{Part, Slot, text}
+use Rattle.mh_class_pool.specs.References.{names, names_or_none}
 use Rattle.mh_classfile.specs.Code.{passed, code_sites}
 
 -- so many of one part, of which nothing is kept

@@ -1,18 +1,14 @@
 ghost use Rattle.std.specs.Prelude.{◌≡◌, ◌==◌, if◌then◌else◌, Ok, Err};
 ghost use Rattle.mh_class_bytes.specs.Bytes.{Moves};
 ghost use Rattle.mh_class_bytes.specs.Format.{Finds, Reads, reads};
-ghost use Rattle.mh_classfile.specs.Answers.{Gives};
+ghost use Rattle.mh_class_pool.specs.Answers.{Gives};
 ghost use Rattle.mh_classfile.specs.Code.{passed};
 ghost use Rattle.mh_classfile.specs.Members.{rows, named_index, passed_contents, attribute, attributes, code_bytes, code_tail, code_contents, code_attribute};
 
 use crate::code::{pass, read_sites};
-use crate::entry::Kind;
-use crate::fault::{ClassError, ClassFault, ClassKind};
-use crate::numbers::{run, u2, u4};
-use crate::pool::Pool;
-use crate::references::check_name;
 use crate::site::{Method, Sites};
 use mh_class_bytes::Cursor;
+use mh_class_pool::{ClassError, ClassFault, ClassKind, Kind, Pool, check_name, run, u2, u4};
 
 /// An index that names an entry of the kind.
 #[tactic(auto, unfolding(crate::specs::Members::named_index))]

@@ -2,16 +2,12 @@ ghost use Rattle.std.specs.Prelude.{◌≡◌, ◌≤◌, ◌<◌, ◌+◌, ◌-
 ghost use Rattle.std.specs.Option.{option_to_list};
 ghost use Rattle.mh_class_bytes.specs.Bytes.{Moves};
 ghost use Rattle.mh_class_bytes.specs.Format.{Reads, reads};
-ghost use Rattle.mh_classfile.specs.Answers.{Gives};
+ghost use Rattle.mh_class_pool.specs.Answers.{Gives};
 ghost use Rattle.mh_classfile.specs.Code.{is_local, fixed_len, table_switch, lookup_switch, wide, passed, ordinary, operands, call_site, instruction, code_sites};
 
-use crate::entry::Kind;
-use crate::fault::{ClassError, ClassFault, ClassKind};
-use crate::numbers::{run, u1, u2, u4};
-use crate::pool::Pool;
-use crate::references::check_name;
 use crate::site::{Method, Site, Sites};
 use mh_class_bytes::Cursor;
+use mh_class_pool::{ClassError, ClassFault, ClassKind, Kind, Pool, check_name, run, u1, u2, u4};
 
 fn is_local(opcode: u8) -> bool
     ensures { result ≡ is_local opcode }

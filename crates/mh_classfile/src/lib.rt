@@ -3,14 +3,7 @@
 
 mod attributes;
 mod code;
-mod entry;
-mod fault;
-mod numbers;
-mod pool;
-mod references;
 mod site;
 
-pub use entry::{Entry, Kind};
-pub use fault::{ClassError, ClassFault, ClassKind};
-pub use pool::Pool;
+pub use mh_class_pool::{ClassError, ClassFault, ClassKind};
 pub use site::{Method, Site, Sites};

@@ -8,10 +8,10 @@ use Rattle.mh_class_bytes.specs.Position.{Position}
 use Rattle.mh_class_bytes.specs.declared.fault.Fault.{Fault}
 use Rattle.mh_class_bytes.specs.Format.{Reading, reads, fault, and_then, or_fault, repeated, choose}
 use Rattle.mh_class_bytes.proofs.Repeated.{repeated-step, repeated-err, repeated_idle}
-use Rattle.mh_classfile.specs.declared.entry.Entry.{Entry}
-use Rattle.mh_classfile.specs.declared.fault.ClassKind.{ClassKind}
-use Rattle.mh_classfile.specs.declared.fault.ClassKind.TheVariants.{Truncated, BadIndex}
-use Rattle.mh_classfile.specs.Entries.{Slot, entry, utf8, contents, is_wide, is_wide_tag, indexes_of, next_slots, pool_of, slot_at, Stand}
+use Rattle.mh_class_pool.specs.declared.entry.Entry.{Entry}
+use Rattle.mh_class_pool.specs.declared.fault.ClassKind.{ClassKind}
+use Rattle.mh_class_pool.specs.declared.fault.ClassKind.TheVariants.{Truncated, BadIndex}
+use Rattle.mh_class_pool.specs.Entries.{Slot, entry, utf8, contents, is_wide, is_wide_tag, indexes_of, next_slots, pool_of, slot_at, Stand}
 
 -- the test at the last index
 abbrev tested : Bool → ℕ → Position → Reading ClassKind (Unit {0})

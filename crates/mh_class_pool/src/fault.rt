@@ -44,7 +44,7 @@ pub enum ClassError {
 }
 
 impl From<ClassFault> for ClassError {
-    ghost use Rattle.mh_classfile.specs.declared.fault.ClassError.TheVariants.{Fault};
+    ghost use Rattle.mh_class_pool.specs.declared.fault.ClassError.TheVariants.{Fault};
 
     ghost from_gives = { λ f e. e ≡ Fault f };
 
@@ -54,7 +54,7 @@ impl From<ClassFault> for ClassError {
 }
 
 impl From<NoMemory> for ClassError {
-    ghost use Rattle.mh_classfile.specs.declared.fault.ClassError.TheVariants.{NoMemory};
+    ghost use Rattle.mh_class_pool.specs.declared.fault.ClassError.TheVariants.{NoMemory};
 
     ghost from_gives = { λ _ e. e ≡ NoMemory };
 
@@ -64,7 +64,7 @@ impl From<NoMemory> for ClassError {
 }
 
 impl From<AllocError> for ClassError {
-    ghost use Rattle.mh_classfile.specs.declared.fault.ClassError.TheVariants.{NoMemory};
+    ghost use Rattle.mh_class_pool.specs.declared.fault.ClassError.TheVariants.{NoMemory};
 
     ghost from_gives = { λ _ e. e ≡ NoMemory };
 
@@ -74,7 +74,7 @@ impl From<AllocError> for ClassError {
 }
 
 impl<T: Drop> From<AllocFailed<T>> for ClassError {
-    ghost use Rattle.mh_classfile.specs.declared.fault.ClassError.TheVariants.{NoMemory};
+    ghost use Rattle.mh_class_pool.specs.declared.fault.ClassError.TheVariants.{NoMemory};
 
     ghost from_gives = { λ _ e. e ≡ NoMemory };
 

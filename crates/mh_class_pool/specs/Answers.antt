@@ -2,9 +2,9 @@
 use Rattle.std.specs.Prelude.{◌≡◌, Result, Ok, Err}
 use Rattle.mh_class_bytes.specs.Position.{Position}
 use Rattle.mh_class_bytes.specs.Format.{Reading, Checked}
-use Rattle.mh_classfile.specs.declared.fault.ClassKind.{ClassKind}
-use Rattle.mh_classfile.specs.declared.fault.ClassError.{ClassError}
-use Rattle.mh_classfile.specs.declared.fault.ClassError.TheVariants as errors
+use Rattle.mh_class_pool.specs.declared.fault.ClassKind.{ClassKind}
+use Rattle.mh_class_pool.specs.declared.fault.ClassError.{ClassError}
+use Rattle.mh_class_pool.specs.declared.fault.ClassError.TheVariants as errors
 
 -- an error is the fault that was to be found; want of memory says nothing
 abbrev pub Fails : {Y : Type 0} → ClassError → Checked ClassKind Y → Type 0

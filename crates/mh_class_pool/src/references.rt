@@ -1,11 +1,11 @@
 ghost use Rattle.std.specs.Prelude.{◌≡◌, Ok, IfOk, IfErr, Some, true, false, replicate};
 ghost use Rattle.mh_class_bytes.specs.Format.{Finds};
-ghost use Rattle.mh_classfile.specs.Answers.{Yields};
-ghost use Rattle.mh_classfile.specs.Entries.{slot};
-ghost use Rattle.mh_classfile.specs.declared.fault.ClassError.TheVariants.{NoMemory};
-ghost use Rattle.mh_classfile.specs.declared.entry.Entry.TheVariants.{Utf8};
-ghost use Rattle.mh_classfile.specs.References.{names, names_or_none, referred, good_member, good_name, good_handle, own_references};
-ghost use Rattle.mh_classfile.specs.References.{is_descriptor, good_method_name, good_descriptor, good_slot, good_references, AreDescriptors};
+ghost use Rattle.mh_class_pool.specs.Answers.{Yields};
+ghost use Rattle.mh_class_pool.specs.Entries.{slot};
+ghost use Rattle.mh_class_pool.specs.declared.fault.ClassError.TheVariants.{NoMemory};
+ghost use Rattle.mh_class_pool.specs.declared.entry.Entry.TheVariants.{Utf8};
+ghost use Rattle.mh_class_pool.specs.References.{names, names_or_none, referred, good_member, good_name, good_handle, own_references};
+ghost use Rattle.mh_class_pool.specs.References.{is_descriptor, good_method_name, good_descriptor, good_slot, good_references, AreDescriptors};
 
 use crate::entry::{Entry, Kind};
 use crate::fault::{ClassError, ClassFault, ClassKind};

@@ -1,8 +1,8 @@
 use Rattle.std.proofs.Common.{None, arith}
 use Rattle.std.proofs.lemmas.Result.{err_from_is_err_and}
-use Rattle.mh_classfile.specs.References.{good_slot, good_references}
-use Rattle.mh_classfile.proofs.Each.{each_next, each_stops, each_done}
-use Rattle.mh_classfile.proofs.references.check_pool.Goals as goal
+use Rattle.mh_class_pool.specs.References.{good_slot, good_references}
+use Rattle.mh_class_pool.proofs.Each.{each_next, each_stops, each_done}
+use Rattle.mh_class_pool.proofs.references.check_pool.Goals as goal
 
 pub returns-in_err-check_index : goal.returns-in_err-check_index
 returns-in_err-check_index c =

@@ -2,8 +2,8 @@
 use Rattle.std.proofs.Common.{◌≡◌, ℕ, suc, ◌+◌, ◌≤◌, ◌<◌, List, [], ◌∷◌, length, get_or, drop, drop-cons, add-one, Result, Ok, Err, refl, sym, ap, ◌∙◌, arith}
 use Rattle.std.proofs.lemmas.List.{length-drop, nil_from_length}
 use Rattle.mh_class_bytes.specs.declared.fault.Fault.{Fault}
-use Rattle.mh_classfile.specs.declared.fault.ClassKind.{ClassKind}
-use Rattle.mh_classfile.specs.References.{Verdict, each}
+use Rattle.mh_class_pool.specs.declared.fault.ClassKind.{ClassKind}
+use Rattle.mh_class_pool.specs.References.{Verdict, each}
 
 each-cons : {X : Type 0} (f : X → Verdict) (x : X) (xs : List X) → f x ≡ Ok tt → each f (x ∷ xs) ≡ each f xs
 unfolding each

@@ -1,8 +1,8 @@
 ghost use Rattle.std.specs.Prelude.{◌≡◌, ◌<◌, true, false, is_ok, length, Some};
 ghost use Rattle.mh_class_bytes.specs.Bytes.{Moves};
 ghost use Rattle.mh_class_bytes.specs.Format.{reads};
-ghost use Rattle.mh_classfile.specs.Answers.{Gives};
-ghost use Rattle.mh_classfile.specs.Entries.{entry, slot, slot_at, text, pool_of};
+ghost use Rattle.mh_class_pool.specs.Answers.{Gives};
+ghost use Rattle.mh_class_pool.specs.Entries.{entry, slot, slot_at, text, pool_of};
 ghost use Rattle.std.specs.Str.{bytes_eq};
 
 use crate::entry::{Entry, read_contents, read_entry, read_utf8_bytes};
@@ -22,7 +22,7 @@ pub struct Pool<'b> {
 
 impl<'b> Model for Pool<'b> {
     ghost use Rattle.std.specs.Prelude.{List, map};
-    ghost use Rattle.mh_classfile.specs.Entries.{Slot, slot_at, Stand};
+    ghost use Rattle.mh_class_pool.specs.Entries.{Slot, slot_at, Stand};
 
     ghost Value = { List Slot };
 

@@ -1,7 +1,7 @@
 ghost use Rattle.std.specs.Prelude.{◌≡◌};
 ghost use Rattle.mh_class_bytes.specs.Bytes.{Moves};
 ghost use Rattle.mh_class_bytes.specs.Format.{Reads, reads};
-ghost use Rattle.mh_classfile.specs.Entries.{utf8_bytes, utf8, numeric, named, paired, handle, contents, entry, is_wide_tag, is_wide, is_argument, is_kind};
+ghost use Rattle.mh_class_pool.specs.Entries.{utf8_bytes, utf8, numeric, named, paired, handle, contents, entry, is_wide_tag, is_wide, is_argument, is_kind};
 
 use crate::fault::{ClassFault, ClassKind};
 use crate::numbers::{run, u1, u2, u4};

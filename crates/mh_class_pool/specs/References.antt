@@ -2,13 +2,13 @@
 use Rattle.std.specs.Prelude.{◌≡◌, ℕ, nat_le, ◌==◌, ◌&&◌, ◌||◌, List, [], ◌∷◌, Option, Some, None, Ok, Err, Bool, true, false, is_none, slice_index_or, if◌then◌else◌}
 use Rattle.mh_values.specs.Grammar.{descriptor_fault}
 use Rattle.mh_class_bytes.specs.Format.{Checked, fault}
-use Rattle.mh_classfile.specs.declared.entry.Entry.{Entry}
-use Rattle.mh_classfile.specs.declared.entry.Entry.TheVariants as entries
-use Rattle.mh_classfile.specs.declared.entry.Kind.{Kind}
-use Rattle.mh_classfile.specs.declared.entry.Kind.TheVariants as kinds
-use Rattle.mh_classfile.specs.declared.fault.ClassKind.{ClassKind}
-use Rattle.mh_classfile.specs.declared.fault.ClassKind.TheVariants.{BadIndex, WrongKind, BadDescriptor}
-use Rattle.mh_classfile.specs.Entries.{Slot, slot, is_kind}
+use Rattle.mh_class_pool.specs.declared.entry.Entry.{Entry}
+use Rattle.mh_class_pool.specs.declared.entry.Entry.TheVariants as entries
+use Rattle.mh_class_pool.specs.declared.entry.Kind.{Kind}
+use Rattle.mh_class_pool.specs.declared.entry.Kind.TheVariants as kinds
+use Rattle.mh_class_pool.specs.declared.fault.ClassKind.{ClassKind}
+use Rattle.mh_class_pool.specs.declared.fault.ClassKind.TheVariants.{BadIndex, WrongKind, BadDescriptor}
+use Rattle.mh_class_pool.specs.Entries.{Slot, slot, is_kind}
 
 -- nothing, or what is wrong
 abbrev pub Verdict : Type 0

@@ -1,6 +1,6 @@
 use Rattle.std.proofs.Common.{length, ◌-◌, vec_len}
-use Rattle.mh_classfile.proofs.PoolLoop.{IsReading}
-use Rattle.mh_classfile.proofs.pool.read_pool.Given as goal
+use Rattle.mh_class_pool.proofs.PoolLoop.{IsReading}
+use Rattle.mh_class_pool.proofs.pool.read_pool.Given as goal
 
 abbrev pub invariant-loop-cursor : goal.invariant-loop-cursor
 invariant-loop-cursor l = IsReading l.fn.cursor l.cursor l.places.items l.count

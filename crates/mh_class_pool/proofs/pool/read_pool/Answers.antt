@@ -1,7 +1,7 @@
 use Rattle.std.proofs.Common.{◌≡◌, ◌<◌, ◌≤◌, ◌++◌, ◌∷◌, [], length, refl, arith, sym, ◌∙◌}
 use Rattle.std.proofs.lemmas.Result.{err_from_is_err_and}
-use Rattle.mh_classfile.proofs.PoolLoop.{starts, next_narrow, next_wide, stops, all_read}
-use Rattle.mh_classfile.proofs.pool.read_pool.Goals as goal
+use Rattle.mh_class_pool.proofs.PoolLoop.{starts, next_narrow, next_wide, stops, all_read}
+use Rattle.mh_class_pool.proofs.pool.read_pool.Goals as goal
 
 pub loop-cursor-init : goal.loop-cursor-init
 loop-cursor-init c =

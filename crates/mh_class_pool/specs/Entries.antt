@@ -3,12 +3,12 @@ use Rattle.std.specs.Prelude.{◌≡◌, ℕ, zero, suc, ◌+◌, ◌==◌, nat_
 use Rattle.mh_class_bytes.specs.Position.{Position}
 use Rattle.mh_class_bytes.specs.Mutf8.{sound_len}
 use Rattle.mh_class_bytes.specs.Format.{Format, number, run, here, check, refuse, choose, done, ◌>>=◌, repeated, Reading, reads}
-use Rattle.mh_classfile.specs.declared.entry.Entry.{Entry}
-use Rattle.mh_classfile.specs.declared.entry.Entry.TheVariants.{Utf8, Integer, Float, Long, Double, Class, Str, Fieldref, Methodref, InterfaceMethodref, NameAndType, MethodHandle, MethodType, Dynamic, InvokeDynamic, Module, Package}
-use Rattle.mh_classfile.specs.declared.entry.Kind.{Kind}
-use Rattle.mh_classfile.specs.declared.entry.Kind.TheVariants as kinds
-use Rattle.mh_classfile.specs.declared.fault.ClassKind.{ClassKind}
-use Rattle.mh_classfile.specs.declared.fault.ClassKind.TheVariants.{Truncated, BadTag, BadText, BadIndex}
+use Rattle.mh_class_pool.specs.declared.entry.Entry.{Entry}
+use Rattle.mh_class_pool.specs.declared.entry.Entry.TheVariants.{Utf8, Integer, Float, Long, Double, Class, Str, Fieldref, Methodref, InterfaceMethodref, NameAndType, MethodHandle, MethodType, Dynamic, InvokeDynamic, Module, Package}
+use Rattle.mh_class_pool.specs.declared.entry.Kind.{Kind}
+use Rattle.mh_class_pool.specs.declared.entry.Kind.TheVariants as kinds
+use Rattle.mh_class_pool.specs.declared.fault.ClassKind.{ClassKind}
+use Rattle.mh_class_pool.specs.declared.fault.ClassKind.TheVariants.{Truncated, BadTag, BadText, BadIndex}
 
 -- a part of a class file
 abbrev pub Part : Type 0 → Type 1

@@ -1,0 +1,2 @@
+pub mod PoolLoop
+pub mod Each
