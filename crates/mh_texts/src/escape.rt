@@ -1,5 +1,14 @@
 ghost use Rattle.std.specs.Prelude.{◌≡◌};
-ghost use Rattle.mh_texts.specs.Text.{is_graphic, hex_value, behind_backslash, one_digit_more, within_braces, step, is_outside, characters_from};
+ghost use Rattle.mh_texts.specs.Literal.{Reads};
+ghost use Rattle.mh_texts.specs.Text.{is_graphic, hex_value, behind_backslash, one_digit_more, within_braces, step, text_of};
+
+use crate::LiteralError;
+use mh_base::Seq;
+use mh_values::Str;
+use std::alloc::Global;
+
+/// How many characters a text has at most.
+const MOST_CHARACTERS: usize = 4096;
 
 /// How far an escape was read in a text.
 #[derive(Clone, Copy, Debug, PartialEq, Eq)]
@@ -88,5 +97,27 @@ impl Escape {
             Escape::Code => None,
             Escape::Digits(count, value) => within_braces(count, value, byte),
         }
+    }
+}
+
+/// The characters that a text with escapes writes.
+pub(crate) fn read_text(alloc: Global, bytes: &[u8]) -> Result<Str, LiteralError>
+    ensures { Reads result (text_of bytes.now) }
+{
+    let mut text = Seq::new(alloc);
+    let mut escape = Escape::Outside;
+    for byte in bytes {
+        let Some((next, read)) = escape.step(*byte) else {
+            return Err(LiteralError::Bad);
+        };
+        if let Some(character) = read {
+            text.push(character)?;
+        }
+        escape = next;
+    }
+    if escape == Escape::Outside && text.len() <= MOST_CHARACTERS {
+        Ok(text)
+    } else {
+        Err(LiteralError::Bad)
     }
 }
