@@ -1,6 +1,6 @@
 -- Numbers: what is read is what is written.
-use Rattle.std.proofs.Common.{◌≡◌, refl, sym, ◌∙◌, ap, subst, zero, suc, lit<, codes, ℕ, ◌^◌, ◌<◌, ◌⊎◌, inl, inr, ℤ, pos, negsuc, neg_ℤ, Bool, true, false, ◌&&◌, ◌||◌, if◌then◌else◌, List, ◌∷◌, Option, None, Some, Result, Ok, Err, FitsSigned, w64, nat_lt, arith}
-use Rattle.std.proofs.lemmas.Bool.{and_parts, or_cases, or_left, and_from, ltb-true, lt-ltb}
+use Rattle.std.proofs.Common.{◌≡◌, refl, sym, ◌∙◌, ap, subst, zero, suc, lit<, codes, ℕ, ◌^◌, ◌<◌, inl, inr, ℤ, pos, negsuc, neg_ℤ, Bool, true, false, ◌&&◌, if◌then◌else◌, List, ◌∷◌, None, Some, Result, Ok, Err, FitsSigned, w64, nat_lt, arith}
+use Rattle.std.proofs.lemmas.Bool.{and_parts, or_cases, ltb-true, lt-ltb}
 use Rattle.std.proofs.lemmas.Fmt.{decimal_is_IsNumeral, parse-decimal, IsAscii-decimal}
 use Rattle.std.proofs.lemmas.Result.{Ok-from_Ok_iff}
 use Rattle.std.proofs.lemmas.Slice.Eq.{bytes_eq-Decides}

@@ -1,5 +1,5 @@
 -- Literals of values: what they are read as.
-use Rattle.std.specs.Prelude.{◌≡◌, ℕ, ◌+◌, ◌-◌, ◌==◌, nat_le, Bool, true, false, not, ◌&&◌, ◌||◌, if◌then◌else◌, List, [], ◌∷◌, codes, length, take, drop, Option, None, Some, Result, Ok, Err, option_map, option_and_then}
+use Rattle.std.specs.Prelude.{◌≡◌, ℕ, ◌+◌, ◌-◌, ◌==◌, nat_le, Bool, true, false, ◌&&◌, ◌||◌, if◌then◌else◌, List, [], ◌∷◌, codes, length, take, drop, Option, None, Some, Result, Ok, Err, option_map, option_and_then}
 use Rattle.std.specs.List.{position, slice_split}
 use Rattle.std.specs.Str.{bytes_eq}
 use Rattle.mh_values.specs.declared.class.Class.{Class}

@@ -5,4 +5,4 @@ mod escape;
 mod literal;
 mod number;
 
-pub use literal::LiteralError;
+pub use literal::{LiteralError, read_literal};

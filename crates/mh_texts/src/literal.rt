@@ -1,14 +1,20 @@
-ghost use Rattle.std.specs.Prelude.{◌≡◌, ◌==◌, option_map};
+ghost use Rattle.std.specs.Prelude.{◌≡◌, ◌==◌, map, option_map};
+ghost use Rattle.std.specs.Option.{option_copied};
+ghost use Rattle.mh_values.specs.Array.{value_of_item};
+ghost use Rattle.mh_values.specs.Descriptor.{type_desc};
 ghost use Rattle.std.specs.List.{position};
-ghost use Rattle.mh_texts.specs.Literal.{bool_of, number_of, cut_at, has_own_literal, object_of, exception_of, tagged, item_of, literal_of, Reads};
+ghost use Rattle.mh_texts.specs.Literal.{bool_of, number_of, cut_at, has_own_literal, object_of, exception_of, tagged, item_of, component_of, items_of, listed, unclosed, array_of_literal, literal_of, Reads};
 
 use crate::escape::read_text;
 use crate::number::{read_int, read_long, read_unsigned};
-use mh_base::NoMemory;
-use mh_values::{Cell, ClassId, Classes, Exc, Num};
-use std::alloc::Global;
+use mh_base::{NoMemory, Seq, split_at_byte};
+use mh_values::{Cell, Cells, ClassId, Classes, Comp, Exc, Num, Ty, Value, is_item_of, read_type};
+use std::alloc::{AllocError, Global};
 use std::error::Error;
 use std::fmt;
+
+/// How many items an array has at most.
+const MOST_ITEMS: usize = 254;
 
 /// Why a token was not read as a value.
 #[derive(Clone, Copy, Debug, PartialEq, Eq)]
@@ -35,6 +41,16 @@ impl From<NoMemory> for LiteralError {
     ghost from_gives = { λ _ error. error ≡ literal_error.NoMemory };
 
     fn from(_: NoMemory) -> Self {
+        LiteralError::NoMemory
+    }
+}
+
+impl From<AllocError> for LiteralError {
+    ghost use Rattle.mh_texts.specs.declared.literal.LiteralError.TheVariants as literal_error;
+
+    ghost from_gives = { λ _ error. error ≡ literal_error.NoMemory };
+
+    fn from(_: AllocError) -> Self {
         LiteralError::NoMemory
     }
 }
@@ -142,5 +158,110 @@ fn read_item(alloc: Global, classes: &Classes, token: &[u8]) -> Result<Cell, Lit
         [letter, b':', text @ ..] => read_tagged(alloc, classes, *letter, text),
         _ if token == b"null".as_slice() => Ok(Cell::Null),
         _ => Err(LiteralError::Bad),
+    }
+}
+
+/// The value that an item stands for.
+fn value_of(item: Cell) -> Value
+    ensures { result ≡ value_of_item item }
+{
+    match item {
+        Cell::Prim(number) => Value::Prim(number),
+        Cell::Boxed(number) => Value::Boxed(number),
+        Cell::Text(text) => Value::Text(text),
+        Cell::Object(class, number) => Value::Object(class, number),
+        Cell::Thrown(exc) => Value::Thrown(exc),
+        Cell::Null => Value::Null,
+    }
+}
+
+/// The component type of its descriptor.
+fn read_component(classes: &Classes, text: &[u8]) -> Option<Comp>
+    ensures { result ≡ component_of (type_desc classes.now text.now) }
+{
+    match read_type(text, classes) {
+        Ok(Ty::Prim(primitive)) => Some(Comp::Prim(primitive)),
+        Ok(Ty::Class(class)) => Some(Comp::Class(class)),
+        _ => None,
+    }
+}
+
+/// The items of a component type that the texts write, one each.
+fn read_items(
+    alloc: Global,
+    classes: &Classes,
+    component: Comp,
+    texts: &[&[u8]],
+) -> Result<Cells, LiteralError>
+    ensures { Reads result (items_of classes.now component (map (λ x. x.now) texts.now)) }
+{
+    let mut items = Seq::new(alloc);
+    for text in texts {
+        let item = read_item(alloc, classes, *text)?;
+        if !is_item_of(component, &item, classes) {
+            return Err(LiteralError::Bad);
+        }
+        items.push(item)?;
+    }
+    Ok(items)
+}
+
+/// The items between the brackets.
+fn read_listed(
+    alloc: Global,
+    classes: &Classes,
+    component: Comp,
+    text: &[u8],
+) -> Result<Cells, LiteralError>
+    ensures { Reads result (listed classes.now component text.now) }
+{
+    if text.is_empty() {
+        return Ok(Seq::new(alloc));
+    }
+    let texts = split_at_byte(alloc, text, b',')?;
+    read_items(alloc, classes, component, &texts)
+}
+
+/// A text that ends with `]`, without it.
+fn unclosed(text: &[u8]) -> Option<&[u8]>
+    ensures { option_copied result ≡ unclosed text.now }
+{
+    match text {
+        [inside @ .., b']'] => Some(inside),
+        _ => None,
+    }
+}
+
+/// The array that `COMP[ITEM,ITEM]` writes.
+fn read_array(alloc: Global, classes: &Classes, text: &[u8]) -> Result<Value, LiteralError>
+    ensures { Reads result (array_of_literal classes.now text.now) }
+{
+    let Some((component, rest)) = split_once(text, b'[') else {
+        return Err(LiteralError::Bad);
+    };
+    let Some(component) = read_component(classes, component) else {
+        return Err(LiteralError::Bad);
+    };
+    let Some(inside) = unclosed(rest) else {
+        return Err(LiteralError::Bad);
+    };
+    let items = read_listed(alloc, classes, component, inside)?;
+    if items.len() <= MOST_ITEMS {
+        Ok(Value::Array(component, items))
+    } else {
+        Err(LiteralError::Bad)
+    }
+}
+
+/// Reads the literal of a value: `z:`, `i:` and `j:` a number of a primitive type, `Z:`, `I:` and
+/// `J:` a boxed one, `s:` a text, `null`, `o:CLASS#N` an object, `x:CLASS` an exception with an empty
+/// message, `a:COMP[ITEM,ITEM]` an array. In a text `\s` is a space, `\c` a comma, `\n` LF, `\\` a
+/// backslash, and `\u{H}` the character of a hexadecimal number.
+pub fn read_literal(alloc: Global, token: &[u8], classes: &Classes) -> Result<Value, LiteralError>
+    ensures { Reads result (literal_of classes.now token.now) }
+{
+    match token {
+        [b'a', b':', text @ ..] => read_array(alloc, classes, text),
+        _ => Ok(value_of(read_item(alloc, classes, token)?)),
     }
 }

@@ -199,7 +199,7 @@ pub fn read_types(alloc: Global, bytes: &[u8], classes: &Classes) -> Result<Tys,
 
 /// Reads one type (JVMS SE 17, 4.3.2). Void is none. It takes no memory.
 pub fn read_type(bytes: &[u8], classes: &Classes) -> Result<Ty, DescriptorError>
-    ensures { Means result (type_desc classes.now bytes.now) }
+    ensures { result ≡ type_desc classes.now bytes.now }
 {
     type_text(bytes)?;
     type_of(classes, 0, bytes)
