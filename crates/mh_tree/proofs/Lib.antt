@@ -2,6 +2,8 @@ pub mod Host
 mod Lengths
 pub mod Returning
 pub mod RowParts
+pub mod SoundAdapters
+pub mod SoundRoots
 pub mod TypedLists
 mod WorkedAdapters
 mod WorkedBranches

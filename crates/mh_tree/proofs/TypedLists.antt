@@ -34,6 +34,13 @@ types-back classes xs [] us h = h
 types-back classes [] (t ∷ ts) us h = absurd h
 types-back classes (x ∷ xs) (t ∷ ts) us h = types-back classes xs ts us h.1
 
+pub types-drop : (classes : List Class) (xs : List Value) (ts : List Ty) (n : ℕ) → HaveTypes classes xs ts → HaveTypes classes (drop n xs) (drop n ts)
+types-drop classes xs ts zero h = h
+types-drop classes [] [] (suc n) h = tt
+types-drop classes [] (t ∷ ts) (suc n) h = absurd h
+types-drop classes (x ∷ xs) [] (suc n) h = absurd h
+types-drop classes (x ∷ xs) (t ∷ ts) (suc n) h = types-drop classes xs ts n h.1
+
 -- the value at a place has the type there
 pub types-get : (classes : List Class) (xs : List Value) (ts : List Ty) (i : ℕ) (t : Ty) → HaveTypes classes xs ts → slice_get ts i ≡ Some t → (v : Value) × (slice_get xs i ≡ Some v) × (has_type classes v t ≡ true)
 types-get classes [] [] i t h is = absurd cc

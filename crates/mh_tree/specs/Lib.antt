@@ -1,5 +1,6 @@
 pub mod Check
 pub mod Meaning
 pub mod Rows
+pub mod Sound
 pub mod Tree
 pub mod Typing
