@@ -3,6 +3,8 @@ mod Lengths
 pub mod Returning
 pub mod RowParts
 pub mod SoundAdapters
+pub mod SoundBranches
+pub mod SoundConversions
 pub mod SoundRoots
 pub mod TypedLists
 mod WorkedAdapters
