@@ -3,6 +3,7 @@ mod Lengths
 pub mod Returning
 pub mod RowParts
 pub mod SoundAdapters
+pub mod SoundArrays
 pub mod SoundBranches
 pub mod SoundConversions
 pub mod SoundRoots
