@@ -7,6 +7,7 @@ pub mod SoundArrays
 pub mod SoundBranches
 pub mod SoundConversions
 pub mod SoundRoots
+pub mod Soundness
 pub mod TypedLists
 mod WorkedAdapters
 mod WorkedBranches

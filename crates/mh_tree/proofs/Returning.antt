@@ -1,14 +1,13 @@
 -- Calls that end as their return types say, one after the other.
-use Rattle.std.proofs.Common.{◌≡◌, refl, sym, subst, ap, ◌∙◌, ℕ, Bool, true, false, cond, List, [], ◌∷◌, ◌++◌, Option, Some, None}
-use Rattle.std.specs.Prelude.{option_to_list, IsTrue}
+use Rattle.std.proofs.Common.{◌≡◌, refl, ℕ, Bool, true, false, cond, List, Option, Some, None}
+use Rattle.std.specs.Prelude.{option_to_list}
 use Rattle.mh_values.specs.declared.class.Class.{Class}
 use Rattle.mh_values.specs.declared.types.Ty.{Ty}
 use Rattle.mh_values.specs.declared.value.Exc.{Exc}
 use Rattle.mh_values.specs.declared.value.LeafCall.{LeafCall}
 use Rattle.mh_values.specs.declared.value.Value.{Value}
-use Rattle.mh_values.specs.Class.{is_subclass, throwable_class}
-use Rattle.mh_values.specs.Computation.{Ran, Gave, Threw, Stuck, raised, after, and_then, guarded}
-use Rattle.mh_values.specs.HasType.{has_type, HaveTypes}
+use Rattle.mh_values.specs.Computation.{Gave, Threw, Stuck, raised, after, and_then, guarded}
+use Rattle.mh_values.specs.HasType.{HaveTypes}
 use Rattle.mh_values.specs.Returns.{Returns}
 use Rattle.mh_tree.specs.Meaning.{Done}
 

@@ -1,5 +1,5 @@
 -- What a row tells that gives a type: its conditions hold, and the type is the one that it makes.
-use Rattle.std.proofs.Common.{◌≡◌, refl, sym, ◌∙◌, Bool, true, false, ◌&&◌, ◌==◌, ℕ, ◌+◌, ◌-◌, List, [], ◌∷◌, length, drop, replicate, Option, Some, None, is_some, Result, Ok, Err, nat_le, nat_lt, codes}
+use Rattle.std.proofs.Common.{◌≡◌, refl, Bool, true, false, ◌&&◌, ◌==◌, ℕ, ◌+◌, ◌-◌, List, [], ◌∷◌, length, drop, replicate, Option, Some, None, is_some, Result, Ok, Err, nat_le, nat_lt, codes}
 use Rattle.std.specs.Prelude.{slice_get, option_to_list}
 use Rattle.std.proofs.lemmas.Bool.{eqb-true}
 use Rattle.mh_values.specs.declared.class.Class.{Class}

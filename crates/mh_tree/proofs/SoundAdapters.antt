@@ -1,5 +1,5 @@
 -- Adapters end as their types say, where their parts do.
-use Rattle.std.proofs.Common.{◌≡◌, refl, sym, subst, ap, ◌∙◌, zero, suc, ℕ, ◌+◌, ◌≤◌, true, List, [], ◌∷◌, ◌++◌, take, drop, length, Option, Some, None, is_some, Result, Ok, Err, nat_le, arith}
+use Rattle.std.proofs.Common.{◌≡◌, refl, sym, subst, ap, ◌∙◌, zero, suc, ℕ, ◌≤◌, true, List, [], ◌∷◌, ◌++◌, take, drop, length, Option, Some, None, is_some, Ok, nat_le, arith}
 use Rattle.std.specs.Prelude.{slice_get, option_to_list}
 use Rattle.std.proofs.lemmas.Option.{slice_get_within}
 use Rattle.std.proofs.lemmas.Bool.Decides.{nat_tests}
@@ -7,14 +7,13 @@ use Rattle.mh_values.specs.declared.class.Class.{Class}
 use Rattle.mh_values.specs.declared.types.Ty.{Ty}
 use Rattle.mh_values.specs.declared.types.MethodTy.{MethodTy}
 use Rattle.mh_values.specs.declared.value.Value.{Value}
-use Rattle.mh_values.specs.Computation.{Ran, Gave, Threw, Stuck, found, and_then, spliced}
-use Rattle.mh_values.specs.HasType.{has_type, HaveTypes}
+use Rattle.mh_values.specs.Computation.{found, and_then, spliced}
+use Rattle.mh_values.specs.HasType.{HaveTypes}
 use Rattle.mh_values.specs.Returns.{Returns}
-use Rattle.mh_values.specs.Same.{is_same_return}
-use Rattle.mh_values.proofs.SameTypes.{same_return-is, same_types-is, begins_with-rest, method_type}
+use Rattle.mh_values.proofs.SameTypes.{same_return-is, same_types-is, begins_with-rest}
 use Rattle.mh_convert.specs.Conversion.{fit}
 use Rattle.mh_convert.proofs.Typed.{fit-typed}
-use Rattle.mh_tree.specs.Rows.{taking, count_of, gives_at, folded, bind_row, drop_row, permute_row, filter_row, filterret_row, fold_row, collect_row}
+use Rattle.mh_tree.specs.Rows.{count_of, gives_at, folded, bind_row, drop_row, permute_row, filter_row, filterret_row, fold_row, collect_row}
 use Rattle.mh_tree.specs.Meaning.{Done, fitted, picked, part_of}
 use Rattle.mh_tree.specs.Sound.{Body, IsSound}
 use Rattle.mh_tree.proofs.RowParts.{bind_row-parts, drop_row-parts, permute_row-parts, filter_row-parts, filterret_row-parts, fold_row-parts, collect_row-parts}

@@ -1,6 +1,6 @@
 -- Spreading and gathering end as their types say, where their part does.
-use Rattle.std.proofs.Common.{◌≡◌, refl, sym, subst, ap, ◌∙◌, ℕ, zero, suc, ◌+◌, ◌-◌, ◌≤◌, ◌==◌, true, false, Bool, cond, ◌&&◌, List, [], ◌∷◌, ◌++◌, take, drop, length, map, replicate, Option, Some, None, Result, Ok, Err, nat_le, codes, length-take-le, arith}
-use Rattle.std.specs.Prelude.{slice_get, option_to_list}
+use Rattle.std.proofs.Common.{◌≡◌, refl, sym, subst, ◌∙◌, ℕ, zero, suc, ◌+◌, ◌-◌, ◌≤◌, ◌==◌, true, false, Bool, cond, List, [], ◌∷◌, ◌++◌, take, drop, length, map, replicate, Option, Some, None, Result, Ok, Err, nat_le, codes, length-take-le, arith}
+use Rattle.std.specs.Prelude.{slice_get}
 use Rattle.std.specs.List.{list_all}
 use Rattle.std.proofs.lemmas.Bool.{eqb-true}
 use Rattle.std.proofs.lemmas.List.{length-drop, length-replicate, take_all}
@@ -24,7 +24,7 @@ use Rattle.mh_values.specs.Returns.{Returns}
 use Rattle.mh_values.specs.Same.{is_same_type}
 use Rattle.mh_values.proofs.BelowTypes.{component_below-itself, item-below, item-typed, value-below, internal_error-below, null_pointer-below, illegal_argument-below}
 use Rattle.mh_values.proofs.SameTypes.{both, both-true, same_type-is}
-use Rattle.mh_tree.specs.Rows.{taking, component_of, ends_with, takes_array, spread_row, gather_row}
+use Rattle.mh_tree.specs.Rows.{component_of, takes_array, spread_row, gather_row}
 use Rattle.mh_tree.specs.Meaning.{Done, or_throw, part_of}
 use Rattle.mh_tree.specs.Sound.{Body, IsSound}
 use Rattle.mh_tree.proofs.RowParts.{spread_row-parts, gather_row-parts}
@@ -42,9 +42,10 @@ items-typed classes are c d below (i ∷ items) [] h same e = absurd (omega (ari
 items-typed classes are c d below (i ∷ items) (t ∷ types) h same e =
     let q = both (is_item_of classes c i) (are_items_of classes c items) h in
     let r = both (is_same_type t (item_type d)) (list_all (λ t. is_same_type t (item_type d)) types) same in
-    let more : length items ≡ length types = omega (arith, e) in
-    (subst (λ x. has_type classes (value_of_item i) x ≡ true) (sym (same_type-is t (item_type d) r.0)) (item-typed classes d i (item-below classes are c d below i q.0)),
-    items-typed classes are c d below items types q.1 r.1 more)
+    let more : length items ≡ length types = omega (arith, e) in (
+      subst (λ x. has_type classes (value_of_item i) x ≡ true) (sym (same_type-is t (item_type d) r.0)) (item-typed classes d i (item-below classes are c d below i q.0)),
+      items-typed classes are c d below items types q.1 r.1 more,
+    )
 
 -- what an array is spread to: values of these types, or an exception
 abbrev Spreads : List Class → Ran (List Value) → List Ty → Type 0

@@ -1,5 +1,5 @@
 -- Branches end as their types say, where their parts do.
-use Rattle.std.proofs.Common.{◌≡◌, refl, sym, subst, ap, ◌∙◌, ℕ, ◌-◌, true, false, Bool, ◌&&◌, List, [], ◌∷◌, ◌++◌, take, length, Option, Some, None, Result, Ok, Err, arith}
+use Rattle.std.proofs.Common.{◌≡◌, sym, subst, ℕ, ◌-◌, true, false, Bool, List, [], ◌∷◌, take, length, Option, Some, None, Ok, arith}
 use Rattle.std.specs.Prelude.{option_to_list}
 use Rattle.mh_values.specs.declared.class.Class.{Class}
 use Rattle.mh_values.specs.declared.class.ClassId.{ClassId}
@@ -12,8 +12,8 @@ use Rattle.mh_values.specs.declared.value.Value.{Value}
 use Rattle.mh_values.specs.declared.value.Value.TheVariants as value
 use Rattle.mh_values.specs.Class.{is_subclass}
 use Rattle.mh_values.specs.Classes.{AreClasses}
-use Rattle.mh_values.specs.Computation.{Ran, Gave, Threw, Stuck, and_then, guarded}
-use Rattle.mh_values.specs.HasType.{has_type, HaveTypes, is_type_below}
+use Rattle.mh_values.specs.Computation.{and_then, guarded}
+use Rattle.mh_values.specs.HasType.{HaveTypes, is_type_below}
 use Rattle.mh_values.specs.Returns.{Returns}
 use Rattle.mh_values.specs.Same.{begins_with_types}
 use Rattle.mh_values.proofs.BelowTypes.{value-below}
@@ -59,9 +59,10 @@ handler-typed : (classes : List Class) → AreClasses classes → (class : Class
 handler-typed classes are class [] types args e takes below have = absurd cc
 handler-typed classes are class (first ∷ others) types args e takes below have =
     let q = both (is_type_below classes (ty.Class class) first) (begins_with_types types others) takes in
-    let count : length others ≡ length (first ∷ others) - 1 = omega arith in
-    (value-below classes are (ty.Class class) first q.0 (value.Thrown e) below,
-    subst (λ m. HaveTypes classes (take m args) others) count (first-typed classes args types others q.1 have))
+    let count : length others ≡ length (first ∷ others) - 1 = omega arith in (
+      value-below classes are (ty.Class class) first q.0 (value.Thrown e) below,
+      subst (λ m. HaveTypes classes (take m args) others) count (first-typed classes args types others q.1 have),
+    )
 
 pub catch-sound : (classes : List Class) → AreClasses classes → (body handler : Body) (t : MethodTy) (weight : ℕ) (class : ClassId) (h : MethodTy) (h_weight : ℕ) (u : MethodTy) → IsSound classes body t → IsSound classes handler h → catch_row classes t weight class h h_weight ≡ Ok u → IsSound classes (λ args n. guarded (body args n) (is_caught classes class) n (λ e k. handler (value.Thrown e ∷ take (length h.params - 1) args) k)) u
 catch-sound classes are body handler t weight class h h_weight u sound handler-sound typed =

@@ -1,5 +1,5 @@
 -- What is used as another type ends as that type says, where its part ends as its own type says.
-use Rattle.std.proofs.Common.{◌≡◌, refl, sym, subst, ap, ◌∙◌, ℕ, true, false, Bool, cond, ◌&&◌, List, [], ◌∷◌, Option, Some, None, is_some, Result, Ok, Err}
+use Rattle.std.proofs.Common.{◌≡◌, refl, sym, subst, ℕ, true, false, Bool, cond, List, [], ◌∷◌, Option, Some, None, is_some, Result, Ok, Err}
 use Rattle.std.specs.Prelude.{option_to_list}
 use Rattle.std.specs.Result.{result_map_both}
 use Rattle.mh_values.specs.declared.class.Class.{Class}
@@ -11,16 +11,15 @@ use Rattle.mh_values.specs.declared.value.Exc.{Exc}
 use Rattle.mh_values.specs.declared.value.Value.{Value}
 use Rattle.mh_values.specs.Class.{is_subclass, throwable_class}
 use Rattle.mh_values.specs.Classes.{AreClasses}
-use Rattle.mh_values.specs.Computation.{Ran, Gave, Threw, Stuck, found, and_then}
+use Rattle.mh_values.specs.Computation.{Gave, found, and_then}
 use Rattle.mh_values.specs.HasType.{has_type, HaveTypes}
 use Rattle.mh_values.specs.Returns.{Returns}
 use Rattle.mh_values.proofs.SameTypes.{both}
 use Rattle.mh_convert.specs.declared.conv.Conv.{Conv}
-use Rattle.mh_convert.specs.declared.conv.RetConv.{RetConv}
-use Rattle.mh_convert.specs.Conversion.{can, conv, default_of, conversion_of, value_conversion, ret_conversion_of, ret_conv}
+use Rattle.mh_convert.specs.Conversion.{can, conv, default_of, value_conversion, ret_conversion_of, ret_conv}
 use Rattle.mh_convert.proofs.Typed.{conv-typed, conv-throws}
 use Rattle.mh_tree.specs.Rows.{can_all, astype_row}
-use Rattle.mh_tree.specs.Meaning.{Done, or_throw, value_and_more, then_others, conv_all, conv_result}
+use Rattle.mh_tree.specs.Meaning.{Done, or_throw, then_others, conv_all, conv_result}
 use Rattle.mh_tree.specs.Sound.{Body, IsSound}
 use Rattle.mh_tree.proofs.RowParts.{astype_row-parts}
 use Rattle.mh_tree.proofs.Returning.{returns-then}

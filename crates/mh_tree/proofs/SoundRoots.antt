@@ -1,18 +1,17 @@
 -- Constants, identities and what throws end as their types say.
-use Rattle.std.proofs.Common.{◌≡◌, refl, sym, subst, ap, ◌∙◌, ℕ, true, List, [], ◌∷◌, Option, Some, None, Result, Ok, Err}
+use Rattle.std.proofs.Common.{◌≡◌, refl, sym, subst, true, List, [], ◌∷◌, Option, Some, Ok}
 use Rattle.std.specs.Prelude.{slice_get}
 use Rattle.mh_values.specs.declared.class.Class.{Class}
 use Rattle.mh_values.specs.declared.class.ClassId.{ClassId}
 use Rattle.mh_values.specs.declared.types.Ty.{Ty}
 use Rattle.mh_values.specs.declared.types.Ty.TheVariants as ty
 use Rattle.mh_values.specs.declared.types.MethodTy.{MethodTy}
-use Rattle.mh_values.specs.declared.value.Exc.{Exc}
 use Rattle.mh_values.specs.declared.value.Value.{Value}
 use Rattle.mh_values.specs.declared.value.Value.TheVariants as value
 use Rattle.mh_values.specs.Class.{is_subclass, throwable_class}
 use Rattle.mh_values.specs.Classes.{AreClasses}
-use Rattle.mh_values.specs.Computation.{Ran, Gave, Threw, Stuck, found}
-use Rattle.mh_values.specs.HasType.{has_type, HaveTypes}
+use Rattle.mh_values.specs.Computation.{found}
+use Rattle.mh_values.specs.HasType.{has_type}
 use Rattle.mh_values.specs.Returns.{Returns}
 use Rattle.mh_values.proofs.BelowTypes.{is_subclass-trans, class_cast-below, null_pointer-below}
 use Rattle.mh_values.proofs.SameTypes.{method_type}
