@@ -4,5 +4,8 @@
 mod escape;
 mod literal;
 mod number;
+mod printed;
+mod shown;
 
 pub use literal::{LiteralError, read_literal};
+pub use shown::{show_exc, show_name, show_text, show_type, show_value};

@@ -1,0 +1,336 @@
+ghost use Rattle.std.specs.Prelude.{◌≡◌, ◌++◌, codes, flat_map, IfOk, OnOk};
+ghost use Rattle.std.specs.Fmt.{signed_decimal, decimal};
+ghost use Rattle.mh_values.specs.TypeText.{primitive_text};
+ghost use Rattle.mh_texts.specs.Text.{escaped_char, escaped, cut};
+ghost use Rattle.mh_texts.specs.Printed.{name_text, class_text, component_text, type_text, return_text, method_type_text, bool_text, prim_text, boxed_text, string_text, object_text, exception_text, item_text, items_text, array_text, value_text};
+
+use itoa::Buffer;
+use mh_base::NoMemory;
+use mh_values::{Cell, ClassId, Classes, Comp, Exc, MethodTy, Num, Primitive, Ty, Value};
+
+/// How many characters of a printed text are shown.
+const MOST_SHOWN: usize = 1024;
+
+/// Cuts a printed text where it is too long.
+pub(crate) fn cut(mut bytes: Vec<u8>) -> Result<Vec<u8>, NoMemory>
+    ensures { IfOk result (λ shown. shown.items ≡ cut bytes.items) }
+{
+    if bytes.len() > MOST_SHOWN {
+        bytes.truncate(MOST_SHOWN);
+        bytes.extend_from_slice(b"...")?;
+    }
+    Ok(bytes)
+}
+
+/// Writes a character: by its own escape, as itself, or by its number.
+fn push_char(bytes: &mut Vec<u8>, character: char) -> Result<(), NoMemory>
+    ensures { OnOk result (bytes.new.items ≡ bytes.old.items ++ escaped_char character) }
+{
+    match character {
+        ' ' => bytes.extend_from_slice(b"\\s")?,
+        ',' => bytes.extend_from_slice(b"\\c")?,
+        '\n' => bytes.extend_from_slice(b"\\n")?,
+        '\\' => bytes.extend_from_slice(b"\\\\")?,
+        '!'..='~' => bytes.push(character as u8)?,
+        _ => {
+            let alloc = *bytes.allocator();
+            let number = format!(in alloc; "\\u{{{:x}}}", character as u32)?;
+            bytes.extend_from_slice(number.as_bytes())?;
+        }
+    }
+    Ok(())
+}
+
+/// Writes characters with their escapes.
+pub(crate) fn push_chars(bytes: &mut Vec<u8>, text: &[char]) -> Result<(), NoMemory>
+    ensures { OnOk result (bytes.new.items ≡ bytes.old.items ++ escaped text.now) }
+{
+    for character in text {
+        push_char(bytes, *character)?;
+    }
+    Ok(())
+}
+
+/// Writes the bytes of a name, each as a character with its escape.
+pub(crate) fn push_name(bytes: &mut Vec<u8>, name: &[u8]) -> Result<(), NoMemory>
+    ensures { OnOk result (bytes.new.items ≡ bytes.old.items ++ escaped name.now) }
+{
+    for byte in name {
+        push_char(bytes, char::from(*byte))?;
+    }
+    Ok(())
+}
+
+/// Writes a number.
+fn push_int(bytes: &mut Vec<u8>, number: i32) -> Result<(), NoMemory>
+    ensures { OnOk result (bytes.new.items ≡ bytes.old.items ++ signed_decimal number) }
+{
+    let mut buffer = Buffer::new();
+    bytes.extend_from_slice(buffer.format(number).as_bytes())?;
+    Ok(())
+}
+
+/// Writes a number.
+fn push_long(bytes: &mut Vec<u8>, number: i64) -> Result<(), NoMemory>
+    ensures { OnOk result (bytes.new.items ≡ bytes.old.items ++ signed_decimal number) }
+{
+    let mut buffer = Buffer::new();
+    bytes.extend_from_slice(buffer.format(number).as_bytes())?;
+    Ok(())
+}
+
+/// Writes a number without a sign.
+fn push_unsigned(bytes: &mut Vec<u8>, number: u32) -> Result<(), NoMemory>
+    ensures { OnOk result (bytes.new.items ≡ bytes.old.items ++ decimal number) }
+{
+    let mut buffer = Buffer::new();
+    bytes.extend_from_slice(buffer.format(number).as_bytes())?;
+    Ok(())
+}
+
+/// Writes `true` or `false`.
+fn push_bool(bytes: &mut Vec<u8>, truth: bool) -> Result<(), NoMemory>
+    ensures { OnOk result (bytes.new.items ≡ bytes.old.items ++ bool_text truth) }
+{
+    if truth {
+        bytes.extend_from_slice(b"true")?;
+    } else {
+        bytes.extend_from_slice(b"false")?;
+    }
+    Ok(())
+}
+
+/// Writes a number of a primitive type.
+fn push_prim(bytes: &mut Vec<u8>, number: Num) -> Result<(), NoMemory>
+    ensures { OnOk result (bytes.new.items ≡ bytes.old.items ++ prim_text number) }
+{
+    match number {
+        Num::Z(truth) => {
+            bytes.extend_from_slice(b"z:")?;
+            push_bool(bytes, truth)
+        }
+        Num::I(number) => {
+            bytes.extend_from_slice(b"i:")?;
+            push_int(bytes, number)
+        }
+        Num::J(number) => {
+            bytes.extend_from_slice(b"j:")?;
+            push_long(bytes, number)
+        }
+    }
+}
+
+/// Writes a boxed number.
+fn push_boxed(bytes: &mut Vec<u8>, number: Num) -> Result<(), NoMemory>
+    ensures { OnOk result (bytes.new.items ≡ bytes.old.items ++ boxed_text number) }
+{
+    match number {
+        Num::Z(truth) => {
+            bytes.extend_from_slice(b"Z:")?;
+            push_bool(bytes, truth)
+        }
+        Num::I(number) => {
+            bytes.extend_from_slice(b"I:")?;
+            push_int(bytes, number)
+        }
+        Num::J(number) => {
+            bytes.extend_from_slice(b"J:")?;
+            push_long(bytes, number)
+        }
+    }
+}
+
+/// Writes a text.
+fn push_string(bytes: &mut Vec<u8>, text: &[char]) -> Result<(), NoMemory>
+    ensures { OnOk result (bytes.new.items ≡ bytes.old.items ++ string_text text.now) }
+{
+    bytes.extend_from_slice(b"s:")?;
+    push_chars(bytes, text)
+}
+
+/// Writes an object.
+fn push_object(
+    bytes: &mut Vec<u8>,
+    classes: &Classes,
+    class: ClassId,
+    number: u32,
+) -> Result<(), NoMemory>
+    ensures { OnOk result (bytes.new.items ≡ bytes.old.items ++ object_text classes.now class number) }
+{
+    bytes.extend_from_slice(b"o:")?;
+    push_name(bytes, classes.name(class))?;
+    bytes.extend_from_slice(b"#")?;
+    push_unsigned(bytes, number)
+}
+
+/// Writes an exception as a value.
+fn push_exception(bytes: &mut Vec<u8>, classes: &Classes, exc: &Exc) -> Result<(), NoMemory>
+    ensures { OnOk result (bytes.new.items ≡ bytes.old.items ++ exception_text classes.now exc.now) }
+{
+    bytes.extend_from_slice(b"x:")?;
+    push_name(bytes, classes.name(exc.class))
+}
+
+/// Writes `null`.
+fn push_null(bytes: &mut Vec<u8>) -> Result<(), NoMemory>
+    ensures { OnOk result (bytes.new.items ≡ bytes.old.items ++ codes "null") }
+{
+    bytes.extend_from_slice(b"null")?;
+    Ok(())
+}
+
+/// Writes an item of an array.
+fn push_item(bytes: &mut Vec<u8>, classes: &Classes, item: &Cell) -> Result<(), NoMemory>
+    ensures { OnOk result (bytes.new.items ≡ bytes.old.items ++ item_text classes.now item.now) }
+{
+    match item {
+        Cell::Prim(number) => push_prim(bytes, *number),
+        Cell::Boxed(number) => push_boxed(bytes, *number),
+        Cell::Text(text) => push_string(bytes, text.as_slice()),
+        Cell::Object(class, number) => push_object(bytes, classes, *class, *number),
+        Cell::Thrown(exc) => push_exception(bytes, classes, exc),
+        Cell::Null => push_null(bytes),
+    }
+}
+
+/// Writes items, each behind a comma.
+fn push_more(bytes: &mut Vec<u8>, classes: &Classes, items: &[Cell]) -> Result<(), NoMemory>
+    ensures { OnOk result (bytes.new.items
+        ≡ bytes.old.items ++ flat_map (λ item. codes "," ++ item_text classes.now item) items.now) }
+{
+    for item in items {
+        bytes.extend_from_slice(b",")?;
+        push_item(bytes, classes, item)?;
+    }
+    Ok(())
+}
+
+/// Writes items with a comma between them.
+fn push_items(bytes: &mut Vec<u8>, classes: &Classes, items: &[Cell]) -> Result<(), NoMemory>
+    ensures { OnOk result (bytes.new.items ≡ bytes.old.items ++ items_text classes.now items.now) }
+{
+    match items {
+        [] => Ok(()),
+        [first, rest @ ..] => {
+            push_item(bytes, classes, first)?;
+            push_more(bytes, classes, rest)
+        }
+    }
+}
+
+/// Writes the letter of a primitive type.
+fn push_primitive(bytes: &mut Vec<u8>, primitive: Primitive) -> Result<(), NoMemory>
+    ensures { OnOk result (bytes.new.items ≡ bytes.old.items ++ primitive_text primitive) }
+{
+    match primitive {
+        Primitive::Z => bytes.extend_from_slice(b"Z")?,
+        Primitive::I => bytes.extend_from_slice(b"I")?,
+        Primitive::J => bytes.extend_from_slice(b"J")?,
+    }
+    Ok(())
+}
+
+/// Writes a class as a type.
+fn push_class(bytes: &mut Vec<u8>, classes: &Classes, class: ClassId) -> Result<(), NoMemory>
+    ensures { OnOk result (bytes.new.items ≡ bytes.old.items ++ class_text classes.now class) }
+{
+    bytes.extend_from_slice(b"L")?;
+    push_name(bytes, classes.name(class))?;
+    bytes.extend_from_slice(b";")?;
+    Ok(())
+}
+
+/// Writes the type of an array's items.
+fn push_component(bytes: &mut Vec<u8>, classes: &Classes, component: Comp) -> Result<(), NoMemory>
+    ensures { OnOk result (bytes.new.items ≡ bytes.old.items ++ component_text classes.now component) }
+{
+    match component {
+        Comp::Prim(primitive) => push_primitive(bytes, primitive),
+        Comp::Class(class) => push_class(bytes, classes, class),
+    }
+}
+
+/// Writes a type.
+fn push_type(bytes: &mut Vec<u8>, classes: &Classes, ty: Ty) -> Result<(), NoMemory>
+    ensures { OnOk result (bytes.new.items ≡ bytes.old.items ++ type_text classes.now ty) }
+{
+    match ty {
+        Ty::Prim(primitive) => push_primitive(bytes, primitive),
+        Ty::Class(class) => push_class(bytes, classes, class),
+        Ty::Array(component) => {
+            bytes.extend_from_slice(b"[")?;
+            push_component(bytes, classes, component)
+        }
+    }
+}
+
+/// Writes types, one behind the other.
+fn push_types(bytes: &mut Vec<u8>, classes: &Classes, types: &[Ty]) -> Result<(), NoMemory>
+    ensures { OnOk result (bytes.new.items ≡ bytes.old.items ++ flat_map (type_text classes.now) types.now) }
+{
+    for ty in types {
+        push_type(bytes, classes, *ty)?;
+    }
+    Ok(())
+}
+
+/// Writes a return type.
+fn push_return(bytes: &mut Vec<u8>, classes: &Classes, ret: Option<Ty>) -> Result<(), NoMemory>
+    ensures { OnOk result (bytes.new.items ≡ bytes.old.items ++ return_text classes.now ret) }
+{
+    match ret {
+        Some(ty) => push_type(bytes, classes, ty),
+        None => {
+            bytes.extend_from_slice(b"V")?;
+            Ok(())
+        }
+    }
+}
+
+/// Writes a method type.
+pub(crate) fn push_method_type(
+    bytes: &mut Vec<u8>,
+    classes: &Classes,
+    ty: &MethodTy,
+) -> Result<(), NoMemory>
+    ensures { OnOk result (bytes.new.items ≡ bytes.old.items ++ method_type_text classes.now ty.now) }
+{
+    bytes.extend_from_slice(b"(")?;
+    push_types(bytes, classes, ty.params.as_slice())?;
+    bytes.extend_from_slice(b")")?;
+    push_return(bytes, classes, ty.ret)
+}
+
+/// Writes an array.
+fn push_array(
+    bytes: &mut Vec<u8>,
+    classes: &Classes,
+    component: Comp,
+    items: &[Cell],
+) -> Result<(), NoMemory>
+    ensures { OnOk result (bytes.new.items ≡ bytes.old.items ++ array_text classes.now component items.now) }
+{
+    bytes.extend_from_slice(b"a:")?;
+    push_component(bytes, classes, component)?;
+    bytes.extend_from_slice(b"[")?;
+    push_items(bytes, classes, items)?;
+    bytes.extend_from_slice(b"]")?;
+    Ok(())
+}
+
+/// Writes a value.
+pub(crate) fn push_value(bytes: &mut Vec<u8>, classes: &Classes, v: &Value) -> Result<(), NoMemory>
+    ensures { OnOk result (bytes.new.items ≡ bytes.old.items ++ value_text classes.now v.now) }
+{
+    match v {
+        Value::Prim(number) => push_prim(bytes, *number),
+        Value::Boxed(number) => push_boxed(bytes, *number),
+        Value::Text(text) => push_string(bytes, text.as_slice()),
+        Value::Object(class, number) => push_object(bytes, classes, *class, *number),
+        Value::Thrown(exc) => push_exception(bytes, classes, exc),
+        Value::Array(component, items) => {
+            push_array(bytes, classes, *component, items.as_slice())
+        }
+        Value::Null => push_null(bytes),
+    }
+}
