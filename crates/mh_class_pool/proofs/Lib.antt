@@ -1,2 +1,3 @@
 pub mod PoolLoop
 pub mod Each
+pub mod Failing

@@ -1,1 +1,2 @@
 pub mod SitesLoop
+pub mod Spans

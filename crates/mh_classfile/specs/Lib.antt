@@ -1,3 +1,5 @@
 pub mod Code
 pub mod Found
 pub mod Members
+pub mod Rows
+pub mod Bootstraps

@@ -2,7 +2,10 @@
 #![tactic(auto)]
 
 mod attributes;
+mod bootstraps;
+mod class_attributes;
 mod code;
+mod members;
 mod site;
 
 pub use mh_class_pool::{ClassError, ClassFault, ClassKind};
