@@ -13,7 +13,7 @@ abbrev pub typed_on : List Value → Option (List Value) → Option (List Value)
 typed_on vs None = None
 typed_on vs (Some ws) = Some (vs ++ ws)
 
-drop-at : {A : Type 0} → (xs : List A) (i : ℕ) (x : A) → slice_get xs i ≡ Some x → drop i xs ≡ x ∷ drop (i + 1) xs
+pub drop-at : {A : Type 0} → (xs : List A) (i : ℕ) (x : A) → slice_get xs i ≡ Some x → drop i xs ≡ x ∷ drop (i + 1) xs
 drop-at [] i x h = absurd cc
 drop-at (y ∷ ys) zero x h = let e : y ≡ x = cc in ap (λ v. v ∷ ys) e
 drop-at (y ∷ ys) (suc i) x h =

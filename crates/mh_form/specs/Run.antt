@@ -1,5 +1,6 @@
 -- What running a body does: its names in order, each putting one slot at the end of a list that begins with the arguments.
 use Rattle.std.specs.Prelude.{ℕ, Bool, List, [], ◌∷◌, ◌++◌, Option, Some, None, if◌then◌else◌, slice_get, map, take}
+use Rattle.std.specs.Option.{option_map}
 use Rattle.mh_values.specs.declared.value.Exc.{Exc}
 use Rattle.mh_values.specs.declared.value.LeafCall.{LeafCall}
 use Rattle.mh_values.specs.declared.value.Value.TheVariants as value
@@ -93,7 +94,12 @@ abbrev pub picked : List Slot → List ℕ → Option (List Slot)
 picked slots [] = Some []
 picked slots (p ∷ ps) = picked_more (slice_get slots p) (picked slots ps)
 
--- goes on with the slot at the place of a result, or with nothing where there is no place
+-- the result at a place, if there is a place
+abbrev pub result_at : Option ℕ → List Slot → Option (Option Slot)
+result_at None slots = Some None
+result_at (Some p) slots = option_map Some (slice_get slots p)
+
+-- goes on with the result at a place, or with nothing where there is no place
 abbrev pub with_result : {B : Type 0} → Option ℕ → List Slot → (Option Slot → Ran B) → Ran B
 with_result None slots next = next None
 with_result (Some p) slots next = found (slice_get slots p) (λ s. next (Some s))

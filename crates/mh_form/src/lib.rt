@@ -1,15 +1,20 @@
 //! Forms: lists of names over slots, which handles share, and what running them on fields does.
 #![tactic(auto)]
 
+mod array;
 mod basic;
 mod body;
+mod convert;
 mod copies;
 mod erasure;
 mod field;
+mod leaf;
 mod lookup;
 mod name;
 mod outcome;
+mod plain;
 mod slot;
+mod slots;
 
 pub use basic::{Basic, BasicRet, Basics, Shape};
 pub use body::FormBody;
