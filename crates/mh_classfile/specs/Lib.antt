@@ -3,3 +3,4 @@ pub mod Found
 pub mod Members
 pub mod Rows
 pub mod Bootstraps
+pub mod Class

@@ -5,8 +5,12 @@ mod attributes;
 mod bootstraps;
 mod class_attributes;
 mod code;
+mod constant;
 mod members;
 mod site;
+mod view;
 
+pub use constant::{Constant, HandleRef, Named, SiteView};
 pub use mh_class_pool::{ClassError, ClassFault, ClassKind};
 pub use site::{Method, Site, Sites};
+pub use view::ClassView;
