@@ -20,4 +20,4 @@ pub use conversions::check_astype;
 pub use error::CheckError;
 pub use message::mismatch;
 pub use reordering::check_permute;
-pub use roots::{check_constant, check_identity, check_throw};
+pub use roots::{check_constant, check_identity, check_leaf, check_throw};

@@ -1,13 +1,23 @@
+ghost use Rattle.std.specs.Prelude.{◌<◌, length, slice_get};
 ghost use Rattle.mh_tree.specs.Check.{Tells};
-ghost use Rattle.mh_tree.specs.Rows.{constant_row, identity_row, throw_row};
+ghost use Rattle.mh_tree.specs.Rows.{leaf_row, constant_row, identity_row, throw_row};
 
 use crate::CheckError;
 use crate::error::refused;
 use crate::limits::limited;
-use mh_base::Seq;
+use mh_base::{Copied, Seq};
 use mh_convert::misfit;
-use mh_values::{ClassId, Classes, MethodTy, Ty, Value};
+use mh_leaves::Leaves;
+use mh_values::{ClassId, Classes, LeafId, MethodTy, Ty, Value};
 use std::alloc::Global;
+
+/// The type of a leaf: the one with which it is registered. Never refused.
+pub fn check_leaf(alloc: Global, l: LeafId, leaves: &Leaves) -> Result<MethodTy, CheckError>
+    requires { l.0 < length leaves.now.leaves }
+    ensures { Tells result (leaf_row (slice_get leaves.now.leaves l.0)) }
+{
+    Ok(leaves.ty(l).copy(alloc)?)
+}
 
 /// The type of a constant, which takes nothing (`MethodHandles.constant`, SE 17). Refused where the
 /// type is void, and where the value does not fit it.
