@@ -1,5 +1,7 @@
 pub mod Host
 mod Lengths
+pub mod Orders
+pub mod Registered
 pub mod Returning
 pub mod RowParts
 pub mod SoundAdapters
