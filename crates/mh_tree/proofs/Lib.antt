@@ -1,15 +1,19 @@
+pub mod Calls
 pub mod Host
 mod Lengths
 pub mod Orders
+pub mod Provided
 pub mod Registered
 pub mod Returning
 pub mod RowParts
 pub mod SoundAdapters
-pub mod SoundArrays
 pub mod SoundBranches
 pub mod SoundConversions
+pub mod SoundGather
 pub mod SoundRoots
+pub mod SoundSpread
 pub mod Soundness
+pub mod Trivial
 pub mod TypedLists
 mod WorkedAdapters
 mod WorkedBranches

@@ -11,9 +11,8 @@ use Rattle.mh_values.specs.Computation.{spliced}
 use Rattle.mh_leaf.specs.LeafTable.{LeafTable}
 use Rattle.mh_tree.specs.Tree.{Tree}
 use Rattle.mh_tree.specs.Tree as tree
-use Rattle.mh_tree.specs.Typing.{type_of, arity}
+use Rattle.mh_tree.specs.Typing.{arity}
 use Rattle.mh_tree.specs.Meaning.{mean, picked}
-use Rattle.mh_tree.proofs.TypedLists.{drop-more}
 
 -- the item at a place, and then those behind it
 opened : {A : Type 0} → (xs : List A) (a : ℕ) → drop a xs ≡ option_to_list (slice_get xs a) ++ drop (suc a) xs

@@ -1,5 +1,5 @@
 -- The leaves of a manifest are well typed.
-use Rattle.std.proofs.Common.{◌≡◌, refl, ℕ, zero, suc, subst, true, ◌&&◌, List, [], ◌∷◌, Some}
+use Rattle.std.proofs.Common.{◌≡◌, refl, ℕ, zero, suc, subst, true, List, [], ◌∷◌, Some}
 use Rattle.std.specs.Prelude.{slice_get, All}
 use Rattle.std.proofs.lemmas.List.Elements.{All-head, All-tail}
 use Rattle.mh_values.specs.declared.class.Class.{Class}

@@ -1,5 +1,5 @@
 -- What a row tells that gives a type: its conditions hold, and the type is the one that it makes.
-use Rattle.std.proofs.Common.{◌≡◌, refl, Bool, true, false, ◌&&◌, ◌==◌, ℕ, ◌+◌, ◌-◌, List, [], ◌∷◌, length, drop, replicate, Option, Some, None, is_some, Result, Ok, Err, nat_le, nat_lt, codes}
+use Rattle.std.proofs.Common.{◌≡◌, Bool, true, ◌&&◌, ◌==◌, ℕ, ◌+◌, ◌-◌, List, [], ◌∷◌, length, drop, replicate, Option, Some, is_some, Ok, nat_le, nat_lt, codes}
 use Rattle.std.specs.Prelude.{slice_get, option_to_list}
 use Rattle.std.proofs.lemmas.Bool.{eqb-true}
 use Rattle.mh_values.specs.declared.class.Class.{Class}
@@ -8,47 +8,16 @@ use Rattle.mh_values.specs.declared.types.Comp.{Comp}
 use Rattle.mh_values.specs.declared.types.Ty.{Ty}
 use Rattle.mh_values.specs.declared.types.Ty.TheVariants as ty
 use Rattle.mh_values.specs.declared.types.MethodTy.{MethodTy}
-use Rattle.mh_values.specs.declared.value.Exc.{Exc}
 use Rattle.mh_values.specs.declared.value.Value.{Value}
 use Rattle.mh_values.specs.Array.{item_type}
-use Rattle.mh_values.specs.Class.{is_subclass, throwable_class, internal_error_class}
+use Rattle.mh_values.specs.Class.{is_subclass, throwable_class}
 use Rattle.mh_values.specs.Computation.{spliced}
-use Rattle.mh_values.specs.Exception.{saying}
 use Rattle.mh_values.specs.Same.{is_same_return, are_same_types, begins_with_types, is_same_method_type}
-use Rattle.mh_values.specs.Slots.{slots_of_all}
 use Rattle.mh_values.proofs.SameTypes.{both, method_type}
 use Rattle.mh_convert.specs.Conversion.{fit, ret_conversion_of}
 use Rattle.mh_leaf.specs.Outcome.{boolean_type}
-use Rattle.mh_tree.specs.Rows.{Checked, illegal, provided, provided_some, provided_fit, limited, taking, count_of, gives_at, component_of, takes_array, names_types, folded, ends_with, can_all, can_be_used_as, mismatch, takes_exception, handles, constant_row, identity_row, throw_row, bind_row, drop_row, permute_row, filter_row, filterret_row, fold_row, collect_row, spread_row, gather_row, astype_row, guard_row, catch_row}
-use Rattle.mh_tree.specs.Typing.{with_type}
-
-pub with_type-parts : (c : Checked) (next : MethodTy → Checked) (t : MethodTy) → with_type c next ≡ Ok t → (u : MethodTy) × (c ≡ Ok u) × (next u ≡ Ok t)
-with_type-parts (Ok u) next t h = (u, refl, h)
-with_type-parts (Err e) next t h = absurd cc
-
-pub provided-parts : (b : Bool) (e : Exc) (next : Checked) (t : MethodTy) → provided b e next ≡ Ok t → (b ≡ true) × (next ≡ Ok t)
-provided-parts true e next t h = (refl, h)
-provided-parts false e next t h = absurd cc
-
-pub provided_some-parts : {A : Type 0} (o : Option A) (e : Exc) (next : A → Checked) (t : MethodTy) → provided_some o e next ≡ Ok t → (a : A) × (o ≡ Some a) × (next a ≡ Ok t)
-provided_some-parts (Some a) e next t h = (a, refl, h)
-provided_some-parts None e next t h = absurd cc
-
-pub provided_fit-parts : (r : Result Value Exc) (word : List ℕ) (next : Checked) (t : MethodTy) → provided_fit r word next ≡ Ok t → (w : Value) × (r ≡ Ok w) × (next ≡ Ok t)
-provided_fit-parts (Ok w) word next t h = (w, refl, h)
-provided_fit-parts (Err e) word next t h = absurd cc
-
-same_type : (t u : MethodTy) → ◌≡◌ {A = Checked} (Ok t) (Ok u) → u ≡ t
-same_type t u h = cc
-
-pub limited-is : (word : List ℕ) (weight : ℕ) (t u : MethodTy) → limited word weight t ≡ Ok u → u ≡ t
-limited-is word weight t u h =
-    let heavy = saying internal_error_class (codes "weight") in
-    let q = provided-parts (nat_le (slots_of_all t.params) 254) (illegal word) (provided (nat_le weight 256) heavy (Ok t)) u h in
-    let r = provided-parts (nat_le weight 256) heavy (Ok t) u q.1 in
-    same_type t u r.1
-
--- ---- each combinator's row
+use Rattle.mh_tree.specs.Rows.{Checked, illegal, provided, provided_fit, limited, taking, count_of, gives_at, component_of, takes_array, names_types, folded, ends_with, can_all, can_be_used_as, mismatch, takes_exception, handles, constant_row, identity_row, throw_row, bind_row, drop_row, permute_row, filter_row, filterret_row, fold_row, collect_row, spread_row, gather_row, astype_row, guard_row, catch_row}
+pub use Rattle.mh_tree.proofs.Provided.{with_type-parts, provided-parts, provided_some-parts, provided_fit-parts, limited-is}
 
 pub constant_row-parts : (classes : List Class) (t : Option Ty) (v : Value) (u : MethodTy) → constant_row classes t v ≡ Ok u → (r : Ty) × (w : Value) × (t ≡ Some r) × (fit classes v r ≡ Ok w) × (u ≡ method_type [] (Some r))
 constant_row-parts classes t v u h =

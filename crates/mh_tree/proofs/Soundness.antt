@@ -24,7 +24,8 @@ use Rattle.mh_tree.specs.Sound.{IsSound}
 use Rattle.mh_tree.proofs.RowParts.{with_type-parts}
 use Rattle.mh_tree.proofs.SoundRoots.{constant-sound, identity-sound, throw-sound}
 use Rattle.mh_tree.proofs.SoundAdapters.{bind-sound, drop-sound, permute-sound, filter-sound, filterret-sound, fold-sound, collect-sound}
-use Rattle.mh_tree.proofs.SoundArrays.{spread-sound, gather-sound}
+use Rattle.mh_tree.proofs.SoundSpread.{spread-sound}
+use Rattle.mh_tree.proofs.SoundGather.{gather-sound}
 use Rattle.mh_tree.proofs.SoundConversions.{astype-sound}
 use Rattle.mh_tree.proofs.SoundBranches.{guard-sound, catch-sound}
 
