@@ -1,0 +1,184 @@
+ghost use Rattle.std.specs.Prelude.{◌≡◌, ◌≢◌, IfOk};
+ghost use Rattle.mh_values.specs.Computation.{Stuck};
+ghost use Rattle.mh_form.specs.Run.{guarded_field, ran_of_run, ran_of_step, run_bound, run_field, senses_in, step};
+ghost use Rattle.mh_form.specs.Slots.{is_caught};
+
+use crate::lookup::class_in;
+use crate::outcome::Stepped;
+use crate::plain::{array, call_leaf, check, convert, convert_returned, get, item, throw};
+use crate::slots::{filled, first, holds_one, pick, raised, result_in};
+use crate::{Bound, Field, Name, Operands, Ran, Slot, SlotOutcome, Slots};
+use mh_base::{NoMemory, Seq};
+use mh_leaves::Leaves;
+use mh_values::{ClassId, Value};
+use std::alloc::Global;
+
+/// A part that is guarded: its field, the class of exceptions that are handled, the field of the
+/// handler, and how many arguments the handler takes behind the exception.
+#[derive(Clone, Copy)]
+struct Guard {
+    part: u32,
+    class: ClassId,
+    handler: u32,
+    kept: u32,
+}
+
+#[cycle(run)]
+fn run_part(
+    alloc: Global,
+    bound: &Bound<'_>,
+    leaves: &Leaves,
+    field: u32,
+    args: Slots,
+    n: u32,
+) -> Result<Ran, NoMemory>
+    requires well_formed { run_field (senses_in leaves.now bound.now) field args n ≢ Stuck }
+    ensures { IfOk result
+        (λ r. ran_of_run r ≡ run_field (senses_in leaves.now bound.now) field args n) }
+{
+    let at = field as usize;
+    if at >= bound.fields.len() {
+        unreachable!()
+    }
+    match &bound.fields[at] {
+        Field::Part(part) => run(alloc, part, args, n, leaves),
+        _ => unreachable!(),
+    }
+}
+
+#[cycle(run)]
+fn run_guarded(
+    alloc: Global,
+    bound: &Bound<'_>,
+    leaves: &Leaves,
+    guard: Guard,
+    args: Slots,
+    n: u32,
+) -> Result<Ran, NoMemory>
+    requires well_formed { guarded_field (senses_in leaves.now bound.now) guard.part
+        (is_caught leaves.now.classes guard.class) guard.handler guard.kept args n ≢ Stuck }
+    ensures { IfOk result (λ r. ran_of_run r
+        ≡ guarded_field (senses_in leaves.now bound.now) guard.part
+            (is_caught leaves.now.classes guard.class) guard.handler guard.kept args n) }
+{
+    let kept = first(alloc, &args, guard.kept)?;
+    let Ran { outcome, mut calls } = run_part(alloc, bound, leaves, guard.part, args, n)?;
+    match outcome {
+        SlotOutcome::Return(slot) => Ok(Ran {
+            outcome: SlotOutcome::Return(slot),
+            calls,
+        }),
+        SlotOutcome::Throw(exc) => {
+            if !leaves.classes().subclass(exc.class, guard.class) {
+                return Ok(Ran {
+                    outcome: SlotOutcome::Throw(exc),
+                    calls,
+                });
+            }
+            let later = raised(n, &calls);
+            let mut given = Seq::new(alloc);
+            given.push(Slot::L(Value::Thrown(exc)))?;
+            given.append(kept)?;
+            let handled = run_part(alloc, bound, leaves, guard.handler, given, later)?;
+            calls.append(handled.calls)?;
+            Ok(Ran {
+                outcome: handled.outcome,
+                calls,
+            })
+        }
+    }
+}
+
+#[cycle(run)]
+fn step(
+    alloc: Global,
+    bound: &Bound<'_>,
+    leaves: &Leaves,
+    name: &Name,
+    slots: &Slots,
+    n: u32,
+) -> Result<Stepped, NoMemory>
+    requires well_formed { step name.now (senses_in leaves.now bound.now) slots.now n ≢ Stuck }
+    ensures { IfOk result
+        (λ r. ran_of_step r ≡ step name.now (senses_in leaves.now bound.now) slots.now n) }
+{
+    match name {
+        Name::Get(field) => get(alloc, bound, leaves, *field),
+        Name::Call(field, args) => call_leaf(alloc, bound, leaves, *field, args, slots, n),
+        Name::Link(field, args) => {
+            let args = pick(alloc, slots, args)?;
+            Ok(filled(run_part(alloc, bound, leaves, *field, args, n)?))
+        }
+        Name::Select(test, field, other, args) => {
+            let at = *test as usize;
+            if at >= slots.len() {
+                unreachable!()
+            }
+            let chosen = if holds_one(slots.get(at)) { *field } else { *other };
+            let args = pick(alloc, slots, args)?;
+            Ok(filled(run_part(alloc, bound, leaves, chosen, args, n)?))
+        }
+        Name::Guarded(part, class, handler, args, kept) => {
+            let args = pick(alloc, slots, args)?;
+            let Some(class) = class_in(bound, leaves, *class) else {
+                unreachable!()
+            };
+            let guard = Guard {
+                part: *part,
+                class,
+                handler: *handler,
+                kept: *kept,
+            };
+            Ok(filled(run_guarded(alloc, bound, leaves, guard, args, n)?))
+        }
+        Name::Conv(field, slot) | Name::Cast(field, slot) => {
+            convert(alloc, bound, leaves, *field, *slot, slots)
+        }
+        Name::Ret(field, slot) => convert_returned(alloc, bound, leaves, *field, *slot, slots),
+        Name::MakeArray(field, items) => array(alloc, bound, leaves, *field, items, slots),
+        Name::CheckArray(slot, count) => check(alloc, *slot, *count, slots),
+        Name::Elem(slot, at) => item(alloc, *slot, *at, slots),
+        Name::Raise(slot) => throw(alloc, *slot, slots),
+    }
+}
+
+/// Runs a body on its fields and on arguments, where `n` leaf calls were made before in the
+/// invocation: the names in order, each putting one slot at the end of a list that begins with the
+/// arguments, until one throws. The body must be well formed for its fields, the arguments, `n`
+/// and the leaves: each name that is reached finds what it takes.
+#[cycle(run)]
+pub fn run<'t>(
+    alloc: Global,
+    bound: &Bound<'t>,
+    args: Slots,
+    n: u32,
+    leaves: &Leaves,
+) -> Result<Ran, NoMemory>
+    requires well_formed { run_bound leaves.now bound.now args n ≢ Stuck }
+    ensures { IfOk result (λ r. ran_of_run r ≡ run_bound leaves.now bound.now args n) }
+{
+    let mut slots = args;
+    let mut calls = Seq::new(alloc);
+    let mut count = n;
+    for name in bound.body.names.as_slice() {
+        match step(alloc, bound, leaves, name, &slots, count)? {
+            Stepped::Filled(slot, more) => {
+                count = raised(count, &more);
+                calls.append(more)?;
+                slots.push(slot)?;
+            }
+            Stepped::Ended(exc, more) => {
+                calls.append(more)?;
+                return Ok(Ran {
+                    outcome: SlotOutcome::Throw(exc),
+                    calls,
+                });
+            }
+        }
+    }
+    let given = result_in(alloc, bound.body.out, &slots)?;
+    Ok(Ran {
+        outcome: SlotOutcome::Return(given),
+        calls,
+    })
+}
