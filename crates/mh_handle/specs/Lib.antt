@@ -2,3 +2,5 @@ pub mod Form
 pub mod Index
 pub mod Marks
 pub mod Passes
+pub mod Recipe
+pub mod Stands

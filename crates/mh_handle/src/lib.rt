@@ -11,6 +11,7 @@ mod seat;
 mod seen;
 mod stub;
 mod table;
+mod work;
 
 pub use error::EditError;
 pub use form::Form;
@@ -18,3 +19,4 @@ pub use pass::FormPass;
 pub use recipe::Recipe;
 pub use seat::FormSeat;
 pub use table::FormTable;
+pub use work::Work;

@@ -1,0 +1,77 @@
+-- The recipe of a tree: the keys of the form that a handle runs which stands for it.
+use Rattle.std.specs.Prelude.{ℕ, ◌-◌, Bool, true, false, ◌&&◌, List, [], ◌∷◌, ◌++◌, length, map, if◌then◌else◌, Option, Some, None, Ok, Err}
+use Rattle.mh_values.specs.declared.class.Class.{Class}
+use Rattle.mh_values.specs.declared.types.Ty.{Ty}
+use Rattle.mh_values.specs.declared.types.MethodTy.{MethodTy}
+use Rattle.mh_values.specs.Array.{item_type}
+use Rattle.mh_convert.specs.Conversion.{is_trivial, is_trivial_ret}
+use Rattle.mh_leaf.specs.LeafTable.{LeafTable}
+use Rattle.mh_tree.specs.Tree.{Tree}
+use Rattle.mh_tree.specs.Tree as tree
+use Rattle.mh_tree.specs.Rows.{Checked, component_of}
+use Rattle.mh_tree.specs.Typing.{type_of}
+use Rattle.mh_form.specs.declared.basic.Basic.{Basic}
+use Rattle.mh_form.specs.Erasure.{basic_of, basic_ret_of, shape_of}
+use Rattle.mh_edit.specs.declared.key.Key.{Key}
+use Rattle.mh_edit.specs.declared.key.Key.TheVariants as key
+use Rattle.mh_edit.specs.declared.key.RetEntry.{RetEntry}
+use Rattle.mh_edit.specs.declared.key.RetEntry.TheVariants as entry
+
+-- the keys that depend on a type, none where there is none
+abbrev pub at_type : Checked → (MethodTy → List Key) → List Key
+at_type (Ok t) keys = keys t
+at_type (Err e) keys = []
+
+-- the key that depends on what is there
+abbrev pub at_some : {A : Type 0} → Option A → (A → Key) → List Key
+at_some (Some a) key = key a ∷ []
+at_some None key = []
+
+-- for each parameter that is converted its new basic type; none where the conversion changes nothing
+abbrev pub entries_of : List Class → List Ty → List Ty → List (Option Basic)
+entries_of classes (s ∷ ss) (t ∷ ts) = (if is_trivial classes s t then None else Some (basic_of s)) ∷ entries_of classes ss ts
+entries_of classes _ _ = []
+
+-- what becomes of the result, which stays as it is where the conversion changes nothing
+abbrev pub ret_entry_of : List Class → Option Ty → Option Ty → RetEntry
+ret_entry_of classes s t = if is_trivial_ret classes s t then entry.Keep else entry.New (basic_ret_of t)
+
+-- each conversion of these parameters changes nothing
+abbrev pub are_trivial : List Class → List Ty → List Ty → Bool
+are_trivial classes (s ∷ ss) (t ∷ ts) = is_trivial classes s t && are_trivial classes ss ts
+are_trivial classes _ _ = true
+
+-- the key of a conversion to a type, or none where nothing changes
+abbrev pub convert_keys : List Class → MethodTy → MethodTy → List Key
+convert_keys classes asked t =
+    if are_trivial classes asked.params t.params && is_trivial_ret classes t.ret asked.ret then []
+    else key.Convert (entries_of classes asked.params t.params) (ret_entry_of classes t.ret asked.ret) ∷ []
+
+-- the key of a part that runs on its own arguments, with its result in their place
+abbrev pub collect_keys : ℕ → MethodTy → List Key
+collect_keys place f = key.Collect place (map basic_of f.params) (basic_ret_of f.ret) ∷ []
+
+-- the keys of a tree: those of what it was made from, and then its own
+abbrev pub recipe : LeafTable → Tree → List Key
+recipe table (tree.Leaf l) = at_type (type_of table (tree.Leaf l)) (λ ty. key.LeafRoot (shape_of ty) ∷ [])
+recipe table (tree.Constant t v) = at_some t (λ r. key.ConstRoot (basic_of r))
+recipe table (tree.Identity t) = at_some t (λ r. key.IdentityRoot (basic_of r))
+recipe table (tree.Throw ret class) = key.ThrowRoot (basic_ret_of ret) ∷ []
+recipe table (tree.Bind t place v) = recipe table t ++ key.Bind place ∷ []
+recipe table (tree.Drop t place types) = recipe table t ++ key.Add place (map basic_of types) ∷ []
+recipe table (tree.Permute t asked reorder) = recipe table t ++ key.Permute (map basic_of asked.params) reorder ∷ []
+recipe table (tree.FilterArg t place f) = recipe table t ++ at_type (type_of table f) (collect_keys place)
+recipe table (tree.FilterRet t f) =
+    recipe table t ++ at_type (type_of table f) (λ part. key.FilterReturn (basic_ret_of part.ret) ∷ [])
+recipe table (tree.Fold t place c) =
+    recipe table t ++ at_type (type_of table c) (λ part. key.Fold place (length part.params) (basic_ret_of part.ret) ∷ [])
+recipe table (tree.Collect t place f) = recipe table t ++ at_type (type_of table f) (collect_keys place)
+recipe table (tree.Spread t array count) =
+    recipe table t ++ at_some (component_of array) (λ c. key.Spread count (basic_of (item_type c)))
+recipe table (tree.Gather t array count) =
+    recipe table t ++ at_some (component_of array) (λ c. key.Gather count (basic_of (item_type c)))
+recipe table (tree.AsType t asked) = recipe table t ++ at_type (type_of table t) (convert_keys table.classes asked)
+recipe table (tree.Guard c t e) =
+    at_type (type_of table t) (λ ty. at_type (type_of table c) (λ test. key.GuardRoot (shape_of ty) (length test.params) ∷ []))
+recipe table (tree.Catch t class h) =
+    at_type (type_of table t) (λ ty. at_type (type_of table h) (λ handler. key.CatchRoot (shape_of ty) (length handler.params - 1) ∷ []))

@@ -1,0 +1,52 @@
+-- Handles as contracts see them, and when a handle stands for a tree.
+use Rattle.std.specs.Prelude.{◌≡◌, ◌≢◌, ℕ, ◌<◌, ◌^◌, List, length, map, Ok, false, not, ◌&&◌, ◌==◌, is_some}
+use Rattle.mh_values.specs.declared.types.MethodTy.{MethodTy}
+use Rattle.mh_values.specs.declared.value.Value.{Value}
+use Rattle.mh_values.specs.Computation.{Stuck}
+use Rattle.mh_values.specs.HasType.{HaveTypes}
+use Rattle.mh_leaf.specs.LeafTable.{LeafTable}
+use Rattle.mh_tree.specs.Tree.{Tree, weight}
+use Rattle.mh_tree.specs.Typing.{type_of, sides}
+use Rattle.mh_tree.specs.Meaning.{mean}
+use Rattle.mh_form.specs.declared.body.FormBody.{FormBody}
+use Rattle.mh_form.specs.declared.field.Field.{Field}
+use Rattle.mh_form.specs.Erasure.{basic_of, erased, erased_ran}
+use Rattle.mh_form.specs.Run.{Part, run_on}
+use Rattle.mh_handle.specs.Form.{FormView, body_of}
+use Rattle.mh_handle.specs.Recipe.{recipe}
+
+-- a handle: its type, the weight of its tree, the types of its side parts, its form and its fields
+pub record HandleView : Type 0 where
+  pub ty : MethodTy
+  pub weight : ℕ
+  pub sides : List MethodTy
+  pub form : FormView
+  pub fields : List Field
+
+-- what the handle's form does
+abbrev pub handle_body : HandleView → FormBody
+handle_body h = body_of h.form.recipe
+
+-- the run of the handle's form on its fields
+abbrev pub handle_run : LeafTable → HandleView → Part
+handle_run table h = run_on table (handle_body h) h.fields
+
+-- a body that does something: it has a name, or a result
+abbrev pub IsMade : FormBody → Type 0
+IsMade body = (length body.names == 0 && not (is_some body.out)) ≡ false
+
+-- the handle has the type, the weight, the recipe and the side types of the tree, and on all arguments of its type it does what the tree does, with types erased
+pub record Stands (table : LeafTable) (h : HandleView) (t : Tree) : Type 0 where
+  pub typed : type_of table t ≡ Ok h.ty
+  pub weighed : h.weight ≡ weight t
+  pub made : h.form.recipe ≡ recipe table t
+  pub holds : h.sides ≡ sides table t
+  pub fielded : length h.fields ≡ (handle_body h).fields
+  pub shaped : (handle_body h).params ≡ map basic_of h.ty.params
+  pub begun : IsMade (handle_body h)
+  pub runs :
+      (args : List Value) (n : ℕ) → HaveTypes table.classes args h.ty.params → n < 2 ^ 32 →
+      handle_run table h (map erased args) n ≡ erased_ran (mean table t args n)
+  pub well_formed :
+      (args : List Value) (n : ℕ) → HaveTypes table.classes args h.ty.params → n < 2 ^ 32 →
+      handle_run table h (map erased args) n ≢ Stuck

@@ -1,0 +1,42 @@
+ghost use Rattle.std.specs.Prelude.{◌≡◌, ◌≤◌, ◌++◌, ◌∷◌, [], IsTrue};
+ghost use Rattle.mh_setonce.specs.Walks.{StartsWith};
+ghost use Rattle.mh_edit.specs.Fit.{fits};
+ghost use Rattle.mh_handle.specs.Form.{body_of};
+ghost use Rattle.mh_handle.specs.Passes.{Edits};
+
+use crate::error::EditError;
+use crate::form::Form;
+use crate::pass::FormPass;
+use crate::table::FormTable;
+use mh_edit::Key;
+use mh_leaves::Leaves;
+use std::alloc::Global;
+use std::sync::Wait;
+
+/// What a thread makes handles with: the table of forms with its own pass over it, and the leaves.
+pub struct Work<'w, 't> {
+    pub forms: &'t FormTable,
+    pub pass: &'w mut FormPass<'t>,
+    pub leaves: &'t Leaves,
+}
+
+impl<'w, 't> Work<'w, 't> {
+    /// The form whose recipe is that of `form` followed by the key, as `FormTable::edit`.
+    pub fn edit<R: Wait>(
+        &mut self,
+        rt: &R,
+        alloc: Global,
+        form: &'t Form,
+        key: Key,
+    ) -> Result<&'t Form, EditError>
+        requires fits { IsTrue (fits key (body_of form.now.recipe)) }
+        requires pass { self.old.pass.now.cells ≡ self.old.forms.now }
+        requires room { 1 ≤ self.old.pass.now.seat.room }
+        ensures cells { self.new.pass.now.cells ≡ self.old.pass.now.cells }
+        ensures learnt { StartsWith self.new.pass.now.nodes self.old.pass.now.nodes }
+        ensures edits { Edits (form.entry.now.recipe ++ key ∷ []) self.old.pass.now self.new.pass.now result }
+        ensures same { (self.new.forms ≡ self.old.forms) × (self.new.leaves ≡ self.old.leaves) }
+    {
+        self.forms.edit(rt, alloc, self.pass, form, key)
+    }
+}
