@@ -1,4 +1,5 @@
 pub mod Form
+pub mod Grows
 pub mod Index
 pub mod Marks
 pub mod Passes

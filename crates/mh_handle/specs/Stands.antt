@@ -1,13 +1,13 @@
 -- Handles as contracts see them, and when a handle stands for a tree.
-use Rattle.std.specs.Prelude.{◌≡◌, ◌≢◌, ℕ, ◌<◌, ◌^◌, List, length, map, Ok, false, not, ◌&&◌, ◌==◌, is_some}
+use Rattle.std.specs.Prelude.{◌≡◌, ℕ, ◌<◌, ◌^◌, List, length, map, Ok, false, not, ◌&&◌, ◌==◌, is_some}
 use Rattle.mh_values.specs.declared.types.MethodTy.{MethodTy}
 use Rattle.mh_values.specs.declared.value.Value.{Value}
-use Rattle.mh_values.specs.Computation.{Stuck}
 use Rattle.mh_values.specs.HasType.{HaveTypes}
 use Rattle.mh_leaf.specs.LeafTable.{LeafTable}
 use Rattle.mh_tree.specs.Tree.{Tree, weight}
 use Rattle.mh_tree.specs.Typing.{type_of, sides}
 use Rattle.mh_tree.specs.Meaning.{mean}
+use Rattle.mh_tree.specs.Sound.{IsSound}
 use Rattle.mh_form.specs.declared.body.FormBody.{FormBody}
 use Rattle.mh_form.specs.declared.field.Field.{Field}
 use Rattle.mh_form.specs.Erasure.{basic_of, erased, erased_ran}
@@ -35,7 +35,7 @@ handle_run table h = run_on table (handle_body h) h.fields
 abbrev pub IsMade : FormBody → Type 0
 IsMade body = (length body.names == 0 && not (is_some body.out)) ≡ false
 
--- the handle has the type, the weight, the recipe and the side types of the tree, and on all arguments of its type it does what the tree does, with types erased
+-- the handle has the type, the weight, the recipe and the side types of the tree, and on all arguments of its type it does what the tree does, with types erased; that is well formed, and what it returns has the return type
 pub record Stands (table : LeafTable) (h : HandleView) (t : Tree) : Type 0 where
   pub typed : type_of table t ≡ Ok h.ty
   pub weighed : h.weight ≡ weight t
@@ -47,6 +47,4 @@ pub record Stands (table : LeafTable) (h : HandleView) (t : Tree) : Type 0 where
   pub runs :
       (args : List Value) (n : ℕ) → HaveTypes table.classes args h.ty.params → n < 2 ^ 32 →
       handle_run table h (map erased args) n ≡ erased_ran (mean table t args n)
-  pub well_formed :
-      (args : List Value) (n : ℕ) → HaveTypes table.classes args h.ty.params → n < 2 ^ 32 →
-      handle_run table h (map erased args) n ≢ Stuck
+  pub returns : IsSound table.classes (mean table t) h.ty
