@@ -1,12 +1,13 @@
 -- Erasing along a computation: a leaf, what was bound, and a part before what runs on its result.
-use Rattle.std.proofs.Common.{◌≡◌, ◌≢◌, refl, sym, subst, ap, ◌∙◌, ℕ, ◌+◌, List, [], ◌∷◌, ◌++◌, Option, Some, None, map, take, drop}
+use Rattle.std.proofs.Common.{◌≡◌, ◌≢◌, refl, sym, subst, ap, ◌∙◌, ℕ, ◌+◌, ◌%◌, ◌<◌, ◌^◌, List, [], ◌∷◌, ◌++◌, Option, Some, None, map, take, drop, arith}
 use Rattle.std.specs.Prelude.{option_to_list}
 use Rattle.std.proofs.lemmas.List.{map-append, take-map, drop-map}
 use Rattle.mh_values.specs.declared.class.Class.{Class}
 use Rattle.mh_values.specs.declared.types.Ty.{Ty}
 use Rattle.mh_values.specs.declared.value.LeafCall.{LeafCall}
 use Rattle.mh_values.specs.declared.value.Value.{Value}
-use Rattle.mh_values.specs.Computation.{Ran, Gave, Threw, Stuck, Refines, and_then, after, raised, spliced}
+use Rattle.mh_values.specs.Computation.{Ran, Gave, Threw, Stuck, and_then, after, next_count, raised, spliced}
+use Rattle.mh_values.specs.HasType.{HaveTypes}
 use Rattle.mh_values.specs.Returns.{Returns}
 use Rattle.mh_form.specs.declared.slot.Slot.{Slot}
 use Rattle.mh_form.specs.Erasure.{erased, erased_ran, basic_ret_of}
@@ -33,7 +34,7 @@ erased-after calls Stuck = refl
 pub returns-runs : (classes : List Class) (r : Ran (Option Value)) (t : Option Ty) → Returns classes r t → erased_ran r ≢ Stuck
 returns-runs classes (Gave v calls) t h = λ e. cc
 returns-runs classes (Threw x calls) t h = λ e. cc
-returns-runs classes Stuck t h = λ e. h
+returns-runs classes Stuck t h = absurd h
 
 -- a result of a type is one of its basic type
 pub returned-erased : (classes : List Class) (r : Ran (Option Value)) (t : Option Ty) → Returns classes r t → returned (basic_ret_of t) (erased_ran r) ≡ erased_ran r
@@ -44,35 +45,46 @@ returned-erased classes (Gave (Some v) calls) None h = absurd h
 returned-erased classes (Gave None calls) (Some t) h = absurd h
 returned-erased classes Stuck t h = absurd h
 
+-- the count of leaf calls stays a number of 32 bits
+pub raised-low : (calls : List LeafCall) (n : ℕ) → n < 2 ^ 32 → raised n calls < 2 ^ 32
+raised-low [] n low = low
+raised-low (c ∷ calls) n low =
+    let next : (n + 1) % (2 ^ 32) < 2 ^ 32 = omega arith in
+    raised-low calls (next_count n) next
+
 -- a part that stands for a tree, and what runs on its result
 pub part-then :
     (classes : List Class) (r : Ran (Option Value)) (n : ℕ) (t : Option Ty) (run : List Slot → ℕ → Ran (Option Slot)) (mean : List Value → ℕ → Ran (Option Value)) →
+    n < 2 ^ 32 →
     Returns classes r t →
-    ((o : Option Value) (k : ℕ) → Returns classes (Gave o []) t → run (map erased (option_to_list o)) k ≡ erased_ran (mean (option_to_list o) k)) →
+    ((o : Option Value) (k : ℕ) → HaveTypes classes (option_to_list o) (option_to_list t) → k < 2 ^ 32 → run (map erased (option_to_list o)) k ≡ erased_ran (mean (option_to_list o) k)) →
     and_then (filled (erased_ran r)) n (λ s k. run (given (basic_ret_of t) s) k) ≡ erased_ran (and_then r n (λ o k. mean (option_to_list o) k))
-part-then classes (Gave (Some v) calls) n (Some t) run mean typed same =
-    ap (after calls) (same (Some v) (raised n calls) typed) ∙ sym (erased-after calls (mean (v ∷ []) (raised n calls)))
-part-then classes (Gave None calls) n None run mean typed same =
-    ap (after calls) (same None (raised n calls) tt) ∙ sym (erased-after calls (mean [] (raised n calls)))
-part-then classes (Threw e calls) n t run mean typed same = refl
-part-then classes (Gave (Some v) calls) n None run mean typed same = absurd typed
-part-then classes (Gave None calls) n (Some t) run mean typed same = absurd typed
-part-then classes Stuck n t run mean typed same = absurd typed
+part-then classes (Gave (Some v) calls) n (Some t) run mean low typed same =
+    ap (after calls) (same (Some v) (raised n calls) (typed, tt) (raised-low calls n low)) ∙ sym (erased-after calls (mean (v ∷ []) (raised n calls)))
+part-then classes (Gave None calls) n None run mean low typed same =
+    ap (after calls) (same None (raised n calls) tt (raised-low calls n low)) ∙ sym (erased-after calls (mean [] (raised n calls)))
+part-then classes (Threw e calls) n t run mean low typed same = refl
+part-then classes (Gave (Some v) calls) n None run mean low typed same = absurd typed
+part-then classes (Gave None calls) n (Some t) run mean low typed same = absurd typed
+part-then classes Stuck n t run mean low typed same = absurd typed
 
 -- the same where the part runs last
 pub result-then :
     (classes : List Class) (r : Ran (Option Value)) (n : ℕ) (t ret : Option Ty) (run : List Slot → ℕ → Ran (Option Slot)) (mean : List Value → ℕ → Ran (Option Value)) →
+    n < 2 ^ 32 →
     Returns classes r t →
-    ((o : Option Value) (k : ℕ) → Returns classes (Gave o []) t → Returns classes (mean (option_to_list o) k) ret) →
-    ((o : Option Value) (k : ℕ) → Returns classes (Gave o []) t → run (map erased (option_to_list o)) k ≡ erased_ran (mean (option_to_list o) k)) →
+    ((o : Option Value) (k : ℕ) → HaveTypes classes (option_to_list o) (option_to_list t) → Returns classes (mean (option_to_list o) k) ret) →
+    ((o : Option Value) (k : ℕ) → HaveTypes classes (option_to_list o) (option_to_list t) → k < 2 ^ 32 → run (map erased (option_to_list o)) k ≡ erased_ran (mean (option_to_list o) k)) →
     and_then (erased_ran r) n (λ o k. returned (basic_ret_of ret) (run (slots_of_result o) k)) ≡ erased_ran (and_then r n (λ o k. mean (option_to_list o) k))
-result-then classes (Gave (Some v) calls) n (Some t) ret run mean typed sound same =
-    ap (after calls) (ap (returned (basic_ret_of ret)) (same (Some v) (raised n calls) typed) ∙ returned-erased classes (mean (v ∷ []) (raised n calls)) ret (sound (Some v) (raised n calls) typed))
-    ∙ sym (erased-after calls (mean (v ∷ []) (raised n calls)))
-result-then classes (Gave None calls) n None ret run mean typed sound same =
-    ap (after calls) (ap (returned (basic_ret_of ret)) (same None (raised n calls) tt) ∙ returned-erased classes (mean [] (raised n calls)) ret (sound None (raised n calls) tt))
-    ∙ sym (erased-after calls (mean [] (raised n calls)))
-result-then classes (Threw e calls) n t ret run mean typed sound same = refl
-result-then classes (Gave (Some v) calls) n None ret run mean typed sound same = absurd typed
-result-then classes (Gave None calls) n (Some t) ret run mean typed sound same = absurd typed
-result-then classes Stuck n t ret run mean typed sound same = absurd typed
+result-then classes (Gave (Some v) calls) n (Some t) ret run mean low typed sound same =
+    let k : ℕ = raised n calls in
+    ap (after calls) (ap (returned (basic_ret_of ret)) (same (Some v) k (typed, tt) (raised-low calls n low)) ∙ returned-erased classes (mean (v ∷ []) k) ret (sound (Some v) k (typed, tt)))
+    ∙ sym (erased-after calls (mean (v ∷ []) k))
+result-then classes (Gave None calls) n None ret run mean low typed sound same =
+    let k : ℕ = raised n calls in
+    ap (after calls) (ap (returned (basic_ret_of ret)) (same None k tt (raised-low calls n low)) ∙ returned-erased classes (mean [] k) ret (sound None k tt))
+    ∙ sym (erased-after calls (mean [] k))
+result-then classes (Threw e calls) n t ret run mean low typed sound same = refl
+result-then classes (Gave (Some v) calls) n None ret run mean low typed sound same = absurd typed
+result-then classes (Gave None calls) n (Some t) ret run mean low typed sound same = absurd typed
+result-then classes Stuck n t ret run mean low typed sound same = absurd typed

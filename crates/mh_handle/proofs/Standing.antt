@@ -25,7 +25,8 @@ use Rattle.mh_edit.specs.Rename.{reframed, renamed, place_by, ending_with}
 use Rattle.mh_handle.specs.Form.{body_of}
 use Rattle.mh_handle.specs.Grows.{Grows}
 use Rattle.mh_handle.specs.Recipe.{recipe}
-use Rattle.mh_handle.specs.Stands.{HandleView, handle_body, IsMade, Stands}
+use Rattle.mh_handle.specs.Stands.{HandleView, handle_body, handle_run, IsMade, Stands}
+use Rattle.mh_handle.proofs.Erasing.{returns-runs}
 use Rattle.mh_handle.proofs.Recipes.{body_of-snoc}
 
 and-false : (a : Bool) → (a && false) ≡ false
@@ -72,6 +73,12 @@ pub stands-grown :
     Stands table h' t'
 stands-grown table h h' t t' ty weighs more k fields g st su =
     let body : handle_body h' ≡ applied k (handle_body h) = ap body_of g.made ∙ body_of-snoc h.form.recipe k in
+    let run : (args : List Value) (n : ℕ) → HaveTypes table.classes args h'.ty.params → n < 2 ^ 32 → handle_run table h' (map erased args) n ≡ erased_ran (mean table t' args n) =
+    λ args n have low.
+    ap (λ b. run_on table b h'.fields (map erased args) n) body
+    ∙ (ap (λ fs. run_on table (applied k (handle_body h)) fs (map erased args) n) g.fielded
+    ∙ su.runs args n (subst (λ (m : MethodTy). HaveTypes table.classes args m.params) g.typed have) low) in
+    let sound : IsSound table.classes (mean table t') h'.ty = subst (IsSound table.classes (mean table t')) (sym g.typed) su.returns in
     record {
       typed = su.typed ∙ ap Ok (sym g.typed);
       weighed = g.weighed ∙ su.weighed;
@@ -80,9 +87,7 @@ stands-grown table h h' t t' ty weighs more k fields g st su =
       fielded = ap length g.fielded ∙ (length-append h.fields fields ∙ (ap (λ c. c + length fields) st.fielded ∙ (sym su.fielded ∙ ap (λ b. b.fields) (sym body))));
       shaped = ap (λ b. b.params) body ∙ (su.shaped ∙ ap (λ (m : MethodTy). map basic_of m.params) (sym g.typed));
       begun = subst IsMade (sym body) su.begun;
-      runs = λ args n have low.
-          ap (λ b. run_on table b h'.fields (map erased args) n) body
-          ∙ (ap (λ fs. run_on table (applied k (handle_body h)) fs (map erased args) n) g.fielded
-          ∙ su.runs args n (subst (λ (m : MethodTy). HaveTypes table.classes args m.params) g.typed have) low);
-      returns = subst (IsSound table.classes (mean table t')) (sym g.typed) su.returns;
+      runs = run;
+      well_formed = λ args n have low e. returns-runs table.classes (mean table t' args n) h'.ty.ret (sound args n have) (sym (run args n have low) ∙ e);
+      returns = sound;
     }

@@ -1,7 +1,8 @@
 -- Handles as contracts see them, and when a handle stands for a tree.
-use Rattle.std.specs.Prelude.{◌≡◌, ℕ, ◌<◌, ◌^◌, List, length, map, Ok, false, not, ◌&&◌, ◌==◌, is_some}
+use Rattle.std.specs.Prelude.{◌≡◌, ◌≢◌, ℕ, ◌<◌, ◌^◌, List, length, map, Ok, false, not, ◌&&◌, ◌==◌, is_some}
 use Rattle.mh_values.specs.declared.types.MethodTy.{MethodTy}
 use Rattle.mh_values.specs.declared.value.Value.{Value}
+use Rattle.mh_values.specs.Computation.{Stuck}
 use Rattle.mh_values.specs.HasType.{HaveTypes}
 use Rattle.mh_leaf.specs.LeafTable.{LeafTable}
 use Rattle.mh_tree.specs.Tree.{Tree, weight}
@@ -47,4 +48,7 @@ pub record Stands (table : LeafTable) (h : HandleView) (t : Tree) : Type 0 where
   pub runs :
       (args : List Value) (n : ℕ) → HaveTypes table.classes args h.ty.params → n < 2 ^ 32 →
       handle_run table h (map erased args) n ≡ erased_ran (mean table t args n)
+  pub well_formed :
+      (args : List Value) (n : ℕ) → HaveTypes table.classes args h.ty.params → n < 2 ^ 32 →
+      handle_run table h (map erased args) n ≢ Stuck
   pub returns : IsSound table.classes (mean table t) h.ty
