@@ -1,2 +1,3 @@
 pub mod SitesLoop
 pub mod Spans
+pub mod FileLaw

@@ -4,3 +4,4 @@ pub mod Members
 pub mod Rows
 pub mod Bootstraps
 pub mod Class
+pub mod File

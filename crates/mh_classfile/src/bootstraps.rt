@@ -87,4 +87,23 @@ impl Bootstraps {
     {
         self.spans.get(j as usize).handle
     }
+
+    /// The number of arguments of a method.
+    pub fn count(&self, j: u16) -> u16
+        requires { j < length self.now.closed }
+        ensures { IfSome (slice_get self.now.closed j) (λ row. length row.arguments ≡ result) }
+    {
+        self.spans.get(j as usize).count
+    }
+
+    /// The index of an argument of a method.
+    pub fn argument(&self, j: u16, k: u16) -> u16
+        requires method { j < length self.now.closed }
+        requires argument { IfSome (slice_get self.now.closed j) (λ row. k < length row.arguments) }
+        ensures { IfSome (slice_get self.now.closed j) (λ row. slice_get row.arguments k ≡ Some result) }
+    {
+        let span = *self.spans.get(j as usize);
+        let arguments = self.arguments.as_slice();
+        arguments[span.start + k as usize]
+    }
 }

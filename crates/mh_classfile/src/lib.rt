@@ -7,10 +7,12 @@ mod class_attributes;
 mod code;
 mod constant;
 mod members;
+mod reader;
 mod site;
 mod view;
 
 pub use constant::{Constant, HandleRef, Named, SiteView};
 pub use mh_class_pool::{ClassError, ClassFault, ClassKind};
+pub use reader::read;
 pub use site::{Method, Site, Sites};
 pub use view::ClassView;

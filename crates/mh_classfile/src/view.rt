@@ -188,4 +188,21 @@ impl<'b> ClassView<'b> {
     {
         handle(&self.pool, self.bootstraps.handle(j))
     }
+
+    /// The number of static arguments of a bootstrap method.
+    pub fn arguments(&self, j: u16) -> u16
+        requires { j < length self.now.bootstraps }
+        ensures { IfSome (slice_get self.now.bootstraps j) (λ b. length b.arguments ≡ result) }
+    {
+        self.bootstraps.count(j)
+    }
+
+    /// A static argument of a bootstrap method.
+    pub fn argument(&self, j: u16, k: u16) -> Constant<'b>
+        requires bootstrap { j < length self.now.bootstraps }
+        requires argument { IfSome (slice_get self.now.bootstraps j) (λ b. k < length b.arguments) }
+        ensures { IfSome (slice_get self.now.bootstraps j) (λ b. slice_get b.arguments k ≡ Some result) }
+    {
+        argument(&self.pool, self.bootstraps.argument(j, k))
+    }
 }

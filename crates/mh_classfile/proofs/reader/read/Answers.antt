@@ -1,0 +1,13 @@
+use Rattle.std.proofs.Common.{subst}
+use Rattle.mh_class_bytes.specs.Format.{Checked}
+use Rattle.mh_class_pool.specs.declared.fault.ClassKind.{ClassKind}
+use Rattle.mh_class_pool.specs.Answers.{Yields}
+use Rattle.mh_classfile.specs.Class.{Class}
+use Rattle.mh_classfile.proofs.FileLaw.{file_complete, is_found}
+use Rattle.mh_classfile.proofs.reader.read.Goals as goal
+
+pub returns-clause-found : goal.returns-clause-found
+returns-clause-found c = is_found (λ v. v) c.args.room c.args.bytes.now c.read_exact.result c.read_exact.ensures
+
+pub returns-clause-only : goal.returns-clause-only
+returns-clause-only c = λ d s. subst (λ (r : Checked ClassKind Class). Yields (λ v. v) c.read_exact.result r) (file_complete c.args.room c.args.bytes.now d s) c.read_exact.ensures

@@ -1,0 +1,60 @@
+-- Class files (JVMS 4.1): which bytes are one, and the class that they are.
+use Rattle.std.specs.Prelude.{◌≡◌, ℕ, zero, nat_lt, nat_le, ◌==◌, ◌&&◌, List, [], length, Option, Some, None, Ok, unwrap_or}
+use Rattle.mh_class_bytes.specs.Position.{Position}
+use Rattle.mh_class_bytes.specs.Format.{number, here, check, verdict, done, ◌>>=◌, Spells, Checked, reads, and_then}
+use Rattle.mh_class_pool.specs.declared.entry.Entry.TheVariants as entries
+use Rattle.mh_class_pool.specs.declared.fault.ClassKind.{ClassKind}
+use Rattle.mh_class_pool.specs.declared.fault.ClassKind.TheVariants.{Truncated, BadMagic, BadVersion, BadIndex, BadBootstraps, Trailing}
+use Rattle.mh_class_pool.specs.Entries.{Part, Slot, pool_of}
+use Rattle.mh_class_pool.specs.References.{Verdict, holds, each, good_references}
+use Rattle.mh_classfile.specs.Members.{class_names, members}
+use Rattle.mh_classfile.specs.Bootstraps.{class_attributes}
+use Rattle.mh_classfile.specs.Rows.{Row}
+use Rattle.mh_classfile.specs.Class.{Class, class_of}
+
+-- magic, minor version, a major version from 45 to 61, and the count of the pool, which is not 0
+unfoldable pub header : Part ℕ
+header = do
+  at ← here
+  magic ← number Truncated 4
+  is_magic ← check (magic == 0xCAFEBABE) at BadMagic
+  minor ← number Truncated 2
+  at_major ← here
+  major ← number Truncated 2
+  is_known ← check (nat_le 45 major && nat_le major 61) at_major BadVersion
+  at_count ← here
+  count ← number Truncated 2
+  some ← check (nat_lt 0 count) at_count BadIndex
+  done count
+
+-- an entry that names a bootstrap method names one that is there; the fault stands at its tag
+unfoldable pub has_bootstrap : ℕ → Slot → Verdict
+has_bootstrap count (Some (at, entries.InvokeDynamic bootstrap name)) = holds (nat_lt bootstrap count) at BadBootstraps
+has_bootstrap count (Some (at, entries.Dynamic bootstrap name)) = holds (nat_lt bootstrap count) at BadBootstraps
+has_bootstrap count _ = Ok tt
+
+-- the bootstrap methods of a class; none where it has no such attribute
+abbrev pub rows_or_none : Option (List Row) → List Row
+rows_or_none found = unwrap_or found []
+
+-- a class file of so many bytes, with at most so many call sites
+unfoldable pub class_file : ℕ → ℕ → Part Class
+class_file room total = do
+  count ← header
+  pool ← pool_of count
+  good ← verdict (good_references pool)
+  names ← class_names pool
+  sites ← members pool room
+  found ← class_attributes pool
+  at ← here
+  ended ← check (at == total) at Trailing
+  known ← verdict (each (has_bootstrap (length (rows_or_none found))) pool)
+  done (class_of pool sites (rows_or_none found))
+
+-- the bytes are a class file of this class, with at most so many call sites
+abbrev pub IsClassFile : ℕ → List ℕ → Class → Type 0
+IsClassFile room bytes c = Spells (class_file room (length bytes)) 0 bytes c
+
+-- the class, or the first condition in reading order that does not hold
+abbrev pub class_or_fault : ℕ → List ℕ → Checked ClassKind Class
+class_or_fault room bytes = and_then (reads (class_file room (length bytes)) (record { bytes = bytes; at = 0 })) (λ x. Ok x.0)

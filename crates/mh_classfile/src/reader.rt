@@ -1,0 +1,126 @@
+ghost use Rattle.std.specs.Prelude.{◌≡◌, ◌<◌, OnOk, IfOk, Ok};
+ghost use Rattle.mh_class_bytes.specs.Bytes.{Moves};
+ghost use Rattle.mh_class_bytes.specs.Format.{Finds, Reads, reads};
+ghost use Rattle.mh_class_pool.specs.Answers.{Yields};
+ghost use Rattle.mh_class_pool.specs.Entries.{slot};
+ghost use Rattle.mh_class_pool.specs.References.{each};
+ghost use Rattle.mh_classfile.specs.Rows.{closed_of};
+ghost use Rattle.mh_classfile.specs.Class.{Class};
+ghost use Rattle.mh_classfile.specs.File.{header, has_bootstrap, rows_or_none, IsClassFile, class_or_fault};
+
+use crate::bootstraps::Bootstraps;
+use crate::class_attributes::read_class_attributes;
+use crate::members::{pass_class_names, read_members};
+use crate::site::Sites;
+use crate::view::ClassView;
+use mh_class_bytes::Cursor;
+use mh_class_pool::{
+    ClassError, ClassFault, ClassKind, Entry, Pool, check_pool, read_pool, u2, u4,
+};
+use std::alloc::Global;
+
+/// Magic and versions, and the count of the pool.
+#[tactic(auto, unfolding(crate::specs::File::header))]
+fn read_header(cursor: &mut Cursor<'_>) -> Result<u16, ClassFault>
+    ensures reads { Reads (λ x. x) result cursor.new (reads header cursor.old) }
+    ensures moves { Moves cursor.old cursor.new }
+    ensures inside { OnOk result (0 < cursor.new.at) }
+{
+    let short = ClassKind::Truncated;
+    let start = cursor.at();
+    if u4(cursor, short)? != 0xCAFE_BABE {
+        let kind = ClassKind::BadMagic;
+        return Err(ClassFault { at: start, kind });
+    }
+    let _minor = u2(cursor, short)?;
+    let at = cursor.at();
+    let major = u2(cursor, short)?;
+    if !(45..=61).contains(&major) {
+        let kind = ClassKind::BadVersion;
+        return Err(ClassFault { at, kind });
+    }
+    let at = cursor.at();
+    let count = u2(cursor, short)?;
+    if count == 0 {
+        let kind = ClassKind::BadIndex;
+        return Err(ClassFault { at, kind });
+    }
+    Ok(count)
+}
+
+#[tactic(auto, unfolding(crate::specs::File::has_bootstrap))]
+fn check_bootstrap(pool: &Pool<'_>, count: u16, index: usize) -> Result<(), ClassFault>
+    ensures { Finds (λ x. x) result (has_bootstrap count (slot pool.now index)) }
+{
+    match pool.get(index) {
+        Some((at, Entry::InvokeDynamic(bootstrap, _) | Entry::Dynamic(bootstrap, _))) => {
+            if bootstrap < count {
+                Ok(())
+            } else {
+                let kind = ClassKind::BadBootstraps;
+                Err(ClassFault { at, kind })
+            }
+        }
+        _ => Ok(()),
+    }
+}
+
+fn check_bootstraps(pool: &Pool<'_>, count: u16) -> Result<(), ClassFault>
+    ensures { Finds (λ x. x) result (each (has_bootstrap count) pool.now) }
+{
+    for index in 0..pool.len() {
+        check_bootstrap(pool, count, index)?;
+    }
+    Ok(())
+}
+
+fn methods_or_none(alloc: Global, found: Option<Bootstraps>) -> Bootstraps
+    ensures { result.closed ≡ rows_or_none (closed_of found) }
+{
+    match found {
+        Some(methods) => methods,
+        None => Bootstraps::new(alloc),
+    }
+}
+
+#[tactic(auto, unfolding(crate::specs::File::class_file))]
+fn read_exact<'b>(alloc: Global, bytes: &'b [u8], room: u32) -> Result<ClassView<'b>, ClassError>
+    ensures { Yields (λ v. v) result (class_or_fault room bytes.now) }
+{
+    let mut cursor = Cursor::new(bytes);
+    let count = read_header(&mut cursor)?;
+    let pool = read_pool(alloc, count, &mut cursor)?;
+    check_pool(alloc, &pool)?;
+    pass_class_names(&pool, &mut cursor)?;
+    let mut sites = Sites::new(alloc, room);
+    read_members(&pool, &mut sites, &mut cursor)?;
+    let found = read_class_attributes(alloc, &pool, &mut cursor)?;
+    let bootstraps = methods_or_none(alloc, found);
+    let at = cursor.at();
+    if at != bytes.len() {
+        let kind = ClassKind::Trailing;
+        return Err(ClassError::Fault(ClassFault { at, kind }));
+    }
+    check_bootstraps(&pool, bootstraps.len())?;
+    Ok(ClassView {
+        pool,
+        sites,
+        bootstraps,
+    })
+}
+
+/// The class that the bytes are, over the bytes, where it has at most `room` call sites; otherwise
+/// the first condition, in the order of reading, that does not hold (JVMS SE 17, 4.1). Code is not
+/// verified (4.10).
+pub fn read<'b>(alloc: Global, bytes: &'b [u8], room: u32) -> Result<ClassView<'b>, ClassError>
+    // A view is the class of a class file.
+    ensures found { IfOk result (λ v. IsClassFile room bytes.now v) }
+
+    // A class file is accepted, unless memory runs out.
+    ensures only { (c : Class) → IsClassFile room bytes.now c → Yields (λ v. v) result (Ok c) }
+
+    // A fault is the first one, with its place and kind.
+    ensures exact { Yields (λ v. v) result (class_or_fault room bytes.now) }
+{
+    read_exact(alloc, bytes, room)
+}
