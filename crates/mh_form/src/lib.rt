@@ -6,6 +6,7 @@ mod basic;
 mod body;
 mod convert;
 mod copies;
+mod duplicate;
 mod erasure;
 mod field;
 mod interpreter;
@@ -19,6 +20,7 @@ mod slots;
 
 pub use basic::{Basic, BasicRet, Basics, Shape};
 pub use body::FormBody;
+pub use duplicate::{copy_bound, copy_field, copy_fields};
 pub use erasure::{all_typed, erase, erase_all, shape, typed};
 pub use field::{Bound, Field, Fields};
 pub use name::{Name, Names, Operands};

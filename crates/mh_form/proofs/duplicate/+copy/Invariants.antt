@@ -1,0 +1,8 @@
+use Rattle.std.proofs.Common.{◌≡◌, take, map}
+use Rattle.mh_leaf.specs.LeafTable.{LeafTable}
+use Rattle.mh_form.specs.Run.{sense}
+use Rattle.mh_form.proofs.duplicate.+copy.Given as goal
+
+abbrev pub invariant-copy_fields-loop-field : goal.invariant-copy_fields-loop-field
+invariant-copy_fields-loop-field l =
+    (table : LeafTable) → map (sense table) l.copies.items ≡ map (sense table) (take l.field-index l.fields)
