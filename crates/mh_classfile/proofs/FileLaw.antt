@@ -1,9 +1,10 @@
 -- A class is found exactly where the bytes are a class file.
-use Rattle.std.proofs.Common.{◌≡◌, ℕ, ◌+◌, List, [], ◌∷◌, ◌++◌, length, drop, Result, Ok, Err, refl, sym, ap, subst, ◌∙◌, arith}
+use Rattle.std.proofs.Common.{◌≡◌, ℕ, ◌+◌, List, [], ◌∷◌, ◌++◌, length, drop, Result, Ok, Err, refl, sym, ap, subst, ◌∙◌, arith, inl, inr}
 use Rattle.std.proofs.lemmas.List.{append-nil, length-append, nil_from_length}
 use Rattle.std.proofs.lemmas.Bool.{eqb-true}
 use Rattle.std.specs.Prelude.{IfOk}
 use Rattle.mh_class_bytes.specs.Position.{Position}
+use Rattle.mh_class_bytes.specs.declared.fault.Fault.{Fault}
 use Rattle.mh_class_bytes.specs.Format.{Spells, reads, Checked, Reading, and_then}
 use Rattle.mh_class_bytes.proofs.FormatSound.{sound, and_then_ok}
 use Rattle.mh_class_bytes.proofs.FormatComplete.{complete}
@@ -11,7 +12,7 @@ use Rattle.mh_class_pool.specs.declared.fault.ClassKind.{ClassKind}
 use Rattle.mh_class_pool.specs.declared.fault.ClassError.{ClassError}
 use Rattle.mh_class_pool.specs.Answers.{Yields}
 use Rattle.mh_classfile.specs.Class.{Class}
-use Rattle.mh_classfile.specs.File.{class_file, IsClassFile, class_or_fault}
+use Rattle.mh_classfile.specs.File.{class_file, IsClassFile, class_or_fault, IsEither}
 
 abbrev start : List ℕ → Position
 start bytes = record { bytes = bytes; at = 0 }
@@ -70,3 +71,14 @@ file_sound room bytes c e =
 pub is_found : {V : Type 0} (view : V → Class) (room : ℕ) (bytes : List ℕ) (r : Result V ClassError) → Yields view r (class_or_fault room bytes) → IfOk r (λ v. IsClassFile room bytes (view v))
 is_found view room bytes (Ok v) given = file_sound room bytes (view v) given
 is_found view room bytes (Err e) given = tt
+
+-- There is just one of a class and a fault.
+pub either : (room : ℕ) (bytes : List ℕ) → IsEither room bytes
+either room bytes = go (class_or_fault room bytes) refl
+  where
+    go : (r : Checked ClassKind Class) → class_or_fault room bytes ≡ r → IsEither room bytes
+    go (Ok c) e = inl (c, file_sound room bytes c e, λ d s. ok_is d c (sym (file_complete room bytes d s) ∙ e))
+    go (Err f) e = inr (f, e, λ c s. differs c f (sym (file_complete room bytes c s) ∙ e))
+      where
+        differs : (c : Class) (f : Fault ClassKind) → okc c ≡ Err f → ⊥
+        differs c f h = absurd cc

@@ -1,6 +1,7 @@
 -- Class files (JVMS 4.1): which bytes are one, and the class that they are.
-use Rattle.std.specs.Prelude.{◌≡◌, ℕ, zero, nat_lt, nat_le, ◌==◌, ◌&&◌, List, [], length, Option, Some, None, Ok, unwrap_or}
+use Rattle.std.specs.Prelude.{◌≡◌, ℕ, zero, nat_lt, nat_le, ◌==◌, ◌&&◌, List, [], length, Option, Some, None, Ok, Err, unwrap_or, ◌⊎◌}
 use Rattle.mh_class_bytes.specs.Position.{Position}
+use Rattle.mh_class_bytes.specs.declared.fault.Fault.{Fault}
 use Rattle.mh_class_bytes.specs.Format.{number, here, check, verdict, done, ◌>>=◌, Spells, Checked, reads, and_then}
 use Rattle.mh_class_pool.specs.declared.entry.Entry.TheVariants as entries
 use Rattle.mh_class_pool.specs.declared.fault.ClassKind.{ClassKind}
@@ -58,3 +59,9 @@ IsClassFile room bytes c = Spells (class_file room (length bytes)) 0 bytes c
 -- the class, or the first condition in reading order that does not hold
 abbrev pub class_or_fault : ℕ → List ℕ → Checked ClassKind Class
 class_or_fault room bytes = and_then (reads (class_file room (length bytes)) (record { bytes = bytes; at = 0 })) (λ x. Ok x.0)
+
+-- just one of two things there is: the one class that the bytes are, or the first fault, where they are none
+abbrev pub IsEither : ℕ → List ℕ → Type 0
+IsEither room bytes =
+    ((c : Class) × IsClassFile room bytes c × ((d : Class) → IsClassFile room bytes d → d ≡ c))
+    ⊎ ((f : Fault ClassKind) × (class_or_fault room bytes ≡ Err f) × ((c : Class) → ¬ IsClassFile room bytes c))

@@ -6,7 +6,7 @@ ghost use Rattle.mh_class_pool.specs.Entries.{slot};
 ghost use Rattle.mh_class_pool.specs.References.{each};
 ghost use Rattle.mh_classfile.specs.Rows.{closed_of};
 ghost use Rattle.mh_classfile.specs.Class.{Class};
-ghost use Rattle.mh_classfile.specs.File.{header, has_bootstrap, rows_or_none, IsClassFile, class_or_fault};
+ghost use Rattle.mh_classfile.specs.File.{header, has_bootstrap, rows_or_none, IsClassFile, class_or_fault, IsEither};
 
 use crate::bootstraps::Bootstraps;
 use crate::class_attributes::read_class_attributes;
@@ -121,6 +121,9 @@ pub fn read<'b>(alloc: Global, bytes: &'b [u8], room: u32) -> Result<ClassView<'
 
     // A fault is the first one, with its place and kind.
     ensures exact { Yields (λ v. v) result (class_or_fault room bytes.now) }
+
+    // There is one class, or a fault, and not both.
+    ensures either { IsEither room bytes.now }
 {
     read_exact(alloc, bytes, room)
 }
