@@ -14,6 +14,12 @@ impl ClassId {
 
     pub const THROWABLE: ClassId = ClassId(9);
 
+    pub const EXCEPTION: ClassId = ClassId(10);
+
+    pub const RUNTIME_EXCEPTION: ClassId = ClassId(11);
+
+    pub const ERROR: ClassId = ClassId(12);
+
     pub const BOOTSTRAP_METHOD_ERROR: ClassId = ClassId(14);
 
     pub const NO_CLASS_DEF_FOUND: ClassId = ClassId(15);

@@ -13,6 +13,8 @@ mod literal;
 mod meaning;
 mod registry;
 mod same;
+#[cfg(test)]
+mod tests;
 mod types;
 mod typing;
 mod value;

@@ -1,4 +1,4 @@
-ghost use Rattle.std.specs.Prelude.{◌≡◌, ◌<◌, ◌^◌};
+ghost use Rattle.std.specs.Prelude.{◌≡◌, ◌-◌, ◌^◌, min};
 ghost use Rattle.mh_values.specs.HasType.{primitive_of, wrapper_of, is_component_below, is_item_of, are_items_of, has_class, has_primitive, has_component, has_type, is_type_below};
 ghost use Rattle.mh_values.specs.Slots.{slots_of, slots_of_all};
 
@@ -42,14 +42,13 @@ impl Ty {
     }
 }
 
-/// The slots of all parameters (JVMS SE 17, 4.3.3).
+/// The slots of all parameters (JVMS SE 17, 4.3.3), as far as 32 bits count them.
 pub fn slots(ty: &MethodTy) -> u32
-    requires { slots_of_all ty.now.params < 2 ^ 32 }
-    ensures { result ≡ slots_of_all ty.now.params }
+    ensures { result ≡ min (slots_of_all ty.now.params) (2 ^ 32 - 1) }
 {
-    let mut all = 0;
+    let mut all: u32 = 0;
     for parameter in ty.params.as_slice() {
-        all += parameter.slots();
+        all = all.saturating_add(parameter.slots());
     }
     all
 }
