@@ -1,7 +1,12 @@
+pub mod AsTypeRuns
+pub mod AsTypeStands
 pub mod Asked
+pub mod ConvertedParameters
+pub mod ConvertedSlots
 pub mod Edits
 pub mod Erasing
 pub mod Indexes
 pub mod Passing
 pub mod Recipes
 pub mod Standing
+pub mod TrivialConversions

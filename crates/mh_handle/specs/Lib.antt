@@ -1,3 +1,4 @@
+pub mod Converting
 pub mod Form
 pub mod Grows
 pub mod Index

@@ -1,0 +1,81 @@
+-- Conversions of which each changes nothing.
+use Rattle.std.proofs.Common.{◌≡◌, refl, ap, ◌∙◌, subst, ℕ, Bool, true, false, cond, List, [], ◌∷◌, Option, Some, None, Result, Ok}
+use Rattle.std.specs.Prelude.{option_to_list}
+use Rattle.std.specs.Result.{result_map_both}
+use Rattle.std.proofs.lemmas.List.{append-nil}
+use Rattle.mh_values.specs.declared.class.Class.{Class}
+use Rattle.mh_values.specs.declared.types.Ty.{Ty}
+use Rattle.mh_values.specs.declared.value.Exc.{Exc}
+use Rattle.mh_values.specs.declared.value.Value.{Value}
+use Rattle.mh_values.specs.Classes.{AreClasses}
+use Rattle.mh_values.specs.Computation.{Gave, Threw, Stuck, and_then, found, after}
+use Rattle.mh_values.specs.HasType.{has_type, HaveTypes}
+use Rattle.mh_values.specs.Returns.{Returns}
+use Rattle.mh_values.proofs.SameTypes.{both}
+use Rattle.mh_convert.specs.Conversion.{can, is_trivial, is_trivial_ret, ret_conv, value_conversion}
+use Rattle.mh_convert.proofs.Typed.{trivial-keeps, trivial-allowed}
+use Rattle.mh_tree.specs.Rows.{can_all}
+use Rattle.mh_tree.specs.Meaning.{Done, or_throw, then_others, conv_all, conv_result}
+use Rattle.mh_tree.proofs.Returning.{returned-typed}
+use Rattle.mh_tree.proofs.SoundConversions.{ConvertAll}
+use Rattle.mh_handle.specs.Recipe.{are_trivial}
+use Rattle.mh_handle.specs.Converting.{conversion_between, convs_of}
+
+pub all-kept :
+    (classes : List Class) → AreClasses classes → (ss ts : List Ty) (args : List Value) →
+    can_all classes ss ts ≡ true → are_trivial classes ss ts ≡ true → HaveTypes classes args ss → conv_all classes ss ts args ≡ Ok args
+all-kept classes are [] [] [] allowed trivial have = refl
+all-kept classes are [] [] (v ∷ vs) allowed trivial have = absurd have
+all-kept classes are [] (t ∷ ts) args allowed trivial have = absurd cc
+all-kept classes are (s ∷ ss) [] args allowed trivial have = absurd cc
+all-kept classes are (s ∷ ss) (t ∷ ts) [] allowed trivial have = absurd have
+all-kept classes are (s ∷ ss) (t ∷ ts) (v ∷ vs) allowed trivial have =
+    let q = both (can classes s t) (can_all classes ss ts) allowed in
+    let p = both (is_trivial classes s t) (are_trivial classes ss ts) trivial in
+    ap (λ r. then_others r (conv_all classes ss ts vs)) (trivial-keeps classes are s t v p.0 have.0)
+    ∙ ap (then_others (Ok v)) (all-kept classes are ss ts vs q.1 p.1 have.1)
+
+-- no conversion of them changes anything
+pub none-converted : (classes : List Class) (ss ts : List Ty) → are_trivial classes ss ts ≡ true → convs_of classes ss ts ≡ []
+none-converted classes [] ts trivial = refl
+none-converted classes (s ∷ ss) [] trivial = refl
+none-converted classes (s ∷ ss) (t ∷ ts) trivial =
+    let p = both (is_trivial classes s t) (are_trivial classes ss ts) trivial in
+    ap (λ b. cond b (convs_of classes ss ts) (conversion_between s t ∷ convs_of classes ss ts)) p.0 ∙ none-converted classes ss ts p.1
+
+-- a result that keeps its type, or becomes one of a type above
+kept-value :
+    (classes : List Class) → AreClasses classes → (s t : Ty) (v : Value) (b : Bool) →
+    is_trivial classes s t ≡ true → can classes s t ≡ b → b ≡ true → has_type classes v s ≡ true →
+    found (value_conversion (cond b (Some (conversion_between s t)) None)) (λ c. or_throw (ret_conv classes c (Some v)) (λ w. Gave w [])) ≡ Gave (Some v) []
+kept-value classes are s t v true trivial is truly have =
+    ap (λ r. or_throw (result_map_both (λ w. Some w) (λ (e : Exc). e) r) (λ w. Gave w [])) (trivial-keeps classes are s t v trivial have)
+kept-value classes are s t v false trivial is truly have = absurd cc
+
+pub result-kept :
+    (classes : List Class) → AreClasses classes → (s t : Option Ty) (r : Option Value) →
+    is_trivial_ret classes s t ≡ true → HaveTypes classes (option_to_list r) (option_to_list s) → conv_result classes s t r ≡ Gave r []
+result-kept classes are None None None trivial have = refl
+result-kept classes are None None (Some v) trivial have = absurd have
+result-kept classes are (Some s) None r trivial have = absurd cc
+result-kept classes are None (Some t) r trivial have = absurd cc
+result-kept classes are (Some s) (Some t) None trivial have = absurd have
+result-kept classes are (Some s) (Some t) (Some v) trivial have =
+    kept-value classes are s t v (can classes s t) trivial refl (trivial-allowed classes s t trivial) have.0
+
+-- what runs is followed by nothing more
+pub run-kept :
+    (classes : List Class) → AreClasses classes → (s t : Option Ty) (m : Done) (n : ℕ) →
+    is_trivial_ret classes s t ≡ true → Returns classes m s → and_then m n (λ r k. conv_result classes s t r) ≡ m
+run-kept classes are s t (Gave r calls) n trivial returns =
+    ap (after calls) (result-kept classes are s t r trivial (returned-typed classes r calls s returns)) ∙ ap (Gave r) (append-nil calls)
+run-kept classes are s t (Threw e calls) n trivial returns = refl
+run-kept classes are s t Stuck n trivial returns = absurd returns
+
+-- ---- what goes on with values that are known
+
+pub or_throw-ok : (r : Result (List Value) Exc) (vs : List Value) (g : List Value → Done) → r ≡ Ok vs → or_throw r g ≡ g vs
+or_throw-ok r vs g is = ap (λ q. or_throw q g) is
+
+pub converts-ok : (classes : List Class) (r : Result (List Value) Exc) (vs : List Value) (ts : List Ty) → r ≡ Ok vs → ConvertAll classes r ts → HaveTypes classes vs ts
+converts-ok classes r vs ts is typed = subst (λ q. ConvertAll classes q ts) is typed
