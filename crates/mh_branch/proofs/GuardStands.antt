@@ -1,0 +1,123 @@
+-- The handle of a guard stands for its tree.
+use Rattle.std.proofs.Common.{◌≡◌, refl, sym, subst, ap, ◌∙◌, ℕ, ◌+◌, ◌<◌, ◌≤◌, ◌^◌, Bool, true, false, if◌then◌else◌, List, [], ◌∷◌, ◌++◌, take, length, length-append, map, Option, Some, None, Ok, arith}
+use Rattle.std.specs.Prelude.{option_to_list, IsTrue}
+use Rattle.std.proofs.lemmas.List.{length-map, take-map}
+use Rattle.std.proofs.lemmas.Bool.{le-leb}
+use Rattle.std.specs.declared.boxed.Box.{Box}
+use Rattle.std.specs.declared.alloc.Global.{Global}
+use Rattle.mh_values.specs.declared.class.Class.{Class}
+use Rattle.mh_values.specs.declared.types.Ty.{Ty}
+use Rattle.mh_values.specs.declared.types.MethodTy.{MethodTy}
+use Rattle.mh_values.specs.declared.value.Num.TheVariants as num
+use Rattle.mh_values.specs.declared.value.Value.{Value}
+use Rattle.mh_values.specs.declared.value.Value.TheVariants as value
+use Rattle.mh_values.specs.Computation.{Ran, Refines, and_then}
+use Rattle.mh_values.specs.HasType.{HaveTypes}
+use Rattle.mh_values.specs.Same.{begins_with_types}
+use Rattle.mh_values.proofs.SameTypes.{same_return-is, same_method_type-is, begins_with-rest}
+use Rattle.mh_leaf.specs.LeafTable.{LeafTable}
+use Rattle.mh_leaf.specs.Outcome.{boolean_type}
+use Rattle.mh_leaf.specs.WellTyped.{IsWellTyped}
+use Rattle.mh_leaf.proofs.ArgumentTypes.{is_boolean}
+use Rattle.mh_tree.specs.Rows.{guard_row}
+use Rattle.mh_tree.specs.Tree.{Tree, weight}
+use Rattle.mh_tree.specs.Tree as tree
+use Rattle.mh_tree.specs.Typing.{type_of, arity, arity_of, with_type, held_before, sides}
+use Rattle.mh_tree.specs.Meaning.{Done, decided, mean}
+use Rattle.mh_tree.proofs.RowParts.{guard_row-parts}
+use Rattle.mh_tree.proofs.SoundBranches.{guard-sound}
+use Rattle.mh_tree.specs.Sound.{IsSound}
+use Rattle.mh_tree.proofs.TypedLists.{types-front, types-length}
+use Rattle.mh_form.specs.declared.basic.BasicRet.{BasicRet}
+use Rattle.mh_form.specs.declared.slot.Slot.{Slot}
+use Rattle.mh_form.specs.declared.field.Bound.{Bound}
+use Rattle.mh_form.specs.declared.field.Field.{Field}
+use Rattle.mh_form.specs.declared.field.Field.TheVariants as field
+use Rattle.mh_form.specs.Body.{nothing}
+use Rattle.mh_form.specs.Erasure.{basic_of, basic_ret_of, shape_of, erased, erased_option, erased_ran}
+use Rattle.mh_form.specs.Run.{run_bound, run_on}
+use Rattle.mh_form.specs.Slots.{filled, holds_one, none_as_zero}
+use Rattle.mh_form.proofs.Refines.{refines-is, refines-trans}
+use Rattle.mh_edit.specs.declared.key.Key.TheVariants as key
+use Rattle.mh_edit.specs.Applied.{guard_body}
+use Rattle.mh_edit.specs.Fit.{fits}
+use Rattle.mh_edit.specs.Law.{returned}
+use Rattle.mh_edit.proofs.RootLaws.{law-GuardRoot}
+use Rattle.mh_handle.specs.Form.{body_of}
+use Rattle.mh_handle.specs.Recipe.{at_type, recipe}
+use Rattle.mh_handle.specs.Stands.{HandleView, Stands, handle_run}
+use Rattle.mh_branch.proofs.Computing.{and_then-erased}
+use Rattle.mh_branch.proofs.Rooted.{stands-rooted}
+use Rattle.mh_branch.proofs.Branching.{first-few, first-typed, decides, branch-does}
+
+-- the key of a guard fits the body that is nothing
+pub guard-fits :
+    (test : MethodTy) (test_weight : ℕ) (body : MethodTy) (body_weight : ℕ) (other : MethodTy) (other_weight : ℕ) (u : MethodTy) →
+    guard_row test test_weight body body_weight other other_weight ≡ Ok u →
+    IsTrue (fits (key.GuardRoot (shape_of body) (length test.params)) nothing)
+guard-fits test test_weight body body_weight other other_weight u row =
+    let parts = guard_row-parts test test_weight body body_weight other other_weight u row in
+    le-leb (length test.params) (length (map basic_of body.params)) (first-few body.params test.params parts.2)
+
+pub guard-stands :
+    (table : LeafTable) (h : HandleView) (c t e : Tree) (test body other : HandleView) (test_part body_part other_part : Box Bound Global) →
+    Stands table test c →
+    Stands table body t →
+    Stands table other e →
+    run_bound table test_part.value ≡ handle_run table test →
+    run_bound table body_part.value ≡ handle_run table body →
+    run_bound table other_part.value ≡ handle_run table other →
+    guard_row test.ty test.weight body.ty body.weight other.ty other.weight ≡ Ok h.ty →
+    h.weight ≡ 1 + test.weight + body.weight + other.weight →
+    h.form.recipe ≡ key.GuardRoot (shape_of body.ty) (length test.ty.params) ∷ [] →
+    h.sides ≡ (test.ty ∷ test.sides) ++ (body.ty ∷ body.sides) ++ (other.ty ∷ other.sides) →
+    h.fields ≡ field.Part test_part ∷ field.Part body_part ∷ field.Part other_part ∷ [] →
+    Stands table h (tree.Guard c t e)
+guard-stands table h c t e test body other test_part body_part other_part tests stands others test_runs body_runs other_runs row weighed made holds fields =
+    let parts = guard_row-parts test.ty test.weight body.ty body.weight other.ty other.weight h.ty row in
+    let own : h.ty ≡ body.ty = parts.3 in
+    let alike : other.ty ≡ body.ty = same_method_type-is other.ty body.ty parts.0 in
+    let count = length test.ty.params in
+    let made_body = guard_body (shape_of body.ty) count in
+    let typed : type_of table (tree.Guard c t e) ≡ guard_row test.ty test.weight body.ty body.weight other.ty other.weight =
+    λ i. with_type (tests.typed i) (λ ct. with_type (stands.typed i) (λ bt. with_type (others.typed i) (λ ot. guard_row ct (sym tests.weighed i) bt (sym stands.weighed i) ot (sym others.weighed i)))) in
+    let heavy : 1 + test.weight + body.weight + other.weight ≡ 1 + weight c + weight t + weight e = λ i. 1 + tests.weighed i + stands.weighed i + others.weighed i in
+    let keys : recipe table (tree.Guard c t e) ≡ key.GuardRoot (shape_of body.ty) count ∷ [] =
+    λ i. at_type (stands.typed i) (λ bt. at_type (tests.typed i) (λ ct. key.GuardRoot (shape_of bt) (length ct.params) ∷ [])) in
+    let held : sides table (tree.Guard c t e) ≡ (test.ty ∷ test.sides) ++ (body.ty ∷ body.sides) ++ (other.ty ∷ other.sides) =
+    λ i. held_before (tests.typed i) (sym tests.holds i) ++ held_before (stands.typed i) (sym stands.holds i) ++ held_before (others.typed i) (sym others.holds i) in
+    let sound : IsSound table.classes (mean table (tree.Guard c t e)) h.ty =
+    subst (λ o. IsSound table.classes (λ args n. and_then (mean table c (take (arity_of o) args) n) n (λ r k. decided r (mean table t args k) (mean table e args k))) h.ty) (sym tests.typed)
+    (guard-sound table.classes (mean table c) (mean table t) (mean table e) test.ty test.weight body.ty body.weight other.ty other.weight h.ty tests.returns stands.returns others.returns row) in
+    let does : (args : List Value) (n : ℕ) → HaveTypes table.classes args h.ty.params → n < 2 ^ 32 → Refines (erased_ran (mean table (tree.Guard c t e) args n)) (run_on table made_body h.fields (map erased args) n) =
+    λ args n have low.
+    let have_body : HaveTypes table.classes args body.ty.params = subst (λ (m : MethodTy). HaveTypes table.classes args m.params) own have in
+    let have_other : HaveTypes table.classes args other.ty.params = subst (λ (m : MethodTy). HaveTypes table.classes args m.params) (sym alike) have_body in
+    let first = take count args in
+    let have_test : HaveTypes table.classes first test.ty.params = first-typed table.classes args body.ty.params test.ty.params parts.2 have_body in
+    let slots = map erased args in
+    let ret = basic_ret_of body.ty.ret in
+    let r : Done = mean table c first n in
+    let next : Option Value → ℕ → Done = λ v k. decided v (mean table t args k) (mean table e args k) in
+    let run : Slot → ℕ → Ran (Option Slot) = λ s k. returned ret (run_bound table (if holds_one s then body_part.value else other_part.value) slots k) in
+    let tested : run_bound table test_part.value (take count slots) n ≡ erased_ran r =
+    ap (λ f. f (take count slots) n) test_runs ∙ (ap (λ xs. handle_run table test xs n) (take-map erased count args) ∙ tests.runs first n have_test low) in
+    let means : mean table (tree.Guard c t e) args n ≡ and_then r n next = ap (λ o. and_then (mean table c (take (arity_of o) args) n) n next) tests.typed in
+    let branches : (v : Option Value) (k : ℕ) → HaveTypes table.classes (option_to_list v) (option_to_list test.ty.ret) → k < 2 ^ 32 → Refines (erased_ran (next v k)) (run (none_as_zero (erased_option v)) k) =
+    λ v k given small.
+    let boolean : HaveTypes table.classes (option_to_list v) (boolean_type ∷ []) = subst (λ o. HaveTypes table.classes (option_to_list v) (option_to_list o)) (same_return-is test.ty.ret (Some boolean_type) parts.1) given in
+    let no_branch : Refines (erased_ran (mean table e args k)) (returned ret (run_bound table other_part.value slots k)) =
+    subst (λ (m : MethodTy). Refines (erased_ran (mean table e args k)) (returned (basic_ret_of m.ret) (run_bound table other_part.value slots k))) alike (branch-does table other e other_part.value args k others other_runs have_other small) in
+    decides table v (mean table t args k) (mean table e args k) body_part.value other_part.value ret slots k boolean (branch-does table body t body_part.value args k stands body_runs have_body small) no_branch in
+    let all : Refines (erased_ran (and_then r n next)) (and_then (filled (erased_ran r)) n run) =
+    and_then-erased table.classes r n test.ty.ret run next (tests.returns first n have_test) low branches in
+    let long : length slots ≡ length (shape_of body.ty).params =
+    length-map args erased ∙ (types-length table.classes args body.ty.params have_body ∙ sym (length-map body.ty.params basic_of)) in
+    let few : count ≤ length (shape_of body.ty).params = first-few body.ty.params test.ty.params parts.2 in
+    let law = law-GuardRoot (shape_of body.ty) count nothing few table test_part body_part other_part slots n long in
+    refines-trans _ _ _ (refines-is _ _ (ap erased_ran means))
+    (refines-trans _ _ _ all
+    (refines-trans _ _ _ (refines-is _ _ (ap (λ x. and_then (filled x) n run) (sym tested)))
+    (refines-trans _ _ _ law (refines-is _ _ (ap (λ fs. run_on table made_body fs slots n) (sym fields)))))) in
+    stands-rooted table h (tree.Guard c t e) made_body sound (typed ∙ row) (weighed ∙ heavy) (made ∙ sym keys) (holds ∙ sym held) (ap body_of made)
+    (ap length fields) (ap (λ (m : MethodTy). map basic_of m.params) (sym own)) refl does

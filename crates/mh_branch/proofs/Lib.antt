@@ -1,0 +1,6 @@
+mod Branching
+mod CatchStands
+mod Computing
+mod GuardStands
+mod RootStands
+mod Rooted

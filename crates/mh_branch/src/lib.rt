@@ -1,0 +1,2 @@
+//! Roots, branches and arrays: handles that stand for constants, identities, throws, guards, catches, spreads and gathers.
+#![tactic(auto)]
