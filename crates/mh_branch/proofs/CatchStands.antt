@@ -1,5 +1,5 @@
 -- The handle of a catch stands for its tree.
-use Rattle.std.proofs.Common.{◌≡◌, refl, sym, subst, ap, ◌∙◌, ℕ, ◌+◌, ◌-◌, ◌<◌, ◌≤◌, ◌^◌, Bool, true, false, List, [], ◌∷◌, ◌++◌, take, length, length-append, map, Option, Some, None, Ok, arith}
+use Rattle.std.proofs.Common.{◌≡◌, refl, sym, subst, ap, ◌∙◌, ℕ, ◌+◌, ◌-◌, ◌<◌, ◌≤◌, ◌^◌, true, List, [], ◌∷◌, ◌++◌, take, length, map, Option, Ok, arith}
 use Rattle.std.specs.Prelude.{IsTrue}
 use Rattle.std.proofs.lemmas.List.{length-map, take-map}
 use Rattle.std.proofs.lemmas.Bool.{le-leb}
@@ -13,13 +13,11 @@ use Rattle.mh_values.specs.declared.types.MethodTy.{MethodTy}
 use Rattle.mh_values.specs.declared.value.Exc.{Exc}
 use Rattle.mh_values.specs.declared.value.Value.{Value}
 use Rattle.mh_values.specs.declared.value.Value.TheVariants as value
-use Rattle.mh_values.specs.Class.{is_subclass}
 use Rattle.mh_values.specs.Classes.{AreClasses}
 use Rattle.mh_values.specs.Computation.{Ran, Refines, guarded}
 use Rattle.mh_values.specs.HasType.{HaveTypes, is_type_below}
 use Rattle.mh_values.specs.Same.{begins_with_types}
-use Rattle.mh_values.proofs.BelowTypes.{value-below}
-use Rattle.mh_values.proofs.SameTypes.{both, same_return-is}
+use Rattle.mh_values.proofs.SameTypes.{both}
 use Rattle.mh_leaf.specs.LeafTable.{LeafTable}
 use Rattle.mh_tree.specs.Rows.{catch_row, takes_exception}
 use Rattle.mh_tree.specs.Tree.{Tree, weight}
@@ -27,13 +25,12 @@ use Rattle.mh_tree.specs.Tree as tree
 use Rattle.mh_tree.specs.Typing.{type_of, arity_of, with_type, held_before, sides}
 use Rattle.mh_tree.specs.Meaning.{Done, is_caught, mean}
 use Rattle.mh_tree.proofs.RowParts.{catch_row-parts}
-use Rattle.mh_tree.proofs.SoundBranches.{catch-sound}
+use Rattle.mh_tree.proofs.SoundBranches.{catch-sound, handler-typed}
 use Rattle.mh_tree.specs.Sound.{IsSound}
 use Rattle.mh_tree.proofs.TypedLists.{types-length}
 use Rattle.mh_form.specs.declared.slot.Slot.{Slot}
 use Rattle.mh_form.specs.declared.slot.Slot.TheVariants as slot
 use Rattle.mh_form.specs.declared.field.Bound.{Bound}
-use Rattle.mh_form.specs.declared.field.Field.{Field}
 use Rattle.mh_form.specs.declared.field.Field.TheVariants as field
 use Rattle.mh_form.specs.Body.{nothing}
 use Rattle.mh_form.specs.Erasure.{basic_of, basic_ret_of, shape_of, erased, erased_ran}
@@ -50,17 +47,7 @@ use Rattle.mh_handle.specs.Stands.{HandleView, Stands, handle_run}
 use Rattle.mh_handle.proofs.Erasing.{returned-erased}
 use Rattle.mh_branch.proofs.Computing.{guarded-erased}
 use Rattle.mh_branch.proofs.Rooted.{stands-rooted}
-use Rattle.mh_branch.proofs.Branching.{first-few, first-typed}
-
--- the arguments of a handler: the exception, and the first ones of the target
-handler-typed : (classes : List Class) → AreClasses classes → (class : ClassId) (params types : List Ty) (args : List Value) (e : Exc) → takes_exception classes class params types ≡ true → is_subclass classes e.class class ≡ true → HaveTypes classes args types → HaveTypes classes (value.Thrown e ∷ take (length params - 1) args) params
-handler-typed classes are class [] types args e takes below have = absurd cc
-handler-typed classes are class (first ∷ others) types args e takes below have =
-    let q = both (is_type_below classes (ty.Class class) first) (begins_with_types types others) takes in
-    let count : length others ≡ length (first ∷ others) - 1 = omega arith in (
-      value-below classes are (ty.Class class) first q.0 (value.Thrown e) below,
-      subst (λ m. HaveTypes classes (take m args) others) count (first-typed classes args types others q.1 have),
-    )
+use Rattle.mh_branch.proofs.Branching.{first-few}
 
 -- beside the exception a handler takes no more arguments than there are
 handler-few : (classes : List Class) (class : ClassId) (params types : List Ty) → takes_exception classes class params types ≡ true → length params - 1 ≤ length (map basic_of types)

@@ -1,37 +1,28 @@
 -- The handle of a guard stands for its tree.
-use Rattle.std.proofs.Common.{◌≡◌, refl, sym, subst, ap, ◌∙◌, ℕ, ◌+◌, ◌<◌, ◌≤◌, ◌^◌, Bool, true, false, if◌then◌else◌, List, [], ◌∷◌, ◌++◌, take, length, length-append, map, Option, Some, None, Ok, arith}
+use Rattle.std.proofs.Common.{◌≡◌, refl, sym, subst, ap, ◌∙◌, ℕ, ◌+◌, ◌<◌, ◌≤◌, ◌^◌, if◌then◌else◌, List, [], ◌∷◌, ◌++◌, take, length, map, Option, Some, Ok}
 use Rattle.std.specs.Prelude.{option_to_list, IsTrue}
 use Rattle.std.proofs.lemmas.List.{length-map, take-map}
 use Rattle.std.proofs.lemmas.Bool.{le-leb}
 use Rattle.std.specs.declared.boxed.Box.{Box}
 use Rattle.std.specs.declared.alloc.Global.{Global}
-use Rattle.mh_values.specs.declared.class.Class.{Class}
-use Rattle.mh_values.specs.declared.types.Ty.{Ty}
 use Rattle.mh_values.specs.declared.types.MethodTy.{MethodTy}
-use Rattle.mh_values.specs.declared.value.Num.TheVariants as num
 use Rattle.mh_values.specs.declared.value.Value.{Value}
-use Rattle.mh_values.specs.declared.value.Value.TheVariants as value
 use Rattle.mh_values.specs.Computation.{Ran, Refines, and_then}
 use Rattle.mh_values.specs.HasType.{HaveTypes}
-use Rattle.mh_values.specs.Same.{begins_with_types}
-use Rattle.mh_values.proofs.SameTypes.{same_return-is, same_method_type-is, begins_with-rest}
+use Rattle.mh_values.proofs.SameTypes.{same_return-is, same_method_type-is}
 use Rattle.mh_leaf.specs.LeafTable.{LeafTable}
 use Rattle.mh_leaf.specs.Outcome.{boolean_type}
-use Rattle.mh_leaf.specs.WellTyped.{IsWellTyped}
-use Rattle.mh_leaf.proofs.ArgumentTypes.{is_boolean}
 use Rattle.mh_tree.specs.Rows.{guard_row}
 use Rattle.mh_tree.specs.Tree.{Tree, weight}
 use Rattle.mh_tree.specs.Tree as tree
-use Rattle.mh_tree.specs.Typing.{type_of, arity, arity_of, with_type, held_before, sides}
+use Rattle.mh_tree.specs.Typing.{type_of, arity_of, with_type, held_before, sides}
 use Rattle.mh_tree.specs.Meaning.{Done, decided, mean}
 use Rattle.mh_tree.proofs.RowParts.{guard_row-parts}
-use Rattle.mh_tree.proofs.SoundBranches.{guard-sound}
+use Rattle.mh_tree.proofs.SoundBranches.{first-typed, guard-sound}
 use Rattle.mh_tree.specs.Sound.{IsSound}
-use Rattle.mh_tree.proofs.TypedLists.{types-front, types-length}
-use Rattle.mh_form.specs.declared.basic.BasicRet.{BasicRet}
+use Rattle.mh_tree.proofs.TypedLists.{types-length}
 use Rattle.mh_form.specs.declared.slot.Slot.{Slot}
 use Rattle.mh_form.specs.declared.field.Bound.{Bound}
-use Rattle.mh_form.specs.declared.field.Field.{Field}
 use Rattle.mh_form.specs.declared.field.Field.TheVariants as field
 use Rattle.mh_form.specs.Body.{nothing}
 use Rattle.mh_form.specs.Erasure.{basic_of, basic_ret_of, shape_of, erased, erased_option, erased_ran}
@@ -48,7 +39,7 @@ use Rattle.mh_handle.specs.Recipe.{at_type, recipe}
 use Rattle.mh_handle.specs.Stands.{HandleView, Stands, handle_run}
 use Rattle.mh_branch.proofs.Computing.{and_then-erased}
 use Rattle.mh_branch.proofs.Rooted.{stands-rooted}
-use Rattle.mh_branch.proofs.Branching.{first-few, first-typed, decides, branch-does}
+use Rattle.mh_branch.proofs.Branching.{first-few, decides, branch-does}
 
 -- the key of a guard fits the body that is nothing
 pub guard-fits :

@@ -1,40 +1,36 @@
 -- The handles of roots stand for their trees.
-use Rattle.std.proofs.Common.{◌≡◌, refl, sym, subst, ap, ◌∙◌, ℕ, ◌<◌, ◌^◌, Bool, true, false, List, [], ◌∷◌, length, map, Option, Some, None, Result, Ok, Err}
+use Rattle.std.proofs.Common.{◌≡◌, refl, sym, subst, ap, ◌∙◌, ℕ, true, List, [], ◌∷◌, length, map, Option, Some, Ok}
 use Rattle.std.specs.Prelude.{slice_get}
 use Rattle.mh_values.specs.declared.class.Class.{Class}
 use Rattle.mh_values.specs.declared.class.ClassId.{ClassId}
 use Rattle.mh_values.specs.declared.types.Ty.{Ty}
 use Rattle.mh_values.specs.declared.types.Ty.TheVariants as ty
 use Rattle.mh_values.specs.declared.types.MethodTy.{MethodTy}
-use Rattle.mh_values.specs.declared.value.Exc.{Exc}
 use Rattle.mh_values.specs.declared.value.Value.{Value}
 use Rattle.mh_values.specs.declared.value.Value.TheVariants as value
-use Rattle.mh_values.specs.Computation.{Ran, Gave, Refines, found}
+use Rattle.mh_values.specs.Computation.{Gave, Refines, found}
 use Rattle.mh_values.specs.HasType.{has_type, HaveTypes}
-use Rattle.mh_values.proofs.SameTypes.{method_type}
 use Rattle.mh_convert.specs.Conversion.{fit}
 use Rattle.mh_leaf.specs.LeafTable.{LeafTable}
 use Rattle.mh_values.specs.Classes.{AreClasses}
 use Rattle.mh_tree.specs.Rows.{constant_row, identity_row, throw_row}
 use Rattle.mh_tree.specs.Tree as tree
-use Rattle.mh_tree.specs.Meaning.{Done, fitted, giving, mean, thrown}
+use Rattle.mh_tree.specs.Meaning.{fitted, giving, mean, thrown}
 use Rattle.mh_tree.proofs.RowParts.{constant_row-parts, identity_row-parts, throw_row-parts}
 use Rattle.mh_tree.proofs.SoundRoots.{constant-sound, identity-sound, throw-sound}
 use Rattle.mh_form.specs.declared.slot.Slot.{Slot}
-use Rattle.mh_form.specs.declared.field.Field.{Field}
 use Rattle.mh_form.specs.declared.field.Field.TheVariants as field
 use Rattle.mh_form.specs.Body.{nothing}
 use Rattle.mh_form.specs.Erasure.{basic_of, basic_ret_of, erased, erased_ran}
 use Rattle.mh_form.specs.Run.{run_on}
 use Rattle.mh_form.specs.Slots.{raised_slot}
 use Rattle.mh_form.proofs.Refines.{refines-is, refines-trans}
-use Rattle.mh_edit.specs.declared.key.Key.{Key}
 use Rattle.mh_edit.specs.declared.key.Key.TheVariants as key
 use Rattle.mh_edit.specs.Applied.{constant_body, identity_body, throw_body}
 use Rattle.mh_edit.proofs.RootLaws.{law-ThrowRoot}
 use Rattle.mh_handle.specs.Form.{body_of}
-use Rattle.mh_handle.specs.Recipe.{at_some, recipe}
-use Rattle.mh_handle.specs.Stands.{HandleView, Stands, handle_body}
+use Rattle.mh_handle.specs.Recipe.{at_some}
+use Rattle.mh_handle.specs.Stands.{HandleView, Stands}
 use Rattle.mh_branch.proofs.Rooted.{stands-rooted}
 
 -- the value fits the type of the constant, and is kept as what it is then

@@ -28,7 +28,7 @@ use Rattle.mh_tree.proofs.Returning.{returns-then, returns-guarded}
 use Rattle.mh_tree.proofs.TypedLists.{types-front}
 
 -- the first arguments have the first types
-first-typed : (classes : List Class) (args : List Value) (types front : List Ty) → begins_with_types types front ≡ true → HaveTypes classes args types → HaveTypes classes (take (length front) args) front
+pub first-typed : (classes : List Class) (args : List Value) (types front : List Ty) → begins_with_types types front ≡ true → HaveTypes classes args types → HaveTypes classes (take (length front) args) front
 first-typed classes args types front begins have =
     let rest = begins_with-rest types front begins in
     types-front classes args front rest.0 (subst (HaveTypes classes args) rest.1 have)
@@ -55,7 +55,7 @@ guard-sound classes test body other c c_weight t weight e e_weight u test-sound 
     (subst (λ ret. HaveTypes classes (option_to_list r) (option_to_list ret)) (same_return-is c.ret (Some boolean_type) q.1) given) (sound args k have) (other' args k have)))
 
 -- the arguments of a handler: the exception, and the first ones of the target
-handler-typed : (classes : List Class) → AreClasses classes → (class : ClassId) (params types : List Ty) (args : List Value) (e : Exc) → takes_exception classes class params types ≡ true → is_subclass classes e.class class ≡ true → HaveTypes classes args types → HaveTypes classes (value.Thrown e ∷ take (length params - 1) args) params
+pub handler-typed : (classes : List Class) → AreClasses classes → (class : ClassId) (params types : List Ty) (args : List Value) (e : Exc) → takes_exception classes class params types ≡ true → is_subclass classes e.class class ≡ true → HaveTypes classes args types → HaveTypes classes (value.Thrown e ∷ take (length params - 1) args) params
 handler-typed classes are class [] types args e takes below have = absurd cc
 handler-typed classes are class (first ∷ others) types args e takes below have =
     let q = both (is_type_below classes (ty.Class class) first) (begins_with_types types others) takes in

@@ -68,7 +68,7 @@ throw-value : (classes : List Class) (r : Result Value Exc) (t : Ty) (ret : Opti
 throw-value classes (Ok v) t ret next h more = more v h
 throw-value classes (Err e) t ret next h more = h
 
-last-there : (classes : List Class) (c : Comp) (o : Option Ty) → takes_array classes c o ≡ true → (t : Ty) × (o ≡ Some t) × (is_type_below classes (ty.Array c) t ≡ true)
+pub last-there : (classes : List Class) (c : Comp) (o : Option Ty) → takes_array classes c o ≡ true → (t : Ty) × (o ≡ Some t) × (is_type_below classes (ty.Array c) t ≡ true)
 last-there classes c None h = absurd cc
 last-there classes c (Some t) h = (t, refl, h)
 

@@ -45,7 +45,7 @@ items-typed classes are c d below (i ∷ items) (t ∷ types) h same e =
     )
 
 -- what an array is spread to: values of these types, or an exception
-abbrev Spreads : List Class → Ran (List Value) → List Ty → Type 0
+abbrev pub Spreads : List Class → Ran (List Value) → List Ty → Type 0
 Spreads classes (Gave vs calls) types = HaveTypes classes vs types
 Spreads classes (Threw e calls) types = is_subclass classes e.class throwable_class ≡ true
 Spreads classes Stuck types = ⊥
@@ -62,7 +62,7 @@ no_types : (types : List Ty) → length types ≡ 0 → types ≡ []
 no_types [] h = refl
 no_types (t ∷ types) h = absurd (omega (arith, h))
 
-spreads : (classes : List Class) → AreClasses classes → (d : Comp) (count : ℕ) (v : Value) (types : List Ty) → has_type classes v (ty.Array d) ≡ true → list_all (λ t. is_same_type t (item_type d)) types ≡ true → length types ≡ count → Spreads classes (spread_values count v) types
+pub spreads : (classes : List Class) → AreClasses classes → (d : Comp) (count : ℕ) (v : Value) (types : List Ty) → has_type classes v (ty.Array d) ≡ true → list_all (λ t. is_same_type t (item_type d)) types ≡ true → length types ≡ count → Spreads classes (spread_values count v) types
 spreads classes are d count value.Null types typed same e =
     of_null classes are (count == 0) types (λ zero_count. no_types types (e ∙ eqb-true count 0 zero_count))
 spreads classes are d count (value.Array c items) types typed same e =
@@ -82,7 +82,7 @@ put_at : (front back : List Ty) (t : Ty) → slice_get (front ++ t ∷ back) (le
 put_at [] back t = refl
 put_at (s ∷ front) back t = put_at front back t
 
-spliced_at : (types : List Ty) (place taken : ℕ) (t : Ty) → place ≤ length types → slice_get (spliced place taken (t ∷ []) types) place ≡ Some t
+pub spliced_at : (types : List Ty) (place taken : ℕ) (t : Ty) → place ≤ length types → slice_get (spliced place taken (t ∷ []) types) place ≡ Some t
 spliced_at types place taken t low =
     let e : length (take place types) ≡ place = length-take-le place types low in
     subst (λ m. slice_get (take place types ++ (t ∷ drop (place + taken) types)) m ≡ Some t) e (put_at (take place types) (drop (place + taken) types) t)
