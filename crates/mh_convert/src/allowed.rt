@@ -1,4 +1,4 @@
-ghost use Rattle.std.specs.Prelude.{◌≡◌};
+ghost use Rattle.std.specs.Prelude.{◌≡◌, IfSome, IsTrue};
 ghost use Rattle.mh_convert.specs.Conversion.{widens, serves_as, may_unbox, can, conversion_of, ret_conversion_of};
 
 use crate::{Conv, RetConv};
@@ -43,7 +43,8 @@ fn can(from: Ty, to: Ty, classes: &Classes) -> bool
 /// equal, both are references, a primitive type widens or is boxed, or a reference may hold a boxed
 /// number that serves (`MethodHandle.asType`, SE 17).
 pub fn conversion(from: Ty, to: Ty, classes: &Classes) -> Option<Conv>
-    ensures { result ≡ conversion_of classes.now from to }
+    ensures found { result ≡ conversion_of classes.now from to }
+    ensures allowed { IfSome result (λ c. IsTrue (can classes.now c.from c.to)) }
 {
     if can(from, to, classes) {
         Some(Conv { from, to })
