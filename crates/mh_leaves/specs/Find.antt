@@ -18,9 +18,14 @@ is_way Any leaf = true
 is_way Static leaf = not leaf.is_virtual
 is_way Virtual leaf = leaf.is_virtual
 
+-- whether two owners, names and descriptors are one
+abbrev pub are_texts : ClassId → List ℕ → List ℕ → ClassId → List ℕ → List ℕ → Bool
+are_texts owner name descriptor other_owner other_name other_descriptor =
+    (owner.0 == other_owner.0 && bytes_eq name other_name) && bytes_eq descriptor other_descriptor
+
 -- whether a leaf has this owner, name and descriptor
 abbrev pub has_texts : ClassId → List ℕ → List ℕ → Leaf → Bool
-has_texts owner name descriptor leaf = leaf.owner.0 == owner.0 && bytes_eq leaf.name name && bytes_eq leaf.descriptor descriptor
+has_texts owner name descriptor leaf = are_texts leaf.owner leaf.name leaf.descriptor owner name descriptor
 
 -- whether a leaf has these texts and is called in that way
 abbrev pub is_called : ClassId → List ℕ → List ℕ → How → Leaf → Bool

@@ -1,4 +1,9 @@
 pub mod Fault
 pub mod Find
+pub mod Index
+pub mod Kept
 pub mod Manifest
+pub mod Numbers
+pub mod Provided
+pub mod Reference
 pub mod Registered

@@ -1,37 +1,12 @@
-ghost use Rattle.std.specs.Prelude.{◌≡◌, ◌≢◌, ◌<◌, ◌≤◌, ◌↔◌, length, IsTrue, IfOk, OnOk, OnErr, slice_get, Some, None, position, IfSome};
-ghost use Rattle.mh_leaves.specs.Find.{is_called};
-ghost use Rattle.mh_leaf.specs.Outcome.{lacks_receiver};
+ghost use Rattle.std.specs.Prelude.{◌≡◌, ◌≢◌, ◌<◌, length, false, IfOk, OnOk, OnErr, slice_get, Some, None, position, IfSome};
 
-use crate::naming::has_texts;
-use crate::{How, Missing};
-use mh_base::{NoMemory, Seq};
-use mh_leaf::{Leaf, kind_does};
-use mh_values::{ClassId, Classes, Exc, Items, LeafId, MethodTy, Outcome, Value};
+use crate::index::Index;
+use crate::{How, Missing, Reference};
+use mh_base::NoMemory;
+use mh_leaf::{Leaf, leaf_does};
+use mh_values::{ClassId, Classes, Items, LeafId, MethodTy, Outcome};
 use std::alloc::Global;
 use std::marker::Model;
-
-// Whether a leaf is called on null as its receiver.
-fn lacks_receiver(leaf: &Leaf, args: &[Value]) -> bool
-    ensures { result ≡ lacks_receiver leaf.now args.now }
-{
-    match args {
-        [Value::Null, ..] => leaf.is_virtual,
-        _ => false,
-    }
-}
-
-// The place of the leaf of an owner that has these texts and is called in that way.
-fn position_of(
-    leaves: &[Leaf],
-    owner: ClassId,
-    name: &[u8],
-    descriptor: &[u8],
-    how: How,
-) -> Option<usize>
-    ensures { result ≡ position (is_called owner name.now descriptor.now how) leaves.now }
-{
-    leaves.iter().position(|leaf| has_texts(leaf, owner, name, descriptor) && how.is_way(leaf))
-}
 
 /// How many leaves there may be.
 pub(crate) const MOST_LEAVES: u32 = 4096;
@@ -43,23 +18,24 @@ const MOST_CLASSES: usize = 28 + 1024;
 #[derive(Drop)]
 pub struct Leaves {
     classes: Classes,
-    leaves: Seq<Leaf>,
+    leaves: Vec<Leaf>,
+    index: Index,
 }
 
 impl Model for Leaves {
     ghost use Rattle.mh_leaf.specs.LeafTable.{LeafTable};
-    ghost use Rattle.mh_leaves.specs.Registered.{AreRegistered};
+    ghost use Rattle.mh_leaves.specs.Kept.{AreKept};
 
     ghost Value = { LeafTable };
 
-    ghost view = { λ l. record { classes = l.classes; leaves = l.leaves } };
+    ghost view = { λ l. record { classes = l.classes; leaves = l.leaves.items } };
 
-    ghost invariant = { λ l. AreRegistered (record { classes = l.classes; leaves = l.leaves }) };
+    ghost invariant = { λ l. AreKept l.classes l.leaves.items l.index };
 }
 
 impl Leaves {
-    ghost use Rattle.mh_leaves.specs.Registered.{AreRegistered, IsLeafOf, nothing_registered, with_class, with_leaf, type_of_leaf, outcome_of, most_leaves};
-    ghost use Rattle.mh_leaves.specs.Find.{find_leaf, is_virtual_leaf, has_texts};
+    ghost use Rattle.mh_leaves.specs.Registered.{AreRegistered, AreArguments, IsLeafOf, nothing_registered, with_class, with_leaf, type_of_leaf, outcome_of, most_leaves};
+    ghost use Rattle.mh_leaves.specs.Find.{find_leaf, is_virtual_leaf, has_texts, is_called};
     ghost use Rattle.mh_values.specs.Classes.{class_named, most_classes};
     ghost use Rattle.std.specs.List.{list_any};
     ghost use Rattle.std.specs.Prelude.{◌==◌};
@@ -70,7 +46,8 @@ impl Leaves {
     {
         Ok(Leaves {
             classes: Classes::builtin(alloc)?,
-            leaves: Seq::new(alloc),
+            leaves: Vec::new(alloc),
+            index: Index::new(alloc),
         })
     }
 
@@ -110,24 +87,55 @@ impl Leaves {
         }
     }
 
+    // The place of the leaf with these texts, of which there is at most one.
+    fn place_of(&self, owner: ClassId, name: &[u8], descriptor: &[u8]) -> Option<u32>
+        ensures found { result ≡ position (has_texts owner name.now descriptor.now) self.now.leaves }
+        ensures within { IfSome result (λ at. at < length self.now.leaves) }
+    {
+        self.index.find(owner, name, descriptor)
+    }
+
+    // The same, where it is called in that way.
+    fn place_called(&self, owner: ClassId, name: &[u8], descriptor: &[u8], how: How) -> Option<u32>
+        ensures found { result ≡ position (is_called owner name.now descriptor.now how) self.now.leaves }
+        ensures within { IfSome result (λ at. at < length self.now.leaves) }
+    {
+        let at = self.place_of(owner, name, descriptor)?;
+        if how.is_way(&self.leaves[at as usize]) {
+            Some(at)
+        } else {
+            None
+        }
+    }
+
     /// Whether a leaf of the owner has the name and the descriptor.
     pub(crate) fn is_registered(&self, owner: ClassId, name: &[u8], descriptor: &[u8]) -> bool
         ensures { result ≡ list_any (has_texts owner name.now descriptor.now) self.now.leaves }
     {
-        self.leaves
-            .as_slice()
-            .iter()
-            .any(|leaf| has_texts(leaf, owner, name, descriptor))
+        self.place_of(owner, name, descriptor).is_some()
     }
 
     /// Registers a leaf.
-    pub(crate) fn add_leaf(&mut self, leaf: Leaf) -> Result<(), NoMemory>
+    pub(crate) fn add_leaf(&mut self, alloc: Global, leaf: Leaf) -> Result<(), NoMemory>
         requires few { length self.old.leaves ≢ most_leaves }
         requires leaf { IsLeafOf self.old.classes leaf }
+        requires new { list_any (has_texts leaf.owner leaf.name leaf.descriptor) self.old.leaves ≡ false }
         ensures ok { OnOk result (self.new ≡ with_leaf self.old leaf) }
         ensures err { OnErr result (self.new ≡ self.old) }
     {
-        self.leaves.push(leaf)
+        let number = self.leaves.len() as u32;
+        self.leaves.push(leaf)?;
+        let leaf = &self.leaves[number as usize];
+        let (owner, name, descriptor) = (
+            leaf.owner,
+            leaf.name.as_slice(),
+            leaf.descriptor.as_slice(),
+        );
+        let Ok(()) = self.index.add(alloc, owner, name, descriptor, number) else {
+            let _ = self.leaves.pop();
+            return Err(NoMemory);
+        };
+        Ok(())
     }
 
     /// The number of leaves. They are numbered from 0 in the order of the manifest.
@@ -139,7 +147,7 @@ impl Leaves {
     }
 
     /// The leaf with these texts that is called in that way. The descriptor is compared as it is
-    /// written in the manifest, without a receiver.
+    /// written in the manifest, without a receiver. It takes no memory.
     pub fn find(
         &self,
         owner: &[u8],
@@ -153,8 +161,8 @@ impl Leaves {
         let Some(owner) = self.classes.find(owner) else {
             return Err(Missing::NoClass);
         };
-        match position_of(self.leaves.as_slice(), owner, name, descriptor, how) {
-            Some(at) => Ok(LeafId(at as u32)),
+        match self.place_called(owner, name, descriptor, how) {
+            Some(at) => Ok(LeafId(at)),
             None => Err(Missing::NoMethod),
         }
     }
@@ -164,7 +172,7 @@ impl Leaves {
         requires { id.0 < length self.now.leaves }
         ensures { type_of_leaf self.now id ≡ Some result.now }
     {
-        &self.leaves.get(id.0 as usize).ty
+        &self.leaves[id.0 as usize].ty
     }
 
     /// Whether a leaf has a receiver.
@@ -172,7 +180,7 @@ impl Leaves {
         requires { id.0 < length self.now.leaves }
         ensures { is_virtual_leaf self.now id ≡ Some result }
     {
-        self.leaves.get(id.0 as usize).is_virtual
+        self.leaves[id.0 as usize].is_virtual
     }
 
     /// What a leaf does with arguments of its parameter types, where `n` leaf calls were made before in
@@ -184,19 +192,13 @@ impl Leaves {
         args: &Items,
         n: u32,
     ) -> Result<Outcome, NoMemory>
-        requires { outcome_of self.now id args.now n ≢ None }
+        requires { AreArguments self.now id args.now }
         ensures { IfOk result (λ outcome. outcome_of self.now id args.now n ≡ Some outcome) }
     {
         if id.0 >= self.count() {
             unreachable!()
         }
-        let leaf = self.leaves.get(id.0 as usize);
-        if lacks_receiver(leaf, args.as_slice()) {
-            return Ok(Outcome::Throw(Exc::bare(alloc, ClassId::NULL_POINTER)));
-        }
-        match kind_does(alloc, leaf.kind, args, n)? {
-            Some(outcome) => Ok(outcome),
-            None => unreachable!(),
-        }
+        prove!(self.classes.len() <= MOST_CLASSES);
+        leaf_does(alloc, &self.leaves[id.0 as usize], args, n)
     }
 }

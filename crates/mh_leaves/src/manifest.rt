@@ -1,24 +1,46 @@
-ghost use Rattle.std.specs.Prelude.{◌≡◌, ◌<◌, ◌^◌, length, map, IfOk, IfSome, List};
-ghost use Rattle.mh_values.specs.declared.class.Class.{Class};
+ghost use Rattle.std.specs.Prelude.{◌≡◌, ◌<◌, ◌^◌, false, length, map, None, IfOk};
+ghost use Rattle.std.specs.List.{list_all, list_any};
 ghost use Rattle.mh_base.specs.Lines.{taken_or};
-ghost use Rattle.mh_leaves.specs.Manifest.{manifest, kind_word, class_line, leaf_line, static_line, tokens_meaning, line_meaning, kind_of, two_ints_to_int, IsBuilt};
-ghost use Rattle.mh_leaves.specs.declared.manifest.ManifestError.TheVariants.{NoMemory as WithoutMemory};
+ghost use Rattle.mh_values.specs.Classes.{class_named};
+ghost use Rattle.mh_values.specs.Descriptor.{desc};
+ghost use Rattle.mh_values.specs.Slots.{slots_of_all};
 ghost use Rattle.mh_leaves.specs.Fault.{TellsManifest};
+ghost use Rattle.mh_leaves.specs.Find.{has_texts};
+ghost use Rattle.mh_leaves.specs.Reference.{texts_of};
+ghost use Rattle.mh_leaves.specs.Manifest.{manifest, kind_word, class_added, class_line, knows_name, knows_names, has_known_classes, type_if_read, handle_type, leaf_added, owned_leaf, is_leaf_text, leaf_line, three_tokens, five_tokens, is_virtual_word, tokens_meaning, line_meaning};
+ghost use Rattle.mh_leaves.specs.declared.manifest.ManifestError.TheVariants.{NoMemory as WithoutMemory};
 
-use crate::Leaves;
+use crate::kinds::{is_kind_word, is_well_typed, kind_among};
 use crate::leaves::MOST_LEAVES;
+use crate::reference::cut_at;
+use crate::{Leaves, Reference, is_class_name, is_method_name};
 use mh_base::{LineFault, NoMemory, Seq, is_passed, is_plain, split_at_byte};
 use mh_leaf::{Kind, Leaf};
-use mh_values::{ClassId, MethodTy, Primitive, Ty};
+use mh_values::{
+    ClassId, Classes, DescriptorError, MethodTy, Ty, descriptor_text, read_descriptor,
+};
 use std::alloc::{AllocError, Global};
 use std::error::Error;
 use std::fmt;
 
-/// What is wrong with a line of a manifest.
+/// The most slots that the parameters of a method handle take.
+const MOST_SLOTS: u64 = 254;
+
+/// What is wrong with a line of a manifest. Where several kinds apply, the line has the first of them.
 #[derive(Clone, Copy, Debug, PartialEq, Eq)]
 pub enum ManifestKind {
-    /// The line is none that is built.
-    NotBuilt,
+    /// The line is none of a manifest, or a name or a kind in it is none.
+    BadLine,
+    /// The class or the leaf is there already.
+    Twice,
+    /// A class that the line names is not there.
+    UnknownClass,
+    /// The descriptor is none, has a type left out, or gives a method handle of more than 254 slots.
+    BadDescriptor,
+    /// The kind does not allow the type, or throws what is no exception.
+    BadKind,
+    /// The class is past 1,024 that were declared, or the leaf past 4,096.
+    TooMany,
 }
 
 impl ManifestKind {
@@ -27,7 +49,12 @@ impl ManifestKind {
         ensures { result.now ≡ kind_word self }
     {
         match self {
-            ManifestKind::NotBuilt => "NotBuilt",
+            ManifestKind::BadLine => "BadLine",
+            ManifestKind::Twice => "Twice",
+            ManifestKind::UnknownClass => "UnknownClass",
+            ManifestKind::BadDescriptor => "BadDescriptor",
+            ManifestKind::BadKind => "BadKind",
+            ManifestKind::TooMany => "TooMany",
         }
     }
 }
@@ -78,103 +105,255 @@ fn copied(alloc: Global, bytes: &[u8]) -> Result<Seq<u8>, NoMemory>
     Ok(Seq::from_vec(Vec::from_slice(alloc, bytes)?))
 }
 
-// Takes a line `class NAME java/lang/Object`, and says what is wrong with it.
-fn read_class(
+// Declares a class below one that is there, and says what is wrong with it.
+fn add_class(
     leaves: &mut Leaves,
-    word: &[u8],
     name: &[u8],
-    superclass: &[u8],
+    superclass: ClassId,
 ) -> Result<Option<ManifestKind>, NoMemory>
-    ensures { IfOk result (λ fault. class_line leaves.old word.now name.now superclass.now ≡ taken_or fault leaves.new) }
+    requires new { class_named leaves.old.classes name.now ≡ None }
+    requires superclass { superclass.0 < length leaves.old.classes }
+    ensures { IfOk result (λ fault. class_added leaves.old name.now superclass ≡ taken_or fault leaves.new) }
 {
-    if word != b"class".as_slice()
-        || superclass != b"java/lang/Object".as_slice()
-        || name.starts_with(b"java/")
-        || leaves.classes().find(name).is_some()
-        || leaves.has_most_classes()
-    {
-        return Ok(Some(ManifestKind::NotBuilt));
+    if leaves.has_most_classes() {
+        return Ok(Some(ManifestKind::TooMany));
     }
-    leaves.add_class(name, ClassId::OBJECT)?;
+    leaves.add_class(name, superclass)?;
     Ok(None)
 }
 
-// The type `(II)I`.
-fn two_ints_to_int(alloc: Global) -> Result<MethodTy, NoMemory>
-    ensures { IfOk result (λ ty. ty ≡ two_ints_to_int) }
+// Takes a line `class NAME SUPER`, and says what is wrong with it.
+fn read_class(
+    leaves: &mut Leaves,
+    name: &[u8],
+    superclass: &[u8],
+) -> Result<Option<ManifestKind>, NoMemory>
+    ensures { IfOk result (λ fault. class_line leaves.old name.now superclass.now ≡ taken_or fault leaves.new) }
 {
-    let int = Ty::Prim(Primitive::I);
+    if !(is_class_name(name) && is_class_name(superclass)) {
+        return Ok(Some(ManifestKind::BadLine));
+    }
+    if leaves.class_of(name).is_some() {
+        return Ok(Some(ManifestKind::Twice));
+    }
+    let Some(superclass) = leaves.class_of(superclass) else {
+        return Ok(Some(ManifestKind::UnknownClass));
+    };
+    add_class(leaves, name, superclass)
+}
+
+// The type of a leaf's method handle: a receiver is in front.
+fn handle_type(
+    alloc: Global,
+    is_virtual: bool,
+    owner: ClassId,
+    ty: MethodTy,
+) -> Result<MethodTy, NoMemory>
+    ensures { IfOk result (λ t. t ≡ handle_type is_virtual owner ty) }
+{
+    if !is_virtual {
+        return Ok(ty);
+    }
     let mut params = Seq::new(alloc);
-    params.push(int)?;
-    params.push(int)?;
+    params.push(Ty::Class(owner))?;
+    params.append(ty.params)?;
     Ok(MethodTy {
         params,
-        ret: Some(int),
+        ret: ty.ret,
     })
 }
 
-// The kind of a leaf, by its word.
-fn read_kind(word: &[u8]) -> Option<Kind>
-    ensures kind { result ≡ kind_of word.now }
-    ensures built { (classes : List Class) → IfSome result (IsBuilt classes) }
+// The slots of all these parameters.
+fn all_slots(types: &[Ty]) -> u64
+    ensures { result ≡ slots_of_all types.now }
 {
-    if word == b"iadd".as_slice() {
-        Some(Kind::Iadd)
-    } else if word == b"isub".as_slice() {
-        Some(Kind::Isub)
-    } else if word == b"imul".as_slice() {
-        Some(Kind::Imul)
+    let mut all = 0u64;
+    for parameter in types {
+        all += u64::from(parameter.slots());
+    }
+    all
+}
+
+// Registers a leaf, and says what is wrong with it.
+fn add_leaf(
+    alloc: Global,
+    leaves: &mut Leaves,
+    leaf: Leaf,
+) -> Result<Option<ManifestKind>, NoMemory>
+    requires owner { leaf.owner.0 < length leaves.old.classes }
+    requires new { list_any (has_texts leaf.owner leaf.name leaf.descriptor) leaves.old.leaves ≡ false }
+    ensures { IfOk result (λ fault. leaf_added leaves.old leaf ≡ taken_or fault leaves.new) }
+{
+    if all_slots(leaf.ty.params.as_slice()) > MOST_SLOTS {
+        return Ok(Some(ManifestKind::BadDescriptor));
+    }
+    if !is_well_typed(&leaf, leaves.classes()) {
+        return Ok(Some(ManifestKind::BadKind));
+    }
+    if leaves.count() == MOST_LEAVES {
+        return Ok(Some(ManifestKind::TooMany));
+    }
+    leaves.add_leaf(alloc, leaf)?;
+    Ok(None)
+}
+
+// Whether the class is there that a piece of a descriptor names, if it names one.
+fn knows_name(classes: &Classes, piece: &[u8]) -> bool
+    ensures { result ≡ knows_name classes.now piece.now }
+{
+    match cut_at(piece, b'L') {
+        Some((_, name)) => classes.find(name).is_some(),
+        None => true,
+    }
+}
+
+// Whether the classes are there that pieces of a descriptor name.
+fn knows_each(classes: &Classes, pieces: &[&[u8]]) -> bool
+    ensures { result ≡ list_all (λ piece. knows_name classes.now piece.now) pieces.now }
+{
+    pieces.iter().all(|piece| knows_name(classes, piece))
+}
+
+// Whether the classes are there that a descriptor names.
+fn knows_names(alloc: Global, classes: &Classes, descriptor: &[u8]) -> Result<bool, NoMemory>
+    ensures { IfOk result (λ known. known ≡ knows_names classes.now descriptor.now) }
+{
+    let pieces = split_at_byte(alloc, descriptor, b';')?;
+    Ok(knows_each(classes, &pieces))
+}
+
+// Whether no class is unknown that a descriptor names, if it is one.
+fn has_known_classes(alloc: Global, classes: &Classes, descriptor: &[u8]) -> Result<bool, NoMemory>
+    ensures { IfOk result (λ known. known ≡ has_known_classes classes.now descriptor.now) }
+{
+    if descriptor_text(descriptor).is_err() {
+        return Ok(true);
+    }
+    knows_names(alloc, classes, descriptor)
+}
+
+// The type of a descriptor, if all its types are there.
+fn type_of(
+    alloc: Global,
+    classes: &Classes,
+    descriptor: &[u8],
+) -> Result<Option<MethodTy>, NoMemory>
+    ensures { IfOk result (λ t. t ≡ type_if_read (desc classes.now descriptor.now)) }
+{
+    match read_descriptor(alloc, descriptor, classes) {
+        Ok(ty) => Ok(Some(ty)),
+        Err(DescriptorError::NoMemory) => Err(NoMemory),
+        Err(_) => Ok(None),
+    }
+}
+
+// Registers a leaf of an owner and a kind, and says what is wrong with it.
+fn read_owned(
+    alloc: Global,
+    leaves: &mut Leaves,
+    is_virtual: bool,
+    texts: Reference<'_>,
+    owner: ClassId,
+    kind: Kind,
+) -> Result<Option<ManifestKind>, NoMemory>
+    requires owner { owner.0 < length leaves.old.classes }
+    requires new { list_any (has_texts owner texts.name.now texts.descriptor.now) leaves.old.leaves ≡ false }
+    ensures { IfOk result (λ fault. owned_leaf leaves.old is_virtual (texts_of texts.entry) owner kind ≡ taken_or fault leaves.new) }
+{
+    if !has_known_classes(alloc, leaves.classes(), texts.descriptor)? {
+        return Ok(Some(ManifestKind::UnknownClass));
+    }
+    let Some(ty) = type_of(alloc, leaves.classes(), texts.descriptor)? else {
+        return Ok(Some(ManifestKind::BadDescriptor));
+    };
+    let leaf = Leaf {
+        owner,
+        name: copied(alloc, texts.name)?,
+        descriptor: copied(alloc, texts.descriptor)?,
+        is_virtual,
+        ty: handle_type(alloc, is_virtual, owner, ty)?,
+        kind,
+    };
+    add_leaf(alloc, leaves, leaf)
+}
+
+// Whether the texts of a leaf's line are such as it may have.
+fn is_leaf_text(texts: Reference<'_>, word: &[u8]) -> bool
+    ensures { result ≡ is_leaf_text (texts_of texts.entry) word.now }
+{
+    is_class_name(texts.owner)
+        && is_method_name(texts.name)
+        && !texts.descriptor.is_empty()
+        && is_kind_word(word)
+}
+
+// Takes a line of a leaf, and says what is wrong with it.
+fn read_leaf(
+    alloc: Global,
+    leaves: &mut Leaves,
+    is_virtual: bool,
+    texts: Reference<'_>,
+    word: &[u8],
+) -> Result<Option<ManifestKind>, NoMemory>
+    ensures { IfOk result (λ fault. leaf_line leaves.old is_virtual (texts_of texts.entry) word.now ≡ taken_or fault leaves.new) }
+{
+    if !is_leaf_text(texts, word) {
+        return Ok(Some(ManifestKind::BadLine));
+    }
+    let Some(owner) = leaves.class_of(texts.owner) else {
+        return Ok(Some(ManifestKind::UnknownClass));
+    };
+    if leaves.is_registered(owner, texts.name, texts.descriptor) {
+        return Ok(Some(ManifestKind::Twice));
+    }
+    let Some(kind) = kind_among(word, leaves.classes()) else {
+        return Ok(Some(ManifestKind::UnknownClass));
+    };
+    read_owned(alloc, leaves, is_virtual, texts, owner, kind)
+}
+
+// Whether a leaf of a line that begins with this word has a receiver.
+fn is_virtual_word(word: &[u8]) -> Option<bool>
+    ensures { result ≡ is_virtual_word word.now }
+{
+    if word == b"static".as_slice() {
+        Some(false)
+    } else if word == b"virtual".as_slice() {
+        Some(true)
     } else {
         None
     }
 }
 
-// Registers a leaf of an owner, and says what is wrong with it.
-fn read_leaf(
-    alloc: Global,
+// Takes a line of three tokens, and says what is wrong with it.
+fn read_three(
     leaves: &mut Leaves,
-    owner: Option<ClassId>,
+    word: &[u8],
     name: &[u8],
-    kind: Option<Kind>,
+    superclass: &[u8],
 ) -> Result<Option<ManifestKind>, NoMemory>
-    requires owner { IfSome owner (λ class. class.0 < length leaves.old.classes) }
-    requires kind { IfSome kind (IsBuilt leaves.old.classes) }
-    ensures { IfOk result (λ fault. leaf_line leaves.old owner name.now kind ≡ taken_or fault leaves.new) }
+    ensures { IfOk result (λ fault. three_tokens leaves.old word.now name.now superclass.now ≡ taken_or fault leaves.new) }
 {
-    let (Some(owner), Some(kind)) = (owner, kind) else {
-        return Ok(Some(ManifestKind::NotBuilt));
-    };
-    if leaves.is_registered(owner, name, b"(II)I") || leaves.count() == MOST_LEAVES {
-        return Ok(Some(ManifestKind::NotBuilt));
+    if word != b"class".as_slice() {
+        return Ok(Some(ManifestKind::BadLine));
     }
-    leaves.add_leaf(Leaf {
-        owner,
-        name: copied(alloc, name)?,
-        descriptor: copied(alloc, b"(II)I")?,
-        is_virtual: false,
-        ty: two_ints_to_int(alloc)?,
-        kind,
-    })?;
-    Ok(None)
+    read_class(leaves, name, superclass)
 }
 
-// Takes a line `static OWNER NAME (II)I KIND`, and says what is wrong with it.
-fn read_static(
+// Takes a line of five tokens, and says what is wrong with it.
+fn read_five(
     alloc: Global,
     leaves: &mut Leaves,
     word: &[u8],
-    owner: &[u8],
-    name: &[u8],
-    descriptor: &[u8],
+    texts: Reference<'_>,
     kind: &[u8],
 ) -> Result<Option<ManifestKind>, NoMemory>
-    ensures { IfOk result (λ fault. static_line leaves.old word.now owner.now name.now descriptor.now kind.now ≡ taken_or fault leaves.new) }
+    ensures { IfOk result (λ fault. five_tokens leaves.old word.now (texts_of texts.entry) kind.now ≡ taken_or fault leaves.new) }
 {
-    if word != b"static".as_slice() || descriptor != b"(II)I".as_slice() {
-        return Ok(Some(ManifestKind::NotBuilt));
-    }
-    let owner = leaves.class_of(owner);
-    read_leaf(alloc, leaves, owner, name, read_kind(kind))
+    let Some(is_virtual) = is_virtual_word(word) else {
+        return Ok(Some(ManifestKind::BadLine));
+    };
+    read_leaf(alloc, leaves, is_virtual, texts, kind)
 }
 
 // Takes the tokens of a line, and says what is wrong with them.
@@ -186,11 +365,16 @@ fn read_tokens(
     ensures { IfOk result (λ fault. tokens_meaning leaves.old (map (λ t. t.now) tokens.now) ≡ taken_or fault leaves.new) }
 {
     match tokens {
-        [word, name, superclass] => read_class(leaves, word, name, superclass),
+        [word, name, superclass] => read_three(leaves, word, name, superclass),
         [word, owner, name, descriptor, kind] => {
-            read_static(alloc, leaves, word, owner, name, descriptor, kind)
+            let texts = Reference {
+                owner: *owner,
+                name: *name,
+                descriptor: *descriptor,
+            };
+            read_five(alloc, leaves, word, texts, kind)
         }
-        _ => Ok(Some(ManifestKind::NotBuilt)),
+        _ => Ok(Some(ManifestKind::BadLine)),
     }
 }
 
@@ -202,11 +386,11 @@ fn read_line(
 ) -> Result<Option<ManifestKind>, NoMemory>
     ensures { IfOk result (λ fault. line_meaning leaves.old line.now ≡ taken_or fault leaves.new) }
 {
+    if !is_plain(line) {
+        return Ok(Some(ManifestKind::BadLine));
+    }
     if is_passed(line) {
         return Ok(None);
-    }
-    if !is_plain(line) {
-        return Ok(Some(ManifestKind::NotBuilt));
     }
     let tokens = split_at_byte(alloc, line, b' ')?;
     read_tokens(alloc, leaves, &tokens)

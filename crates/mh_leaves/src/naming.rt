@@ -1,8 +1,7 @@
 ghost use Rattle.std.specs.Prelude.{◌≡◌};
-ghost use Rattle.mh_leaves.specs.Find.{is_way, has_texts};
+ghost use Rattle.mh_leaves.specs.Find.{is_way};
 
 use mh_leaf::Leaf;
-use mh_values::ClassId;
 use std::error::Error;
 use std::fmt;
 
@@ -28,13 +27,6 @@ impl How {
             How::Virtual => leaf.is_virtual,
         }
     }
-}
-
-/// Whether a leaf has this owner, name and descriptor.
-pub(crate) fn has_texts(leaf: &Leaf, owner: ClassId, name: &[u8], descriptor: &[u8]) -> bool
-    ensures { result ≡ has_texts owner name.now descriptor.now leaf.now }
-{
-    leaf.owner == owner && leaf.name.as_slice() == name && leaf.descriptor.as_slice() == descriptor
 }
 
 /// Why a leaf is not found.
