@@ -1,20 +1,17 @@
 -- What is registered stays so when a class or a leaf is put behind the others.
-use Rattle.std.proofs.Common.{◌≡◌, refl, inl, inr, zero, suc, ◌==◌, ◌≤◌, Bool, true, false, if◌then◌else◌, sym, ap, ◌∙◌, ℕ, ◌+◌, ◌<◌, List, [], ◌∷◌, ◌++◌, length, slice_get, Option, None, Some, Result, Ok, Err, OnOk, OnErr, IfSome, arith, length-append}
+use Rattle.std.proofs.Common.{◌≡◌, refl, zero, suc, true, false, if◌then◌else◌, sym, ap, ◌∙◌, ℕ, ◌+◌, ◌<◌, List, [], ◌∷◌, ◌++◌, length, slice_get, Option, None, Some, Result, Ok, Err, OnOk, OnErr, IfSome, arith, length-append}
 use Rattle.std.specs.Option.{option_map_or}
 use Rattle.std.proofs.lemmas.Option.{slice_get_within}
 use Rattle.std.proofs.lemmas.List.Elements.{All-push}
-use Rattle.std.proofs.lemmas.Bool.{or_left, or_right, or_cases}
 use Rattle.std.specs.Str.{bytes_eq}
 use Rattle.mh_values.specs.Classes.{named_from, class_named}
 use Rattle.mh_values.specs.declared.class.Class.{Class}
 use Rattle.mh_values.specs.declared.class.ClassId.{ClassId}
-use Rattle.mh_values.specs.Class.{class_at, superclass_of, reaches_within, is_subclass, throwable_class}
-use Rattle.mh_values.proofs.SameTypes.{both, both-true}
+use Rattle.mh_values.specs.Class.{class_at, superclass_of, IsSubclass, itself, above}
 use Rattle.mh_leaf.specs.declared.leaf.Kind.{Kind}
 use Rattle.mh_leaf.specs.declared.leaf.Kind.TheVariants.{Iadd, Isub, Imul, Idiv, Ladd, Ieq, Ilt, Not, Concat, Length, Same, First, Pick, Tick, Note, Throw}
 use Rattle.mh_leaf.specs.declared.leaf.Leaf.{Leaf}
-use Rattle.mh_leaf.specs.Outcome.{is_kind_type, throws_exceptions, is_well_typed}
-use Rattle.mh_leaves.specs.Registered.{AreRegistered, IsLeafOf, most_leaves}
+use Rattle.mh_leaves.specs.Registered.{AreRegistered, IsLeafOf, ThrowsException, most_leaves}
 
 slice_get-old : {A : Type 0} (xs ys : List A) (i : ℕ) → i < length xs → slice_get (xs ++ ys) i ≡ slice_get xs i
 slice_get-old [] ys i within = absurd (omega (arith, within))
@@ -42,59 +39,34 @@ found-grown classes more a b None is h = absurd cc
 found-grown classes more a b (Some z) is h =
     ap (λ o. option_map_or (λ class. class.superclass) o None) (slice_get-old classes more a.0 (slice_get_within classes a.0 z is) ∙ is) ∙ h
 
--- a way up through a superclass
-abbrev through : ℕ → List Class → ClassId → Option ClassId → Bool
-through steps classes b superclass = option_map_or (λ c. reaches_within steps classes c b) superclass false
+subclass-grown : (classes more : List Class) (a b : ClassId) → IsSubclass classes a b → IsSubclass (classes ++ more) a b
+subclass-grown classes more a b itself = itself
+subclass-grown classes more a b (above {b = c} is further) =
+    above (found-grown classes more a c (slice_get classes a.0) refl is) (subclass-grown classes more c b further)
 
-reaches-here : (steps : ℕ) (classes : List Class) (a b : ClassId) → (a.0 == b.0) ≡ true → reaches_within steps classes a b ≡ true
-reaches-here zero classes a b h = h
-reaches-here (suc steps) classes a b h = or_left _ _ h
-
-through-grown : (steps n : ℕ) (classes more : List Class) (a b : ClassId) (o : Option ClassId) → ((c : ClassId) → reaches_within steps classes c b ≡ true → reaches_within n (classes ++ more) c b ≡ true) → superclass_of classes a ≡ o → through steps classes b o ≡ true → through n (classes ++ more) b (superclass_of (classes ++ more) a) ≡ true
-through-grown steps n classes more a b None further is h = cc
-through-grown steps n classes more a b (Some c) further is h =
-    ap (through n (classes ++ more) b) (found-grown classes more a c (slice_get classes a.0) refl is) ∙ further c h
-
--- a way up in a list is one in a longer list, where as many steps are allowed
-reaches-grown : (steps n : ℕ) (classes more : List Class) (a b : ClassId) → steps ≤ n → reaches_within steps classes a b ≡ true → reaches_within n (classes ++ more) a b ≡ true
-reaches-grown zero n classes more a b enough h = reaches-here n (classes ++ more) a b h
-reaches-grown (suc steps) zero classes more a b enough h = absurd (omega arith)
-reaches-grown (suc steps) (suc n) classes more a b enough h =
-    elim (or_cases (a.0 == b.0) (through steps classes b (superclass_of classes a)) h) [
-      | inl here ↦ or_left _ _ here
-      | inr on ↦ or_right (a.0 == b.0) _ (through-grown steps n classes more a b (superclass_of classes a) (λ c t. reaches-grown steps n classes more c b (omega arith) t) refl on)
-    ]
-
-subclass-grown : (classes more : List Class) (a b : ClassId) → is_subclass classes a b ≡ true → is_subclass (classes ++ more) a b ≡ true
-subclass-grown classes more a b h = reaches-grown (length classes) (length (classes ++ more)) classes more a b (omega (arith, length-append classes more)) h
-
-throws-grown : (classes more : List Class) (kind : Kind) → throws_exceptions classes kind ≡ true → throws_exceptions (classes ++ more) kind ≡ true
-throws-grown classes more (Throw class) h = subclass-grown classes more class throwable_class h
-throws-grown classes more Iadd h = refl
-throws-grown classes more Isub h = refl
-throws-grown classes more Imul h = refl
-throws-grown classes more Idiv h = refl
-throws-grown classes more Ladd h = refl
-throws-grown classes more Ieq h = refl
-throws-grown classes more Ilt h = refl
-throws-grown classes more Not h = refl
-throws-grown classes more Concat h = refl
-throws-grown classes more Length h = refl
-throws-grown classes more Same h = refl
-throws-grown classes more First h = refl
-throws-grown classes more Pick h = refl
-throws-grown classes more Tick h = refl
-throws-grown classes more Note h = refl
-
-typed-grown : (classes more : List Class) (leaf : Leaf) → is_well_typed classes leaf ≡ true → is_well_typed (classes ++ more) leaf ≡ true
-typed-grown classes more leaf h =
-    let q = both (is_kind_type leaf.kind leaf.ty) (throws_exceptions classes leaf.kind) h in
-    both-true _ _ q.0 (throws-grown classes more leaf.kind q.1)
+throws-grown : (classes more : List Class) (kind : Kind) → ThrowsException classes kind → ThrowsException (classes ++ more) kind
+throws-grown classes more (Throw class) h = subclass-grown classes more class _ h
+throws-grown classes more Iadd h = tt
+throws-grown classes more Isub h = tt
+throws-grown classes more Imul h = tt
+throws-grown classes more Idiv h = tt
+throws-grown classes more Ladd h = tt
+throws-grown classes more Ieq h = tt
+throws-grown classes more Ilt h = tt
+throws-grown classes more Not h = tt
+throws-grown classes more Concat h = tt
+throws-grown classes more Length h = tt
+throws-grown classes more Same h = tt
+throws-grown classes more First h = tt
+throws-grown classes more Pick h = tt
+throws-grown classes more Tick h = tt
+throws-grown classes more Note h = tt
 
 leaf-grown : (classes more : List Class) (leaf : Leaf) → IsLeafOf classes leaf → IsLeafOf (classes ++ more) leaf
 leaf-grown classes more leaf h = record {
   owner = omega (arith, h.owner, length-append classes more);
-  typed = typed-grown classes more leaf h.typed;
+  typed = h.typed;
+  throws = throws-grown classes more leaf.kind h.throws;
 }
 
 -- a class more

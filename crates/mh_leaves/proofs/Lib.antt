@@ -1,7 +1,7 @@
-pub mod Arguments
 pub mod Finding
 pub mod Growing
 pub mod Keeping
 pub mod Numbering
 pub mod Once
 pub mod Tokens
+pub mod Typed

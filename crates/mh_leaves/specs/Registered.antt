@@ -1,5 +1,5 @@
 -- What a manifest has registered so far.
-use Rattle.std.specs.Prelude.{ℕ, ◌<◌, ◌≤◌, List, [], ◌∷◌, ◌++◌, length, Option, None, Some, slice_get, All, IsTrue}
+use Rattle.std.specs.Prelude.{ℕ, ◌<◌, ◌≤◌, List, [], ◌∷◌, ◌++◌, length, Option, Some, slice_get, All, IsTrue}
 use Rattle.std.specs.Option.{option_and_then, option_map}
 use Rattle.mh_values.specs.declared.class.Class.{Class}
 use Rattle.mh_values.specs.declared.class.ClassId.{ClassId}
@@ -7,12 +7,13 @@ use Rattle.mh_values.specs.declared.types.MethodTy.{MethodTy}
 use Rattle.mh_values.specs.declared.value.Value.{Value}
 use Rattle.mh_values.specs.declared.value.Outcome.{Outcome}
 use Rattle.mh_values.specs.declared.value.LeafId.{LeafId}
-use Rattle.mh_values.specs.Class.{builtin_classes}
-use Rattle.mh_values.specs.HasType.{HaveTypes}
+use Rattle.mh_values.specs.Class.{builtin_classes, IsSubclass, throwable_class}
 use Rattle.mh_values.specs.Classes.{class_of}
+use Rattle.mh_leaf.specs.declared.leaf.Kind.{Kind}
+use Rattle.mh_leaf.specs.declared.leaf.Kind.TheVariants.{Throw}
 use Rattle.mh_leaf.specs.declared.leaf.Leaf.{Leaf}
 use Rattle.mh_leaf.specs.LeafTable.{LeafTable}
-use Rattle.mh_leaf.specs.Outcome.{leaf_outcome, is_well_typed}
+use Rattle.mh_leaf.specs.Outcome.{leaf_outcome, is_kind_type}
 
 -- the built-in classes, and no leaf
 abbrev pub nothing_registered : LeafTable
@@ -30,12 +31,18 @@ with_leaf table leaf = record table { leaves = table.leaves ++ leaf ∷ [] }
 abbrev pub most_leaves : ℕ
 most_leaves = 4096
 
+-- a leaf that throws by itself throws an exception
+abbrev pub ThrowsException : List Class → Kind → Type 0
+ThrowsException classes (Throw class) = IsSubclass classes class throwable_class
+ThrowsException classes _ = Unit {0}
+
 -- a leaf's owner is a class of the list, and its kind allows its type
 pub record IsLeafOf (classes : List Class) (leaf : Leaf) : Type 0 where
   pub owner : leaf.owner.0 < length classes
-  pub typed : IsTrue (is_well_typed classes leaf)
+  pub typed : IsTrue (is_kind_type leaf.kind leaf.ty)
+  pub throws : ThrowsException classes leaf.kind
 
--- what holds of the classes and the leaves of each manifest
+-- what holds of the leaves of each manifest
 pub record AreRegistered (table : LeafTable) : Type 0 where
   pub few : length table.leaves ≤ most_leaves
   pub leaves : All (IsLeafOf table.classes) table.leaves
@@ -43,15 +50,6 @@ pub record AreRegistered (table : LeafTable) : Type 0 where
 -- the type of a leaf of the table
 abbrev pub type_of_leaf : LeafTable → LeafId → Option MethodTy
 type_of_leaf table id = option_map (λ leaf. leaf.ty) (slice_get table.leaves id.0)
-
--- there is a leaf, and these have the types of its parameters
-abbrev pub HaveTypesOf : List Class → List Value → Option Leaf → Type 0
-HaveTypesOf classes args (Some leaf) = HaveTypes classes args leaf.ty.params
-HaveTypesOf classes args None = ⊥
-
--- these are arguments of a leaf of the table
-abbrev pub AreArguments : LeafTable → LeafId → List Value → Type 0
-AreArguments table id args = HaveTypesOf table.classes args (slice_get table.leaves id.0)
 
 -- what a leaf of the table does
 abbrev pub outcome_of : LeafTable → LeafId → List Value → ℕ → Option Outcome

@@ -34,7 +34,7 @@ impl Model for Leaves {
 }
 
 impl Leaves {
-    ghost use Rattle.mh_leaves.specs.Registered.{AreRegistered, AreArguments, IsLeafOf, nothing_registered, with_class, with_leaf, type_of_leaf, outcome_of, most_leaves};
+    ghost use Rattle.mh_leaves.specs.Registered.{AreRegistered, IsLeafOf, nothing_registered, with_class, with_leaf, type_of_leaf, outcome_of, most_leaves};
     ghost use Rattle.mh_leaves.specs.Find.{find_leaf, is_virtual_leaf, has_texts, is_called};
     ghost use Rattle.mh_values.specs.Classes.{class_named, most_classes};
     ghost use Rattle.std.specs.List.{list_any};
@@ -192,13 +192,12 @@ impl Leaves {
         args: &Items,
         n: u32,
     ) -> Result<Outcome, NoMemory>
-        requires { AreArguments self.now id args.now }
+        requires { outcome_of self.now id args.now n ≢ None }
         ensures { IfOk result (λ outcome. outcome_of self.now id args.now n ≡ Some outcome) }
     {
         if id.0 >= self.count() {
             unreachable!()
         }
-        prove!(self.classes.len() <= MOST_CLASSES);
         leaf_does(alloc, &self.leaves[id.0 as usize], args, n)
     }
 }
