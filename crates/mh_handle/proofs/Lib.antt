@@ -6,6 +6,8 @@ pub mod ConvertedSlots
 pub mod Edits
 pub mod Erasing
 pub mod Indexes
+pub mod LeafStands
+pub mod Making
 pub mod Passing
 pub mod Recipes
 pub mod Standing

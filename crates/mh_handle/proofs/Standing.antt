@@ -23,7 +23,7 @@ use Rattle.mh_edit.specs.Applied.{applied}
 use Rattle.mh_edit.specs.Fit.{is_nothing}
 use Rattle.mh_edit.specs.Rename.{reframed, renamed, place_by, ending_with}
 use Rattle.mh_handle.specs.Form.{body_of}
-use Rattle.mh_handle.specs.Grows.{Grows}
+use Rattle.mh_handle.specs.Grows.{Grows, base_handle}
 use Rattle.mh_handle.specs.Recipe.{recipe}
 use Rattle.mh_handle.specs.Stands.{HandleView, handle_body, handle_run, IsMade, Stands}
 use Rattle.mh_handle.proofs.Erasing.{returns-runs}
@@ -51,12 +51,12 @@ made-reframed body params (x ∷ before) table more made =
     let to = place_by table (length params + length (x ∷ before)) in
     ap (λ b. b && not (is_some (option_map to body.out))) (suc-positive (length (before ++ map (renamed to) body.names)))
 
--- what is to be shown of the tree that the edit is of
-pub record Suits (table : LeafTable) (h : HandleView) (t t' : Tree) (ty : MethodTy) (weighs : ℕ) (more : List MethodTy) (k : Key) (fields : List Field) : Type 0 where
+-- what is to be shown of the tree that the edit is of, where the handle before it has these keys and side types
+pub record Suits (table : LeafTable) (h : HandleView) (keys : List Key) (held : List MethodTy) (t' : Tree) (ty : MethodTy) (weighs : ℕ) (more : List MethodTy) (k : Key) (fields : List Field) : Type 0 where
   pub typed : type_of table t' ≡ Ok ty
   pub weighed : weighs ≡ weight t'
-  pub holds : sides table t' ≡ sides table t ++ more
-  pub keyed : recipe table t' ≡ recipe table t ++ k ∷ []
+  pub holds : sides table t' ≡ held ++ more
+  pub keyed : recipe table t' ≡ keys ++ k ∷ []
   pub fielded : (applied k (handle_body h)).fields ≡ (handle_body h).fields + length fields
   pub shaped : (applied k (handle_body h)).params ≡ map basic_of ty.params
   pub begun : IsMade (applied k (handle_body h))
@@ -65,13 +65,15 @@ pub record Suits (table : LeafTable) (h : HandleView) (t t' : Tree) (ty : Method
       run_on table (applied k (handle_body h)) (h.fields ++ fields) (map erased args) n ≡ erased_ran (mean table t' args n)
   pub returns : IsSound table.classes (mean table t') ty
 
-pub stands-grown :
-    (table : LeafTable) (h h' : HandleView) (t t' : Tree) (ty : MethodTy) (weighs : ℕ) (more : List MethodTy) (k : Key) (fields : List Field) →
+pub stands-by :
+    (table : LeafTable) (h h' : HandleView) (keys : List Key) (held : List MethodTy) (t' : Tree) (ty : MethodTy) (weighs : ℕ) (more : List MethodTy) (k : Key) (fields : List Field) →
     Grows h h' ty weighs more k fields →
-    Stands table h t →
-    Suits table h t t' ty weighs more k fields →
+    h.form.recipe ≡ keys →
+    h.sides ≡ held →
+    length h.fields ≡ (handle_body h).fields →
+    Suits table h keys held t' ty weighs more k fields →
     Stands table h' t'
-stands-grown table h h' t t' ty weighs more k fields g st su =
+stands-by table h h' keys held t' ty weighs more k fields g made holds fielded su =
     let body : handle_body h' ≡ applied k (handle_body h) = ap body_of g.made ∙ body_of-snoc h.form.recipe k in
     let run : (args : List Value) (n : ℕ) → HaveTypes table.classes args h'.ty.params → n < 2 ^ 32 → handle_run table h' (map erased args) n ≡ erased_ran (mean table t' args n) =
     λ args n have low.
@@ -82,12 +84,29 @@ stands-grown table h h' t t' ty weighs more k fields g st su =
     record {
       typed = su.typed ∙ ap Ok (sym g.typed);
       weighed = g.weighed ∙ su.weighed;
-      made = g.made ∙ (ap (λ r. r ++ k ∷ []) st.made ∙ sym su.keyed);
-      holds = g.holds ∙ (ap (λ s. s ++ more) st.holds ∙ sym su.holds);
-      fielded = ap length g.fielded ∙ (length-append h.fields fields ∙ (ap (λ c. c + length fields) st.fielded ∙ (sym su.fielded ∙ ap (λ b. b.fields) (sym body))));
+      made = g.made ∙ (ap (λ r. r ++ k ∷ []) made ∙ sym su.keyed);
+      holds = g.holds ∙ (ap (λ s. s ++ more) holds ∙ sym su.holds);
+      fielded = ap length g.fielded ∙ (length-append h.fields fields ∙ (ap (λ c. c + length fields) fielded ∙ (sym su.fielded ∙ ap (λ b. b.fields) (sym body))));
       shaped = ap (λ b. b.params) body ∙ (su.shaped ∙ ap (λ (m : MethodTy). map basic_of m.params) (sym g.typed));
       begun = subst IsMade (sym body) su.begun;
       runs = run;
       well_formed = λ args n have low e. returns-runs table.classes (mean table t' args n) h'.ty.ret (sound args n have) (sym (run args n have low) ∙ e);
       returns = sound;
     }
+
+-- a handle that was made from one that stands for a tree
+pub stands-grown :
+    (table : LeafTable) (h h' : HandleView) (t t' : Tree) (ty : MethodTy) (weighs : ℕ) (more : List MethodTy) (k : Key) (fields : List Field) →
+    Grows h h' ty weighs more k fields →
+    Stands table h t →
+    Suits table h (recipe table t) (sides table t) t' ty weighs more k fields →
+    Stands table h' t'
+stands-grown table h h' t t' ty weighs more k fields g st su = stands-by table h h' (recipe table t) (sides table t) t' ty weighs more k fields g st.made st.holds st.fielded su
+
+-- a handle that was made by a root
+pub stands-rooted :
+    (table : LeafTable) (h' : HandleView) (t' : Tree) (ty : MethodTy) (weighs : ℕ) (more : List MethodTy) (k : Key) (fields : List Field) →
+    Grows base_handle h' ty weighs more k fields →
+    Suits table base_handle [] [] t' ty weighs more k fields →
+    Stands table h' t'
+stands-rooted table h' t' ty weighs more k fields g su = stands-by table base_handle h' [] [] t' ty weighs more k fields g refl refl refl su

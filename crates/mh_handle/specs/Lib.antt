@@ -1,4 +1,5 @@
 pub mod Converting
+pub mod Errors
 pub mod Form
 pub mod Grows
 pub mod Index
@@ -6,3 +7,4 @@ pub mod Marks
 pub mod Passes
 pub mod Recipe
 pub mod Stands
+pub mod Works

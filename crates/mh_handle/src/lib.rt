@@ -3,18 +3,23 @@
 
 mod error;
 mod form;
+mod grow;
+mod handle;
+mod leaves;
 mod mark;
 mod pass;
 mod recipe;
 mod same;
 mod seat;
 mod seen;
-mod stub;
 mod table;
 mod work;
 
-pub use error::EditError;
+pub use error::{EditError, HandleError};
 pub use form::Form;
+pub use grow::{Growth, one_field};
+pub use handle::{Handle, MethodTys};
+pub use leaves::leaf;
 pub use pass::FormPass;
 pub use recipe::Recipe;
 pub use seat::FormSeat;

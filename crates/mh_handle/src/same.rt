@@ -79,16 +79,24 @@ impl Same for Key {
             (Key::GuardRoot { shape, test }, Key::GuardRoot { shape: s, test: t }) => {
                 *test == *t && shape.is_same(s)
             }
-            (Key::CatchRoot { shape, handler }, Key::CatchRoot { shape: s, handler: h }) => {
-                *handler == *h && shape.is_same(s)
-            }
+            (
+                Key::CatchRoot { shape, handler },
+                Key::CatchRoot {
+                    shape: s,
+                    handler: h,
+                },
+            ) => { *handler == *h && shape.is_same(s) }
             (Key::Bind { pos }, Key::Bind { pos: p }) => *pos == *p,
             (Key::Add { pos, basics }, Key::Add { pos: p, basics: b }) => {
                 *pos == *p && basics.is_same(b)
             }
-            (Key::Permute { basics, reorder }, Key::Permute { basics: b, reorder: r }) => {
-                basics.is_same(b) && reorder.is_same(r)
-            }
+            (
+                Key::Permute { basics, reorder },
+                Key::Permute {
+                    basics: b,
+                    reorder: r,
+                },
+            ) => { basics.is_same(b) && reorder.is_same(r) }
             (
                 Key::Collect { pos, basics, ret },
                 Key::Collect {

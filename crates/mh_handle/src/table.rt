@@ -8,9 +8,8 @@ use crate::error::EditError;
 use crate::form::Form;
 use crate::pass::FormPass;
 use crate::seat::FormSeat;
-use crate::stub::apply;
 use mh_base::NoMemory;
-use mh_edit::Key;
+use mh_edit::{Key, apply};
 use mh_setonce::Chain;
 use std::alloc::Global;
 use std::marker::Model;
@@ -55,11 +54,7 @@ impl FormTable {
     }
 
     /// The first pass, with the table's seat.
-    pub fn first_pass<'t>(
-        &'t self,
-        alloc: Global,
-        seat: FormSeat,
-    ) -> Result<FormPass<'t>, NoMemory>
+    pub fn first_pass<'t>(&'t self, alloc: Global, seat: FormSeat) -> Result<FormPass<'t>, NoMemory>
         ensures { IfOk result (λ pass. pass ≡ pass_at self.entry.now seat) }
     {
         FormPass::new(alloc, self.chain.walk(alloc), seat)

@@ -1,8 +1,8 @@
-ghost use Rattle.std.specs.Prelude.{◌≡◌, ◌≤◌, ◌++◌, ◌∷◌, [], IsTrue};
-ghost use Rattle.mh_setonce.specs.Walks.{StartsWith};
+ghost use Rattle.std.specs.Prelude.{◌≡◌, ◌++◌, ◌∷◌, [], IsTrue};
 ghost use Rattle.mh_edit.specs.Fit.{fits};
 ghost use Rattle.mh_handle.specs.Form.{body_of};
 ghost use Rattle.mh_handle.specs.Passes.{Edits};
+ghost use Rattle.mh_handle.specs.Works.{IsReady, GoesOn};
 
 use crate::error::EditError;
 use crate::form::Form;
@@ -13,7 +13,8 @@ use mh_leaves::Leaves;
 use std::alloc::Global;
 use std::sync::Wait;
 
-/// What a thread makes handles with: the table of forms with its own pass over it, and the leaves.
+/// What a thread makes handles with: the table of forms, the thread's own pass over it, and the
+/// leaves of the run.
 pub struct Work<'w, 't> {
     pub forms: &'t FormTable,
     pub pass: &'w mut FormPass<'t>,
@@ -22,7 +23,7 @@ pub struct Work<'w, 't> {
 
 impl<'w, 't> Work<'w, 't> {
     /// The form whose recipe is that of `form` followed by the key, as `FormTable::edit`.
-    pub fn edit<R: Wait>(
+    pub(crate) fn edit<R: Wait>(
         &mut self,
         rt: &R,
         alloc: Global,
@@ -30,12 +31,9 @@ impl<'w, 't> Work<'w, 't> {
         key: Key,
     ) -> Result<&'t Form, EditError>
         requires fits { IsTrue (fits key (body_of form.now.recipe)) }
-        requires pass { self.old.pass.now.cells ≡ self.old.forms.now }
-        requires room { 1 ≤ self.old.pass.now.seat.room }
-        ensures cells { self.new.pass.now.cells ≡ self.old.pass.now.cells }
-        ensures learnt { StartsWith self.new.pass.now.nodes self.old.pass.now.nodes }
+        requires ready { IsReady self.old 1 }
+        ensures goes_on { GoesOn self.old self.new }
         ensures edits { Edits (form.entry.now.recipe ++ key ∷ []) self.old.pass.now self.new.pass.now result }
-        ensures same { (self.new.forms ≡ self.old.forms) × (self.new.leaves ≡ self.old.leaves) }
     {
         self.forms.edit(rt, alloc, self.pass, form, key)
     }

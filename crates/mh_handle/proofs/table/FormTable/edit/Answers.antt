@@ -9,7 +9,7 @@ use Rattle.mh_handle.proofs.table.FormTable.edit.Goals as goal
 
 pub make-requires-clause-body : goal.make-requires-clause-body
 make-requires-clause-body g c =
-    c.in_ok-body.ensures ∙ (ap (applied c.args.key) c.body.ensures ∙ (sym (body_of-snoc c.args.form.now.recipe c.args.key)
+    c.in_ok-body.ensures.exact ∙ (ap (applied c.args.key) c.body.ensures ∙ (sym (body_of-snoc c.args.form.now.recipe c.args.key)
     ∙ ap body_of (ap (λ v. v ++ c.args.key ∷ []) (sym c.recipe-2.ensures) ∙ sym c.in_ok-recipe.ensures)))
 
 pub returns-clause-edits : goal.returns-clause-edits

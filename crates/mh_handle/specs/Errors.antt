@@ -1,0 +1,17 @@
+-- Errors of the calls below, as errors of the calls that make handles.
+use Rattle.mh_tree.specs.declared.error.CheckError.{CheckError}
+use Rattle.mh_tree.specs.declared.error.CheckError.TheVariants as check
+use Rattle.mh_handle.specs.declared.error.EditError.{EditError}
+use Rattle.mh_handle.specs.declared.error.EditError.TheVariants as edit
+use Rattle.mh_handle.specs.declared.error.HandleError.{HandleError}
+use Rattle.mh_handle.specs.declared.error.HandleError.TheVariants as handle
+
+-- an edit that was refused
+abbrev pub of_edit : EditError → HandleError
+of_edit edit.NoMemory = handle.NoMemory
+of_edit (edit.FormsFull drawn) = handle.FormsFull drawn
+
+-- a combinator that was refused
+abbrev pub of_check : CheckError → HandleError
+of_check check.NoMemory = handle.NoMemory
+of_check (check.Refused e) = handle.Refused e

@@ -1,0 +1,68 @@
+ghost use Rattle.std.specs.Prelude.{◌≡◌, ◌≤◌, [], length};
+ghost use Rattle.mh_handle.specs.Form.{base_form, body_of};
+
+use crate::form::Form;
+use crate::table::FormTable;
+use mh_base::Seq;
+use mh_form::{Bound, Fields};
+use mh_values::MethodTy;
+use std::alloc::Global;
+use std::marker::Model;
+
+/// A list of method types.
+pub type MethodTys = Seq<MethodTy>;
+
+/// A method handle (`java.lang.invoke.MethodHandle`): a form with the fields that it runs on, its
+/// type, the weight of the tree of combinators that it was made by, and the types of its side
+/// parts. Handles of equal recipes share one form.
+#[derive(Drop)]
+pub struct Handle<'t> {
+    pub(crate) ty: MethodTy,
+    pub(crate) weight: u32,
+    pub(crate) sides: MethodTys,
+    pub(crate) form: &'t Form,
+    pub(crate) bound: Bound<'t>,
+}
+
+impl<'t> Model for Handle<'t> {
+    ghost use Rattle.std.specs.Prelude.{◌≡◌, ◌≤◌, []};
+    ghost use Rattle.mh_handle.specs.Stands.{HandleView};
+
+    ghost Value = { HandleView };
+
+    ghost use Rattle.mh_form.specs.contracts.field.Field as field;
+    ghost use Rattle.std.specs.Coded.{codes};
+    ghost use mir.Syntax.{named};
+
+    ghost coded = { Prim.hlevel (codes, (field.the_row (record { mir = named 0; lft = [] })).coded) };
+
+    ghost use Rattle.mh_handle.specs.Form.{body_of};
+
+    ghost view = { λ h. record { ty = h.ty; weight = h.weight; sides = h.sides; form = h.form.now; fields = h.bound.fields.items } };
+
+    ghost invariant = { λ h. (h.bound.body.now ≡ body_of h.form.now.recipe) × (h.weight ≤ 256) };
+}
+
+impl<'t> Handle<'t> {
+    /// The handle's type.
+    pub fn ty(&self) -> &MethodTy
+        ensures { result.now ≡ self.now.ty }
+    {
+        &self.ty
+    }
+
+    /// The number of nodes of its tree, at most 256.
+    pub fn weight(&self) -> u32
+        ensures weight { result ≡ self.now.weight }
+        ensures light { result ≤ 256 }
+    {
+        self.weight
+    }
+
+    /// Its form.
+    pub fn form(&self) -> &'t Form
+        ensures { result.now ≡ self.now.form }
+    {
+        self.form
+    }
+}

@@ -1,0 +1,54 @@
+ghost use Rattle.std.specs.Prelude.{◌≡◌, ◌<◌, length, IfOk};
+ghost use Rattle.mh_leaf.specs.WellTyped.{IsWellTyped};
+ghost use Rattle.mh_tree.specs.Tree as tree;
+ghost use Rattle.mh_handle.specs.Recipe.{recipe};
+ghost use Rattle.mh_handle.specs.Stands.{Stands};
+ghost use Rattle.mh_handle.specs.Works.{IsReady, GoesOn, Makes, IsAccepted};
+
+use crate::error::HandleError;
+use crate::grow::{Growth, one_field};
+use crate::handle::Handle;
+use crate::work::Work;
+use mh_base::{Copied, Seq};
+use mh_edit::Key;
+use mh_form::{Field, shape};
+use mh_leaves::Leaves;
+use mh_values::LeafId;
+use std::alloc::Global;
+use std::sync::Wait;
+
+/// A handle of a leaf. It is never refused.
+pub fn leaf<'t, R: Wait>(
+    w: &mut Work<'_, 't>,
+    rt: &R,
+    alloc: Global,
+    id: LeafId,
+) -> Result<Handle<'t>, HandleError>
+    requires leaf { id.0 < length w.old.leaves.now.leaves }
+    requires ready { IsReady w.old 1 }
+    ensures goes_on { GoesOn w.old w.new }
+    ensures makes { Makes (recipe w.old.leaves.now (tree.Leaf id)) w.old.pass.now w.new.pass.now result }
+    ensures accepted { IsAccepted result }
+    ensures stands { IfOk result (λ h. Stands w.old.leaves.now h (tree.Leaf id)) }
+{
+    are_well_typed(w.leaves);
+    let ty = w.leaves.ty(id).copy(alloc)?;
+    let shape = shape(alloc, &ty)?;
+    let fields = one_field(alloc, Field::Leaf(id))?;
+    let by = Growth {
+        ty,
+        weight: 1,
+        sides: Seq::new(alloc),
+        key: Key::LeafRoot { shape },
+        fields,
+    };
+    Handle::rooted(rt, alloc, w, by)
+}
+
+// What the leaves of a manifest are. It does nothing when it runs.
+fn are_well_typed(leaves: &Leaves)
+    ensures { IsWellTyped leaves.now }
+{
+    let _count = leaves.count();
+    let _classes = leaves.classes().len();
+}
