@@ -9,6 +9,7 @@ mod leaves;
 mod mark;
 mod pass;
 mod recipe;
+mod retyped;
 mod same;
 mod seat;
 mod seen;
