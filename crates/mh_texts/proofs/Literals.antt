@@ -1,17 +1,15 @@
--- Literals and printed texts, by computation.
-use Rattle.std.proofs.Common.{◌≡◌, refl, [], ◌∷◌, ◌++◌, codes, replicate, pos, negsuc, true, None, Some}
+-- Literals, by computation.
+use Rattle.std.proofs.Common.{◌≡◌, refl, [], ◌∷◌, codes, pos, negsuc, true, None, Some}
 use Rattle.std.specs.Fmt.{digits}
 use Rattle.mh_values.specs.declared.types.Comp.TheVariants as comp
 use Rattle.mh_values.specs.declared.types.Primitive.TheVariants as primitive
-use Rattle.mh_values.specs.declared.types.Ty.TheVariants as ty
 use Rattle.mh_values.specs.declared.value.Cell.TheVariants as cell
 use Rattle.mh_values.specs.declared.value.Num.TheVariants as num
 use Rattle.mh_values.specs.declared.value.Value.TheVariants as value
 use Rattle.mh_values.specs.Class.{class_at, builtin_classes, object_class, string_class, throwable_class}
-use Rattle.mh_values.specs.Exception.{bare, saying}
+use Rattle.mh_values.specs.Exception.{bare}
 use Rattle.mh_texts.specs.Literal.{literal_of}
-use Rattle.mh_texts.specs.Printed.{shown_value, shown_type, shown_exception}
-use Rattle.mh_texts.specs.Text.{text_of, shown_text}
+use Rattle.mh_texts.specs.Text.{text_of}
 
 truth : literal_of builtin_classes (codes "z:true") ≡ Some (value.Prim (num.Z true))
 truth = refl
@@ -146,28 +144,3 @@ left_out = refl
 
 no_literal : literal_of builtin_classes (codes "q:1") ≡ None
 no_literal = refl
-
--- ---- printed
-
-printed_text : shown_value builtin_classes (value.Text (97 ∷ 32 ∷ 44 ∷ 10 ∷ 92 ∷ 233 ∷ 0x1F600 ∷ [])) ≡ codes "s:a\\s\\c\\n\\\\\\u{e9}\\u{1f600}"
-unfolding digits
-printed_text = refl
-
-printed_array : shown_value builtin_classes (value.Array (comp.Class object_class) (cell.Text (codes "a,b") ∷ cell.Boxed (num.I (negsuc 0)) ∷ cell.Thrown (saying throwable_class (codes "m")) ∷ [])) ≡ codes "a:Ljava/lang/Object;[s:a\\cb,I:-1,x:java/lang/Throwable]"
-unfolding digits
-printed_array = refl
-
-printed_exception : shown_exception builtin_classes (record { class = throwable_class; message = codes "/ by"; cause = Some (record { class = class_at 12; message = [] }) }) ≡ codes "java/lang/Throwable s:/\\sby cause java/lang/Error s:"
-printed_exception = refl
-
-printed_type : shown_type builtin_classes (record { params = ty.Prim primitive.Z ∷ ty.Array (comp.Class string_class) ∷ []; ret = None }) ≡ codes "(Z[Ljava/lang/String;)V"
-printed_type = refl
-
-not_cut : shown_text (replicate 1024 97) ≡ replicate 1024 97
-not_cut = refl
-
-cut_behind : shown_text (replicate 1025 97) ≡ replicate 1024 97 ++ codes "..."
-cut_behind = refl
-
-cut_within_an_escape : shown_text (replicate 1023 97 ++ 32 ∷ []) ≡ replicate 1023 97 ++ codes "\\..."
-cut_within_an_escape = refl
