@@ -1,4 +1,6 @@
+pub mod ClassListing
 pub mod Endings
 pub mod Ledger
 pub mod Pieces
+pub mod Reaching
 pub mod Refusals

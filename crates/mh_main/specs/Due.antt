@@ -3,18 +3,24 @@ use Rattle.std.specs.Prelude.{◌≡◌, ◌⊎◌, ℕ, List, [], ◌++◌, cod
 use Rattle.std.specs.Io.KnownBytes.{Appends}
 use Rattle.mh_outside.specs.Causes.{Rose, AreSame, AppendsPart}
 use Rattle.mh_outside.specs.Told.{Told}
+use Rattle.mh_classfile.specs.Class.{Class}
+use Rattle.mh_listing.specs.Listing.{listing}
 use Rattle.mh_plan.specs.Results.{results_of, results_said}
 use Rattle.mh_main.specs.declared.answer.TopAnswer.{TopAnswer}
 use Rattle.mh_main.specs.declared.program.Program.{Program}
-use Rattle.mh_main.specs.Words.{Named, names_of}
+use Rattle.mh_main.specs.Words.{Command, command_of}
 use Rattle.mh_main.specs.Ledger.{Ledger}
 use Rattle.mh_main.specs.Program.{naming_of, text}
-use Rattle.mh_main.specs.Input.{input, IfProgram, IfRefused}
+use Rattle.mh_main.specs.Input.{input, IfAccepted, IfRefused}
 use Rattle.mh_main.specs.Stops.{IsReached, unread_line}
 
 -- the line for refused words
 abbrev pub usage_line : List ℕ
 usage_line = codes "usage: mh --mode run --leaves F --scripts F --plan F [CLASS]... or --mode sites [CLASS]... or --mode gen --number N\n"
+
+-- nothing ran
+abbrev pub IsIdle : TopAnswer → Type 0
+IsIdle answer = (answer.table ≡ []) × (answer.attempts ≡ []) × (answer.threads ≡ [])
 
 -- the report on a program: the answer's table and attempts are a ledger of it, its answers are the results of the
 -- calls, and the bytes are the text of both
@@ -24,9 +30,14 @@ IsReportOf p answer bytes =
     × (results_said answer.threads ≡ results_of p.leaves p.plan)
     × (bytes ≡ text p answer.attempts)
 
--- the report on the program that the words and the files give
+-- the listing of classes; nothing ran
+abbrev pub IsListingOf : List Class → TopAnswer → List ℕ → Type 0
+IsListingOf classes answer bytes = IsIdle answer × (bytes ≡ listing classes)
+
+-- the report on the program, or the listing of the classes, that the words and the files give
 abbrev pub Reports : List (List ℕ) → (List ℕ → Told) → TopAnswer → List ℕ → Type 0
-Reports words files answer bytes = IfProgram (input words files) (λ p. IsReportOf p answer bytes)
+Reports words files answer bytes =
+    IfAccepted (input words files) (λ p. IsReportOf p answer bytes) (λ classes. IsListingOf classes answer bytes)
 
 -- the line of the first input that is refused, where no read failed
 abbrev pub RefusesInput : List (List ℕ) → (List ℕ → Told) → (List ℕ → ℕ) → (List ℕ → ℕ) → List ℕ → Type 0
@@ -34,17 +45,13 @@ RefusesInput words files before now bytes = IfRefused (input words files) (λ li
 
 -- the usage line, where the words are refused
 abbrev pub RefusesWords : List (List ℕ) → List ℕ → Type 0
-RefusesWords words bytes = (names_of words ≡ None) × (bytes ≡ usage_line)
+RefusesWords words bytes = (command_of words ≡ None) × (bytes ≡ usage_line)
 
--- the line for an input of these names that was reached and whose count of faults rose
-abbrev pub FailsToRead : Option Named → (List ℕ → Told) → (List ℕ → ℕ) → (List ℕ → ℕ) → List ℕ → Type 0
+-- the line for an input of the command that was reached and whose count of faults rose
+abbrev pub FailsToRead : Option Command → (List ℕ → Told) → (List ℕ → ℕ) → (List ℕ → ℕ) → List ℕ → Type 0
 FailsToRead None files before now bytes = ⊥
-FailsToRead (Some names) files before now bytes =
-    (name : List ℕ) × IsReached names files name × Rose (before name) (now name) × (bytes ≡ unread_line name)
-
--- nothing ran
-abbrev pub IsIdle : TopAnswer → Type 0
-IsIdle answer = (answer.table ≡ []) × (answer.attempts ≡ []) × (answer.threads ≡ [])
+FailsToRead (Some command) files before now bytes =
+    (name : List ℕ) × IsReached command files name × Rose (before name) (now name) × (bytes ≡ unread_line name)
 
 -- bytes that are due for this reason were added
 abbrev pub Writes : (List ℕ → Type 0) → Option (List ℕ) → Option (List ℕ) → Type 0
@@ -60,4 +67,4 @@ IsDue words files before now answer bytes =
     Reports words files answer bytes
     ⊎ (IsIdle answer × (RefusesWords words bytes
     ⊎ RefusesInput words files before now bytes
-    ⊎ FailsToRead (names_of words) files before now bytes))
+    ⊎ FailsToRead (command_of words) files before now bytes))

@@ -1,21 +1,28 @@
 -- What the words and the files say.
-use Rattle.std.specs.Prelude.{◌≡◌, ℕ, List, [], ◌∷◌, ◌++◌, codes, if◌then◌else◌, nat_lt, ◌≤◌, length, Option, None, Some, Result, Ok, Err}
+use Rattle.std.specs.Prelude.{◌≡◌, ℕ, ◌-◌, List, [], ◌∷◌, ◌++◌, codes, if◌then◌else◌, nat_lt, ◌≤◌, length, Option, None, Some, Result, Ok, Err}
 use Rattle.std.specs.Fmt.{decimal}
 use Rattle.mh_base.specs.declared.lines.LineFault.{LineFault}
 use Rattle.mh_outside.specs.Told.{Told, nothing, absent, file}
+use Rattle.mh_class_bytes.specs.Format.{Checked}
+use Rattle.mh_class_pool.specs.declared.fault.ClassKind.{ClassKind}
+use Rattle.mh_classfile.specs.Class.{Class}
+use Rattle.mh_classfile.specs.File.{class_or_fault}
 use Rattle.mh_leaf.specs.LeafTable.{LeafTable}
 use Rattle.mh_leaves.specs.Manifest.{manifest, kind_word as manifest_word}
 use Rattle.mh_plan.specs.Plan.{plan, kind_word as plan_word}
 use Rattle.mh_main.specs.declared.program.Program.{Program}
 use Rattle.mh_main.specs.declared.stop.ScriptsKind.{ScriptsKind}
 use Rattle.mh_main.specs.declared.stop.ScriptsKind.TheVariants.{NotBuilt}
-use Rattle.mh_main.specs.Words.{Named, names_of}
+use Rattle.mh_main.specs.Kinds.{class_word}
+use Rattle.mh_main.specs.Words.{Named, Command, run, sites, command_of}
 
--- the words are refused, an input is refused with its line, there is a program, or some input is not told
+-- the words are refused, an input is refused with its line, there is a program to run, there are classes to list, or some
+-- input is not told
 pub data Input : Type 0 where
   usage : Input
   refused : List ℕ → Input
   program : Program → Input
+  listed : List Class → Input
   untold : Input
 
 -- the line for an input over its limit
@@ -25,6 +32,10 @@ too_long_line name = codes "refused " ++ name ++ codes " too long\n"
 -- the line for an input with a faulty line, of a kind that has this word
 abbrev pub fault_line : List ℕ → ℕ → List ℕ → List ℕ
 fault_line name number word = codes "refused " ++ name ++ codes " line " ++ decimal number ++ codes " " ++ word ++ codes "\n"
+
+-- the line for a class file that has a fault at a place, of a kind that has this word
+abbrev pub place_line : List ℕ → ℕ → List ℕ → List ℕ
+place_line name at word = codes "refused " ++ name ++ codes " at " ++ decimal at ++ codes " " ++ word ++ codes "\n"
 
 -- goes on with an input of at most that many bytes
 abbrev pub within : List ℕ → ℕ → Told → (List ℕ → Input) → Input
@@ -66,27 +77,78 @@ told_input names leaves_file scripts_file plan_file =
 abbrev pub named_input : Named → (List ℕ → Told) → Input
 named_input names files = told_input names (files names.leaves) (files names.scripts) (files names.plan)
 
--- the same where there may be no names
-abbrev pub input_of_names : Option Named → (List ℕ → Told) → Input
-input_of_names None files = usage
-input_of_names (Some names) files = named_input names files
+-- how many bytes a class file may have
+abbrev pub class_limit : ℕ
+class_limit = 1048576
+
+-- how many call sites all class files may have together
+abbrev pub most_sites : ℕ
+most_sites = 4096
+
+-- goes on with a class
+abbrev pub class_meant : List ℕ → Checked ClassKind Class → (Class → Input) → Input
+class_meant name (Ok c) next = next c
+class_meant name (Err fault) next = refused (place_line name fault.at (class_word fault.kind))
+
+-- a class in front of others, where there are some
+abbrev pub with_class : Class → Input → Input
+with_class c (listed classes) = listed (c ∷ classes)
+with_class c usage = usage
+with_class c (refused line) = refused line
+with_class c (program p) = program p
+with_class c untold = untold
+
+-- the classes of files in order, which have at most so many call sites together
+abbrev pub classes_input : ℕ → List (List ℕ) → (List ℕ → Told) → Input
+classes_input room [] files = listed []
+classes_input room (name ∷ names) files =
+    within name class_limit (files name) (λ bytes. class_meant name (class_or_fault room bytes) (λ c.
+    with_class c (classes_input (room - length c.sites) names files)))
+
+-- what the inputs of a command say
+abbrev pub command_input : Command → (List ℕ → Told) → Input
+command_input (run names) files = named_input names files
+command_input (sites names) files = classes_input most_sites names files
+
+-- the same where the words may be refused
+abbrev pub input_of : Option Command → (List ℕ → Told) → Input
+input_of None files = usage
+input_of (Some command) files = command_input command files
 
 -- what the words and the files say
 abbrev pub input : List (List ℕ) → (List ℕ → Told) → Input
-input words files = input_of_names (names_of words) files
+input words files = input_of (command_of words) files
 
 -- where all inputs are told, they are a program, and P holds of it
 abbrev pub IfProgram : Input → (Program → Type 0) → Type 0
 IfProgram usage P = ⊥
 IfProgram (refused line) P = ⊥
 IfProgram (program p) P = P p
+IfProgram (listed classes) P = ⊥
 IfProgram untold P = Unit {0}
+
+-- where all inputs are told, they are class files, and P holds of their classes
+abbrev pub IfListed : Input → (List Class → Type 0) → Type 0
+IfListed usage P = ⊥
+IfListed (refused line) P = ⊥
+IfListed (program p) P = ⊥
+IfListed (listed classes) P = P classes
+IfListed untold P = Unit {0}
+
+-- where all inputs are told, P holds of the program, or Q of the classes
+abbrev pub IfAccepted : Input → (Program → Type 0) → (List Class → Type 0) → Type 0
+IfAccepted usage P Q = ⊥
+IfAccepted (refused line) P Q = ⊥
+IfAccepted (program p) P Q = P p
+IfAccepted (listed classes) P Q = Q classes
+IfAccepted untold P Q = Unit {0}
 
 -- where the inputs are told as far as the first that is refused, there is one, and P holds of its line
 abbrev pub IfRefused : Input → (List ℕ → Type 0) → Type 0
 IfRefused usage P = ⊥
 IfRefused (refused line) P = P line
 IfRefused (program p) P = ⊥
+IfRefused (listed classes) P = ⊥
 IfRefused untold P = Unit {0}
 
 -- an input is refused
@@ -94,6 +156,7 @@ abbrev pub IsRefused : Input → Type 0
 IsRefused usage = ⊥
 IsRefused (refused line) = Unit {0}
 IsRefused (program p) = ⊥
+IsRefused (listed classes) = ⊥
 IsRefused untold = ⊥
 
 -- the inputs are accepted
@@ -101,6 +164,7 @@ abbrev pub IsAccepted : Input → Type 0
 IsAccepted usage = ⊥
 IsAccepted (refused line) = ⊥
 IsAccepted (program p) = Unit {0}
+IsAccepted (listed classes) = Unit {0}
 IsAccepted untold = ⊥
 
 -- where it is told, a file within its limit has this meaning

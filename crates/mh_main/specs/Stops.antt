@@ -1,14 +1,19 @@
 -- Why there is no program.
-use Rattle.std.specs.Prelude.{◌≡◌, ◌⊎◌, ℕ, List, [], ◌++◌, codes, ◌<◌, ◌≤◌, length, Result, Ok, Err}
+use Rattle.std.specs.Prelude.{◌≡◌, ◌⊎◌, ℕ, ◌-◌, List, [], ◌∷◌, ◌++◌, codes, ◌<◌, ◌≤◌, length, Result, Ok, Err}
 use Rattle.mh_base.specs.declared.lines.LineFault.{LineFault}
 use Rattle.mh_outside.specs.Causes.{Rose, IsStill, AreSame}
 use Rattle.mh_outside.specs.Told.{Told, nothing, absent, file}
 use Rattle.mh_leaf.specs.LeafTable.{LeafTable}
 use Rattle.mh_leaves.specs.Manifest.{manifest}
 use Rattle.mh_main.specs.declared.stop.Stop.{Stop}
-use Rattle.mh_main.specs.declared.stop.Stop.TheVariants.{NoMemory, ReadFault, TooLong, Fault}
-use Rattle.mh_main.specs.Words.{Named}
-use Rattle.mh_main.specs.Input.{Input, IfRefused, Means, too_long_line, fault_line, leaves_limit, scripts}
+use Rattle.mh_main.specs.declared.stop.Stop.TheVariants.{NoMemory, ReadFault, TooLong, Fault, Place}
+use Rattle.mh_class_bytes.specs.declared.fault.Fault.{Fault as Fault'}
+use Rattle.mh_class_pool.specs.declared.fault.ClassKind.{ClassKind}
+use Rattle.mh_classfile.specs.Class.{Class}
+use Rattle.mh_classfile.specs.File.{class_or_fault}
+use Rattle.mh_main.specs.Kinds.{class_word}
+use Rattle.mh_main.specs.Words.{Named, Command, run, sites}
+use Rattle.mh_main.specs.Input.{Input, IfRefused, Means, too_long_line, fault_line, place_line, leaves_limit, class_limit, most_sites, scripts}
 
 -- the line for an input that could not be read
 abbrev pub unread_line : List ℕ → List ℕ
@@ -20,6 +25,7 @@ stop_line NoMemory = []
 stop_line (ReadFault at) = unread_line at.now
 stop_line (TooLong at) = too_long_line at.now
 stop_line (Fault at line kind) = fault_line at.now line kind.now
+stop_line (Place at place kind) = place_line at.now place kind.now
 
 -- the reading stopped at this input: at a read fault the count of its name rose, at a refusal none did
 abbrev pub StopsAt : List ℕ → (List ℕ → ℕ) → (List ℕ → ℕ) → Stop → Type 0
@@ -27,6 +33,7 @@ StopsAt name before now NoMemory = Unit {0}
 StopsAt name before now (ReadFault at) = (at.now ≡ name) × Rose (before name) (now name)
 StopsAt name before now (TooLong at) = (at.now ≡ name) × AreSame before now
 StopsAt name before now (Fault at line kind) = (at.now ≡ name) × AreSame before now
+StopsAt name before now (Place at place kind) = (at.now ≡ name) × AreSame before now
 
 -- what is wrong with a file of a grammar whose faults have these words, where it is told
 abbrev pub StopIn : {T K : Type 0} → ℕ → (K → List ℕ) → (List ℕ → Result T (LineFault K)) → Told → Stop → Type 0
@@ -35,23 +42,49 @@ StopIn limit word meaning (file bytes) (ReadFault at) = Unit {0}
 StopIn limit word meaning (file bytes) (TooLong at) = limit < length bytes
 StopIn {K = K} limit word meaning (file bytes) (Fault at line kind) =
     (length bytes ≤ limit) × ((fault : LineFault K) × (meaning bytes ≡ Err fault) × (line ≡ fault.line) × (kind.now ≡ word fault.kind))
+StopIn limit word meaning (file bytes) (Place at place kind) = ⊥
 StopIn limit word meaning nothing stop = Unit {0}
 StopIn limit word meaning absent stop = Unit {0}
 
--- the input is one of those named, and each before it was accepted, as far as it is told
-abbrev pub IsReached : Named → (List ℕ → Told) → List ℕ → Type 0
-IsReached names files name =
+-- what is wrong with a class file that may have so many call sites, where it is told
+abbrev pub ClassStopIn : ℕ → Told → Stop → Type 0
+ClassStopIn room (file bytes) NoMemory = Unit {0}
+ClassStopIn room (file bytes) (ReadFault at) = Unit {0}
+ClassStopIn room (file bytes) (TooLong at) = class_limit < length bytes
+ClassStopIn room (file bytes) (Fault at line kind) = ⊥
+ClassStopIn room (file bytes) (Place at place kind) =
+    (length bytes ≤ class_limit)
+    × ((fault : Fault' ClassKind) × (class_or_fault room bytes ≡ Err fault) × (place ≡ fault.at) × (kind.now ≡ class_word fault.kind))
+ClassStopIn room nothing stop = Unit {0}
+ClassStopIn room absent stop = Unit {0}
+
+-- the input is one of a run's, and each before it was accepted, as far as it is told
+abbrev pub ReachesInput : Named → (List ℕ → Told) → List ℕ → Type 0
+ReachesInput names files name =
     (name ≡ names.leaves)
     ⊎ ((leaves : LeafTable) × (name ≡ names.scripts) × Means leaves_limit manifest (files names.leaves) leaves)
     ⊎ ((leaves : LeafTable) × (name ≡ names.plan) × Means leaves_limit manifest (files names.leaves) leaves
     × Means leaves_limit scripts (files names.scripts) tt)
 
--- the reading stopped at one of the inputs; at a read fault it was reached and its count rose, at a refusal no count did
-abbrev pub StopsIn : Named → (List ℕ → Told) → (List ℕ → ℕ) → (List ℕ → ℕ) → Stop → Type 0
-StopsIn names files before now NoMemory = Unit {0}
-StopsIn names files before now (ReadFault at) = IsReached names files at.now × Rose (before at.now) (now at.now)
-StopsIn names files before now (TooLong at) = AreSame before now
-StopsIn names files before now (Fault at line kind) = AreSame before now
+-- the class file is one of those named, and each before it was accepted, as far as it is told
+abbrev pub ReachesClass : ℕ → List (List ℕ) → (List ℕ → Told) → List ℕ → Type 0
+ReachesClass room [] files name = ⊥
+ReachesClass room (first ∷ names) files name =
+    (name ≡ first)
+    ⊎ ((c : Class) × Means class_limit (class_or_fault room) (files first) c × ReachesClass (room - length c.sites) names files name)
+
+-- the input is one of the command's, and each before it was accepted, as far as it is told
+abbrev pub IsReached : Command → (List ℕ → Told) → List ℕ → Type 0
+IsReached (run names) files name = ReachesInput names files name
+IsReached (sites names) files name = ReachesClass most_sites names files name
+
+-- the reading stopped at an input: at a read fault it was reached and its count rose, at a refusal no count did
+abbrev pub StopsIn : (List ℕ → Type 0) → (List ℕ → ℕ) → (List ℕ → ℕ) → Stop → Type 0
+StopsIn Reaches before now NoMemory = Unit {0}
+StopsIn Reaches before now (ReadFault at) = Reaches at.now × Rose (before at.now) (now at.now)
+StopsIn Reaches before now (TooLong at) = AreSame before now
+StopsIn Reaches before now (Fault at line kind) = AreSame before now
+StopsIn Reaches before now (Place at place kind) = AreSame before now
 
 -- what the inputs say, where one of them is refused
 abbrev pub Refuses : Input → Stop → Type 0
@@ -59,6 +92,7 @@ Refuses said NoMemory = Unit {0}
 Refuses said (ReadFault at) = Unit {0}
 Refuses said (TooLong at) = IfRefused said (λ line. line ≡ too_long_line at.now)
 Refuses said (Fault at number kind) = IfRefused said (λ line. line ≡ fault_line at.now number kind.now)
+Refuses said (Place at place kind) = IfRefused said (λ line. line ≡ place_line at.now place kind.now)
 
 -- the status that a stop comes with
 abbrev pub stop_status : Stop → ℕ
@@ -66,6 +100,7 @@ stop_status NoMemory = 3
 stop_status (ReadFault at) = 6
 stop_status (TooLong at) = 1
 stop_status (Fault at line kind) = 1
+stop_status (Place at place kind) = 1
 
 -- no count of a name rose
 abbrev pub AllStill : (List ℕ → ℕ) → (List ℕ → ℕ) → Type 0

@@ -1,8 +1,10 @@
 -- The words of the command line.
-use Rattle.std.specs.Prelude.{ℕ, List, [], ◌∷◌, codes, Bool, ◌&&◌, if◌then◌else◌, Option, None, Some, map}
+use Rattle.std.specs.Prelude.{ℕ, List, [], ◌∷◌, codes, Bool, ◌&&◌, if◌then◌else◌, nat_le, length, Option, None, Some, map}
 use denote.Ref.{Bor}
 use Rattle.std.specs.Str.{bytes_eq}
 use Rattle.mh_main.specs.declared.words.Names.{Names}
+use Rattle.mh_main.specs.declared.words.Command.{Command as Held}
+use Rattle.mh_main.specs.declared.words.Command.TheVariants.{Run, Sites}
 
 -- the words, as bytes
 abbrev pub said : List (Bor (List ℕ)) → List (List ℕ)
@@ -14,24 +16,48 @@ pub record Named : Type 0 where
   pub scripts : List ℕ
   pub plan : List ℕ
 
--- `--mode run --leaves F --scripts F --plan F`, in this order
-abbrev pub accepted_words : List ℕ → List ℕ → List ℕ → List ℕ → List ℕ → List ℕ → List ℕ → List ℕ → Option Named
-accepted_words mode run leaves_word leaves scripts_word scripts plan_word plan =
-    if bytes_eq mode (codes "--mode") && bytes_eq run (codes "run") && bytes_eq leaves_word (codes "--leaves")
-    && bytes_eq scripts_word (codes "--scripts") && bytes_eq plan_word (codes "--plan")
-    then Some (record { leaves = leaves; scripts = scripts; plan = plan }) else None
+-- a run of named inputs, or the listing of the call sites of named class files
+pub data Command : Type 0 where
+  run : Named → Command
+  sites : List (List ℕ) → Command
 
--- the names that the words give, or nothing where they are refused
-abbrev pub names_of : List (List ℕ) → Option Named
-names_of (mode ∷ run ∷ leaves_word ∷ leaves ∷ scripts_word ∷ scripts ∷ plan_word ∷ plan ∷ []) =
-    accepted_words mode run leaves_word leaves scripts_word scripts plan_word plan
-names_of _ = None
+-- `--leaves F --scripts F --plan F`, in this order
+abbrev pub input_words : List ℕ → List ℕ → List ℕ → List ℕ → List ℕ → List ℕ → Option Command
+input_words leaves_word leaves scripts_word scripts plan_word plan =
+    if bytes_eq leaves_word (codes "--leaves") && bytes_eq scripts_word (codes "--scripts") && bytes_eq plan_word (codes "--plan")
+    then Some (run (record { leaves = leaves; scripts = scripts; plan = plan })) else None
+
+-- the words of a run behind its mode
+abbrev pub run_words : List (List ℕ) → Option Command
+run_words (leaves_word ∷ leaves ∷ scripts_word ∷ scripts ∷ plan_word ∷ plan ∷ []) =
+    input_words leaves_word leaves scripts_word scripts plan_word plan
+run_words _ = None
+
+-- up to 64 names of class files
+abbrev pub sites_words : List (List ℕ) → Option Command
+sites_words names = if nat_le (length names) 64 then Some (sites names) else None
+
+-- the words behind `--mode`
+abbrev pub mode_words : List ℕ → List (List ℕ) → Option Command
+mode_words mode rest =
+    if bytes_eq mode (codes "run") then run_words rest
+    else (if bytes_eq mode (codes "sites") then sites_words rest else None)
+
+-- what the words ask for, or nothing where they are refused
+abbrev pub command_of : List (List ℕ) → Option Command
+command_of (word ∷ mode ∷ rest) = if bytes_eq word (codes "--mode") then mode_words mode rest else None
+command_of _ = None
 
 -- the names that a value of the program holds
 abbrev pub held_names : Names → Named
 held_names names = record { leaves = names.leaves.now; scripts = names.scripts.now; plan = names.plan.now }
 
--- the same of names that may not be there
-abbrev pub named_words : Option Names → Option Named
-named_words None = None
-named_words (Some names) = Some (held_names names)
+-- the command that a value of the program holds
+abbrev pub held_command : Held → Command
+held_command (Run names) = run (held_names names)
+held_command (Sites names) = sites (said names.now)
+
+-- the same of a command that may not be there
+abbrev pub commanded : Option Held → Option Command
+commanded None = None
+commanded (Some command) = Some (held_command command)

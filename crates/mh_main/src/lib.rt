@@ -3,6 +3,7 @@
 
 mod answer;
 mod lines;
+mod listing;
 mod program;
 mod reading;
 mod running;

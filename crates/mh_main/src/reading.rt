@@ -4,7 +4,7 @@ ghost use Rattle.mh_leaves.specs.Manifest.{manifest, kind_word as manifest_word}
 ghost use Rattle.mh_plan.specs.Plan.{plan, kind_word as plan_word};
 ghost use Rattle.mh_main.specs.Words.{held_names};
 ghost use Rattle.mh_main.specs.Input.{Means, named_input, IfProgram, scripts, scripts_word, leaves_limit, plan_limit};
-ghost use Rattle.mh_main.specs.Stops.{StopsAt, StopIn, StopsIn, Refuses};
+ghost use Rattle.mh_main.specs.Stops.{StopsAt, StopIn, StopsIn, ReachesInput, Refuses};
 
 use crate::Program;
 use crate::stop::{Stop, no_scripts};
@@ -109,7 +109,7 @@ pub fn read_program<'a, I: Inputs>(
     ensures told { (n : List ℕ) → I.told inputs.new n ≡ I.told inputs.old n }
     ensures no_fault { OnOk result (AreSame (I.faults inputs.old) (I.faults inputs.new)) }
     ensures stop { IfErr result
-        (λ stop. StopsIn (held_names names.entry) (I.told inputs.old) (I.faults inputs.old)
+        (λ stop. StopsIn (ReachesInput (held_names names.entry) (I.told inputs.old)) (I.faults inputs.old)
         (I.faults inputs.new) stop) }
     ensures refuses { IfErr result
         (λ stop. Refuses (named_input (held_names names.entry) (I.told inputs.old)) stop) }

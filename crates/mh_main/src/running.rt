@@ -3,17 +3,18 @@ ghost use Rattle.std.specs.List.{flat_map};
 ghost use Rattle.std.specs.Io.KnownBytes.{Appends, Keeps};
 ghost use Rattle.mh_outside.specs.Causes.{Rose, IsStill, AppendsPart};
 ghost use Rattle.mh_plan.specs.Results.{results_of, results_said};
-ghost use Rattle.mh_main.specs.Words.{names_of, said};
+ghost use Rattle.mh_main.specs.Words.{command_of, said};
 ghost use Rattle.mh_main.specs.Ledger.{Ledger, Naming};
 ghost use Rattle.mh_main.specs.Program.{forms, text};
 ghost use Rattle.mh_main.specs.Input.{input, IsRefused, IsAccepted};
 ghost use Rattle.mh_main.specs.Stops.{stop_line, stop_status, AllStill, IsRefusedOrWant, IsDoneOrWant};
-ghost use Rattle.mh_main.specs.Due.{IsReportOf, Reports, RefusesWords, RefusesInput, FailsToRead, IsDue, IsIdle, Writes, WritesPart};
+ghost use Rattle.mh_main.specs.Due.{IsReportOf, IsListingOf, Reports, RefusesWords, RefusesInput, FailsToRead, IsDue, IsIdle, Writes, WritesPart};
 
 use crate::lines::{USAGE, write_pieces};
+use crate::listing::list_sites;
 use crate::reading::read_program;
 use crate::stop::Stop;
-use crate::words::read_words;
+use crate::words::{Command, read_words};
 use crate::{Program, TopAnswer};
 use itoa::Buffer;
 use mh_base::{NoMemory, Seq};
@@ -155,6 +156,22 @@ fn answer_stop<S: Sink>(alloc: Global, sink: &mut S, stop: Stop<'_>) -> TopAnswe
             let line: &[&[u8]] = &[b"refused ", name.as_bytes(), b" too long\n"];
             answer_line(alloc, sink, REFUSED, line)
         }
+        Stop::Place(name, at, kind) => {
+            answer_line(
+                alloc,
+                sink,
+                REFUSED,
+                &[
+                    b"refused ",
+                    name.as_bytes(),
+                    b" at ",
+                    Buffer::new().format(at).as_bytes(),
+                    b" ",
+                    kind.as_bytes(),
+                    b"\n",
+                ],
+            )
+        }
         Stop::Fault(name, line, kind) => {
             answer_line(
                 alloc,
@@ -171,6 +188,22 @@ fn answer_stop<S: Sink>(alloc: Global, sink: &mut S, stop: Stop<'_>) -> TopAnswe
                 ],
             )
         }
+    }
+}
+
+// Writes the listing of class files.
+fn answer_listing<S: Sink>(alloc: Global, sink: &mut S, text: &[u8]) -> TopAnswer
+    ensures idle { IsIdle result }
+    ensures status { result.status ≢ 7 → result.status ≡ 0 }
+    ensures written { result.status ≢ 7 → Appends (S.taken sink.old) (S.taken sink.new) text.now }
+    ensures still { result.status ≢ 7 → S.faults sink.new ≡ S.faults sink.old }
+    ensures part { result.status ≡ 7 → AppendsPart (S.taken sink.old) (S.taken sink.new) text.now }
+    ensures failed { result.status ≡ 7 → Rose (S.faults sink.old) (S.faults sink.new) }
+    ensures fault { S.faults sink.old < S.faults sink.new → result.status ≡ 7 }
+{
+    match write_whole(sink, text) {
+        Ok(()) => nothing_ran(alloc, DONE),
+        Err(Failed) => nothing_ran(alloc, WRITE_FAILED),
     }
 }
 
@@ -194,7 +227,7 @@ pub fn top<'a, R: Threads + Wait + Sync, I: Inputs, S: Sink, G: Gate + Sync>(
         → Writes (RefusesWords (said words.now)) (S.taken sink.old) (S.taken sink.new) }
     ensures nothing { result.status ≡ 3 → Keeps (S.taken sink.old) (S.taken sink.new) }
     ensures unread { result.status ≡ 6
-        → Writes (FailsToRead (names_of (said words.now)) (I.told inputs.old) (I.faults inputs.old) (I.faults inputs.new))
+        → Writes (FailsToRead (command_of (said words.now)) (I.told inputs.old) (I.faults inputs.old) (I.faults inputs.new))
         (S.taken sink.old) (S.taken sink.new) }
     ensures broken { result.status ≡ 7
         → WritesPart (IsDue (said words.now) (I.told inputs.old) (I.faults inputs.old) (I.faults inputs.new) result)
@@ -207,7 +240,7 @@ pub fn top<'a, R: Threads + Wait + Sync, I: Inputs, S: Sink, G: Gate + Sync>(
     ensures still { result.status ≢ 7 → S.faults sink.new ≡ S.faults sink.old }
 
     // Where nothing failed, the words and the inputs decide the status, but for want of memory.
-    ensures usage_wanted { names_of (said words.now) ≡ None
+    ensures usage_wanted { command_of (said words.now) ≡ None
         → IsStill (S.faults sink.old) (S.faults sink.new) → result.status ≡ 2 }
     ensures refusal_wanted { IsRefused (input (said words.now) (I.told inputs.old))
         → AllStill (I.faults inputs.old) (I.faults inputs.new)
@@ -216,11 +249,17 @@ pub fn top<'a, R: Threads + Wait + Sync, I: Inputs, S: Sink, G: Gate + Sync>(
         → AllStill (I.faults inputs.old) (I.faults inputs.new)
         → IsStill (S.faults sink.old) (S.faults sink.new) → IsDoneOrWant result.status }
 {
-    let Some(names) = read_words(words) else {
+    let Some(command) = read_words(words) else {
         return answer_line(alloc, sink, USAGE_WANTED, &[USAGE.as_bytes()]);
     };
-    match read_program(alloc, inputs, names) {
-        Ok(program) => run_program(alloc, sink, &program),
-        Err(stop) => answer_stop(alloc, sink, stop),
+    match command {
+        Command::Run(names) => match read_program(alloc, inputs, names) {
+            Ok(program) => run_program(alloc, sink, &program),
+            Err(stop) => answer_stop(alloc, sink, stop),
+        },
+        Command::Sites(names) => match list_sites(alloc, inputs, names) {
+            Ok(text) => answer_listing(alloc, sink, &text),
+            Err(stop) => answer_stop(alloc, sink, stop),
+        },
     }
 }

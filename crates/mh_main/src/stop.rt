@@ -44,4 +44,6 @@ pub enum Stop<'a> {
     TooLong(&'a str),
     /// A line of the named input, by its number, has a fault of the kind that is printed so.
     Fault(&'a str, u32, &'a str),
+    /// The named class file has a fault at a place, of the kind that is printed so.
+    Place(&'a str, usize, &'a str),
 }

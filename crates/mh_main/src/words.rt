@@ -1,5 +1,5 @@
-ghost use Rattle.std.specs.Prelude.{◌≡◌, map};
-ghost use Rattle.mh_main.specs.Words.{names_of, accepted_words, named_words};
+ghost use Rattle.std.specs.Prelude.{◌≡◌};
+ghost use Rattle.mh_main.specs.Words.{said, command_of, mode_words, run_words, sites_words, input_words, commanded};
 
 /// The names of the inputs of a run.
 #[derive(Clone, Copy, Debug)]
@@ -9,61 +9,81 @@ pub struct Names<'a> {
     pub plan: &'a str,
 }
 
-// The names, where the words between them are the options of a run.
-fn accepted<'a>(
-    mode: &str,
-    run: &str,
+/// What the words ask for.
+#[derive(Clone, Copy, Debug)]
+pub enum Command<'a> {
+    /// A run of these inputs.
+    Run(Names<'a>),
+    /// The listing of the call sites of these class files, at most 64.
+    Sites(&'a [&'a str]),
+}
+
+/// How many class files may be named.
+const MOST_CLASSES: usize = 64;
+
+// A run, where the words between the names are its options.
+fn input_words<'a>(
     leaves_word: &str,
     leaves: &'a str,
     scripts_word: &str,
     scripts: &'a str,
     plan_word: &str,
     plan: &'a str,
-) -> Option<Names<'a>>
-    ensures { named_words result
-        ≡ accepted_words mode.now run.now leaves_word.now leaves.now scripts_word.now scripts.now
-        plan_word.now plan.now }
+) -> Option<Command<'a>>
+    ensures { commanded result
+        ≡ input_words leaves_word.now leaves.now scripts_word.now scripts.now plan_word.now plan.now }
 {
-    if mode == "--mode"
-        && run == "run"
-        && leaves_word == "--leaves"
-        && scripts_word == "--scripts"
-        && plan_word == "--plan"
-    {
-        Some(Names {
+    if leaves_word == "--leaves" && scripts_word == "--scripts" && plan_word == "--plan" {
+        Some(Command::Run(Names {
             leaves,
             scripts,
             plan,
-        })
+        }))
     } else {
         None
     }
 }
 
-/// The names that the words give, or nothing where the words are refused.
-pub fn read_words<'a>(words: &'a [&'a str]) -> Option<Names<'a>>
-    ensures { named_words result ≡ names_of (map (λ w. w.now) words.now) }
+// The words of a run behind its mode.
+fn run_words<'a>(words: &'a [&'a str]) -> Option<Command<'a>>
+    ensures { commanded result ≡ run_words (said words.now) }
 {
     match words {
-        [
-            mode,
-            run,
-            leaves_word,
-            leaves,
-            scripts_word,
-            scripts,
-            plan_word,
-            plan,
-        ] => accepted(
-            mode,
-            run,
-            leaves_word,
-            leaves,
-            scripts_word,
-            scripts,
-            plan_word,
-            plan,
-        ),
+        [leaves_word, leaves, scripts_word, scripts, plan_word, plan] => {
+            input_words(leaves_word, leaves, scripts_word, scripts, plan_word, plan)
+        }
+        _ => None,
+    }
+}
+
+// The names of class files.
+fn sites_words<'a>(names: &'a [&'a str]) -> Option<Command<'a>>
+    ensures { commanded result ≡ sites_words (said names.now) }
+{
+    if names.len() <= MOST_CLASSES {
+        Some(Command::Sites(names))
+    } else {
+        None
+    }
+}
+
+// The words behind `--mode`.
+fn mode_words<'a>(mode: &str, rest: &'a [&'a str]) -> Option<Command<'a>>
+    ensures { commanded result ≡ mode_words mode.now (said rest.now) }
+{
+    match mode {
+        "run" => run_words(rest),
+        "sites" => sites_words(rest),
+        _ => None,
+    }
+}
+
+/// What the words ask for, or nothing where they are refused.
+pub fn read_words<'a>(words: &'a [&'a str]) -> Option<Command<'a>>
+    ensures { commanded result ≡ command_of (said words.now) }
+{
+    match words {
+        [word, mode, rest @ ..] if *word == "--mode" => mode_words(mode, rest),
         _ => None,
     }
 }

@@ -14,4 +14,4 @@ returns-in-ReadFault-clause-broken g c = λ failed.
 
 pub returns-in-Fault-clause-broken : goal.returns-in-Fault-clause-broken
 returns-in-Fault-clause-broken g c = λ failed.
-    rw c.in-Fault.is (subst (λ (l : List ℕ). AppendsPart (g.S.Sink.taken c.args.sink.now) (g.S.Sink.taken c.answer_line-in-Fault.new.sink) l) (fault-pieces c.in-Fault.name.now c.in-Fault.line c.in-Fault.kind.now) (rw (c.as_bytes-in-Fault.ensures.value, c.as_bytes-in-Fault-2.ensures.value, c.as_bytes-in-Fault-3.ensures.value, c.format.ensures.text) at c.answer_line-in-Fault.ensures.part failed))
+    rw c.in-Fault.is (subst (λ (l : List ℕ). AppendsPart (g.S.Sink.taken c.args.sink.now) (g.S.Sink.taken c.answer_line-in-Fault.new.sink) l) (fault-pieces c.in-Fault.name.now c.in-Fault.line c.in-Fault.kind.now) (rw (c.as_bytes-in-Fault.ensures.value, c.as_bytes-in-Fault-2.ensures.value, c.as_bytes-in-Fault-3.ensures.value, c.format-in-Fault.ensures.text) at c.answer_line-in-Fault.ensures.part failed))

@@ -1,4 +1,4 @@
-use Rattle.mh_main.specs.Words.{held_names, said}
+use Rattle.mh_main.specs.Words.{run, sites, held_names, said}
 use Rattle.mh_main.specs.Stops.{stop_line}
 use Rattle.mh_main.proofs.Endings.{due-at-stop}
 use Rattle.mh_main.proofs.running.top.Goals as goal
@@ -6,6 +6,17 @@ use Rattle.mh_main.proofs.running.top.Goals as goal
 pub returns-in-Err-clause-broken : goal.returns-in-Err-clause-broken
 returns-in-Err-clause-broken g c = λ failed. (
   stop_line c.in-Err.stop,
-  due-at-stop (said c.args.words.now) (g.I.Inputs.told c.args.inputs.now) (g.I.Inputs.faults c.args.inputs.now) (g.I.Inputs.faults c.read_program.new.inputs) c.answer_stop.result (held_names c.in-Some.names) c.in-Err.stop c.in-Some.ensures c.answer_stop.ensures.idle (c.answer_stop.ensures.spoken failed) c.in-Err.ensures.stop c.in-Err.ensures.refuses,
+  due-at-stop (said c.args.words.now) (g.I.Inputs.told c.args.inputs.now) (g.I.Inputs.faults c.args.inputs.now) (g.I.Inputs.faults c.read_program.new.inputs)
+      c.answer_stop.result (run (held_names c.in-Run.names)) c.in-Err.stop (rw c.in-Run.is at c.in-Some.ensures)
+      c.answer_stop.ensures.idle (c.answer_stop.ensures.spoken failed) c.in-Err.ensures.stop c.in-Err.ensures.refuses,
   c.answer_stop.ensures.broken failed,
+)
+
+pub returns-in-Err-list_sites-clause-broken : goal.returns-in-Err-list_sites-clause-broken
+returns-in-Err-list_sites-clause-broken g c = λ failed. (
+  stop_line c.in-Err-list_sites.stop,
+  due-at-stop (said c.args.words.now) (g.I.Inputs.told c.args.inputs.now) (g.I.Inputs.faults c.args.inputs.now) (g.I.Inputs.faults c.list_sites.new.inputs)
+      c.answer_stop-in-Err-list_sites.result (sites (said c.in-Sites.names.now)) c.in-Err-list_sites.stop (rw c.in-Sites.is at c.in-Some.ensures)
+      c.answer_stop-in-Err-list_sites.ensures.idle (c.answer_stop-in-Err-list_sites.ensures.spoken failed) c.in-Err-list_sites.ensures.stop c.in-Err-list_sites.ensures.refuses,
+  c.answer_stop-in-Err-list_sites.ensures.broken failed,
 )

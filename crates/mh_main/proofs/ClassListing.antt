@@ -1,0 +1,92 @@
+-- Class files read one after the other: what is told of the first and of the rest is told of all.
+use Rattle.std.proofs.Common.{◌≡◌, refl, sym, subst, ap, ◌∙◌, inr, ℕ, ◌+◌, ◌-◌, ◌≤◌, Bool, false, List, [], ◌∷◌, ◌++◌, length, Result, Ok, Err, OnOk, IfErr, replicate, arith, append_assoc}
+use Rattle.std.specs.Prelude.{nat_lt}
+use Rattle.std.proofs.lemmas.Bool.Decides.{nat_tests}
+use Rattle.mh_outside.specs.Told.{Told, nothing, absent, file}
+use Rattle.mh_outside.specs.Causes.{Rose, AreSame}
+use Rattle.mh_classfile.specs.declared.constant.SiteView.{SiteView}
+use Rattle.mh_classfile.specs.Class.{Class}
+use Rattle.mh_classfile.specs.File.{class_or_fault}
+use Rattle.mh_listing.specs.Listing.{lines_from, listing_from}
+use Rattle.mh_main.specs.declared.program.Program.{Program}
+use Rattle.mh_main.specs.declared.stop.Stop.{Stop}
+use Rattle.mh_main.specs.declared.stop.Stop.TheVariants.{NoMemory, ReadFault, TooLong, Fault, Place}
+use Rattle.mh_main.specs.Input.{Input, usage, refused, program, listed, untold, IfListed, IfRefused, Means, within, class_meant, with_class, classes_input, class_limit}
+use Rattle.mh_main.specs.Classes.{ListsClass}
+use Rattle.mh_main.specs.Stops.{Refuses, ReachesClass, StopsIn}
+
+-- the first file's class, and then the others
+abbrev pub first_and_others : ℕ → Told → List ℕ → List (List ℕ) → (List ℕ → Told) → Input
+first_and_others room t name names files =
+    within name class_limit t (λ bytes. class_meant name (class_or_fault room bytes) (λ c. with_class c (classes_input (room - length c.sites) names files)))
+
+small-enough : (bytes : List ℕ) → length bytes ≤ class_limit → nat_lt class_limit (length bytes) ≡ false
+small-enough bytes h = grind (arith, nat_tests)
+
+sites-left : (room first next n : ℕ) → next ≡ first + n → room - (next - first) ≡ room - n
+sites-left room first next n h = omega arith
+
+-- ---- the listing
+
+listed-with : (rest : Input) (c : Class) (first next : ℕ) (old mid new : List ℕ) → next ≡ first + length c.sites → mid ≡ old ++ lines_from first c c.sites → IfListed rest (λ cs. new ≡ mid ++ listing_from next cs) → IfListed (with_class c rest) (λ cs. new ≡ old ++ listing_from first cs)
+listed-with usage c first next old mid new counted put h = h
+listed-with (refused line) c first next old mid new counted put h = h
+listed-with (program p) c first next old mid new counted put h = h
+listed-with (listed cs) c first next old mid new counted put h =
+    h ∙ ap (λ m. m ++ listing_from next cs) put ∙ append_assoc old (lines_from first c c.sites) (listing_from next cs)
+    ∙ ap (λ n. old ++ (lines_from first c c.sites ++ listing_from n cs)) counted
+listed-with untold c first next old mid new counted put h = tt
+
+listed-first : (t : Told) (room first next : ℕ) (name : List ℕ) (names : List (List ℕ)) (files : List ℕ → Told) (old mid new : List ℕ) → ListsClass room t first next old mid → IfListed (classes_input (room - (next - first)) names files) (λ cs. new ≡ mid ++ listing_from next cs) → IfListed (first_and_others room t name names files) (λ cs. new ≡ old ++ listing_from first cs)
+listed-first nothing room first next name names files old mid new l h = tt
+listed-first absent room first next name names files old mid new l h = absurd l
+listed-first (file bytes) room first next name names files old mid new l h =
+    let left : room - (next - first) ≡ room - length l.0.sites = sites-left room first next (length l.0.sites) l.3 in
+    rw (small-enough bytes l.2, l.1)
+    (listed-with (classes_input (room - length l.0.sites) names files) l.0 first next old mid new l.3 l.4
+    (subst (λ m. IfListed (classes_input m names files) (λ cs. new ≡ mid ++ listing_from next cs)) left h))
+
+pub listed-all : {E : Type 0} (r : Result (Unit {0}) E) (t : Told) (room first next : ℕ) (name : List ℕ) (names : List (List ℕ)) (files files' : List ℕ → Told) (old mid new : List ℕ) → ((n : List ℕ) → files' n ≡ files n) → ListsClass room t first next old mid → OnOk r (IfListed (classes_input (room - (next - first)) names files') (λ cs. new ≡ mid ++ listing_from next cs)) → OnOk r (IfListed (first_and_others room t name names files) (λ cs. new ≡ old ++ listing_from first cs))
+listed-all (Ok u) t room first next name names files files' old mid new same l h =
+    let e : files' ≡ files = λ i n. same n i in
+    listed-first t room first next name names files old mid new l
+    (subst (λ (f : List ℕ → Told). IfListed (classes_input (room - (next - first)) names f) (λ cs. new ≡ mid ++ listing_from next cs)) e h)
+listed-all (Err e) t room first next name names files files' old mid new same l h = tt
+
+-- ---- refusals
+
+refused-with : (rest : Input) (c : Class) (P : List ℕ → Type 0) → IfRefused rest P → IfRefused (with_class c rest) P
+refused-with usage c P h = h
+refused-with (refused line) c P h = h
+refused-with (program p) c P h = h
+refused-with (listed cs) c P h = h
+refused-with untold c P h = tt
+
+refuses-with : (rest : Input) (c : Class) (stop : Stop) → Refuses rest stop → Refuses (with_class c rest) stop
+refuses-with rest c NoMemory h = tt
+refuses-with rest c (ReadFault at) h = tt
+refuses-with rest c (TooLong at) h = refused-with rest c _ h
+refuses-with rest c (Fault at line kind) h = refused-with rest c _ h
+refuses-with rest c (Place at place kind) h = refused-with rest c _ h
+
+refuses-untold : (stop : Stop) → Refuses untold stop
+refuses-untold NoMemory = tt
+refuses-untold (ReadFault at) = tt
+refuses-untold (TooLong at) = tt
+refuses-untold (Fault at line kind) = tt
+refuses-untold (Place at place kind) = tt
+
+refuses-first : (t : Told) (room first next : ℕ) (name : List ℕ) (names : List (List ℕ)) (files : List ℕ → Told) (old mid : List ℕ) (stop : Stop) → ListsClass room t first next old mid → Refuses (classes_input (room - (next - first)) names files) stop → Refuses (first_and_others room t name names files) stop
+refuses-first nothing room first next name names files old mid stop l h = refuses-untold stop
+refuses-first absent room first next name names files old mid stop l h = absurd l
+refuses-first (file bytes) room first next name names files old mid stop l h =
+    let left : room - (next - first) ≡ room - length l.0.sites = sites-left room first next (length l.0.sites) l.3 in
+    rw (small-enough bytes l.2, l.1)
+    (refuses-with (classes_input (room - length l.0.sites) names files) l.0 stop (subst (λ m. Refuses (classes_input m names files) stop) left h))
+
+pub refuses-all : {T : Type 0} (r : Result T Stop) (t : Told) (room first next : ℕ) (name : List ℕ) (names : List (List ℕ)) (files files' : List ℕ → Told) (old mid : List ℕ) → ((n : List ℕ) → files' n ≡ files n) → ListsClass room t first next old mid → IfErr r (λ stop. Refuses (classes_input (room - (next - first)) names files') stop) → IfErr r (λ stop. Refuses (first_and_others room t name names files) stop)
+refuses-all (Ok u) t room first next name names files files' old mid same l h = tt
+refuses-all (Err stop) t room first next name names files files' old mid same l h =
+    let e : files' ≡ files = λ i n. same n i in
+    refuses-first t room first next name names files old mid stop l
+    (subst (λ (f : List ℕ → Told). Refuses (classes_input (room - (next - first)) names f) stop) e h)
