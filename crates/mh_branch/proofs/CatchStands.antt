@@ -31,6 +31,7 @@ use Rattle.mh_tree.proofs.TypedLists.{types-length}
 use Rattle.mh_form.specs.declared.slot.Slot.{Slot}
 use Rattle.mh_form.specs.declared.slot.Slot.TheVariants as slot
 use Rattle.mh_form.specs.declared.field.Bound.{Bound}
+use Rattle.mh_form.specs.declared.field.Field.{Field}
 use Rattle.mh_form.specs.declared.field.Field.TheVariants as field
 use Rattle.mh_form.specs.Body.{nothing}
 use Rattle.mh_form.specs.Erasure.{basic_of, basic_ret_of, shape_of, erased, erased_ran}
@@ -42,11 +43,12 @@ use Rattle.mh_edit.specs.Fit.{fits}
 use Rattle.mh_edit.specs.Law.{result_as, returned}
 use Rattle.mh_edit.proofs.RootLaws.{law-CatchRoot}
 use Rattle.mh_handle.specs.Form.{body_of}
+use Rattle.mh_handle.specs.Grows.{Grows, IsPartOf, base_handle}
 use Rattle.mh_handle.specs.Recipe.{at_type, recipe}
 use Rattle.mh_handle.specs.Stands.{HandleView, Stands, handle_run}
 use Rattle.mh_handle.proofs.Erasing.{returned-erased}
 use Rattle.mh_branch.proofs.Computing.{guarded-erased}
-use Rattle.mh_branch.proofs.Rooted.{stands-rooted}
+use Rattle.mh_branch.proofs.Rooted.{part-runs, stands-rooted}
 use Rattle.mh_branch.proofs.Branching.{first-few}
 
 -- beside the exception a handler takes no more arguments than there are
@@ -67,21 +69,26 @@ catch-fits classes body body_weight class handler handler_weight u row =
     le-leb (length handler.params - 1) (length (map basic_of body.params)) (handler-few classes class handler.params body.params parts.1)
 
 pub catch-stands :
-    (table : LeafTable) (h : HandleView) (t : Tree) (class : ClassId) (u : Tree) (body handler : HandleView) (body_part handler_part : Box Bound Global) →
+    (table : LeafTable) (h : HandleView) (t : Tree) (class : ClassId) (u : Tree) (m : MethodTy) (body handler : HandleView) (body_field handler_field : Field) →
     AreClasses table.classes →
     Stands table body t →
     Stands table handler u →
-    run_bound table body_part.value ≡ handle_run table body →
-    run_bound table handler_part.value ≡ handle_run table handler →
-    catch_row table.classes body.ty body.weight class handler.ty handler.weight ≡ Ok h.ty →
-    h.weight ≡ 1 + body.weight + handler.weight →
-    h.form.recipe ≡ key.CatchRoot (shape_of body.ty) (length handler.ty.params - 1) ∷ [] →
-    h.sides ≡ (body.ty ∷ body.sides) ++ (handler.ty ∷ handler.sides) →
-    h.fields ≡ field.Part body_part ∷ field.Class class ∷ field.Part handler_part ∷ [] →
+    IsPartOf body body_field →
+    IsPartOf handler handler_field →
+    catch_row table.classes body.ty body.weight class handler.ty handler.weight ≡ Ok m →
+    Grows base_handle h m (1 + body.weight + handler.weight)
+    ((body.ty ∷ body.sides) ++ (handler.ty ∷ handler.sides))
+    (key.CatchRoot (shape_of body.ty) (length handler.ty.params - 1))
+    (body_field ∷ field.Class class ∷ handler_field ∷ []) →
     Stands table h (tree.Catch t class u)
-catch-stands table h t class u body handler body_part handler_part are stands handles body_runs handler_runs row weighed made holds fields =
+catch-stands table h t class u m body handler body_field handler_field are stands handles body_part handler_part given grows =
+    let row : catch_row table.classes body.ty body.weight class handler.ty handler.weight ≡ Ok h.ty = given ∙ ap Ok (sym grows.typed) in
     let parts = catch_row-parts table.classes body.ty body.weight class handler.ty handler.weight h.ty row in
     let own : h.ty ≡ body.ty = parts.3 in
+    let body_box : Box Bound Global = body_part.0 in
+    let handler_box : Box Bound Global = handler_part.0 in
+    let fields : h.fields ≡ field.Part body_box ∷ field.Class class ∷ field.Part handler_box ∷ [] =
+    grows.fielded ∙ (λ i. body_part.1 i ∷ field.Class class ∷ handler_part.1 i ∷ []) in
     let kept = length handler.ty.params - 1 in
     let made_body = catch_body (shape_of body.ty) kept in
     let typed : type_of table (tree.Catch t class u) ≡ catch_row table.classes body.ty body.weight class handler.ty handler.weight =
@@ -102,14 +109,14 @@ catch-stands table h t class u body handler body_part handler_part are stands ha
     let test = is_caught table.classes class in
     let r : Done = mean table t args n in
     let next : Exc → ℕ → Done = λ e k. mean table u (value.Thrown e ∷ take kept args) k in
-    let run : Exc → ℕ → Ran (Option Slot) = λ e k. run_bound table handler_part.value (slot.L (value.Thrown e) ∷ take kept slots) k in
-    let ran : run_bound table body_part.value slots n ≡ erased_ran r = ap (λ f. f slots n) body_runs ∙ stands.runs args n have_body low in
+    let run : Exc → ℕ → Ran (Option Slot) = λ e k. run_bound table handler_box.value (slot.L (value.Thrown e) ∷ take kept slots) k in
+    let ran : run_bound table body_box.value slots n ≡ erased_ran r = ap (λ f. f slots n) (part-runs table body body_field body_part) ∙ stands.runs args n have_body low in
     let means : mean table (tree.Catch t class u) args n ≡ guarded r test n next = ap (λ o. guarded r test n (λ e k. mean table u (value.Thrown e ∷ take (arity_of o - 1) args) k)) handles.typed in
     let handled : (e : Exc) (k : ℕ) → test e ≡ true → k < 2 ^ 32 → Refines (erased_ran (next e k)) (run e k) =
     λ e k below small.
     let xs = value.Thrown e ∷ take kept args in
     let have_handler : HaveTypes table.classes xs handler.ty.params = handler-typed table.classes are class handler.ty.params body.ty.params args e parts.1 below have_body in
-    refines-is _ _ (sym (ap (λ f. f (slot.L (value.Thrown e) ∷ take kept slots) k) handler_runs
+    refines-is _ _ (sym (ap (λ f. f (slot.L (value.Thrown e) ∷ take kept slots) k) (part-runs table handler handler_field handler_part)
     ∙ (ap (λ ys. handle_run table handler (slot.L (value.Thrown e) ∷ ys) k) (take-map erased kept args) ∙ handles.runs xs k have_handler small))) in
     let all : Refines (erased_ran (guarded r test n next)) (guarded (erased_ran r) test n run) =
     guarded-erased table.classes r n body.ty.ret test run next (stands.returns args n have_body) low handled in
@@ -118,10 +125,10 @@ catch-stands table h t class u body handler body_part handler_part are stands ha
     ∙ returned-erased table.classes (mean table (tree.Catch t class u) args n) h.ty.ret (sound args n have) in
     let long : length slots ≡ length (shape_of body.ty).params =
     length-map args erased ∙ (types-length table.classes args body.ty.params have_body ∙ sym (length-map body.ty.params basic_of)) in
-    let law = law-CatchRoot (shape_of body.ty) kept nothing table body_part class handler_part slots n long in
+    let law = law-CatchRoot (shape_of body.ty) kept nothing table body_box class handler_box slots n long in
     refines-trans _ _ _ (refines-is _ _ (sym whole ∙ ap (λ x. returned ret (erased_ran x)) means))
     (refines-trans _ _ _ (refines-mapped (result_as ret) _ _ all)
     (refines-trans _ _ _ (refines-is _ _ (ap (λ x. returned ret (guarded x test n run)) (sym ran)))
     (refines-trans _ _ _ law (refines-is _ _ (ap (λ fs. run_on table made_body fs slots n) (sym fields)))))) in
-    stands-rooted table h (tree.Catch t class u) made_body sound (typed ∙ row) (weighed ∙ heavy) (made ∙ sym keys) (holds ∙ sym held) (ap body_of made)
+    stands-rooted table h (tree.Catch t class u) made_body sound (typed ∙ row) (grows.weighed ∙ heavy) (grows.made ∙ sym keys) (grows.holds ∙ sym held) (ap body_of grows.made)
     (ap length fields) (ap (λ (m : MethodTy). map basic_of m.params) (sym own)) refl does

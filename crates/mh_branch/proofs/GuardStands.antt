@@ -23,6 +23,7 @@ use Rattle.mh_tree.specs.Sound.{IsSound}
 use Rattle.mh_tree.proofs.TypedLists.{types-length}
 use Rattle.mh_form.specs.declared.slot.Slot.{Slot}
 use Rattle.mh_form.specs.declared.field.Bound.{Bound}
+use Rattle.mh_form.specs.declared.field.Field.{Field}
 use Rattle.mh_form.specs.declared.field.Field.TheVariants as field
 use Rattle.mh_form.specs.Body.{nothing}
 use Rattle.mh_form.specs.Erasure.{basic_of, basic_ret_of, shape_of, erased, erased_option, erased_ran}
@@ -35,10 +36,11 @@ use Rattle.mh_edit.specs.Fit.{fits}
 use Rattle.mh_edit.specs.Law.{returned}
 use Rattle.mh_edit.proofs.RootLaws.{law-GuardRoot}
 use Rattle.mh_handle.specs.Form.{body_of}
+use Rattle.mh_handle.specs.Grows.{Grows, IsPartOf, base_handle}
 use Rattle.mh_handle.specs.Recipe.{at_type, recipe}
 use Rattle.mh_handle.specs.Stands.{HandleView, Stands, handle_run}
 use Rattle.mh_branch.proofs.Computing.{and_then-erased}
-use Rattle.mh_branch.proofs.Rooted.{stands-rooted}
+use Rattle.mh_branch.proofs.Rooted.{part-runs, stands-rooted}
 use Rattle.mh_branch.proofs.Branching.{first-few, decides, branch-does}
 
 -- the key of a guard fits the body that is nothing
@@ -51,22 +53,27 @@ guard-fits test test_weight body body_weight other other_weight u row =
     le-leb (length test.params) (length (map basic_of body.params)) (first-few body.params test.params parts.2)
 
 pub guard-stands :
-    (table : LeafTable) (h : HandleView) (c t e : Tree) (test body other : HandleView) (test_part body_part other_part : Box Bound Global) →
+    (table : LeafTable) (h : HandleView) (c t e : Tree) (u : MethodTy) (test body other : HandleView) (test_field body_field other_field : Field) →
     Stands table test c →
     Stands table body t →
     Stands table other e →
-    run_bound table test_part.value ≡ handle_run table test →
-    run_bound table body_part.value ≡ handle_run table body →
-    run_bound table other_part.value ≡ handle_run table other →
-    guard_row test.ty test.weight body.ty body.weight other.ty other.weight ≡ Ok h.ty →
-    h.weight ≡ 1 + test.weight + body.weight + other.weight →
-    h.form.recipe ≡ key.GuardRoot (shape_of body.ty) (length test.ty.params) ∷ [] →
-    h.sides ≡ (test.ty ∷ test.sides) ++ (body.ty ∷ body.sides) ++ (other.ty ∷ other.sides) →
-    h.fields ≡ field.Part test_part ∷ field.Part body_part ∷ field.Part other_part ∷ [] →
+    IsPartOf test test_field →
+    IsPartOf body body_field →
+    IsPartOf other other_field →
+    guard_row test.ty test.weight body.ty body.weight other.ty other.weight ≡ Ok u →
+    Grows base_handle h u (1 + test.weight + body.weight + other.weight)
+    ((test.ty ∷ test.sides) ++ (body.ty ∷ body.sides) ++ (other.ty ∷ other.sides))
+    (key.GuardRoot (shape_of body.ty) (length test.ty.params))
+    (test_field ∷ body_field ∷ other_field ∷ []) →
     Stands table h (tree.Guard c t e)
-guard-stands table h c t e test body other test_part body_part other_part tests stands others test_runs body_runs other_runs row weighed made holds fields =
-    let parts = guard_row-parts test.ty test.weight body.ty body.weight other.ty other.weight h.ty row in
-    let own : h.ty ≡ body.ty = parts.3 in
+guard-stands table h c t e u test body other test_field body_field other_field tests stands others test_part body_part other_part row grows =
+    let parts = guard_row-parts test.ty test.weight body.ty body.weight other.ty other.weight u row in
+    let own : h.ty ≡ body.ty = grows.typed ∙ parts.3 in
+    let test_box : Box Bound Global = test_part.0 in
+    let body_box : Box Bound Global = body_part.0 in
+    let other_box : Box Bound Global = other_part.0 in
+    let fields : h.fields ≡ field.Part test_box ∷ field.Part body_box ∷ field.Part other_box ∷ [] =
+    grows.fielded ∙ (λ i. test_part.1 i ∷ body_part.1 i ∷ other_part.1 i ∷ []) in
     let alike : other.ty ≡ body.ty = same_method_type-is other.ty body.ty parts.0 in
     let count = length test.ty.params in
     let made_body = guard_body (shape_of body.ty) count in
@@ -79,7 +86,7 @@ guard-stands table h c t e test body other test_part body_part other_part tests 
     λ i. held_before (tests.typed i) (sym tests.holds i) ++ held_before (stands.typed i) (sym stands.holds i) ++ held_before (others.typed i) (sym others.holds i) in
     let sound : IsSound table.classes (mean table (tree.Guard c t e)) h.ty =
     subst (λ o. IsSound table.classes (λ args n. and_then (mean table c (take (arity_of o) args) n) n (λ r k. decided r (mean table t args k) (mean table e args k))) h.ty) (sym tests.typed)
-    (guard-sound table.classes (mean table c) (mean table t) (mean table e) test.ty test.weight body.ty body.weight other.ty other.weight h.ty tests.returns stands.returns others.returns row) in
+    (guard-sound table.classes (mean table c) (mean table t) (mean table e) test.ty test.weight body.ty body.weight other.ty other.weight h.ty tests.returns stands.returns others.returns (row ∙ ap Ok (sym grows.typed))) in
     let does : (args : List Value) (n : ℕ) → HaveTypes table.classes args h.ty.params → n < 2 ^ 32 → Refines (erased_ran (mean table (tree.Guard c t e) args n)) (run_on table made_body h.fields (map erased args) n) =
     λ args n have low.
     let have_body : HaveTypes table.classes args body.ty.params = subst (λ (m : MethodTy). HaveTypes table.classes args m.params) own have in
@@ -90,25 +97,25 @@ guard-stands table h c t e test body other test_part body_part other_part tests 
     let ret = basic_ret_of body.ty.ret in
     let r : Done = mean table c first n in
     let next : Option Value → ℕ → Done = λ v k. decided v (mean table t args k) (mean table e args k) in
-    let run : Slot → ℕ → Ran (Option Slot) = λ s k. returned ret (run_bound table (if holds_one s then body_part.value else other_part.value) slots k) in
-    let tested : run_bound table test_part.value (take count slots) n ≡ erased_ran r =
-    ap (λ f. f (take count slots) n) test_runs ∙ (ap (λ xs. handle_run table test xs n) (take-map erased count args) ∙ tests.runs first n have_test low) in
+    let run : Slot → ℕ → Ran (Option Slot) = λ s k. returned ret (run_bound table (if holds_one s then body_box.value else other_box.value) slots k) in
+    let tested : run_bound table test_box.value (take count slots) n ≡ erased_ran r =
+    ap (λ f. f (take count slots) n) (part-runs table test test_field test_part) ∙ (ap (λ xs. handle_run table test xs n) (take-map erased count args) ∙ tests.runs first n have_test low) in
     let means : mean table (tree.Guard c t e) args n ≡ and_then r n next = ap (λ o. and_then (mean table c (take (arity_of o) args) n) n next) tests.typed in
     let branches : (v : Option Value) (k : ℕ) → HaveTypes table.classes (option_to_list v) (option_to_list test.ty.ret) → k < 2 ^ 32 → Refines (erased_ran (next v k)) (run (none_as_zero (erased_option v)) k) =
     λ v k given small.
     let boolean : HaveTypes table.classes (option_to_list v) (boolean_type ∷ []) = subst (λ o. HaveTypes table.classes (option_to_list v) (option_to_list o)) (same_return-is test.ty.ret (Some boolean_type) parts.1) given in
-    let no_branch : Refines (erased_ran (mean table e args k)) (returned ret (run_bound table other_part.value slots k)) =
-    subst (λ (m : MethodTy). Refines (erased_ran (mean table e args k)) (returned (basic_ret_of m.ret) (run_bound table other_part.value slots k))) alike (branch-does table other e other_part.value args k others other_runs have_other small) in
-    decides table v (mean table t args k) (mean table e args k) body_part.value other_part.value ret slots k boolean (branch-does table body t body_part.value args k stands body_runs have_body small) no_branch in
+    let no_branch : Refines (erased_ran (mean table e args k)) (returned ret (run_bound table other_box.value slots k)) =
+    subst (λ (m : MethodTy). Refines (erased_ran (mean table e args k)) (returned (basic_ret_of m.ret) (run_bound table other_box.value slots k))) alike (branch-does table other e other_box.value args k others (part-runs table other other_field other_part) have_other small) in
+    decides table v (mean table t args k) (mean table e args k) body_box.value other_box.value ret slots k boolean (branch-does table body t body_box.value args k stands (part-runs table body body_field body_part) have_body small) no_branch in
     let all : Refines (erased_ran (and_then r n next)) (and_then (filled (erased_ran r)) n run) =
     and_then-erased table.classes r n test.ty.ret run next (tests.returns first n have_test) low branches in
     let long : length slots ≡ length (shape_of body.ty).params =
     length-map args erased ∙ (types-length table.classes args body.ty.params have_body ∙ sym (length-map body.ty.params basic_of)) in
     let few : count ≤ length (shape_of body.ty).params = first-few body.ty.params test.ty.params parts.2 in
-    let law = law-GuardRoot (shape_of body.ty) count nothing few table test_part body_part other_part slots n long in
+    let law = law-GuardRoot (shape_of body.ty) count nothing few table test_box body_box other_box slots n long in
     refines-trans _ _ _ (refines-is _ _ (ap erased_ran means))
     (refines-trans _ _ _ all
     (refines-trans _ _ _ (refines-is _ _ (ap (λ x. and_then (filled x) n run) (sym tested)))
     (refines-trans _ _ _ law (refines-is _ _ (ap (λ fs. run_on table made_body fs slots n) (sym fields)))))) in
-    stands-rooted table h (tree.Guard c t e) made_body sound (typed ∙ row) (weighed ∙ heavy) (made ∙ sym keys) (holds ∙ sym held) (ap body_of made)
+    stands-rooted table h (tree.Guard c t e) made_body sound (typed ∙ (row ∙ ap Ok (sym grows.typed))) (grows.weighed ∙ heavy) (grows.made ∙ sym keys) (grows.holds ∙ sym held) (ap body_of grows.made)
     (ap length fields) (ap (λ (m : MethodTy). map basic_of m.params) (sym own)) refl does

@@ -1,3 +1,4 @@
+mod ArrayFits
 mod Branching
 mod CatchStands
 mod Computing

@@ -1,5 +1,5 @@
 -- A handle whose form is a root stands for a tree of which its body does what the tree does.
-use Rattle.std.proofs.Common.{◌≡◌, ◌≢◌, sym, subst, ap, ◌∙◌, ℕ, ◌<◌, ◌^◌, ◌∷◌, ◌&&◌, not, List, length, map, Ok}
+use Rattle.std.proofs.Common.{◌≡◌, ◌≢◌, sym, subst, ap, ap₂, ◌∙◌, ℕ, ◌<◌, ◌^◌, ◌∷◌, ◌&&◌, not, List, length, map, Ok}
 use Rattle.std.specs.Prelude.{◌==◌, is_some}
 use Rattle.mh_values.specs.declared.value.Value.{Value}
 use Rattle.mh_values.specs.Computation.{Stuck, Refines}
@@ -10,10 +10,12 @@ use Rattle.mh_tree.specs.Typing.{type_of, sides}
 use Rattle.mh_tree.specs.Meaning.{mean}
 use Rattle.mh_tree.specs.Sound.{IsSound}
 use Rattle.mh_form.specs.declared.body.FormBody.{FormBody}
+use Rattle.mh_form.specs.declared.field.Field.{Field}
 use Rattle.mh_form.specs.declared.name.Name.{Name}
 use Rattle.mh_form.specs.Erasure.{basic_of, erased, erased_ran}
-use Rattle.mh_form.specs.Run.{run_on}
+use Rattle.mh_form.specs.Run.{run_bound, run_on}
 use Rattle.mh_form.proofs.Refines.{refined}
+use Rattle.mh_handle.specs.Grows.{IsPartOf}
 use Rattle.mh_handle.specs.Recipe.{recipe}
 use Rattle.mh_handle.specs.Stands.{HandleView, IsMade, Stands, handle_body, handle_run}
 use Rattle.mh_handle.proofs.Erasing.{returns-runs}
@@ -22,6 +24,10 @@ use Rattle.mh_handle.proofs.Standing.{suc-positive}
 -- a body with a name does something
 pub made-named : (body : FormBody) (x : Name) (xs : List Name) → body.names ≡ x ∷ xs → IsMade body
 made-named body x xs named = ap (λ names. length names == 0 && not (is_some body.out)) named ∙ ap (λ b. b && not (is_some body.out)) (suc-positive (length xs))
+
+-- a part runs as its handle does
+pub part-runs : (table : LeafTable) (h : HandleView) (f : Field) (part : IsPartOf h f) → run_bound table part.0.value ≡ handle_run table h
+part-runs table h f part = ap₂ (run_on table) part.2 part.3
 
 pub stands-rooted :
     (table : LeafTable) (h : HandleView) (t : Tree) (body : FormBody) →
