@@ -7,7 +7,9 @@ pub mod Edits
 pub mod Erasing
 pub mod Indexes
 pub mod LeafStands
+pub mod Limits
 pub mod Making
+pub mod Obeying
 pub mod Passing
 pub mod Recipes
 pub mod Standing

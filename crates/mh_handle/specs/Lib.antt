@@ -4,6 +4,7 @@ pub mod Form
 pub mod Grows
 pub mod Index
 pub mod Marks
+pub mod Obeys
 pub mod Passes
 pub mod Recipe
 pub mod Stands

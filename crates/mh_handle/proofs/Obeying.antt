@@ -1,0 +1,60 @@
+-- Calls that make a handle obey the rules of their combinators.
+use Rattle.std.proofs.Common.{◌≡◌, refl, sym, subst, ap, ◌∙◌, ℕ, List, inl, Result, Ok, Err, IfOk}
+use Rattle.std.specs.Prelude.{IsErrAnd}
+use Rattle.mh_values.specs.declared.types.MethodTy.{MethodTy}
+use Rattle.mh_tree.specs.declared.error.CheckError.{CheckError}
+use Rattle.mh_tree.specs.declared.error.CheckError.TheVariants as check
+use Rattle.mh_tree.specs.Check.{Tells}
+use Rattle.mh_tree.specs.Rows.{Checked}
+use Rattle.mh_form.specs.declared.field.Field.{Field}
+use Rattle.mh_edit.specs.declared.key.Key.{Key}
+use Rattle.mh_handle.specs.declared.error.HandleError.{HandleError}
+use Rattle.mh_handle.specs.declared.error.HandleError.TheVariants as handle
+use Rattle.mh_handle.specs.declared.handle.Handle.{Handle}
+use Rattle.mh_handle.specs.Errors.{of_check}
+use Rattle.mh_handle.specs.Grows.{Grows}
+use Rattle.mh_handle.specs.Obeys.{Obeys}
+use Rattle.mh_handle.specs.Passes.{PassView}
+use Rattle.mh_handle.specs.Stands.{HandleView}
+use Rattle.mh_handle.specs.Works.{IsAccepted, Makes}
+
+-- ---- a refusal by the rule
+
+refusal-obeys : (row : Checked) (e : CheckError) → Tells (Err e) row → Obeys row (Err (of_check e))
+refusal-obeys row check.NoMemory tells = tt
+refusal-obeys row (check.Refused e) tells = tells
+
+pub refused-obeys : (row : Checked) (e : CheckError) (r : Result Handle HandleError) → Tells (Err e) row → IsErrAnd r (λ x. x ≡ of_check e) → Obeys row r
+refused-obeys row e (Ok h) tells is = absurd is
+refused-obeys row e (Err x) tells is = subst (λ v. Obeys row (Err v)) (sym is) (refusal-obeys row e tells)
+
+refusal-makes : (recipe : List Key) (pass : PassView) (e : CheckError) → Makes recipe pass pass (Err (of_check e))
+refusal-makes recipe pass check.NoMemory = (refl, inl refl)
+refusal-makes recipe pass (check.Refused e) = refl
+
+pub refused-makes : (recipe : List Key) (pass : PassView) (e : CheckError) (r : Result Handle HandleError) → IsErrAnd r (λ x. x ≡ of_check e) → Makes recipe pass pass r
+refused-makes recipe pass e (Ok h) is = absurd is
+refused-makes recipe pass e (Err x) is = subst (λ v. Makes recipe pass pass (Err v)) (sym is) (refusal-makes recipe pass e)
+
+-- ---- a handle that was made, or want of memory or of numbers
+
+pub grown-obeys :
+    (row : Checked) (old : HandleView) (t : MethodTy) (weight : ℕ) (sides : List MethodTy) (k : Key) (fields : List Field) (r : Result Handle HandleError) →
+    row ≡ Ok t →
+    IsAccepted r →
+    IfOk r (λ h. Grows old h t weight sides k fields) →
+    Obeys row r
+grown-obeys row old t weight sides k fields (Ok h) is accepted grows = is ∙ ap Ok (sym grows.typed)
+grown-obeys row old t weight sides k fields (Err handle.NoMemory) is accepted grows = tt
+grown-obeys row old t weight sides k fields (Err (handle.FormsFull drawn)) is accepted grows = (t, is)
+grown-obeys row old t weight sides k fields (Err (handle.Refused e)) is accepted grows = absurd accepted
+
+-- ---- want of memory
+
+pub memory-obeys : (row : Checked) (r : Result Handle HandleError) → IsErrAnd r (λ x. x ≡ handle.NoMemory) → Obeys row r
+memory-obeys row (Ok h) is = absurd is
+memory-obeys row (Err x) is = subst (λ v. Obeys row (Err v)) (sym is) tt
+
+pub memory-makes : (recipe : List Key) (pass : PassView) (r : Result Handle HandleError) → IsErrAnd r (λ x. x ≡ handle.NoMemory) → Makes recipe pass pass r
+memory-makes recipe pass (Ok h) is = absurd is
+memory-makes recipe pass (Err x) is = subst (λ v. Makes recipe pass pass (Err v)) (sym is) (refl, inl refl)
