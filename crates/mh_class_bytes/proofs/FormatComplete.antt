@@ -8,7 +8,7 @@ use Rattle.byteorder.specs.Numbers.{big_from-append}
 use Rattle.mh_class_bytes.specs.Position.{Position}
 use Rattle.mh_class_bytes.specs.Bytes.{skip, number_at, bytes_at}
 use Rattle.mh_class_bytes.specs.Format.{Format, number, run, here, verdict, check, refuse, done, choose, blame, part, ◌>>=◌, Spells, reads, or_fault, blamed, cut}
-use Rattle.mh_class_bytes.proofs.FormatSound.{okr, cut_front}
+use Rattle.mh_class_bytes.proofs.FormatParts.{okr, cut_front}
 
 fits : (n : ℕ) (p : Position) (text rest : List ℕ) → p.at ≤ length p.bytes → drop p.at p.bytes ≡ text ++ rest → length text ≡ n → ltb (length p.bytes) (p.at + n) ≡ false
 fits n p text rest le split len = le-ltb _ _ (omega (arith, ap length split, length-append text rest, length-drop p.at p.bytes))

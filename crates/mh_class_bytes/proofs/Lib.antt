@@ -2,6 +2,7 @@ pub mod UnitSpelling
 pub mod UnitLen
 pub mod SoundLen
 pub mod Texts
+pub mod FormatParts
 pub mod FormatSound
 pub mod FormatComplete
 pub mod Repeated

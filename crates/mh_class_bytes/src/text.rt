@@ -81,7 +81,8 @@ fn pass_plain(bytes: &[u8], at: usize) -> usize
     requires { at ≤ length bytes.now }
     ensures onward { at ≤ result }
     ensures within { result ≤ length bytes.now }
-    ensures passed { at + sound_len (drop at bytes.now) ≡ result + sound_len (drop result bytes.now) }
+    ensures passed { at + sound_len (drop at bytes.now)
+        ≡ result + sound_len (drop result bytes.now) }
 {
     let mut end = at;
     while end < bytes.len() && 1 <= bytes[end] && bytes[end] <= 0x7F {

@@ -1,3 +1,5 @@
+pub mod NextEntry
 pub mod PoolLoop
 pub mod Each
 pub mod Failing
+pub mod Examples

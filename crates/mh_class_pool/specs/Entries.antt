@@ -1,6 +1,5 @@
 -- Entries of the constant pool (JVMS 4.4).
-use Rattle.std.specs.Prelude.{◌≡◌, ℕ, zero, suc, ◌+◌, ◌==◌, nat_le, List, [], ◌∷◌, ◌++◌, length, Bool, true, false, ◌&&◌, ◌||◌, not, Option, Some, None, Ok, Err, ◌<◌, is_ok, slice_index, slice_index_or, if◌then◌else◌}
-use Rattle.mh_class_bytes.specs.Position.{Position}
+use Rattle.std.specs.Prelude.{◌≡◌, ℕ, ◌+◌, ◌==◌, nat_le, List, [], ◌∷◌, ◌++◌, length, Bool, true, false, ◌&&◌, ◌||◌, not, Option, Some, None, Ok, Err, ◌<◌, is_ok, slice_index, slice_index_or, if◌then◌else◌}
 use Rattle.mh_class_bytes.specs.Mutf8.{sound_len}
 use Rattle.mh_class_bytes.specs.Format.{Format, number, run, here, check, refuse, choose, done, ◌>>=◌, repeated, Reading, reads}
 use Rattle.mh_class_pool.specs.declared.entry.Entry.{Entry}

@@ -1,5 +1,5 @@
 -- References between entries of the pool, looked at in order of index once all entries are read (JVMS 4.4).
-use Rattle.std.specs.Prelude.{◌≡◌, ℕ, nat_le, ◌==◌, ◌&&◌, ◌||◌, List, [], ◌∷◌, Option, Some, None, Ok, Err, Bool, true, false, is_none, slice_index_or, if◌then◌else◌}
+use Rattle.std.specs.Prelude.{◌≡◌, ℕ, nat_le, ◌==◌, ◌&&◌, ◌||◌, List, [], ◌∷◌, Some, None, Ok, Err, Bool, true, false, is_none, slice_index_or, if◌then◌else◌}
 use Rattle.mh_values.specs.Grammar.{descriptor_fault}
 use Rattle.mh_class_bytes.specs.Format.{Checked, fault}
 use Rattle.mh_class_pool.specs.declared.entry.Entry.{Entry}

@@ -1,12 +1,13 @@
 -- A class is found exactly where the bytes are a class file.
-use Rattle.std.proofs.Common.{◌≡◌, ℕ, ◌+◌, List, [], ◌∷◌, ◌++◌, length, drop, Result, Ok, Err, refl, sym, ap, subst, ◌∙◌, arith, inl, inr}
+use Rattle.std.proofs.Common.{◌≡◌, ℕ, ◌+◌, List, [], ◌++◌, length, Result, Ok, Err, refl, sym, ap, subst, ◌∙◌, arith, inl, inr}
 use Rattle.std.proofs.lemmas.List.{append-nil, length-append, nil_from_length}
 use Rattle.std.proofs.lemmas.Bool.{eqb-true}
 use Rattle.std.specs.Prelude.{IfOk}
 use Rattle.mh_class_bytes.specs.Position.{Position}
 use Rattle.mh_class_bytes.specs.declared.fault.Fault.{Fault}
 use Rattle.mh_class_bytes.specs.Format.{Spells, reads, Checked, Reading, and_then}
-use Rattle.mh_class_bytes.proofs.FormatSound.{sound, and_then_ok}
+use Rattle.mh_class_bytes.proofs.FormatParts.{and_then_ok}
+use Rattle.mh_class_bytes.proofs.FormatSound.{sound}
 use Rattle.mh_class_bytes.proofs.FormatComplete.{complete}
 use Rattle.mh_class_pool.specs.declared.fault.ClassKind.{ClassKind}
 use Rattle.mh_class_pool.specs.declared.fault.ClassError.{ClassError}

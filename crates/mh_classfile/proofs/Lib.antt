@@ -1,3 +1,4 @@
 pub mod SitesLoop
 pub mod Spans
 pub mod FileLaw
+pub mod Examples

@@ -1,10 +1,10 @@
 -- Finding the call sites one instruction after the other, as a loop does.
-use Rattle.std.proofs.Common.{◌≡◌, ℕ, zero, suc, ◌-◌, ◌+◌, ◌≤◌, ◌<◌, Bool, true, false, ltb, leb, List, [], ◌∷◌, ◌++◌, length, Result, Ok, Err, refl, sym, ap, subst, ◌∙◌, arith}
+use Rattle.std.proofs.Common.{◌≡◌, ℕ, suc, ◌-◌, ◌+◌, ◌≤◌, ◌<◌, true, false, ltb, leb, List, ◌++◌, length, Ok, Err, refl, sym, subst, ◌∙◌, arith}
 use Rattle.std.proofs.lemmas.Bool.Decides.{nat_tests}
 use Rattle.mh_class_bytes.specs.Position.{Position}
 use Rattle.mh_class_bytes.specs.Bytes.{Moves}
 use Rattle.mh_class_bytes.specs.declared.fault.Fault.{Fault}
-use Rattle.mh_class_bytes.specs.Format.{Reading, reads, repeated}
+use Rattle.mh_class_bytes.specs.Format.{reads, repeated}
 use Rattle.mh_class_bytes.proofs.Repeated.{repeated-step, repeated-err, repeated_idle}
 use Rattle.mh_classfile.specs.declared.site.Method.{Method}
 use Rattle.mh_classfile.specs.declared.site.Site.{Site}

@@ -1,5 +1,5 @@
 -- The bootstrap methods of a class (JVMS 4.7.23).
-use Rattle.std.specs.Prelude.{ℕ, codes, List, [], ◌∷◌, Option, Some, None, is_none}
+use Rattle.std.specs.Prelude.{codes, List, Option, Some, None, is_none}
 use Rattle.std.specs.Str.{bytes_eq}
 use Rattle.mh_class_bytes.specs.Format.{number, here, check, choose, part, done, ◌>>=◌, repeated, times}
 use Rattle.mh_class_pool.specs.declared.entry.Kind.TheVariants as kinds

@@ -8,7 +8,6 @@ use Rattle.mh_classfile.specs.declared.constant.Constant.TheVariants as constant
 use Rattle.mh_classfile.specs.declared.constant.HandleRef.{HandleRef}
 use Rattle.mh_classfile.specs.declared.constant.Named.{Named}
 use Rattle.mh_classfile.specs.declared.constant.SiteView.{SiteView}
-use Rattle.mh_classfile.specs.declared.site.Method.{Method}
 use Rattle.mh_classfile.specs.declared.site.Site.{Site}
 use Rattle.mh_classfile.specs.Rows.{Row}
 

@@ -1,6 +1,6 @@
 -- The code of a method, as a row of instructions (JVMS 4.7.3, 6.5).
-use Rattle.std.specs.Prelude.{◌≡◌, ℕ, zero, suc, ◌+◌, ◌-◌, ◌*◌, ◌%◌, ◌^◌, ◌==◌, ◌||◌, ◌&&◌, nat_lt, nat_le, List, [], ◌∷◌, ◌++◌, length, Bool, if◌then◌else◌}
-use Rattle.mh_class_bytes.specs.Format.{number, run, here, check, verdict, refuse, choose, blame, part, done, ◌>>=◌, repeated}
+use Rattle.std.specs.Prelude.{ℕ, ◌+◌, ◌-◌, ◌*◌, ◌%◌, ◌^◌, ◌==◌, ◌||◌, ◌&&◌, nat_lt, nat_le, List, [], ◌∷◌, ◌++◌, length, Bool, if◌then◌else◌}
+use Rattle.mh_class_bytes.specs.Format.{number, run, here, check, verdict, refuse, choose, blame, done, ◌>>=◌, repeated}
 use Rattle.mh_class_pool.specs.declared.entry.Kind.TheVariants as kinds
 use Rattle.mh_classfile.specs.declared.site.Method.{Method}
 use Rattle.mh_classfile.specs.declared.site.Site.{Site}

@@ -1,6 +1,5 @@
 -- Class files (JVMS 4.1): which bytes are one, and the class that they are.
-use Rattle.std.specs.Prelude.{◌≡◌, ℕ, zero, nat_lt, nat_le, ◌==◌, ◌&&◌, List, [], length, Option, Some, None, Ok, Err, unwrap_or, ◌⊎◌}
-use Rattle.mh_class_bytes.specs.Position.{Position}
+use Rattle.std.specs.Prelude.{◌≡◌, ℕ, nat_lt, nat_le, ◌==◌, ◌&&◌, List, [], length, Option, Some, Ok, Err, unwrap_or, ◌⊎◌}
 use Rattle.mh_class_bytes.specs.declared.fault.Fault.{Fault}
 use Rattle.mh_class_bytes.specs.Format.{number, here, check, verdict, done, ◌>>=◌, Spells, Checked, reads, and_then}
 use Rattle.mh_class_pool.specs.declared.entry.Entry.TheVariants as entries

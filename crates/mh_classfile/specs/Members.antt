@@ -1,5 +1,5 @@
 -- Fields, methods and their attributes (JVMS 4.5, 4.6, 4.7.3).
-use Rattle.std.specs.Prelude.{ℕ, ◌+◌, ◌==◌, nat_lt, ◌&&◌, not, codes, List, [], Bool, true, false}
+use Rattle.std.specs.Prelude.{ℕ, ◌+◌, nat_lt, ◌&&◌, not, codes, List, [], Bool, true, false}
 use Rattle.std.specs.Str.{bytes_eq}
 use Rattle.mh_class_bytes.specs.Format.{number, run, here, check, verdict, choose, part, done, ◌>>=◌, repeated}
 use Rattle.mh_class_pool.specs.declared.entry.Kind.{Kind}

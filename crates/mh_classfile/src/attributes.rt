@@ -18,7 +18,8 @@ pub fn read_index(
     kind: Kind,
     cursor: &mut Cursor<'_>,
 ) -> Result<u16, ClassFault>
-    ensures reads { Reads (λ x. x) result cursor.new (reads (named_index short pool.now kind) cursor.old) }
+    ensures reads { Reads (λ x. x) result cursor.new
+        (reads (named_index short pool.now kind) cursor.old) }
     ensures moves { Moves cursor.old cursor.new }
 {
     let at = cursor.at();
@@ -58,7 +59,8 @@ pub fn pass_attributes(
     count: u16,
     cursor: &mut Cursor<'_>,
 ) -> Result<(), ClassFault>
-    ensures reads { Reads (λ x. x) result cursor.new (reads (attributes short pool.now count) cursor.old) }
+    ensures reads { Reads (λ x. x) result cursor.new
+        (reads (attributes short pool.now count) cursor.old) }
     ensures moves { Moves cursor.old cursor.new }
 {
     for _ in 0..count {
@@ -80,7 +82,8 @@ fn pass_handlers(count: u16, cursor: &mut Cursor<'_>) -> Result<(), ClassFault>
 
 /// That a part was read to its end.
 pub fn check_filled(at: usize, end: usize, kind: ClassKind) -> Result<(), ClassFault>
-    ensures { Finds (λ x. x) result (if at == end then Ok tt else Err (record { at = at; kind = kind })) }
+    ensures { Finds (λ x. x) result
+        (if at == end then Ok tt else Err (record { at = at; kind = kind })) }
 {
     if at == end {
         Ok(())
@@ -96,7 +99,8 @@ fn read_code_bytes(
     sites: &mut Sites,
     cursor: &mut Cursor<'_>,
 ) -> Result<(), ClassError>
-    ensures gives { Gives (λ _. sites.new.sites) result cursor.new (reads (code_bytes pool.now method sites.old.room sites.old.sites) cursor.old) }
+    ensures gives { Gives (λ _. sites.new.sites) result cursor.new
+        (reads (code_bytes pool.now method sites.old.room sites.old.sites) cursor.old) }
     ensures room { sites.new.room ≡ sites.old.room }
     ensures moves { Moves cursor.old cursor.new }
 {
@@ -134,7 +138,8 @@ fn read_code_contents(
     sites: &mut Sites,
     cursor: &mut Cursor<'_>,
 ) -> Result<(), ClassError>
-    ensures gives { Gives (λ _. sites.new.sites) result cursor.new (reads (code_contents pool.now method sites.old.room sites.old.sites) cursor.old) }
+    ensures gives { Gives (λ _. sites.new.sites) result cursor.new
+        (reads (code_contents pool.now method sites.old.room sites.old.sites) cursor.old) }
     ensures room { sites.new.room ≡ sites.old.room }
     ensures moves { Moves cursor.old cursor.new }
 {
@@ -154,7 +159,8 @@ pub fn read_code(
     sites: &mut Sites,
     cursor: &mut Cursor<'_>,
 ) -> Result<(), ClassError>
-    ensures gives { Gives (λ _. sites.new.sites) result cursor.new (reads (code_attribute pool.now method sites.old.room sites.old.sites) cursor.old) }
+    ensures gives { Gives (λ _. sites.new.sites) result cursor.new
+        (reads (code_attribute pool.now method sites.old.room sites.old.sites) cursor.old) }
     ensures room { sites.new.room ≡ sites.old.room }
     ensures moves { Moves cursor.old cursor.new }
 {

@@ -60,7 +60,8 @@ impl Bootstraps {
     pub fn close(&mut self, handle: u16, count: u16) -> Result<(), NoMemory>
         requires count { length self.old.begun ≡ count }
         requires few { length self.old.closed + 1 < 2 ^ 16 }
-        ensures closed { OnOk result (self.new.closed ≡ self.old.closed ++ record { handle = handle; arguments = self.old.begun } ∷ []) }
+        ensures closed { OnOk result (self.new.closed
+            ≡ self.old.closed ++ record { handle = handle; arguments = self.old.begun } ∷ []) }
         ensures begun { OnOk result (self.new.begun ≡ []) }
     {
         let start = self.closed;
@@ -100,7 +101,8 @@ impl Bootstraps {
     pub fn argument(&self, j: u16, k: u16) -> u16
         requires method { j < length self.now.closed }
         requires argument { IfSome (slice_get self.now.closed j) (λ row. k < length row.arguments) }
-        ensures { IfSome (slice_get self.now.closed j) (λ row. slice_get row.arguments k ≡ Some result) }
+        ensures { IfSome (slice_get self.now.closed j)
+            (λ row. slice_get row.arguments k ≡ Some result) }
     {
         let span = *self.spans.get(j as usize);
         let arguments = self.arguments.as_slice();

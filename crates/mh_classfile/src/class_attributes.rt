@@ -22,7 +22,8 @@ fn read_arguments(
     cursor: &mut Cursor<'_>,
 ) -> Result<(), ClassError>
     requires { methods.old.begun ≡ [] }
-    ensures gives { Gives (λ _. methods.new.begun) result cursor.new (reads (times (named_index BadBootstraps pool.now Argument) count) cursor.old) }
+    ensures gives { Gives (λ _. methods.new.begun) result cursor.new
+        (reads (times (named_index BadBootstraps pool.now Argument) count) cursor.old) }
     ensures closed { methods.new.closed ≡ methods.old.closed }
     ensures count { OnOk result (length methods.new.begun ≡ count) }
     ensures moves { Moves cursor.old cursor.new }
@@ -43,7 +44,8 @@ fn read_bootstrap(
 ) -> Result<(), ClassError>
     requires begun { methods.old.begun ≡ [] }
     requires few { length methods.old.closed + 1 < 2 ^ 16 }
-    ensures gives { Gives (λ _. methods.new.closed) result cursor.new (reads (listed (bootstrap pool.now) methods.old.closed) cursor.old) }
+    ensures gives { Gives (λ _. methods.new.closed) result cursor.new
+        (reads (listed (bootstrap pool.now) methods.old.closed) cursor.old) }
     ensures begun { OnOk result (methods.new.begun ≡ []) }
     ensures count { OnOk result (length methods.new.closed ≡ length methods.old.closed + 1) }
     ensures moves { Moves cursor.old cursor.new }
@@ -61,7 +63,8 @@ fn read_methods(
     count: u16,
     cursor: &mut Cursor<'_>,
 ) -> Result<Bootstraps, ClassError>
-    ensures gives { Gives (λ b. b.closed) result cursor.new (reads (times (bootstrap pool.now) count) cursor.old) }
+    ensures gives { Gives (λ b. b.closed) result cursor.new
+        (reads (times (bootstrap pool.now) count) cursor.old) }
     ensures moves { Moves cursor.old cursor.new }
 {
     let mut methods = Bootstraps::new(alloc);
@@ -77,7 +80,8 @@ fn read_bootstraps(
     pool: &Pool<'_>,
     cursor: &mut Cursor<'_>,
 ) -> Result<Bootstraps, ClassError>
-    ensures gives { Gives (λ b. b.closed) result cursor.new (reads (bootstraps pool.now) cursor.old) }
+    ensures gives { Gives (λ b. b.closed) result cursor.new
+        (reads (bootstraps pool.now) cursor.old) }
     ensures moves { Moves cursor.old cursor.new }
 {
     let count = u2(cursor, ClassKind::BadBootstraps)?;
@@ -91,7 +95,8 @@ fn read_bootstraps_attribute(
     pool: &Pool<'_>,
     cursor: &mut Cursor<'_>,
 ) -> Result<Bootstraps, ClassError>
-    ensures gives { Gives (λ b. b.closed) result cursor.new (reads (bootstraps_attribute pool.now) cursor.old) }
+    ensures gives { Gives (λ b. b.closed) result cursor.new
+        (reads (bootstraps_attribute pool.now) cursor.old) }
     ensures moves { Moves cursor.old cursor.new }
 {
     let len = u4(cursor, ClassKind::Truncated)?;
@@ -112,7 +117,8 @@ fn read_class_attribute(
     so_far: Option<Bootstraps>,
     cursor: &mut Cursor<'_>,
 ) -> Result<Option<Bootstraps>, ClassError>
-    ensures gives { Gives closed_of result cursor.new (reads (class_attribute pool.now (closed_of so_far)) cursor.old) }
+    ensures gives { Gives closed_of result cursor.new
+        (reads (class_attribute pool.now (closed_of so_far)) cursor.old) }
     ensures moves { Moves cursor.old cursor.new }
 {
     let at = cursor.at();
@@ -134,7 +140,8 @@ fn read_attributes(
     count: u16,
     cursor: &mut Cursor<'_>,
 ) -> Result<Option<Bootstraps>, ClassError>
-    ensures gives { Gives closed_of result cursor.new (reads (repeated (class_attribute pool.now) count None) cursor.old) }
+    ensures gives { Gives closed_of result cursor.new
+        (reads (repeated (class_attribute pool.now) count None) cursor.old) }
     ensures moves { Moves cursor.old cursor.new }
 {
     let mut found = None;
@@ -151,7 +158,8 @@ pub fn read_class_attributes(
     pool: &Pool<'_>,
     cursor: &mut Cursor<'_>,
 ) -> Result<Option<Bootstraps>, ClassError>
-    ensures gives { Gives closed_of result cursor.new (reads (class_attributes pool.now) cursor.old) }
+    ensures gives { Gives closed_of result cursor.new
+        (reads (class_attributes pool.now) cursor.old) }
     ensures moves { Moves cursor.old cursor.new }
 {
     let count = u2(cursor, ClassKind::Truncated)?;

@@ -3,7 +3,7 @@ ghost use Rattle.std.specs.Option.{option_to_list};
 ghost use Rattle.mh_class_bytes.specs.Bytes.{Moves};
 ghost use Rattle.mh_class_bytes.specs.Format.{Reads, reads};
 ghost use Rattle.mh_class_pool.specs.Answers.{Gives};
-ghost use Rattle.mh_classfile.specs.Code.{is_local, fixed_len, table_switch, lookup_switch, wide, passed, ordinary, operands, call_site, instruction, code_sites};
+ghost use Rattle.mh_classfile.specs.Code.{is_local, fixed_len, padding, table_switch, lookup_switch, wide, passed, ordinary, operands, call_site, instruction, code_sites};
 
 use crate::site::{Method, Site, Sites};
 use mh_class_bytes::Cursor;
@@ -30,6 +30,15 @@ fn fixed_len(opcode: u8) -> usize
     }
 }
 
+/// The bytes from behind an opcode at `at` to the next place that is a multiple of 4, counted from the
+/// code's start.
+fn padding(start: usize, at: usize) -> usize
+    requires { start ≤ at }
+    ensures { result ≡ padding start at }
+{
+    3 - (at - start) % 4
+}
+
 #[tactic(auto, unfolding(crate::specs::Code::table_switch))]
 fn pass_table_switch(start: usize, at: usize, cursor: &mut Cursor<'_>) -> Result<(), ClassFault>
     requires { start ≤ at }
@@ -37,7 +46,7 @@ fn pass_table_switch(start: usize, at: usize, cursor: &mut Cursor<'_>) -> Result
     ensures moves { Moves cursor.old cursor.new }
 {
     let kind = ClassKind::BadCode;
-    let _padding = run(cursor, 3 - (at - start) % 4, kind)?;
+    let _padding = run(cursor, padding(start, at), kind)?;
     let _default = u4(cursor, kind)?;
     let low = u4(cursor, kind)?.wrapping_add(0x8000_0000);
     let high = u4(cursor, kind)?.wrapping_add(0x8000_0000);
@@ -55,7 +64,7 @@ fn pass_lookup_switch(start: usize, at: usize, cursor: &mut Cursor<'_>) -> Resul
     ensures moves { Moves cursor.old cursor.new }
 {
     let kind = ClassKind::BadCode;
-    let _padding = run(cursor, 3 - (at - start) % 4, kind)?;
+    let _padding = run(cursor, padding(start, at), kind)?;
     let _default = u4(cursor, kind)?;
     let pairs = u4(cursor, kind)?;
     if pairs >= 0x8000_0000 {
@@ -144,7 +153,8 @@ fn read_call_site(
 ) -> Result<Site, ClassFault>
     requires begun { start ≤ at }
     requires near { at < start + 2 ^ 16 }
-    ensures reads { Reads (λ x. x) result cursor.new (reads (call_site pool.now method has_room start at) cursor.old) }
+    ensures reads { Reads (λ x. x) result cursor.new
+        (reads (call_site pool.now method has_room start at) cursor.old) }
     ensures moves { Moves cursor.old cursor.new }
     ensures room { OnOk result (IsTrue has_room) }
 {
@@ -175,7 +185,8 @@ fn read_instruction(
 ) -> Result<Option<Site>, ClassFault>
     requires begun { start ≤ cursor.old.at }
     requires near { cursor.old.at < start + 2 ^ 16 }
-    ensures reads { Reads option_to_list result cursor.new (reads (instruction pool.now method has_room start) cursor.old) }
+    ensures reads { Reads option_to_list result cursor.new
+        (reads (instruction pool.now method has_room start) cursor.old) }
     ensures moves { Moves cursor.old cursor.new }
     ensures onward { OnOk result (cursor.old.at < cursor.new.at) }
     ensures room { IfOk result (λ found. IsSome found → IsTrue has_room) }
@@ -201,7 +212,8 @@ pub fn read_sites(
 ) -> Result<(), ClassError>
     requires begun { start ≤ cursor.old.at }
     requires near { end ≤ start + 2 ^ 16 }
-    ensures gives { Gives (λ _. sites.new.sites) result cursor.new (reads (code_sites pool.now method sites.old.room start end sites.old.sites) cursor.old) }
+    ensures gives { Gives (λ _. sites.new.sites) result cursor.new
+        (reads (code_sites pool.now method sites.old.room start end sites.old.sites) cursor.old) }
     ensures room { sites.new.room ≡ sites.old.room }
     ensures moves { Moves cursor.old cursor.new }
 {

@@ -11,8 +11,10 @@ mod reader;
 mod site;
 mod view;
 
-pub use constant::{Constant, HandleRef, Named, SiteView};
+pub use constant::{Constant, HandleRef, SiteView};
 pub use mh_class_pool::{ClassError, ClassFault, ClassKind};
 pub use reader::read;
-pub use site::{Method, Site, Sites};
 pub use view::ClassView;
+
+#[cfg(test)]
+mod tests;

@@ -19,7 +19,9 @@ fn read_attribute(
     sites: &mut Sites,
     cursor: &mut Cursor<'_>,
 ) -> Result<bool, ClassError>
-    ensures gives { Gives (λ code. (code, sites.new.sites)) result cursor.new (reads (method_attribute pool.now method sites.old.room (seen, sites.old.sites)) cursor.old) }
+    ensures gives { Gives (λ code. (code, sites.new.sites)) result cursor.new
+        (reads (method_attribute pool.now method sites.old.room
+        (seen, sites.old.sites)) cursor.old) }
     ensures room { sites.new.room ≡ sites.old.room }
     ensures moves { Moves cursor.old cursor.new }
 {
@@ -45,7 +47,9 @@ fn read_attributes(
     sites: &mut Sites,
     cursor: &mut Cursor<'_>,
 ) -> Result<bool, ClassError>
-    ensures gives { Gives (λ code. (code, sites.new.sites)) result cursor.new (reads (repeated (method_attribute pool.now method sites.old.room) count (false, sites.old.sites)) cursor.old) }
+    ensures gives { Gives (λ code. (code, sites.new.sites)) result cursor.new
+        (reads (repeated (method_attribute pool.now method sites.old.room) count
+        (false, sites.old.sites)) cursor.old) }
     ensures room { sites.new.room ≡ sites.old.room }
     ensures moves { Moves cursor.old cursor.new }
 {
@@ -79,7 +83,8 @@ fn pass_field(pool: &Pool<'_>, cursor: &mut Cursor<'_>) -> Result<(), ClassFault
 }
 
 fn pass_fields(pool: &Pool<'_>, count: u16, cursor: &mut Cursor<'_>) -> Result<(), ClassFault>
-    ensures reads { Reads (λ x. x) result cursor.new (reads (rows (field pool.now) count) cursor.old) }
+    ensures reads { Reads (λ x. x) result cursor.new
+        (reads (rows (field pool.now) count) cursor.old) }
     ensures moves { Moves cursor.old cursor.new }
 {
     for _ in 0..count {
@@ -95,7 +100,8 @@ fn read_method(
     sites: &mut Sites,
     cursor: &mut Cursor<'_>,
 ) -> Result<(), ClassError>
-    ensures gives { Gives (λ _. sites.new.sites) result cursor.new (reads (method pool.now sites.old.room sites.old.sites) cursor.old) }
+    ensures gives { Gives (λ _. sites.new.sites) result cursor.new
+        (reads (method pool.now sites.old.room sites.old.sites) cursor.old) }
     ensures room { sites.new.room ≡ sites.old.room }
     ensures moves { Moves cursor.old cursor.new }
 {
@@ -111,7 +117,8 @@ fn read_methods(
     sites: &mut Sites,
     cursor: &mut Cursor<'_>,
 ) -> Result<(), ClassError>
-    ensures gives { Gives (λ _. sites.new.sites) result cursor.new (reads (repeated (method pool.now sites.old.room) count sites.old.sites) cursor.old) }
+    ensures gives { Gives (λ _. sites.new.sites) result cursor.new
+        (reads (repeated (method pool.now sites.old.room) count sites.old.sites) cursor.old) }
     ensures room { sites.new.room ≡ sites.old.room }
     ensures moves { Moves cursor.old cursor.new }
 {
@@ -129,7 +136,8 @@ pub fn read_members(
     cursor: &mut Cursor<'_>,
 ) -> Result<(), ClassError>
     requires { sites.old.sites ≡ [] }
-    ensures gives { Gives (λ _. sites.new.sites) result cursor.new (reads (members pool.now sites.old.room) cursor.old) }
+    ensures gives { Gives (λ _. sites.new.sites) result cursor.new
+        (reads (members pool.now sites.old.room) cursor.old) }
     ensures room { sites.new.room ≡ sites.old.room }
     ensures moves { Moves cursor.old cursor.new }
 {
@@ -149,7 +157,8 @@ fn pass_interface(pool: &Pool<'_>, cursor: &mut Cursor<'_>) -> Result<(), ClassF
 }
 
 fn pass_interfaces(pool: &Pool<'_>, count: u16, cursor: &mut Cursor<'_>) -> Result<(), ClassFault>
-    ensures reads { Reads (λ x. x) result cursor.new (reads (rows (interface pool.now) count) cursor.old) }
+    ensures reads { Reads (λ x. x) result cursor.new
+        (reads (rows (interface pool.now) count) cursor.old) }
     ensures moves { Moves cursor.old cursor.new }
 {
     for _ in 0..count {

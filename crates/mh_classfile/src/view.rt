@@ -201,7 +201,8 @@ impl<'b> ClassView<'b> {
     pub fn argument(&self, j: u16, k: u16) -> Constant<'b>
         requires bootstrap { j < length self.now.bootstraps }
         requires argument { IfSome (slice_get self.now.bootstraps j) (λ b. k < length b.arguments) }
-        ensures { IfSome (slice_get self.now.bootstraps j) (λ b. slice_get b.arguments k ≡ Some result) }
+        ensures { IfSome (slice_get self.now.bootstraps j)
+            (λ b. slice_get b.arguments k ≡ Some result) }
     {
         argument(&self.pool, self.bootstraps.argument(j, k))
     }

@@ -1,4 +1,4 @@
-use Rattle.std.proofs.Common.{length, ◌-◌, vec_len}
+use Rattle.std.proofs.Common.{◌-◌, vec_len}
 use Rattle.mh_class_pool.proofs.PoolLoop.{IsReading}
 use Rattle.mh_class_pool.proofs.pool.read_pool.Given as goal
 

@@ -1,6 +1,5 @@
-use Rattle.std.proofs.Common.{◌≡◌, ◌∙◌, ℕ, subst, Result, Ok, Err, Bool, List, arith}
+use Rattle.std.proofs.Common.{◌∙◌, arith}
 use Rattle.std.proofs.lemmas.Result.{err_from_is_err_and}
-use Rattle.mh_class_bytes.specs.Format.{reads}
 use Rattle.mh_class_bytes.proofs.Repeated.{repeated_next, repeated_stops, repeated_done}
 use Rattle.mh_class_pool.proofs.Failing.{fails_on}
 use Rattle.mh_classfile.specs.Members.{method}

@@ -1,4 +1,4 @@
-use Rattle.std.proofs.Common.{◌≡◌, ◌-◌, false}
+use Rattle.std.proofs.Common.{◌≡◌, ◌-◌}
 use Rattle.mh_class_bytes.specs.Bytes.{Moves}
 use Rattle.mh_class_bytes.specs.Format.{reads, repeated}
 use Rattle.mh_classfile.specs.Members.{method}
