@@ -12,4 +12,5 @@ pub mod Literal
 pub mod Returns
 pub mod Same
 pub mod Slots
+pub mod Spelling
 pub mod TypeText
