@@ -1,12 +1,12 @@
 -- What the definitions of the pool say of some bytes and entries, by computation.
-use Rattle.std.proofs.Common.{◌≡◌, ℕ, List, [], ◌∷◌, refl, Some, None, Ok, Err, true, false}
+use Rattle.std.proofs.Common.{◌≡◌, ℕ, List, [], ◌∷◌, refl, Some, None, Ok, true, false}
 use Rattle.mh_class_bytes.specs.Position.{Position}
 use Rattle.mh_class_bytes.specs.Mutf8.{unit_len, sound_from}
 use Rattle.mh_class_bytes.specs.Format.{reads, fault, repeated}
 use Rattle.mh_class_pool.specs.declared.entry.Entry.TheVariants as entries
 use Rattle.mh_class_pool.specs.declared.entry.Kind.TheVariants as kinds
 use Rattle.mh_class_pool.specs.declared.fault.ClassKind.TheVariants.{Truncated, BadTag, BadIndex, BadText, WrongKind, BadDescriptor}
-use Rattle.mh_class_pool.specs.Entries.{Slot, entry, utf8, utf8_bytes, contents, numeric, named, paired, handle, pool_of}
+use Rattle.mh_class_pool.specs.Entries.{Slot, entry, utf8, utf8_bytes, contents, numeric, named, handle, pool_of}
 use Rattle.mh_class_pool.specs.References.{names, own_references, good_descriptor, good_method_name, good_slot, each, good_references}
 
 at_start : List ℕ → Position
