@@ -1,0 +1,74 @@
+-- A call that uses a handle as a type: what its check tells, and what it leaves.
+use Rattle.std.proofs.Common.{◌≡◌, refl, sym, ap, ap₂, ◌∙◌, subst, ℕ, ◌+◌, Bool, true, false, cond, List, [], ◌∷◌, Result, Ok, Err, IfOk, inl}
+use Rattle.std.specs.Prelude.{IsErrAnd}
+use Rattle.mh_values.specs.declared.class.Class.{Class}
+use Rattle.mh_values.specs.declared.types.MethodTy.{MethodTy}
+use Rattle.mh_values.specs.Classes.{AreClasses}
+use Rattle.mh_values.specs.Same.{is_same_method_type}
+use Rattle.mh_leaf.specs.LeafTable.{LeafTable}
+use Rattle.mh_tree.specs.Tree.{Tree}
+use Rattle.mh_tree.specs.Check.{Tells}
+use Rattle.mh_tree.specs.Rows.{Checked, astype_row}
+use Rattle.mh_tree.specs.declared.error.CheckError.{CheckError}
+use Rattle.mh_tree.specs.declared.error.CheckError.TheVariants as check
+use Rattle.mh_tree.proofs.RowParts.{astype_row-parts}
+use Rattle.mh_edit.specs.declared.key.Key.{Key}
+use Rattle.mh_handle.specs.declared.error.HandleError.{HandleError}
+use Rattle.mh_handle.specs.declared.handle.Handle.{Handle}
+use Rattle.mh_handle.specs.Converting.{IsUsedAs}
+use Rattle.mh_handle.specs.Errors.{of_check}
+use Rattle.mh_handle.specs.Passes.{PassView}
+use Rattle.mh_handle.specs.Recipe.{convert_keys}
+use Rattle.mh_handle.specs.Stands.{HandleView, Stands}
+use Rattle.mh_astype.specs.Use.{MakesBy, TellsRow, use_keys, use_row, used_as}
+use Rattle.mh_astype.proofs.Using.{trivial, used-kept, used-stands}
+
+pub differs : (b : Bool) (own own' asked : MethodTy) → b ≡ false → b ≡ is_same_method_type own asked → own ≡ own' → is_same_method_type own' asked ≡ false
+differs b own own' asked unlike is e = sym (ap (λ o. is_same_method_type o asked) e) ∙ (sym is ∙ unlike)
+
+pub row-at : (cs classes : List Class) (own own' : MethodTy) (w w' : ℕ) (asked : MethodTy) → cs ≡ classes → own ≡ own' → w ≡ w' → astype_row cs own w asked ≡ astype_row classes own' w' asked
+row-at cs classes own own' w w' asked c o e = ap₂ (λ (d : List Class) (t : MethodTy). astype_row d t w asked) c o ∙ ap (λ n. astype_row classes own' n asked) e
+
+pub row-of-other : (classes : List Class) (own : MethodTy) (w : ℕ) (asked : MethodTy) → is_same_method_type own asked ≡ false → astype_row classes own w asked ≡ use_row classes own w asked
+row-of-other classes own w asked other = sym (ap (λ b. cond b (Ok own) (astype_row classes own w asked)) other)
+
+-- the type that was found is the one that was asked for
+pub found-row : (classes : List Class) (own : MethodTy) (w : ℕ) (asked u : MethodTy) → astype_row classes own w asked ≡ Ok u → astype_row classes own w u ≡ Ok u
+found-row classes own w asked u row = let P : MethodTy → Type 0 = λ a. astype_row classes own w a ≡ Ok u in subst P (sym (astype_row-parts classes own w asked u row).2) row
+
+pub refused-tells : (row row' : Checked) (e : CheckError) (r : Result Handle HandleError) → Tells (Err e) row → row ≡ row' → IsErrAnd r (λ x. x ≡ of_check e) → TellsRow r row'
+refused-tells row row' e (Ok h) tells same is = absurd is
+refused-tells row row' check.NoMemory (Err x) tells same is = subst (λ v. TellsRow (Err v) row') (sym is) tt
+refused-tells row row' (check.Refused e) (Err x) tells same is = subst (λ v. TellsRow (Err v) row') (sym is) (sym same ∙ tells)
+
+pub refused-makes : (recipe keys : List Key) (pass : PassView) (e : CheckError) (r : Result Handle HandleError) → IsErrAnd r (λ x. x ≡ of_check e) → MakesBy recipe keys pass pass r
+refused-makes recipe keys pass e (Ok h) is = absurd is
+refused-makes recipe [] pass check.NoMemory (Err x) is = subst (λ v. MakesBy recipe [] pass pass (Err v)) (sym is) refl
+refused-makes recipe [] pass (check.Refused e) (Err x) is = subst (λ v. MakesBy recipe [] pass pass (Err v)) (sym is) refl
+refused-makes recipe (k ∷ keys) pass check.NoMemory (Err x) is = subst (λ v. MakesBy recipe (k ∷ keys) pass pass (Err v)) (sym is) (refl, inl refl)
+refused-makes recipe (k ∷ keys) pass (check.Refused e) (Err x) is = subst (λ v. MakesBy recipe (k ∷ keys) pass pass (Err v)) (sym is) refl
+
+pub used-makes :
+    (classes : List Class) (own : MethodTy) (w : ℕ) (asked u : MethodTy) (recipe : List Key) (old new : PassView) (r : Result Handle HandleError) →
+    is_same_method_type own asked ≡ false → astype_row classes own w asked ≡ Ok u → MakesBy recipe (convert_keys classes u own) old new r → MakesBy recipe (use_keys classes own asked) old new r
+used-makes classes own w asked u recipe old new r other row m =
+    let keys : convert_keys classes u own ≡ use_keys classes own asked =
+    ap (λ a. convert_keys classes a own) (astype_row-parts classes own w asked u row).2 ∙ sym (ap (λ b. cond b [] (convert_keys classes asked own)) other) in
+    let P : List Key → Type 0 = λ ks. MakesBy recipe ks old new r in subst P keys m
+
+pub asked-stands :
+    (table : LeafTable) (asked u : MethodTy) (old : HandleView) (t : Tree) (r : Result Handle HandleError) →
+    AreClasses table.classes → is_same_method_type old.ty asked ≡ false → astype_row table.classes old.ty old.weight asked ≡ Ok u → Stands table old t →
+    IfOk r (IsUsedAs table.classes u old) → IfOk r (λ new. Stands table new (used_as old.ty asked t))
+asked-stands table asked u old t r are other row st used =
+    let P : MethodTy → Type 0 = λ a. IfOk r (IsUsedAs table.classes a old) in
+    used-stands table asked u old t r are other row st (subst P (astype_row-parts table.classes old.ty old.weight asked u row).2 used)
+
+pub used-retyped :
+    (cs classes : List Class) (own : MethodTy) (w : ℕ) (asked : MethodTy) (old new : HandleView) (b : Bool) →
+    b ≡ true → b ≡ trivial cs asked own → cs ≡ classes → own ≡ old.ty → w ≡ old.weight → new ≡ record old { ty = asked; weight = 1 + w } → IsUsedAs classes asked old new
+used-retyped cs classes own w asked old new b true-is is c o weight made =
+    let kept : trivial classes asked old.ty ≡ true = sym (ap₂ (λ (d : List Class) (t : MethodTy). trivial d asked t) c o) ∙ (sym is ∙ true-is) in
+    let P : HandleView → Type 0 = λ h. IsUsedAs classes asked old h in
+    let view : ℕ → HandleView = λ n. record old { ty = asked; weight = 1 + n } in
+    subst P (sym (made ∙ ap view weight)) (used-kept classes asked old kept)

@@ -1,0 +1,143 @@
+-- What is known where a handle is used as another type.
+use Rattle.std.proofs.Common.{◌≡◌, refl, sym, ap, ap₂, ◌∙◌, subst, ℕ, ◌+◌, ◌≤◌, Bool, true, false, cond, ◌&&◌, List, [], ◌∷◌, ◌++◌, length, map, codes, Option, Result, Ok, Err, IfOk, inl}
+use Rattle.std.specs.Prelude.{nat_le, option_to_list, IsErrAnd}
+use Rattle.std.proofs.lemmas.Bool.{eq-eqb, leb-true}
+use Rattle.std.proofs.lemmas.List.{append-nil, length-map}
+use Rattle.mh_values.specs.declared.class.Class.{Class}
+use Rattle.mh_values.specs.declared.types.MethodTy.{MethodTy}
+use Rattle.mh_values.specs.Class.{internal_error_class}
+use Rattle.mh_values.specs.Classes.{AreClasses}
+use Rattle.mh_values.specs.Exception.{saying}
+use Rattle.mh_values.specs.Same.{is_same_method_type}
+use Rattle.mh_values.specs.Slots.{slots_of_all}
+use Rattle.mh_values.proofs.SameTypes.{both, both-true}
+use Rattle.mh_convert.specs.Conversion.{is_trivial_ret, ret_conversion_of}
+use Rattle.mh_leaf.specs.LeafTable.{LeafTable}
+use Rattle.mh_tree.specs.Tree.{Tree, AsType}
+use Rattle.mh_tree.specs.Rows.{Checked, illegal, provided, limited, can_be_used_as, mismatch, astype_row}
+use Rattle.mh_tree.proofs.RowParts.{provided-parts, astype_row-parts}
+use Rattle.mh_form.specs.declared.field.Field.{Field}
+use Rattle.mh_form.specs.declared.field.Field.TheVariants as field
+use Rattle.mh_form.specs.Erasure.{basic_of}
+use Rattle.mh_edit.specs.declared.key.Key.{Key}
+use Rattle.mh_edit.specs.declared.key.Key.TheVariants.{Convert}
+use Rattle.mh_edit.specs.declared.key.RetEntry.{RetEntry}
+use Rattle.mh_edit.specs.Fit.{fits}
+use Rattle.mh_handle.specs.declared.error.HandleError.{HandleError}
+use Rattle.mh_handle.specs.declared.error.HandleError.TheVariants.{NoMemory, FormsFull, Refused}
+use Rattle.mh_handle.specs.declared.handle.Handle.{Handle}
+use Rattle.mh_handle.specs.declared.work.Work.{Work}
+use Rattle.mh_handle.specs.Converting.{IsUsedAs, convert_fields, convs_of, ret_fields_of}
+use Rattle.mh_handle.specs.Grows.{Grows}
+use Rattle.mh_handle.specs.Passes.{PassView}
+use Rattle.mh_handle.specs.Recipe.{are_trivial, convert_keys, entries_of, ret_entry_of}
+use Rattle.mh_handle.specs.Stands.{HandleView, Stands, handle_body}
+use Rattle.mh_handle.specs.Works.{GoesOn, Makes}
+use Rattle.mh_handle.proofs.AsTypeStands.{astype-stands}
+use Rattle.mh_handle.proofs.ConvertedParameters.{length-entries}
+use Rattle.mh_handle.proofs.Passing.{starts-refl}
+use Rattle.mh_handle.proofs.Standing.{made-fits}
+use Rattle.mh_handle.proofs.TrivialConversions.{none-converted}
+use Rattle.mh_astype.specs.Use.{StandsForSome, MakesBy, TellsRow, use_keys, use_row, used_as}
+
+-- ---- the row
+
+-- what may be used as another type is within the limits
+pub light : (classes : List Class) (own : MethodTy) (weight : ℕ) (asked u : MethodTy) → astype_row classes own weight asked ≡ Ok u → 1 + weight ≤ 256
+light classes own weight asked u h =
+    let heavy = saying internal_error_class (codes "weight") in
+    let word = codes "astype" in
+    let q = provided-parts (can_be_used_as classes own asked) (mismatch classes own asked) (limited word (1 + weight) asked) u h in
+    let r = provided-parts (nat_le (slots_of_all asked.params) 254) (illegal word) (provided (nat_le (1 + weight) 256) heavy (Ok asked)) u q.1 in
+    let s = provided-parts (nat_le (1 + weight) 256) heavy (Ok asked) u r.1 in
+    leb-true (1 + weight) 256 s.0
+
+-- the key of the conversions fits
+pub convert-fits :
+    (table : LeafTable) (h : HandleView) (asked u : MethodTy) (re : RetEntry) →
+    StandsForSome table h → astype_row table.classes h.ty h.weight asked ≡ Ok u →
+    fits (Convert (entries_of table.classes asked.params h.ty.params) re) (handle_body h) ≡ true
+convert-fits table h asked u re some row =
+    let st : Stands table h some.0 = some.1 in
+    let q = astype_row-parts table.classes h.ty h.weight asked u row in
+    let long : length (entries_of table.classes asked.params h.ty.params) ≡ length (handle_body h).params =
+    length-entries table.classes asked.params h.ty.params q.0 ∙ sym (ap length st.shaped ∙ length-map h.ty.params basic_of) in
+    both-true _ _ (made-fits (handle_body h) st.begun) (eq-eqb _ _ long)
+
+-- ---- the key and the fields
+
+abbrev pub trivial : List Class → MethodTy → MethodTy → Bool
+trivial classes asked own = are_trivial classes asked.params own.params && is_trivial_ret classes own.ret asked.ret
+
+abbrev pub convert_key : List Class → MethodTy → MethodTy → Key
+convert_key classes asked own = Convert (entries_of classes asked.params own.params) (ret_entry_of classes own.ret asked.ret)
+
+pub keys-changed : (classes : List Class) (asked own : MethodTy) → trivial classes asked own ≡ false → convert_keys classes asked own ≡ convert_key classes asked own ∷ []
+keys-changed classes asked own is = ap (λ b. cond b [] (convert_key classes asked own ∷ [])) is
+
+pub keys-kept : (classes : List Class) (asked own : MethodTy) → trivial classes asked own ≡ true → convert_keys classes asked own ≡ []
+keys-kept classes asked own is = ap (λ b. cond b [] (convert_key classes asked own ∷ [])) is
+
+fields-kept : (classes : List Class) (asked own : MethodTy) → trivial classes asked own ≡ true → convert_fields classes asked own ≡ []
+fields-kept classes asked own is =
+    let p = both (are_trivial classes asked.params own.params) (is_trivial_ret classes own.ret asked.ret) is in
+    ap₂ (λ (a b : List Field). a ++ b) (ap (map (λ d. field.Conv d)) (none-converted classes asked.params own.params p.0))
+    (ap (λ b. cond b [] (map (λ c. field.Ret c) (option_to_list (ret_conversion_of classes own.ret asked.ret)))) p.1)
+
+-- ---- the handle
+
+pub used-kept : (classes : List Class) (asked : MethodTy) (old : HandleView) → trivial classes asked old.ty ≡ true → IsUsedAs classes asked old (record old { ty = asked; weight = 1 + old.weight })
+used-kept classes asked old is = record {
+  ty = refl;
+  weight = refl;
+  sides = refl;
+  recipe = sym (ap (λ ks. old.form.recipe ++ ks) (keys-kept classes asked old.ty is) ∙ append-nil old.form.recipe);
+  fields = sym (ap (λ fs. old.fields ++ fs) (fields-kept classes asked old.ty is) ∙ append-nil old.fields);
+}
+
+pub used-grown :
+    (classes : List Class) (asked : MethodTy) (old : HandleView) (weight : ℕ) (sides : List MethodTy) (key : Key) (fields : List Field) (r : Result Handle HandleError) →
+    trivial classes asked old.ty ≡ false → weight ≡ 1 + old.weight → sides ≡ [] → key ≡ convert_key classes asked old.ty → fields ≡ convert_fields classes asked old.ty →
+    IfOk r (λ new. Grows old new asked weight sides key fields) →
+    IfOk r (IsUsedAs classes asked old)
+used-grown classes asked old weight sides key fields (Ok new) is w s k f g = record {
+  ty = g.typed;
+  weight = g.weighed ∙ w;
+  sides = g.holds ∙ (ap (λ v. old.sides ++ v) s ∙ append-nil old.sides);
+  recipe = g.made ∙ ap (λ ks. old.form.recipe ++ ks) (ap (λ v. v ∷ []) k ∙ sym (keys-changed classes asked old.ty is));
+  fields = g.fielded ∙ ap (λ fs. old.fields ++ fs) f;
+}
+used-grown classes asked old weight sides key fields (Err e) is w s k f g = tt
+
+-- ---- the pass
+
+pub makes-changed :
+    (classes : List Class) (asked own : MethodTy) (recipe : List Key) (key : Key) (old new : PassView) (r : Result Handle HandleError) →
+    trivial classes asked own ≡ false → key ≡ convert_key classes asked own → Makes (recipe ++ key ∷ []) old new r → MakesBy recipe (convert_keys classes asked own) old new r
+makes-changed classes asked own recipe key old new r is k m =
+    let P : List Key → Type 0 = λ ks. MakesBy recipe ks old new r in
+    let Q : Key → Type 0 = λ x. Makes (recipe ++ x ∷ []) old new r in
+    subst P (sym (keys-changed classes asked own is)) (subst Q k m)
+
+-- want of memory before any edit
+pub makes-nothing : (recipe keys : List Key) (pass : PassView) (r : Result Handle HandleError) → IsErrAnd r (λ x. x ≡ NoMemory) → MakesBy recipe keys pass pass r
+makes-nothing recipe keys pass (Ok h) is = absurd is
+makes-nothing recipe [] pass (Err x) is = subst (λ v. MakesBy recipe [] pass pass (Err v)) (sym is) refl
+makes-nothing recipe (k ∷ keys) pass (Err x) is = subst (λ v. MakesBy recipe (k ∷ keys) pass pass (Err v)) (sym is) (refl, inl refl)
+
+pub makes-kept : (classes : List Class) (asked own : MethodTy) (recipe : List Key) (pass : PassView) (h : HandleView) → trivial classes asked own ≡ true → MakesBy recipe (convert_keys classes asked own) pass pass (Ok h)
+makes-kept classes asked own recipe pass h is =
+    let P : List Key → Type 0 = λ ks. MakesBy recipe ks pass pass (Ok h) in subst P (sym (keys-kept classes asked own is)) refl
+
+pub goes_on-still : (w : Work) → GoesOn w w
+goes_on-still w = record { forms = refl; leaves = refl; cells = refl; learnt = starts-refl w.pass.now.nodes }
+
+-- ---- the tree
+
+pub used-stands :
+    (table : LeafTable) (asked u : MethodTy) (old : HandleView) (t : Tree) (r : Result Handle HandleError) →
+    AreClasses table.classes → is_same_method_type old.ty asked ≡ false → astype_row table.classes old.ty old.weight asked ≡ Ok u → Stands table old t →
+    IfOk r (IsUsedAs table.classes asked old) → IfOk r (λ new. Stands table new (used_as old.ty asked t))
+used-stands table asked u old t (Ok new) are other row st used =
+    let P : Bool → Type 0 = λ b. Stands table new (cond b t (AsType t asked)) in subst P (sym other) (astype-stands table are asked u old new t row used st)
+used-stands table asked u old t (Err e) are other row st used = tt

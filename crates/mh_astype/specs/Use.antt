@@ -1,0 +1,44 @@
+-- What a handle becomes that is used as a type, and what that leaves of a pass.
+use Rattle.std.specs.Prelude.{◌≡◌, ℕ, ◌<◌, List, [], ◌∷◌, ◌++◌, if◌then◌else◌, Result, Ok, Err}
+use Rattle.mh_values.specs.declared.class.Class.{Class}
+use Rattle.mh_values.specs.declared.types.MethodTy.{MethodTy}
+use Rattle.mh_values.specs.Same.{is_same_method_type}
+use Rattle.mh_leaf.specs.LeafTable.{LeafTable}
+use Rattle.mh_tree.specs.Tree.{Tree, AsType}
+use Rattle.mh_tree.specs.Rows.{Checked, astype_row}
+use Rattle.mh_edit.specs.declared.key.Key.{Key}
+use Rattle.mh_handle.specs.declared.error.HandleError.{HandleError}
+use Rattle.mh_handle.specs.declared.error.HandleError.TheVariants.{NoMemory, FormsFull, Refused}
+use Rattle.mh_handle.specs.declared.handle.Handle.{Handle}
+use Rattle.mh_handle.specs.Passes.{PassView}
+use Rattle.mh_handle.specs.Recipe.{convert_keys}
+use Rattle.mh_handle.specs.Stands.{HandleView, Stands}
+use Rattle.mh_handle.specs.Works.{Makes}
+
+-- the handle stands for some tree
+abbrev pub StandsForSome : LeafTable → HandleView → Type 0
+StandsForSome table h = (t : Tree) × Stands table h t
+
+-- a tree that is used as a type: itself, where it has that type
+abbrev pub used_as : MethodTy → MethodTy → Tree → Tree
+used_as own asked t = if is_same_method_type own asked then t else AsType t asked
+
+-- the type of a handle that is used as a type, or the exception with which that is refused
+abbrev pub use_row : List Class → MethodTy → ℕ → MethodTy → Checked
+use_row classes own weight asked = if is_same_method_type own asked then Ok own else astype_row classes own weight asked
+
+-- the key of the conversions, none where nothing changes
+abbrev pub use_keys : List Class → MethodTy → MethodTy → List Key
+use_keys classes own asked = if is_same_method_type own asked then [] else convert_keys classes asked own
+
+-- the very type, or the very refusal; want of memory or forms tells nothing
+abbrev pub TellsRow : Result Handle HandleError → Checked → Type 0
+TellsRow (Ok h) row = row ≡ Ok h.ty
+TellsRow (Err (Refused e)) row = row ≡ Err e
+TellsRow (Err e) row = Unit {0}
+
+-- what a call leaves of the pass that adds these keys to a recipe: nothing is asked for where there is none
+abbrev pub MakesBy : List Key → List Key → PassView → PassView → Result Handle HandleError → Type 0
+MakesBy recipe [] old new (Err (FormsFull drawn)) = ⊥
+MakesBy recipe [] old new result = new ≡ old
+MakesBy recipe (k ∷ keys) old new result = Makes (recipe ++ k ∷ keys) old new result
