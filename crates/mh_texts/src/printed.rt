@@ -155,7 +155,8 @@ fn push_object(
     class: ClassId,
     number: u32,
 ) -> Result<(), NoMemory>
-    ensures { OnOk result (bytes.new.items ≡ bytes.old.items ++ object_text classes.now class number) }
+    ensures { OnOk result (bytes.new.items
+        ≡ bytes.old.items ++ object_text classes.now class number) }
 {
     bytes.extend_from_slice(b"o:")?;
     push_name(bytes, classes.name(class))?;
@@ -165,7 +166,8 @@ fn push_object(
 
 /// Writes an exception as a value.
 fn push_exception(bytes: &mut Vec<u8>, classes: &Classes, exc: &Exc) -> Result<(), NoMemory>
-    ensures { OnOk result (bytes.new.items ≡ bytes.old.items ++ exception_text classes.now exc.now) }
+    ensures { OnOk result (bytes.new.items
+        ≡ bytes.old.items ++ exception_text classes.now exc.now) }
 {
     bytes.extend_from_slice(b"x:")?;
     push_name(bytes, classes.name(exc.class))
@@ -242,7 +244,8 @@ fn push_class(bytes: &mut Vec<u8>, classes: &Classes, class: ClassId) -> Result<
 
 /// Writes the type of an array's items.
 fn push_component(bytes: &mut Vec<u8>, classes: &Classes, component: Comp) -> Result<(), NoMemory>
-    ensures { OnOk result (bytes.new.items ≡ bytes.old.items ++ component_text classes.now component) }
+    ensures { OnOk result (bytes.new.items
+        ≡ bytes.old.items ++ component_text classes.now component) }
 {
     match component {
         Comp::Prim(primitive) => push_primitive(bytes, primitive),
@@ -266,7 +269,8 @@ fn push_type(bytes: &mut Vec<u8>, classes: &Classes, ty: Ty) -> Result<(), NoMem
 
 /// Writes types, one behind the other.
 fn push_types(bytes: &mut Vec<u8>, classes: &Classes, types: &[Ty]) -> Result<(), NoMemory>
-    ensures { OnOk result (bytes.new.items ≡ bytes.old.items ++ flat_map (type_text classes.now) types.now) }
+    ensures { OnOk result (bytes.new.items
+        ≡ bytes.old.items ++ flat_map (type_text classes.now) types.now) }
 {
     for ty in types {
         push_type(bytes, classes, *ty)?;
@@ -293,7 +297,8 @@ pub(crate) fn push_method_type(
     classes: &Classes,
     ty: &MethodTy,
 ) -> Result<(), NoMemory>
-    ensures { OnOk result (bytes.new.items ≡ bytes.old.items ++ method_type_text classes.now ty.now) }
+    ensures { OnOk result (bytes.new.items
+        ≡ bytes.old.items ++ method_type_text classes.now ty.now) }
 {
     bytes.extend_from_slice(b"(")?;
     push_types(bytes, classes, ty.params.as_slice())?;
@@ -308,7 +313,8 @@ fn push_array(
     component: Comp,
     items: &[Cell],
 ) -> Result<(), NoMemory>
-    ensures { OnOk result (bytes.new.items ≡ bytes.old.items ++ array_text classes.now component items.now) }
+    ensures { OnOk result (bytes.new.items
+        ≡ bytes.old.items ++ array_text classes.now component items.now) }
 {
     bytes.extend_from_slice(b"a:")?;
     push_component(bytes, classes, component)?;

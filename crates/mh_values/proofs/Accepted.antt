@@ -1,81 +1,13 @@
--- A text that goes on to its end is spelled by the grammar.
-use Rattle.std.proofs.Common.{◌≡◌, refl, sym, ap, subst, ◌∙◌, zero, suc, ℕ, ◌+◌, ◌<◌, ◌≤◌, ◌==◌, inl, inr, Bool, true, false, not, ◌||◌, if◌then◌else◌, nat_le, lit≤, List, [], ◌∷◌, ◌++◌, length, replicate, Option, None, Some, append_assoc, arith}
+-- The first byte of a type, and what is then spelled.
+use Rattle.std.proofs.Common.{◌≡◌, refl, sym, ap, subst, ◌∙◌, suc, ℕ, ◌==◌, inl, inr, false, if◌then◌else◌, lit≤, List, [], ◌∷◌, ◌++◌, replicate, None, Some, append_assoc, arith}
 use Rattle.std.proofs.lemmas.Bool.{cases_Bool, eqb-true, ne_eqb}
-use Rattle.std.specs.List.{list_all}
-use Rattle.std.specs.Option.{option_map_or}
 use Rattle.mh_values.specs.declared.grammar.Place.{Place}
 use Rattle.mh_values.specs.declared.grammar.Place.TheVariants as place
 use Rattle.mh_values.specs.declared.grammar.Standing.{Standing}
 use Rattle.mh_values.specs.declared.grammar.Standing.TheVariants as standing
-use Rattle.mh_values.specs.Grammar.{is_base, behind, element, begun, within_array, within_name, slots_from, parameter, next, is_end, first_bad, descriptor_fault}
-use Rattle.mh_values.specs.Spelling.{Element, element_slots, letter, named, Spelled, element_text, spelled_text, is_name_byte, IsElement, IsSpelled, AreSpelled, spelled_slots, all_slots, texts_of, IsReturn, return_spelled, IsMethodDescriptor}
-
--- ---- what may follow from where a text stands
-
--- parameters behind others of so many slots, `)` and a return type
-pub record ParametersFrom (n : ℕ) (text : List ℕ) : Type 0 where
-  pub params : List Spelled
-  pub ret : Option Spelled
-  pub spelled : AreSpelled params
-  pub returns : IsReturn ret
-  pub few : n ≤ 255 → n + all_slots params ≤ 255
-  pub is : text ≡ texts_of params ++ 41 ∷ return_spelled ret
-
--- types, one behind the other
-pub record TypesFrom (some : Bool) (text : List ℕ) : Type 0 where
-  pub types : List Spelled
-  pub spelled : AreSpelled types
-  pub one : some ≡ false → 0 < length types
-  pub is : text ≡ texts_of types
-
--- what may stand behind a type
-abbrev pub After : Place → List ℕ → Type 0
-After (place.Parameter n) text = ParametersFrom n text
-After place.Listed text = TypesFrom true text
-After place.Last text = text ≡ []
-
--- an element behind more dimensions
-pub record DimensionsFrom (p : Place) (k : ℕ) (text : List ℕ) : Type 0 where
-  pub more : ℕ
-  pub element : Element
-  pub rest : List ℕ
-  pub few : k ≤ 255 → k + more ≤ 255
-  pub good : IsElement element
-  pub after : After p rest
-  pub is : text ≡ replicate more 91 ++ (element_text element ++ rest)
-
--- the rest of a name
-pub record NameFrom (p : Place) (has : Bool) (text : List ℕ) : Type 0 where
-  pub name : List ℕ
-  pub rest : List ℕ
-  pub good : list_all is_name_byte name ≡ true
-  pub one : has ≡ false → 0 < length name
-  pub after : After p rest
-  pub is : text ≡ name ++ 59 ∷ rest
-
--- a return type
-abbrev pub ReturnFrom : List ℕ → Type 0
-ReturnFrom text = (ret : Option Spelled) × IsReturn ret × (text ≡ return_spelled ret)
-
--- what may follow
-abbrev pub Goes : Standing → List ℕ → Type 0
-Goes standing.Front text = IsMethodDescriptor text
-Goes (standing.Parameters n) text = ParametersFrom n text
-Goes standing.Close text = ReturnFrom text
-Goes standing.Alone text = (t : Spelled) × IsSpelled t × (text ≡ spelled_text t)
-Goes (standing.Types some) text = TypesFrom some text
-Goes (standing.Dimensions p k) text = DimensionsFrom p k text
-Goes (standing.Name p has) text = NameFrom p has text
-Goes standing.End text = text ≡ []
-
--- a type, and what may stand behind it
-pub record BeginsType (p : Place) (b : ℕ) (text : List ℕ) : Type 0 where
-  pub type : Spelled
-  pub rest : List ℕ
-  pub good : IsSpelled type
-  pub slots : slots_from b ≡ spelled_slots type
-  pub after : After p rest
-  pub is : text ≡ spelled_text type ++ rest
+use Rattle.mh_values.specs.Grammar.{is_base, behind, element, begun, slots_from}
+use Rattle.mh_values.specs.Spelling.{Element, element_slots, letter, named, element_text, IsElement, spelled_slots}
+use Rattle.mh_values.proofs.Goes.{After, DimensionsFrom, NameFrom, Goes, BeginsType}
 
 -- ---- one byte more
 
@@ -99,32 +31,32 @@ pub record BeginsElement (p : Place) (b : ℕ) (text : List ℕ) : Type 0 where
 pub begins_element : (p : Place) (b : ℕ) (bs : List ℕ) (s : Standing) → element p b ≡ Some s → Goes s bs → BeginsElement p b (b ∷ bs)
 begins_element p b bs s told goes =
     elim (cases_Bool (b == 76)) [
-        inl e ↦
-            let is : Some (standing.Name p false) ≡ Some s = sym (ap (λ t. if t then Some (standing.Name p false) else (if is_base b then Some (behind p) else None)) e) ∙ told in
-            let n : NameFrom p false bs = subst (λ t. Goes t bs) (sym (some_is _ _ is)) goes in
+      | inl e ↦
+          let is : Some (standing.Name p false) ≡ Some s = sym (ap (λ t. if t then Some (standing.Name p false) else (if is_base b then Some (behind p) else None)) e) ∙ told in
+          let n : NameFrom p false bs = subst (λ t. Goes t bs) (sym (some_is _ _ is)) goes in
+          record {
+            element = named n.name;
+            rest = n.rest;
+            good = (n.one refl, n.good);
+            slots = ap slots_from (eqb-true b 76 e);
+            after = n.after;
+            is = ap (λ c. c ∷ bs) (eqb-true b 76 e) ∙ ap (λ t. 76 ∷ t) (n.is ∙ sym (append_assoc n.name (59 ∷ []) n.rest));
+          }
+      | inr e ↦ elim (cases_Bool (is_base b)) [
+        | inl base ↦
+            let is : Some (behind p) ≡ Some s = sym (ap (λ t. if t then Some (standing.Name p false) else (if is_base b then Some (behind p) else None)) e ∙ ap (λ t. if t then Some (behind p) else None) base) ∙ told in
             record {
-                element = named n.name;
-                rest = n.rest;
-                good = (n.one refl, n.good);
-                slots = ap slots_from (eqb-true b 76 e);
-                after = n.after;
-                is = ap (λ c. c ∷ bs) (eqb-true b 76 e) ∙ ap (λ t. 76 ∷ t) (n.is ∙ sym (append_assoc n.name (59 ∷ []) n.rest));
+              element = letter b;
+              rest = bs;
+              good = base;
+              slots = refl;
+              after = after_whole p bs (subst (λ t. Goes t bs) (sym (some_is _ _ is)) goes);
+              is = refl;
             }
-        | inr e ↦ elim (cases_Bool (is_base b)) [
-            inl base ↦
-                let is : Some (behind p) ≡ Some s = sym (ap (λ t. if t then Some (standing.Name p false) else (if is_base b then Some (behind p) else None)) e ∙ ap (λ t. if t then Some (behind p) else None) base) ∙ told in
-                record {
-                    element = letter b;
-                    rest = bs;
-                    good = base;
-                    slots = refl;
-                    after = after_whole p bs (subst (λ t. Goes t bs) (sym (some_is _ _ is)) goes);
-                    is = refl;
-                }
-            | inr base ↦
-                let is : None ≡ Some s = sym (ap (λ t. if t then Some (standing.Name p false) else (if is_base b then Some (behind p) else None)) e ∙ ap (λ t. if t then Some (behind p) else None) base) ∙ told in
-                cc
-        ]
+        | inr base ↦
+            let is : None ≡ Some s = sym (ap (λ t. if t then Some (standing.Name p false) else (if is_base b then Some (behind p) else None)) e ∙ ap (λ t. if t then Some (behind p) else None) base) ∙ told in
+            cc
+      ]
     ]
 
 -- an array takes one slot
@@ -134,25 +66,25 @@ array_slots m e = sym (ap (λ t. if t then element_slots e else 1) (ne_eqb (suc 
 pub begins_type : (p : Place) (b : ℕ) (bs : List ℕ) (s : Standing) → begun p b ≡ Some s → Goes s bs → BeginsType p b (b ∷ bs)
 begins_type p b bs s told goes =
     elim (cases_Bool (b == 91)) [
-        inl e ↦
-            let is : Some (standing.Dimensions p 1) ≡ Some s = sym (ap (λ t. if t then Some (standing.Dimensions p 1) else element p b) e) ∙ told in
-            let d : DimensionsFrom p 1 bs = subst (λ t. Goes t bs) (sym (some_is _ _ is)) goes in
-            record {
-                type = record { dimensions = suc d.more; element = d.element };
-                rest = d.rest;
-                good = (omega (arith, d.few (lit≤ tt)), d.good);
-                slots = ap slots_from (eqb-true b 91 e) ∙ array_slots d.more d.element;
-                after = d.after;
-                is = ap (λ c. c ∷ bs) (eqb-true b 91 e) ∙ ap (λ t. 91 ∷ t) (d.is ∙ sym (append_assoc (replicate d.more 91) (element_text d.element) d.rest));
-            }
-        | inr e ↦
-            let begins = begins_element p b bs s (sym (ap (λ t. if t then Some (standing.Dimensions p 1) else element p b) e) ∙ told) goes in
-            record {
-                type = record { dimensions = 0; element = begins.element };
-                rest = begins.rest;
-                good = (lit≤ tt, begins.good);
-                slots = begins.slots;
-                after = begins.after;
-                is = begins.is;
-            }
+      | inl e ↦
+          let is : Some (standing.Dimensions p 1) ≡ Some s = sym (ap (λ t. if t then Some (standing.Dimensions p 1) else element p b) e) ∙ told in
+          let d : DimensionsFrom p 1 bs = subst (λ t. Goes t bs) (sym (some_is _ _ is)) goes in
+          record {
+            type = record { dimensions = suc d.more; element = d.element };
+            rest = d.rest;
+            good = (omega (arith, d.few (lit≤ tt)), d.good);
+            slots = ap slots_from (eqb-true b 91 e) ∙ array_slots d.more d.element;
+            after = d.after;
+            is = ap (λ c. c ∷ bs) (eqb-true b 91 e) ∙ ap (λ t. 91 ∷ t) (d.is ∙ sym (append_assoc (replicate d.more 91) (element_text d.element) d.rest));
+          }
+      | inr e ↦
+          let begins = begins_element p b bs s (sym (ap (λ t. if t then Some (standing.Dimensions p 1) else element p b) e) ∙ told) goes in
+          record {
+            type = record { dimensions = 0; element = begins.element };
+            rest = begins.rest;
+            good = (lit≤ tt, begins.good);
+            slots = begins.slots;
+            after = begins.after;
+            is = begins.is;
+          }
     ]

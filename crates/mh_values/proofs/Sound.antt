@@ -1,34 +1,34 @@
 -- A text without a fault is spelled by the grammar.
-use Rattle.std.proofs.Common.{◌≡◌, refl, sym, ap, subst, ◌∙◌, suc, ℕ, ◌+◌, ◌<◌, ◌≤◌, ◌==◌, inl, inr, Bool, true, false, not, ◌&&◌, ◌||◌, if◌then◌else◌, nat_le, lit≤, List, [], ◌∷◌, ◌++◌, length, replicate, Option, None, Some, append_assoc, arith}
+use Rattle.std.proofs.Common.{◌≡◌, refl, sym, ap, subst, ◌∙◌, ℕ, ◌+◌, ◌≤◌, ◌==◌, inl, inr, Bool, true, false, if◌then◌else◌, nat_le, lit≤, List, [], ◌∷◌, ◌++◌, Option, None, Some, append_assoc, arith}
 use Rattle.std.proofs.lemmas.List.{append-nil}
-use Rattle.std.proofs.lemmas.Bool.{cases_Bool, eqb-true, leb-true, and_from, not_from_false, or_from}
-use Rattle.std.specs.List.{list_all}
+use Rattle.std.proofs.lemmas.Bool.{cases_Bool, eqb-true, leb-true}
 use Rattle.std.specs.Option.{option_map_or}
-use Rattle.mh_values.specs.declared.grammar.Place.{Place}
 use Rattle.mh_values.specs.declared.grammar.Place.TheVariants as place
 use Rattle.mh_values.specs.declared.grammar.Standing.{Standing}
 use Rattle.mh_values.specs.declared.grammar.Standing.TheVariants as standing
-use Rattle.mh_values.specs.Grammar.{behind, element, begun, within_array, within_name, slots_from, parameter, next, is_end, first_bad, descriptor_fault}
-use Rattle.mh_values.specs.Spelling.{Spelled, spelled_text, element_text, is_name_byte, IsElement, spelled_slots, all_slots, texts_of, return_spelled, IsMethodDescriptor}
-use Rattle.mh_values.proofs.Accepted.{ParametersFrom, TypesFrom, After, DimensionsFrom, NameFrom, ReturnFrom, Goes, BeginsType, begins_element, begins_type, some_is, after_whole}
+use Rattle.mh_values.specs.Grammar.{begun, slots_from, parameter, next, is_end, first_bad, descriptor_fault}
+use Rattle.mh_values.specs.Spelling.{spelled_text, texts_of, return_spelled, IsMethodDescriptor}
+use Rattle.mh_values.proofs.Accepted.{begins_type, some_is}
+use Rattle.mh_values.proofs.Goes.{ParametersFrom, TypesFrom, ReturnFrom, Goes, BeginsType}
+use Rattle.mh_values.proofs.WithinType.{dimensions_step, name_step}
 
 -- ---- one byte more, from each place
 
 front_step : (b : ℕ) (s : Standing) (bs : List ℕ) → next standing.Front b ≡ Some s → Goes s bs → IsMethodDescriptor (b ∷ bs)
 front_step b s bs told goes =
     elim (cases_Bool (b == 40)) [
-        inl e ↦
-            let is : Some (standing.Parameters 0) ≡ Some s = sym (ap (λ t. if t then Some (standing.Parameters 0) else None) e) ∙ told in
-            let from : ParametersFrom 0 bs = subst (λ t. Goes t bs) (sym (some_is _ _ is)) goes in
-            record {
-                params = from.params;
-                ret = from.ret;
-                spelled = from.spelled;
-                returns = from.returns;
-                few = omega (arith, from.few (lit≤ tt));
-                is = ap (λ c. c ∷ bs) (eqb-true b 40 e) ∙ ap (λ t. 40 ∷ t) from.is;
-            }
-        | inr e ↦ let is : None ≡ Some s = sym (ap (λ t. if t then Some (standing.Parameters 0) else None) e) ∙ told in cc
+      | inl e ↦
+          let is : Some (standing.Parameters 0) ≡ Some s = sym (ap (λ t. if t then Some (standing.Parameters 0) else None) e) ∙ told in
+          let from : ParametersFrom 0 bs = subst (λ t. Goes t bs) (sym (some_is _ _ is)) goes in
+          record {
+            params = from.params;
+            ret = from.ret;
+            spelled = from.spelled;
+            returns = from.returns;
+            few = omega (arith, from.few (lit≤ tt));
+            is = ap (λ c. c ∷ bs) (eqb-true b 40 e) ∙ ap (λ t. 40 ∷ t) from.is;
+          }
+      | inr e ↦ let is : None ≡ Some s = sym (ap (λ t. if t then Some (standing.Parameters 0) else None) e) ∙ told in cc
     ]
 
 -- a parameter in front of others
@@ -36,48 +36,48 @@ one_more : (n : ℕ) (b : ℕ) (text : List ℕ) → n + slots_from b ≤ 255 �
 one_more n b text few begins =
     let rest = begins.after in
     record {
-        params = begins.type ∷ rest.params;
-        ret = rest.ret;
-        spelled = (begins.good, rest.spelled);
-        returns = rest.returns;
-        few = λ h. omega (arith, rest.few few, begins.slots);
-        is = begins.is ∙ ap (λ t. spelled_text begins.type ++ t) rest.is ∙ sym (append_assoc (spelled_text begins.type) (texts_of rest.params) (41 ∷ return_spelled rest.ret));
+      params = begins.type ∷ rest.params;
+      ret = rest.ret;
+      spelled = (begins.good, rest.spelled);
+      returns = rest.returns;
+      few = λ h. omega (arith, rest.few few, begins.slots);
+      is = begins.is ∙ ap (λ t. spelled_text begins.type ++ t) rest.is ∙ sym (append_assoc (spelled_text begins.type) (texts_of rest.params) (41 ∷ return_spelled rest.ret));
     }
 
 parameters_step : (n b : ℕ) (s : Standing) (bs : List ℕ) → next (standing.Parameters n) b ≡ Some s → Goes s bs → ParametersFrom n (b ∷ bs)
 parameters_step n b s bs told goes =
     elim (cases_Bool (b == 41)) [
-        inl e ↦
-            let is : Some standing.Close ≡ Some s = sym (ap (λ t. if t then Some standing.Close else parameter n b) e) ∙ told in
-            let ends : ReturnFrom bs = subst (λ t. Goes t bs) (sym (some_is _ _ is)) goes in
-            record {
-                params = [];
-                ret = ends.0;
-                spelled = tt;
-                returns = ends.1;
-                few = λ h. omega arith;
-                is = ap (λ c. c ∷ bs) (eqb-true b 41 e) ∙ ap (λ t. 41 ∷ t) ends.2;
-            }
-        | inr e ↦
-            let more : parameter n b ≡ Some s = sym (ap (λ t. if t then Some standing.Close else parameter n b) e) ∙ told in
-            elim (cases_Bool (nat_le (n + slots_from b) 255)) [
-                inl few ↦
-                    let begun_so : begun (place.Parameter (n + slots_from b)) b ≡ Some s = sym (ap (λ t. if t then begun (place.Parameter (n + slots_from b)) b else None) few) ∙ more in
-                    one_more n b (b ∷ bs) (leb-true _ _ few) (begins_type (place.Parameter (n + slots_from b)) b bs s begun_so goes)
-                | inr few ↦ let is : None ≡ Some s = sym (ap (λ t. if t then begun (place.Parameter (n + slots_from b)) b else None) few) ∙ more in cc
-            ]
+      | inl e ↦
+          let is : Some standing.Close ≡ Some s = sym (ap (λ t. if t then Some standing.Close else parameter n b) e) ∙ told in
+          let ends : ReturnFrom bs = subst (λ t. Goes t bs) (sym (some_is _ _ is)) goes in
+          record {
+            params = [];
+            ret = ends.0;
+            spelled = tt;
+            returns = ends.1;
+            few = λ h. omega arith;
+            is = ap (λ c. c ∷ bs) (eqb-true b 41 e) ∙ ap (λ t. 41 ∷ t) ends.2;
+          }
+      | inr e ↦
+          let more : parameter n b ≡ Some s = sym (ap (λ t. if t then Some standing.Close else parameter n b) e) ∙ told in
+          elim (cases_Bool (nat_le (n + slots_from b) 255)) [
+            | inl few ↦
+                let begun_so : begun (place.Parameter (n + slots_from b)) b ≡ Some s = sym (ap (λ t. if t then begun (place.Parameter (n + slots_from b)) b else None) few) ∙ more in
+                one_more n b (b ∷ bs) (leb-true _ _ few) (begins_type (place.Parameter (n + slots_from b)) b bs s begun_so goes)
+            | inr few ↦ let is : None ≡ Some s = sym (ap (λ t. if t then begun (place.Parameter (n + slots_from b)) b else None) few) ∙ more in cc
+          ]
     ]
 
 close_step : (b : ℕ) (s : Standing) (bs : List ℕ) → next standing.Close b ≡ Some s → Goes s bs → ReturnFrom (b ∷ bs)
 close_step b s bs told goes =
     elim (cases_Bool (b == 86)) [
-        inl e ↦
-            let is : Some standing.End ≡ Some s = sym (ap (λ t. if t then Some standing.End else begun place.Last b) e) ∙ told in
-            let ends : bs ≡ [] = subst (λ t. Goes t bs) (sym (some_is _ _ is)) goes in
-            (None, tt, ap (λ c. c ∷ bs) (eqb-true b 86 e) ∙ ap (λ t. 86 ∷ t) ends)
-        | inr e ↦
-            let begins = begins_type place.Last b bs s (sym (ap (λ t. if t then Some standing.End else begun place.Last b) e) ∙ told) goes in
-            (Some begins.type, begins.good, begins.is ∙ ap (λ t. spelled_text begins.type ++ t) begins.after ∙ append-nil (spelled_text begins.type))
+      | inl e ↦
+          let is : Some standing.End ≡ Some s = sym (ap (λ t. if t then Some standing.End else begun place.Last b) e) ∙ told in
+          let ends : bs ≡ [] = subst (λ t. Goes t bs) (sym (some_is _ _ is)) goes in
+          (None, tt, ap (λ c. c ∷ bs) (eqb-true b 86 e) ∙ ap (λ t. 86 ∷ t) ends)
+      | inr e ↦
+          let begins = begins_type place.Last b bs s (sym (ap (λ t. if t then Some standing.End else begun place.Last b) e) ∙ told) goes in
+          (Some begins.type, begins.good, begins.is ∙ ap (λ t. spelled_text begins.type ++ t) begins.after ∙ append-nil (spelled_text begins.type))
     ]
 
 alone_step : (b : ℕ) (s : Standing) (bs : List ℕ) → next standing.Alone b ≡ Some s → Goes s bs → Goes standing.Alone (b ∷ bs)
@@ -89,80 +89,11 @@ types_step : (some : Bool) (b : ℕ) (s : Standing) (bs : List ℕ) → next (st
 types_step some b s bs told goes =
     let begins = begins_type place.Listed b bs s told goes in
     record {
-        types = begins.type ∷ begins.after.types;
-        spelled = (begins.good, begins.after.spelled);
-        one = λ h. omega arith;
-        is = begins.is ∙ ap (λ t. spelled_text begins.type ++ t) begins.after.is;
+      types = begins.type ∷ begins.after.types;
+      spelled = (begins.good, begins.after.spelled);
+      one = λ h. omega arith;
+      is = begins.is ∙ ap (λ t. spelled_text begins.type ++ t) begins.after.is;
     }
-
-dimensions_step : (p : Place) (k b : ℕ) (s : Standing) (bs : List ℕ) → next (standing.Dimensions p k) b ≡ Some s → Goes s bs → DimensionsFrom p k (b ∷ bs)
-dimensions_step p k b s bs told goes =
-    elim (cases_Bool (b == 91)) [
-        inl e ↦
-            let more : (if nat_le (k + 1) 255 then Some (standing.Dimensions p (k + 1)) else None) ≡ Some s = sym (ap (λ t. if t then (if nat_le (k + 1) 255 then Some (standing.Dimensions p (k + 1)) else None) else element p b) e) ∙ told in
-            elim (cases_Bool (nat_le (k + 1) 255)) [
-                inl few ↦
-                    let is : Some (standing.Dimensions p (k + 1)) ≡ Some s = sym (ap (λ t. if t then Some (standing.Dimensions p (k + 1)) else None) few) ∙ more in
-                    let d : DimensionsFrom p (k + 1) bs = subst (λ t. Goes t bs) (sym (some_is _ _ is)) goes in
-                    record {
-                        more = suc d.more;
-                        element = d.element;
-                        rest = d.rest;
-                        few = λ h. omega (arith, d.few (leb-true _ _ few));
-                        good = d.good;
-                        after = d.after;
-                        is = ap (λ c. c ∷ bs) (eqb-true b 91 e) ∙ ap (λ t. 91 ∷ t) d.is;
-                    }
-                | inr few ↦ let is : None ≡ Some s = sym (ap (λ t. if t then Some (standing.Dimensions p (k + 1)) else None) few) ∙ more in cc
-            ]
-        | inr e ↦
-            let begins = begins_element p b bs s (sym (ap (λ t. if t then (if nat_le (k + 1) 255 then Some (standing.Dimensions p (k + 1)) else None) else element p b) e) ∙ told) goes in
-            record {
-                more = 0;
-                element = begins.element;
-                rest = begins.rest;
-                few = λ h. omega arith;
-                good = begins.good;
-                after = begins.after;
-                is = begins.is;
-            }
-    ]
-
-name_step : (p : Place) (has : Bool) (b : ℕ) (s : Standing) (bs : List ℕ) → next (standing.Name p has) b ≡ Some s → Goes s bs → NameFrom p has (b ∷ bs)
-name_step p has b s bs told goes =
-    elim (cases_Bool (b == 59)) [
-        inl e ↦
-            let more : (if has then Some (behind p) else None) ≡ Some s = sym (ap (λ t. if t then (if has then Some (behind p) else None) else (if b == 46 || b == 91 then None else Some (standing.Name p true))) e) ∙ told in
-            elim (cases_Bool has) [
-                inl some ↦
-                    let is : Some (behind p) ≡ Some s = sym (ap (λ t. if t then Some (behind p) else None) some) ∙ more in
-                    record {
-                        name = [];
-                        rest = bs;
-                        good = refl;
-                        one = λ h. cc;
-                        after = after_whole p bs (subst (λ t. Goes t bs) (sym (some_is _ _ is)) goes);
-                        is = ap (λ c. c ∷ bs) (eqb-true b 59 e);
-                    }
-                | inr some ↦ let is : None ≡ Some s = sym (ap (λ t. if t then Some (behind p) else None) some) ∙ more in cc
-            ]
-        | inr e ↦
-            let more : (if b == 46 || b == 91 then None else Some (standing.Name p true)) ≡ Some s = sym (ap (λ t. if t then (if has then Some (behind p) else None) else (if b == 46 || b == 91 then None else Some (standing.Name p true))) e) ∙ told in
-            elim (cases_Bool (b == 46 || b == 91)) [
-                inl bad ↦ let is : None ≡ Some s = sym (ap (λ t. if t then None else Some (standing.Name p true)) bad) ∙ more in cc
-                | inr bad ↦
-                    let is : Some (standing.Name p true) ≡ Some s = sym (ap (λ t. if t then None else Some (standing.Name p true)) bad) ∙ more in
-                    let n : NameFrom p true bs = subst (λ t. Goes t bs) (sym (some_is _ _ is)) goes in
-                    record {
-                        name = b ∷ n.name;
-                        rest = n.rest;
-                        good = and_from (is_name_byte b) (list_all is_name_byte n.name) (not_from_false (b == 59 || (b == 46 || b == 91)) (or_from (b == 59) (b == 46 || b == 91) e bad)) n.good;
-                        one = λ h. omega arith;
-                        after = n.after;
-                        is = ap (λ t. b ∷ t) n.is;
-                    }
-            ]
-    ]
 
 step_goes : (s : Standing) (b : ℕ) (n : Standing) (bs : List ℕ) → next s b ≡ Some n → Goes n bs → Goes s (b ∷ bs)
 step_goes standing.Front b n bs told goes = front_step b n bs told goes

@@ -1,5 +1,5 @@
 -- Method descriptors by their grammar: what is written of types (JVMS SE 17, 4.3.2 and 4.3.3).
-use Rattle.std.specs.Prelude.{◌≡◌, ℕ, ◌+◌, ◌<◌, ◌≤◌, ◌==◌, Bool, not, ◌||◌, if◌then◌else◌, List, [], ◌∷◌, ◌++◌, length, take, flat_map, sum_by, replicate, Option, None, Some, IsTrue}
+use Rattle.std.specs.Prelude.{◌≡◌, ℕ, ◌+◌, ◌<◌, ◌≤◌, ◌==◌, Bool, not, ◌||◌, if◌then◌else◌, List, [], ◌∷◌, ◌++◌, length, take, replicate, Option, None, Some, IsTrue}
 use Rattle.std.specs.List.{list_all}
 use Rattle.mh_values.specs.Grammar.{is_base}
 

@@ -45,7 +45,8 @@ const BUILTIN: [(&str, Option<u32>); 28] = [
 fn add_row(registry: &mut Registry, name: &str, superclass: Option<u32>) -> Result<(), NoMemory>
     requires new { IsTrue (may_follow registry.old (class_of_row name.now superclass)) }
     requires few { length registry.old < 2 ^ 32 }
-    ensures ok { OnOk result (registry.new ≡ registry.old ++ class_of_row name.now superclass ∷ []) }
+    ensures ok { OnOk result (registry.new
+        ≡ registry.old ++ class_of_row name.now superclass ∷ []) }
     ensures ordered { OnOk result (AreOrdered registry.new) }
 {
     let superclass = match superclass {

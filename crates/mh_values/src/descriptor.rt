@@ -1,4 +1,5 @@
 ghost use Rattle.std.specs.Prelude.{◌≡◌, OnOk, IfErr, None, Some};
+ghost use Rattle.mh_values.specs.Spelling.{IsMethodDescriptor, IsFirstBad};
 ghost use Rattle.mh_values.specs.Grammar.{first_bad, descriptor_fault, type_fault, types_fault};
 
 use crate::grammar::Standing;
@@ -89,6 +90,9 @@ fn text_from(start: Standing, bytes: &[u8]) -> Result<(), BadAt>
 /// Whether a text is a method descriptor, of any types that the JVMS knows: also those that have no
 /// [`crate::Ty`], and classes that no one declared (JVMS SE 17, 4.3.3).
 pub fn descriptor_text(bytes: &[u8]) -> Result<(), BadAt>
+    ensures accepted { OnOk result (IsMethodDescriptor bytes.now) }
+    ensures refused { IfErr result (λ bad. IsFirstBad bytes.now bad.at) }
+
     ensures ok { OnOk result (descriptor_fault bytes.now ≡ None) }
     ensures bad { IfErr result (λ bad. descriptor_fault bytes.now ≡ Some bad.at) }
 {

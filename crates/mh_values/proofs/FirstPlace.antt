@@ -1,0 +1,101 @@
+-- The fault of a text is the first place at which it continues no method descriptor.
+use Rattle.std.proofs.Common.{◌≡◌, refl, sym, ap, subst, ◌∙◌, suc, ℕ, ◌+◌, ◌<◌, ◌≤◌, true, if◌then◌else◌, List, [], ◌∷◌, ◌++◌, length, take, inl, inr, Option, None, Some, arith}
+use Rattle.std.proofs.lemmas.Bool.{cases_Bool}
+use Rattle.std.specs.Option.{option_map_or}
+use Rattle.mh_values.specs.declared.grammar.Place.{Place}
+use Rattle.mh_values.specs.declared.grammar.Place.TheVariants as place
+use Rattle.mh_values.specs.declared.grammar.Standing.{Standing}
+use Rattle.mh_values.specs.declared.grammar.Standing.TheVariants as standing
+use Rattle.mh_values.specs.Grammar.{behind, next, is_end, first_bad, descriptor_fault}
+use Rattle.mh_values.specs.Spelling.{IsFirstBad}
+use Rattle.mh_values.proofs.Complete.{Accepts, accepts_on, descriptor_complete}
+use Rattle.mh_values.proofs.Sound.{descriptor_sound}
+
+-- ---- from each place some text goes on to its end
+
+accepts_behind : (p : Place) → (rest : List ℕ) × Accepts (behind p) rest
+accepts_behind (place.Parameter n) = (41 ∷ 86 ∷ [], λ at. refl)
+accepts_behind place.Listed = ([], λ at. refl)
+accepts_behind place.Last = ([], λ at. refl)
+
+accepts_from : (s : Standing) → (rest : List ℕ) × Accepts s rest
+accepts_from standing.Front = (40 ∷ 41 ∷ 86 ∷ [], λ at. refl)
+accepts_from (standing.Parameters n) = (41 ∷ 86 ∷ [], λ at. refl)
+accepts_from standing.Close = (86 ∷ [], λ at. refl)
+accepts_from standing.Alone = (73 ∷ [], λ at. refl)
+accepts_from (standing.Types some) = (73 ∷ [], λ at. refl)
+accepts_from (standing.Dimensions p k) = let rest = accepts_behind p in (73 ∷ rest.0, accepts_on (standing.Dimensions p k) (behind p) 73 rest.0 refl rest.1)
+accepts_from (standing.Name p has) =
+    let rest = accepts_behind p in
+    (97 ∷ 59 ∷ rest.0, accepts_on (standing.Name p has) (standing.Name p true) 97 (59 ∷ rest.0) refl (accepts_on (standing.Name p true) (behind p) 59 rest.0 refl rest.1))
+accepts_from standing.End = ([], λ at. refl)
+
+-- ---- where a text goes wrong
+
+same_number : (m n : ℕ) → Some m ≡ Some n → m ≡ n
+same_number m n h = cc
+
+-- what is known where a text goes wrong, from where it stands on
+record GoesWrong (s : Standing) (text : List ℕ) (n : ℕ) : Type 0 where
+  within : n ≤ length text
+  before : (rest : List ℕ) × Accepts s (take n text ++ rest)
+  here : n < length text → (rest : List ℕ) (at : ℕ) → first_bad at s (take (n + 1) text ++ rest) ≡ None → ⊥
+
+wrong_here : (s : Standing) (b : ℕ) (bs : List ℕ) → next s b ≡ None → GoesWrong s (b ∷ bs) 0
+wrong_here s b bs told = record {
+  within = omega arith;
+  before = accepts_from s;
+  here = λ h rest at none.
+      let wrong : first_bad at s (b ∷ rest) ≡ Some at = ap (λ o. option_map_or (λ n. first_bad (at + 1) n rest) o (Some at)) told in
+      cc;
+}
+
+wrong_later : (s n : Standing) (b : ℕ) (bs : List ℕ) (k : ℕ) → next s b ≡ Some n → GoesWrong n bs k → GoesWrong s (b ∷ bs) (suc k)
+wrong_later s n b bs k told wrong = record {
+  within = omega (arith, wrong.within);
+  before = (wrong.before.0, accepts_on s n b (take k bs ++ wrong.before.0) told wrong.before.1);
+  here = λ h rest at none.
+      let shorter : k < length bs = omega arith in
+      let later : first_bad at s (take (suc k + 1) (b ∷ bs) ++ rest) ≡ first_bad (at + 1) n (take (k + 1) bs ++ rest) =
+      ap (λ j. first_bad at s (take j (b ∷ bs) ++ rest)) one_more ∙ ap (λ o. option_map_or (λ m. first_bad (at + 1) m (take (k + 1) bs ++ rest)) o (Some at)) told in
+      wrong.here shorter rest (at + 1) (sym later ∙ none);
+}
+  where
+    one_more : suc k + 1 ≡ suc (k + 1)
+    one_more = omega arith
+
+wrong_end : (s : Standing) → GoesWrong s [] 0
+wrong_end s = record {
+  within = omega arith;
+  before = accepts_from s;
+  here = λ h rest at none. absurd (omega (arith, h));
+}
+
+at_end : (s : Standing) (at p : ℕ) → (if is_end s then None else Some at) ≡ Some p → p ≡ at + 0
+at_end s at p told =
+    elim (cases_Bool (is_end s)) [
+      | inl e ↦ let is : None ≡ Some p = sym (ap (λ t. if t then None else Some at) e) ∙ told in cc
+      | inr e ↦ let is : Some at ≡ Some p = sym (ap (λ t. if t then None else Some at) e) ∙ told in omega (arith, same_number at p is)
+    ]
+
+wrong_on : (s : Standing) (b : ℕ) (bs : List ℕ) (at p : ℕ) (o : Option Standing) → next s b ≡ o → ((n : Standing) → first_bad (at + 1) n bs ≡ Some p → (k : ℕ) × (p ≡ at + 1 + k) × GoesWrong n bs k) → option_map_or (λ n. first_bad (at + 1) n bs) o (Some at) ≡ Some p → (k : ℕ) × (p ≡ at + k) × GoesWrong s (b ∷ bs) k
+wrong_on s b bs at p None told more is = (0, omega (arith, same_number at p is), wrong_here s b bs told)
+wrong_on s b bs at p (Some n) told more is =
+    let later = more n is in
+    (suc later.0, omega (arith, later.1), wrong_later s n b bs later.0 told later.2)
+
+goes_wrong : (text : List ℕ) (at : ℕ) (s : Standing) (p : ℕ) → first_bad at s text ≡ Some p → (k : ℕ) × (p ≡ at + k) × GoesWrong s text k
+goes_wrong [] at s p told = (0, at_end s at p told, wrong_end s)
+goes_wrong (b ∷ bs) at s p told = wrong_on s b bs at p (next s b) refl (λ n h. goes_wrong bs (at + 1) n p h) told
+
+pub descriptor_first_bad : (text : List ℕ) (p : ℕ) → descriptor_fault text ≡ Some p → IsFirstBad text p
+descriptor_first_bad text p told =
+    let wrong = goes_wrong text 0 standing.Front p told in
+    let n : ℕ = wrong.0 in
+    let same : n ≡ p = omega (arith, wrong.1) in
+    subst (IsFirstBad text) same (record {
+      within = wrong.2.within;
+      before = (wrong.2.before.0, descriptor_sound (take n text ++ wrong.2.before.0) (wrong.2.before.1 0));
+      here = λ h rest d. wrong.2.here h rest 0 (descriptor_complete (take (n + 1) text ++ rest) d);
+      none = λ d. let none = descriptor_complete text d in cc;
+    })
