@@ -1,8 +1,10 @@
+pub mod Answering
 pub mod AsTypeRuns
 pub mod AsTypeStands
 pub mod Asked
 pub mod ConvertedParameters
 pub mod ConvertedSlots
+pub mod Copying
 pub mod Edits
 pub mod Erasing
 pub mod Indexes

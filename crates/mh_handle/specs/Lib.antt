@@ -1,3 +1,4 @@
+pub mod Answers
 pub mod Converting
 pub mod Errors
 pub mod Form

@@ -1,10 +1,13 @@
 //! Method handles over shared forms: the table of forms, and handles that stand for trees.
 #![tactic(auto)]
 
+mod answer;
 mod error;
 mod form;
 mod grow;
 mod handle;
+mod invoke;
+mod keep;
 mod leaves;
 mod mark;
 mod pass;
@@ -16,6 +19,7 @@ mod seen;
 mod table;
 mod work;
 
+pub use answer::Answer;
 pub use error::{EditError, HandleError};
 pub use form::Form;
 pub use grow::{Growth, one_field};

@@ -1,0 +1,81 @@
+ghost use Rattle.std.specs.Prelude.{◌≡◌, [], ◌≢◌, None, Some};
+ghost use Rattle.mh_handle.specs.Answers.{typed_result};
+
+use mh_base::Seq;
+use mh_form::{Slot, SlotOutcome, typed};
+use mh_values::{Calls, Classes, Exc, Outcome, Ty, Value};
+use std::alloc::Global;
+use std::marker::Model;
+
+/// How a call ended, with the leaf calls that it made and the number of keys in the recipe of the
+/// form that ran. Only a call of a handle makes one that returned or called a leaf.
+#[derive(Debug, Drop)]
+pub struct Answer {
+    outcome: Outcome,
+    calls: Calls,
+    keys: u32,
+}
+
+impl Model for Answer {
+    ghost use Rattle.mh_handle.specs.Answers.{AnswerView};
+
+    ghost Value = { AnswerView };
+
+    ghost view = { λ a. record { outcome = a.outcome; calls = a.calls; keys = a.keys } };
+}
+
+impl Answer {
+    /// A call that throws before any form is run. It takes no memory.
+    pub fn thrown(alloc: Global, e: Exc) -> Answer
+        ensures { result ≡ record { outcome = Outcome.Throw e; calls = []; keys = 0 } }
+    {
+        Answer {
+            outcome: Outcome::Throw(e),
+            calls: Seq::new(alloc),
+            keys: 0,
+        }
+    }
+
+    pub(crate) fn new(outcome: Outcome, calls: Calls, keys: u32) -> Answer
+        ensures { result ≡ record { outcome = outcome; calls = calls; keys = keys } }
+    {
+        Answer {
+            outcome,
+            calls,
+            keys,
+        }
+    }
+
+    /// How the call ended.
+    pub fn outcome(&self) -> &Outcome
+        ensures { result.now ≡ self.now.outcome }
+    {
+        &self.outcome
+    }
+
+    /// The leaf calls, in the order in which they were made.
+    pub fn calls(&self) -> &Calls
+        ensures { result.now ≡ self.now.calls }
+    {
+        &self.calls
+    }
+
+    /// The number of keys in the recipe of the form that ran; 0 where none did.
+    pub fn keys(&self) -> u32
+        ensures { result ≡ self.now.keys }
+    {
+        self.keys
+    }
+}
+
+/// A result as one of a return type of which it is the erasure.
+pub(crate) fn type_result(slot: Option<Slot>, ret: Option<Ty>, classes: &Classes) -> Option<Value>
+    requires { typed_result classes.now ret slot ≢ None }
+    ensures { typed_result classes.now ret slot ≡ Some result }
+{
+    match (slot, ret) {
+        (None, None) => None,
+        (Some(slot), Some(ty)) => Some(typed(ty, slot, classes)),
+        _ => unreachable!(),
+    }
+}

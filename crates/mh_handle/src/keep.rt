@@ -1,0 +1,39 @@
+ghost use Rattle.std.specs.Prelude.{◌≡◌, IfOk, map};
+ghost use Rattle.mh_leaf.specs.LeafTable.{LeafTable};
+ghost use Rattle.mh_tree.specs.Tree.{Tree};
+ghost use Rattle.mh_handle.specs.Stands.{Stands};
+ghost use Rattle.mh_handle.specs.Works.{GoesOn};
+
+use crate::handle::Handle;
+use crate::work::Work;
+use mh_base::{Copied, NoMemory};
+use mh_form::{Bound, copy_fields};
+use std::alloc::Global;
+
+impl<'t> Handle<'t> {
+    /// A copy of the handle, which stands for what the handle stands for. It asks for no edit.
+    pub fn copy(&self, alloc: Global, w: &mut Work<'_, 't>) -> Result<Handle<'t>, NoMemory>
+        ensures same { w.new ≡ w.old }
+        ensures form { IfOk result (λ h. h.form ≡ self.now.form) }
+        ensures stands { (table : LeafTable) (t : Tree) → Stands table self.now t → IfOk result (λ h. Stands table h t) }
+    {
+        let _leaves = w.leaves;
+        Ok(Handle {
+            ty: self.ty.copy(alloc)?,
+            weight: self.weight,
+            sides: self.sides.copy()?,
+            form: self.form,
+            bound: Bound {
+                body: self.bound.body,
+                fields: copy_fields(alloc, self.bound.fields.as_slice())?,
+            },
+        })
+    }
+
+    /// Gives up the handle, with the types that it holds. It takes no memory.
+    pub fn give_back(self, w: &mut Work<'_, 't>)
+        ensures { w.new ≡ w.old }
+    {
+        let _leaves = w.leaves;
+    }
+}
