@@ -1,7 +1,9 @@
 //! Method handles used as other types, and their exact and generic calls.
 #![tactic(auto)]
 
+mod calls;
 mod conversions;
 mod use_as;
 
+pub use calls::invoke_exact;
 pub use use_as::as_type;

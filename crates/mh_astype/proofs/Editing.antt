@@ -1,0 +1,34 @@
+-- What a generic call leaves of the pass, by what its edit leaves.
+use Rattle.std.proofs.Common.{◌≡◌, refl, sym, subst, ap, false, List, [], ◌∷◌, ◌++◌, Result, Ok, Err, inl, inr}
+use denote.Ref.{Bor}
+use Rattle.mh_values.specs.declared.class.Class.{Class}
+use Rattle.mh_values.specs.declared.types.MethodTy.{MethodTy}
+use Rattle.mh_edit.specs.declared.key.Key.{Key}
+use Rattle.mh_handle.specs.declared.answer.Answer.{Answer}
+use Rattle.mh_handle.specs.declared.error.EditError.{EditError}
+use Rattle.mh_handle.specs.declared.error.EditError.TheVariants.{NoMemory, FormsFull}
+use Rattle.mh_handle.specs.Form.{FormView}
+use Rattle.mh_handle.specs.Passes.{PassView, Edits}
+use Rattle.mh_handle.specs.Recipe.{convert_keys}
+use Rattle.mh_astype.specs.Calls.{AsksBy}
+use Rattle.mh_astype.proofs.Using.{trivial, convert_key, keys-changed}
+
+module _ (classes : List Class) (asked own : MethodTy) (recipe : List Key) (key : Key) (old new : PassView) (is : trivial classes asked own ≡ false) (k : key ≡ convert_key classes asked own) where
+  at-key : (r : Result Answer EditError) → AsksBy recipe (key ∷ []) old new r → AsksBy recipe (convert_keys classes asked own) old new r
+  at-key r h =
+      let P : List Key → Type 0 = λ ks. AsksBy recipe ks old new r in
+      subst P (sym (keys-changed classes asked own is)) (subst P (ap (λ (x : Key). x ∷ []) k) h)
+
+  pub asks-edited : (f : Bor FormView) (a : Answer) → Edits (recipe ++ key ∷ []) old new (Ok f) → AsksBy recipe (convert_keys classes asked own) old new (Ok a)
+  asks-edited f a e = at-key (Ok a) ((f.now, e.0, e.1), e.2)
+
+  pub asks-without-memory : (f : Bor FormView) → Edits (recipe ++ key ∷ []) old new (Ok f) → AsksBy recipe (convert_keys classes asked own) old new (Err NoMemory)
+  asks-without-memory f e = at-key (Err NoMemory) (inr (f.now, e.0, e.1), e.2)
+
+  pub asks-refused : (e : EditError) → Edits (recipe ++ key ∷ []) old new (Err e) → AsksBy recipe (convert_keys classes asked own) old new (Err e)
+  asks-refused NoMemory h = at-key (Err NoMemory) (inl h.0.1, h.1)
+  asks-refused (FormsFull drawn) h = at-key (Err (FormsFull drawn)) h
+
+pub asks-nothing : (recipe keys : List Key) (pass : PassView) → AsksBy recipe keys pass pass (Err NoMemory)
+asks-nothing recipe [] pass = refl
+asks-nothing recipe (k ∷ keys) pass = (inl refl, inl refl)

@@ -1,0 +1,61 @@
+-- How many keys the form has that an exact or a generic call runs, and what a generic call leaves of a pass.
+use Rattle.std.specs.Prelude.{◌≡◌, ℕ, ◌<◌, ◌⊎◌, List, [], ◌∷◌, ◌++◌, length, if◌then◌else◌, Option, Some, None, Result, Ok, Err}
+use Rattle.mh_values.specs.declared.class.Class.{Class}
+use Rattle.mh_values.specs.declared.types.MethodTy.{MethodTy}
+use Rattle.mh_values.specs.declared.value.Exc.{Exc}
+use Rattle.mh_values.specs.Same.{is_same_method_type}
+use Rattle.mh_leaf.specs.LeafTable.{LeafTable}
+use Rattle.mh_tree.specs.Tree.{Tree, AsType}
+use Rattle.mh_tree.specs.Rows.{Checked, astype_row}
+use Rattle.mh_tree.specs.Typing.{type_of}
+use Rattle.mh_edit.specs.declared.key.Key.{Key}
+use Rattle.mh_handle.specs.declared.answer.Answer.{Answer}
+use Rattle.mh_handle.specs.declared.error.EditError.{EditError}
+use Rattle.mh_handle.specs.declared.error.EditError.TheVariants.{NoMemory, FormsFull}
+use Rattle.mh_handle.specs.Form.{FormView}
+use Rattle.mh_handle.specs.Passes.{PassView, AsksFor, NotAsked, Draws, DrawsAtMostOne}
+use Rattle.mh_handle.specs.Recipe.{convert_keys, recipe}
+
+-- a number that depends on a type, 0 where there is none
+abbrev pub at_type : Checked → (MethodTy → ℕ) → ℕ
+at_type (Ok t) count = count t
+at_type (Err e) count = 0
+
+-- the keys of the form that an exact call runs: none where the types differ, since it throws then before any form is run
+abbrev pub exact_keys : LeafTable → Tree → MethodTy → ℕ
+exact_keys table t asked = at_type (type_of table t) (λ own. if is_same_method_type own asked then length (recipe table t) else 0)
+
+-- the keys of the form that a generic call runs: none where the type is refused
+abbrev pub generic_keys : LeafTable → Tree → MethodTy → ℕ
+generic_keys table t asked =
+    at_type (type_of table t) (λ own.
+    if is_same_method_type own asked then length (recipe table t)
+    else at_type (type_of table (AsType t asked)) (λ u. length (recipe table (AsType t asked))))
+
+-- keys that depend on a type, none where there is none
+abbrev pub unless_refused : Checked → List Key → List Key
+unless_refused (Ok t) keys = keys
+unless_refused (Err e) keys = []
+
+-- the key of the edit that a generic call makes, none where nothing is converted or the type is refused
+abbrev pub call_keys : List Class → MethodTy → ℕ → MethodTy → List Key
+call_keys classes own weight asked =
+    if is_same_method_type own asked then [] else unless_refused (astype_row classes own weight asked) (convert_keys classes asked own)
+
+-- the form of a recipe is asked for
+abbrev pub Asks : List Key → PassView → PassView → Type 0
+Asks keys old new = (f : FormView) × (f.recipe ≡ keys) × AsksFor f old new
+
+-- what a generic call leaves of the pass that adds these keys to a recipe: nothing is asked for where there is none
+abbrev pub AsksBy : List Key → List Key → PassView → PassView → Result Answer EditError → Type 0
+AsksBy recipe [] old new (Err (FormsFull drawn)) = ⊥
+AsksBy recipe [] old new answer = new ≡ old
+AsksBy recipe (k ∷ keys) old new (Ok a) = Asks (recipe ++ k ∷ keys) old new × DrawsAtMostOne (recipe ++ k ∷ keys) old new
+AsksBy recipe (k ∷ keys) old new (Err NoMemory) =
+    ((new.asked ≡ old.asked) ⊎ Asks (recipe ++ k ∷ keys) old new) × DrawsAtMostOne (recipe ++ k ∷ keys) old new
+AsksBy recipe (k ∷ keys) old new (Err (FormsFull drawn)) = NotAsked (recipe ++ k ∷ keys) old new × Draws drawn old.seat new.seat × (16384 < drawn)
+
+-- the refusal of a use as a type, if it is refused
+abbrev pub IsRefusal : Checked → MethodTy → Option Exc → Type 0
+IsRefusal row asked (Some e) = row ≡ Err e
+IsRefusal row asked None = row ≡ Ok asked
