@@ -1,0 +1,2 @@
+pub mod BindStands
+pub mod DropStands

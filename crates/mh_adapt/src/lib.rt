@@ -1,0 +1,2 @@
+//! The seven adapters: bind, drop, permute, filters, fold and collect.
+#![tactic(auto)]
