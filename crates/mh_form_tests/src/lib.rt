@@ -1,0 +1,7 @@
+//! Runs of forms: each name, and bodies that edits make.
+#![tactic(auto)]
+
+#[cfg(test)]
+mod bodies;
+#[cfg(test)]
+mod names;
