@@ -77,7 +77,7 @@ conv-at leaves [] more j g h = absurd cc
 conv-at leaves (c ∷ convs) more zero g h = let e : converted leaves.classes c ≡ g = cc in ap (λ v. Some (IsConv v)) e
 conv-at leaves (c ∷ convs) more (suc j) g h = conv-at leaves convs more j g h
 
-length-conv_params : (es : List (Option Basic)) (params : List Basic) → length es ≡ length params → length (conv_params es params) ≡ length params
+pub length-conv_params : (es : List (Option Basic)) (params : List Basic) → length es ≡ length params → length (conv_params es params) ≡ length params
 length-conv_params [] [] h = refl
 length-conv_params [] (b ∷ params) h = absurd (omega arith)
 length-conv_params (e ∷ es) [] h = absurd (omega arith)

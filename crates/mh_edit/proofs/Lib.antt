@@ -5,6 +5,7 @@ pub mod Edited
 pub mod Finishing
 pub mod Fitting
 pub mod Laws
+pub mod Made
 pub mod Parameters
 pub mod Parts
 pub mod Places
