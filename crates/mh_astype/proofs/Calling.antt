@@ -1,5 +1,5 @@
 -- What exact and generic calls of a handle answer that stands for a tree.
-use Rattle.std.proofs.Common.{◌≡◌, ◌≢◌, refl, sym, ap, ◌∙◌, subst, ℕ, ◌+◌, ◌<◌, ◌^◌, Bool, true, false, cond, ◌&&◌, List, [], ◌∷◌, ◌++◌, length, map, Option, Result, Ok, Err, IfOk, inl, inr, ⊎_elim, ◌⊎◌}
+use Rattle.std.proofs.Common.{◌≡◌, ◌≢◌, refl, sym, ap, ap₂, ◌∙◌, subst, ℕ, ◌+◌, ◌<◌, ◌^◌, Bool, true, false, cond, ◌&&◌, List, [], ◌∷◌, ◌++◌, length, map, Option, Some, Result, Ok, Err, IfOk, inl, inr, ⊎_elim, ◌⊎◌}
 use Rattle.std.specs.Prelude.{IsErrAnd}
 use Rattle.std.proofs.lemmas.List.{append-nil}
 use Rattle.mh_values.specs.declared.class.Class.{Class}
@@ -34,7 +34,7 @@ use Rattle.mh_handle.specs.Converting.{IsUsedAs, convert_fields}
 use Rattle.mh_handle.proofs.Answering.{typed_run-stands, typed_run-well_formed}
 use Rattle.mh_handle.proofs.AsTypeStands.{astype-stands}
 use Rattle.mh_handle.proofs.TrivialConversions.{all-kept, converts-ok, or_throw-ok, run-kept}
-use Rattle.mh_astype.specs.Calls.{at_type, exact_keys, generic_keys}
+use Rattle.mh_astype.specs.Calls.{IsRefusal, at_type, exact_keys, generic_keys}
 use Rattle.mh_astype.proofs.Using.{trivial, convert_key, keys-changed, keys-kept}
 
 -- an answer of one kind is one of an equal kind
@@ -198,3 +198,14 @@ module _
         ap (λ c. recipe table t ++ Rec.at_type c (convert_keys table.classes asked)) st.typed
         ∙ (ap (λ ks. recipe table t ++ ks) (keys-kept table.classes asked h.ty kept) ∙ append-nil (recipe table t)) in
         ap length (st.made ∙ sym keys)
+
+-- ---- what a call tells
+
+pub kept-is : (b : Bool) (cs classes : List Class) (own own' asked : MethodTy) → b ≡ true → b ≡ trivial cs asked own → cs ≡ classes → own ≡ own' → trivial classes asked own' ≡ true
+kept-is b cs classes own own' asked true-is is c o = sym (ap₂ (λ (d : List Class) (t : MethodTy). trivial d asked t) c o) ∙ (sym is ∙ true-is)
+
+pub answer-one : (ran ran' : Done) (keys keys' : ℕ) (a : AnswerView) → ran ≡ ran' → keys ≡ keys' → IsAnswer ran keys a → IsAnswer ran' keys' a
+answer-one ran ran' keys keys' a e k h = record { ran_is = h.ran_is ∙ e; keys_are = h.keys_are ∙ k }
+
+pub refusal-is : (row row' : Checked) (asked : MethodTy) (o : Option Exc) (e : Exc) → o ≡ Some e → IsRefusal row asked o → row ≡ row' → row' ≡ Err e
+refusal-is row row' asked o e is h same = sym same ∙ subst (λ v. IsRefusal row asked v) is h

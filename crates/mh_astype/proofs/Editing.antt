@@ -1,5 +1,6 @@
 -- What a generic call leaves of the pass, by what its edit leaves.
 use Rattle.std.proofs.Common.{◌≡◌, refl, sym, subst, ap, false, List, [], ◌∷◌, ◌++◌, Result, Ok, Err, inl, inr}
+use Rattle.std.specs.Prelude.{IsErrAnd}
 use denote.Ref.{Bor}
 use Rattle.mh_values.specs.declared.class.Class.{Class}
 use Rattle.mh_values.specs.declared.types.MethodTy.{MethodTy}
@@ -32,3 +33,22 @@ module _ (classes : List Class) (asked own : MethodTy) (recipe : List Key) (key 
 pub asks-nothing : (recipe keys : List Key) (pass : PassView) → AsksBy recipe keys pass pass (Err NoMemory)
 asks-nothing recipe [] pass = refl
 asks-nothing recipe (k ∷ keys) pass = (inl refl, inl refl)
+
+-- the same where the refusal is handed on
+pub asks-error :
+    (classes : List Class) (asked own : MethodTy) (recipe : List Key) (key : Key) (old new : PassView) (e : EditError) (r : Result Answer EditError) →
+    trivial classes asked own ≡ false → key ≡ convert_key classes asked own → Edits (recipe ++ key ∷ []) old new (Err e) → IsErrAnd r (λ x. x ≡ e) → AsksBy recipe (convert_keys classes asked own) old new r
+asks-error classes asked own recipe key old new e (Ok a) is k edits h = absurd h
+asks-error classes asked own recipe key old new e (Err x) is k edits h =
+    subst (λ v. AsksBy recipe (convert_keys classes asked own) old new (Err v)) (sym h) (asks-refused classes asked own recipe key old new is k e edits)
+
+pub asks-late :
+    (classes : List Class) (asked own : MethodTy) (recipe : List Key) (key : Key) (old new : PassView) (f : Bor FormView) (r : Result Answer EditError) →
+    trivial classes asked own ≡ false → key ≡ convert_key classes asked own → Edits (recipe ++ key ∷ []) old new (Ok f) → IsErrAnd r (λ x. x ≡ NoMemory) → AsksBy recipe (convert_keys classes asked own) old new r
+asks-late classes asked own recipe key old new f (Ok a) is k edits h = absurd h
+asks-late classes asked own recipe key old new f (Err x) is k edits h =
+    subst (λ v. AsksBy recipe (convert_keys classes asked own) old new (Err v)) (sym h) (asks-without-memory classes asked own recipe key old new is k f edits)
+
+pub asks-none : (recipe keys : List Key) (pass : PassView) (r : Result Answer EditError) → IsErrAnd r (λ x. x ≡ NoMemory) → AsksBy recipe keys pass pass r
+asks-none recipe keys pass (Ok a) h = absurd h
+asks-none recipe keys pass (Err x) h = subst (λ v. AsksBy recipe keys pass pass (Err v)) (sym h) (asks-nothing recipe keys pass)

@@ -1,18 +1,26 @@
-ghost use Rattle.std.specs.Prelude.{◌≡◌, IfOk};
+ghost use Rattle.std.specs.Prelude.{◌≡◌, ◌&&◌, IfOk, Ok, false, length};
 ghost use Rattle.mh_values.specs.HasType.{HaveTypes};
-ghost use Rattle.mh_tree.specs.Meaning.{exact};
-ghost use Rattle.mh_tree.specs.Tree.{Tree};
+ghost use Rattle.mh_values.specs.Same.{is_same_method_type};
+ghost use Rattle.mh_tree.specs.Meaning.{exact, generic, mean};
+ghost use Rattle.mh_tree.specs.Rows.{astype_row};
+ghost use Rattle.mh_tree.specs.Tree.{Tree, AsType};
 ghost use Rattle.mh_handle.specs.Answers.{IsAnswer};
+ghost use Rattle.mh_convert.specs.Conversion.{is_trivial_ret};
+ghost use Rattle.mh_handle.specs.Recipe.{are_trivial, convert_keys, recipe};
 ghost use Rattle.mh_handle.specs.Stands.{Stands};
-ghost use Rattle.mh_astype.specs.Calls.{exact_keys};
+ghost use Rattle.mh_handle.specs.Works.{IsReady, GoesOn};
+ghost use Rattle.mh_astype.specs.Calls.{AsksBy, IsRefusal, call_keys, exact_keys, generic_keys};
 ghost use Rattle.mh_astype.specs.Use.{StandsForSome};
 
+use crate::conversions::{convert_fields, convert_key, is_trivial};
+use crate::use_as::are_classes;
 use mh_base::NoMemory;
-use mh_handle::{Answer, Handle};
+use mh_handle::{Answer, EditError, Handle, Work};
 use mh_leaves::Leaves;
-use mh_tree::mismatch;
-use mh_values::{Items, MethodTy, is_same_method_type};
+use mh_tree::{CheckError, check_astype, mismatch};
+use mh_values::{Classes, Exc, Items, MethodTy, is_same_method_type};
 use std::alloc::Global;
+use std::sync::Wait;
 
 /// A call by a type that must be the handle's (`MethodHandle.invokeExact`, SE 17), where `n` leaf
 /// calls were made before. Where the types differ it throws `WrongMethodTypeException`, and no leaf
@@ -36,4 +44,103 @@ pub fn invoke_exact<'t>(
         let exc = mismatch(alloc, h.ty(), call, leaves.classes())?;
         Ok(Answer::thrown(alloc, exc))
     }
+}
+
+/// A call through the conversions to the type, of which one changes something.
+fn invoke_converted<'t, R: Wait>(
+    w: &mut Work<'_, 't>,
+    rt: &R,
+    alloc: Global,
+    h: &Handle<'t>,
+    call: &MethodTy,
+    args: &Items,
+    n: u32,
+) -> Result<Answer, EditError>
+    requires row { astype_row w.old.leaves.now.classes h.now.ty h.now.weight call.now ≡ Ok call.now }
+    requires changes { (are_trivial w.old.leaves.now.classes call.now.params h.now.ty.params && is_trivial_ret w.old.leaves.now.classes h.now.ty.ret call.now.ret) ≡ false }
+    requires typed { HaveTypes w.old.leaves.now.classes args.now call.now.params }
+    requires stands { StandsForSome w.old.leaves.now h.now }
+    requires ready { IsReady w.old 1 }
+    ensures goes_on { GoesOn w.old w.new }
+    ensures asks { AsksBy h.now.form.recipe (convert_keys w.old.leaves.now.classes call.now h.now.ty) w.old.pass.now w.new.pass.now result }
+    ensures answer { (t : Tree) → Stands w.old.leaves.now h.now t → IfOk result (IsAnswer (mean w.old.leaves.now (AsType t call.now) args.now n) (length (recipe w.old.leaves.now (AsType t call.now)))) }
+{
+    are_classes(w.leaves);
+    let classes = w.leaves.classes();
+    let key = convert_key(alloc, call, h.ty(), classes)?;
+    let more = convert_fields(alloc, call, h.ty(), classes)?;
+    let form = w.forms.edit(rt, alloc, w.pass, h.form(), key)?;
+    Ok(h.invoke_edited(alloc, form, more, call.ret, w.leaves, args, n)?)
+}
+
+/// A call through the conversions to the type, of which maybe none changes anything.
+fn invoke_used<'t, R: Wait>(
+    w: &mut Work<'_, 't>,
+    rt: &R,
+    alloc: Global,
+    h: &Handle<'t>,
+    call: &MethodTy,
+    args: &Items,
+    n: u32,
+) -> Result<Answer, EditError>
+    requires row { astype_row w.old.leaves.now.classes h.now.ty h.now.weight call.now ≡ Ok call.now }
+    requires typed { HaveTypes w.old.leaves.now.classes args.now call.now.params }
+    requires stands { StandsForSome w.old.leaves.now h.now }
+    requires ready { IsReady w.old 1 }
+    ensures goes_on { GoesOn w.old w.new }
+    ensures asks { AsksBy h.now.form.recipe (convert_keys w.old.leaves.now.classes call.now h.now.ty) w.old.pass.now w.new.pass.now result }
+    ensures answer { (t : Tree) → Stands w.old.leaves.now h.now t → IfOk result (IsAnswer (mean w.old.leaves.now (AsType t call.now) args.now n) (length (recipe w.old.leaves.now (AsType t call.now)))) }
+{
+    are_classes(w.leaves);
+    if is_trivial(call, h.ty(), w.leaves.classes()) {
+        Ok(h.invoke(alloc, w.leaves, args, n)?)
+    } else {
+        invoke_converted(w, rt, alloc, h, call, args, n)
+    }
+}
+
+/// Why the handle may not be used as the type, if it may not.
+fn refusal<'t>(
+    alloc: Global,
+    h: &Handle<'t>,
+    call: &MethodTy,
+    classes: &Classes,
+) -> Result<Option<Exc>, NoMemory>
+    ensures { IfOk result (IsRefusal (astype_row classes.now h.now.ty h.now.weight call.now) call.now) }
+{
+    match check_astype(alloc, h.ty(), h.weight(), call, classes) {
+        Ok(_) => Ok(None),
+        Err(CheckError::Refused(exc)) => Ok(Some(exc)),
+        Err(CheckError::NoMemory) => Err(NoMemory),
+    }
+}
+
+/// A call by a type as which the handle is used (`MethodHandle.invoke`, SE 17), where `n` leaf calls
+/// were made before: as `as_type`, and then the call, on the handle's own fields. Where the type is
+/// refused it throws that exception, and neither a leaf is called nor an edit made.
+pub fn invoke_generic<'t, R: Wait>(
+    w: &mut Work<'_, 't>,
+    rt: &R,
+    alloc: Global,
+    h: &Handle<'t>,
+    call: &MethodTy,
+    args: &Items,
+    n: u32,
+) -> Result<Answer, EditError>
+    requires typed { HaveTypes w.old.leaves.now.classes args.now call.now.params }
+    requires stands { StandsForSome w.old.leaves.now h.now }
+    requires ready { IsReady w.old 1 }
+    ensures goes_on { GoesOn w.old w.new }
+    ensures asks { AsksBy h.now.form.recipe
+        (call_keys w.old.leaves.now.classes h.now.ty h.now.weight call.now) w.old.pass.now w.new.pass.now result }
+    ensures answer { (t : Tree) → Stands w.old.leaves.now h.now t → IfOk result
+        (IsAnswer (generic w.old.leaves.now t call.now args.now n) (generic_keys w.old.leaves.now t call.now)) }
+{
+    if is_same_method_type(h.ty(), call) {
+        return Ok(h.invoke(alloc, w.leaves, args, n)?);
+    }
+    if let Some(exc) = refusal(alloc, h, call, w.leaves.classes())? {
+        return Ok(Answer::thrown(alloc, exc));
+    }
+    invoke_used(w, rt, alloc, h, call, args, n)
 }

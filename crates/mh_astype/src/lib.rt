@@ -5,5 +5,5 @@ mod calls;
 mod conversions;
 mod use_as;
 
-pub use calls::invoke_exact;
+pub use calls::{invoke_exact, invoke_generic};
 pub use use_as::as_type;

@@ -74,7 +74,7 @@ fn used<'t, R: Wait>(
 }
 
 // What the classes of a manifest are. It does nothing when it runs.
-fn are_classes(leaves: &Leaves)
+pub(crate) fn are_classes(leaves: &Leaves)
     ensures { AreClasses leaves.now.classes }
 {
     let _count = leaves.classes().len();
