@@ -52,7 +52,7 @@ use Rattle.mh_branch.proofs.Rooted.{part-runs, stands-rooted}
 use Rattle.mh_branch.proofs.Branching.{first-few}
 
 -- beside the exception a handler takes no more arguments than there are
-handler-few : (classes : List Class) (class : ClassId) (params types : List Ty) → takes_exception classes class params types ≡ true → length params - 1 ≤ length (map basic_of types)
+pub handler-few : (classes : List Class) (class : ClassId) (params types : List Ty) → takes_exception classes class params types ≡ true → length params - 1 ≤ length (map basic_of types)
 handler-few classes class [] types takes = absurd cc
 handler-few classes class (first ∷ others) types takes =
     let q = both (is_type_below classes (ty.Class class) first) (begins_with_types types others) takes in

@@ -1,9 +1,13 @@
+mod ArrayAnswers
 mod ArrayFits
+mod BranchAnswers
 mod Branching
 mod CatchStands
 mod Computing
 mod GatherStands
+mod Growing
 mod GuardStands
+mod RootAnswers
 mod RootStands
 mod Rooted
 mod SpreadStands

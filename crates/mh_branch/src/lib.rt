@@ -1,2 +1,12 @@
-//! Roots, branches and arrays: handles that stand for constants, identities, throws, guards, catches, spreads and gathers.
+//! Roots, branches and arrays: constants, identities, throws, guards, catches and gathers.
 #![tactic(auto)]
+
+mod arrays;
+mod branches;
+mod growths;
+mod known;
+mod roots;
+
+pub use arrays::gather;
+pub use branches::{catch, guard};
+pub use roots::{constant, identity, throw};

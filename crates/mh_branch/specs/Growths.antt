@@ -1,0 +1,62 @@
+-- What branches and arrays add to the form that does nothing, or to the handle that they adapt.
+use Rattle.std.specs.Prelude.{◌≡◌, ℕ, ◌+◌, ◌-◌, List, [], ◌∷◌, ◌++◌, length, Option}
+use Rattle.mh_values.specs.declared.class.ClassId.{ClassId}
+use Rattle.mh_values.specs.declared.types.Ty.{Ty}
+use Rattle.mh_values.specs.declared.types.MethodTy.{MethodTy}
+use Rattle.mh_values.specs.Array.{item_type}
+use Rattle.mh_leaf.specs.LeafTable.{LeafTable}
+use Rattle.mh_tree.specs.Rows.{component_of}
+use Rattle.mh_tree.specs.Tree.{Tree}
+use Rattle.mh_form.specs.declared.field.Field.{Field}
+use Rattle.mh_form.specs.declared.field.Field.TheVariants as field
+use Rattle.mh_form.specs.Erasure.{basic_of, shape_of}
+use Rattle.mh_edit.specs.declared.key.Key.{Key}
+use Rattle.mh_edit.specs.declared.key.Key.TheVariants as key
+use Rattle.mh_handle.specs.declared.grow.Growth.{Growth}
+use Rattle.mh_handle.specs.Grows.{IsPartOf}
+use Rattle.mh_handle.specs.Recipe.{at_some}
+use Rattle.mh_handle.specs.Stands.{HandleView, Stands}
+
+-- the types that a handle holds as a part
+abbrev pub held_by : HandleView → List MethodTy
+held_by h = h.ty ∷ h.sides
+
+-- the key of a guard of this type, with a test of that type
+abbrev pub guard_key : MethodTy → MethodTy → Key
+guard_key t test = key.GuardRoot (shape_of t) (length test.params)
+
+-- the key of a catch of this type, with a handler of that type
+abbrev pub catch_key : MethodTy → MethodTy → Key
+catch_key t handler = key.CatchRoot (shape_of t) (length handler.params - 1)
+
+-- the key of a spread of an array type's items; none where the type is no array
+abbrev pub spread_keys : Option Ty → ℕ → List Key
+spread_keys array count = at_some (component_of array) (λ c. key.Spread count (basic_of (item_type c)))
+
+-- the key of a gather of an array type's items; none where the type is no array
+abbrev pub gather_keys : Option Ty → ℕ → List Key
+gather_keys array count = at_some (component_of array) (λ c. key.Gather count (basic_of (item_type c)))
+
+-- the handle stands for some tree
+abbrev pub StandsForSome : LeafTable → HandleView → Type 0
+StandsForSome table h = (t : Tree) × Stands table h t
+
+-- one field more, which holds the handle
+abbrev pub AddsPart : HandleView → List Field → List Field → Type 0
+AddsPart h old new = (f : Field) × (new ≡ old ++ f ∷ []) × IsPartOf h f
+
+-- a guard of this type: the test first, then the two branches
+pub record IsGuard (t : MethodTy) (test body other : HandleView) (by : Growth) : Type 0 where
+  pub ty : by.ty ≡ t
+  pub weight : by.weight ≡ 1 + test.weight + body.weight + other.weight
+  pub sides : by.sides ≡ held_by test ++ held_by body ++ held_by other
+  pub key : by.key ≡ guard_key t test.ty
+  pub fields : (c b o : Field) × (by.fields.items ≡ c ∷ b ∷ o ∷ []) × IsPartOf test c × IsPartOf body b × IsPartOf other o
+
+-- a catch of this type: the target first, then the class of exceptions, then the handler
+pub record IsCatch (t : MethodTy) (body : HandleView) (class : ClassId) (handler : HandleView) (by : Growth) : Type 0 where
+  pub ty : by.ty ≡ t
+  pub weight : by.weight ≡ 1 + body.weight + handler.weight
+  pub sides : by.sides ≡ held_by body ++ held_by handler
+  pub key : by.key ≡ catch_key t handler.ty
+  pub fields : (b h : Field) × (by.fields.items ≡ b ∷ field.Class class ∷ h ∷ []) × IsPartOf body b × IsPartOf handler h
