@@ -7,6 +7,7 @@ use Rattle.mh_plan.specs.Results.{Result, results_of}
 use Rattle.mh_plan.specs.Text.{report_text}
 use Rattle.mh_main.specs.declared.answer.Attempt.{Attempt}
 use Rattle.mh_main.specs.declared.program.Program.{Program}
+use Rattle.mh_main.specs.Forms.{forms}
 use Rattle.mh_main.specs.Ledger.{Naming}
 
 -- the sites that a call names: a call of a leaf names none
@@ -17,11 +18,6 @@ sites_named (Exact leaf ty args) = []
 abbrev pub naming_of : List (List Call) → Naming
 naming_of plan = map (λ calls. flat_map sites_named calls) plan
 
--- how many forms the calls need: one where there is a call, since all leaves have one type
-abbrev pub forms : List (List Call) → ℕ
-forms ((call ∷ calls) ∷ threads) = 1
-forms _ = 0
-
 -- the text of a run, with the attempts that linked its sites
 abbrev pub text : Program → List Attempt → List ℕ
-text p attempts = report_text p.leaves.classes (results_of p.leaves p.plan) (length attempts) (forms p.plan) 0
+text p attempts = report_text p.leaves.classes (results_of p.leaves p.plan) (length attempts) (forms p.leaves p.plan) 0

@@ -2,6 +2,7 @@
 #![tactic(auto)]
 
 mod answer;
+mod forms;
 mod lines;
 mod listing;
 mod program;

@@ -1,6 +1,7 @@
 ghost use Rattle.std.specs.Prelude.{◌≡◌, ◌≤◌, List, ℕ, IfOk, IfErr, OnOk, IfSome, IfNone};
 ghost use Rattle.mh_outside.specs.Causes.{AreSame};
 ghost use Rattle.mh_leaves.specs.Manifest.{manifest, kind_word as manifest_word};
+ghost use Rattle.mh_plan.specs.Results.{AreCallsOf};
 ghost use Rattle.mh_plan.specs.Plan.{plan, kind_word as plan_word};
 ghost use Rattle.mh_main.specs.Words.{held_names};
 ghost use Rattle.mh_main.specs.Input.{Means, named_input, IfProgram, scripts, scripts_word, leaves_limit, plan_limit};
@@ -86,6 +87,7 @@ fn read_calls<'a, I: Inputs>(
         (I.told inputs.old name.now) stop) }
     ensures ok { IfOk result
         (λ calls. Means plan_limit (λ bytes. plan bytes leaves.now) (I.told inputs.old name.now) calls) }
+    ensures calls { IfOk result (AreCallsOf leaves.now) }
 {
     let bytes = match read_whole(alloc, inputs, name, PLAN_LIMIT) {
         Ok(bytes) => bytes,
@@ -115,6 +117,7 @@ pub fn read_program<'a, I: Inputs>(
         (λ stop. Refuses (named_input (held_names names.entry) (I.told inputs.old)) stop) }
     ensures ok { IfOk result
         (λ p. IfProgram (named_input (held_names names.entry) (I.told inputs.old)) (λ q. q ≡ p)) }
+    ensures calls { IfOk result (λ p. AreCallsOf p.leaves p.plan) }
 {
     let leaves = read_leaves(alloc, inputs, names.leaves)?;
     read_scripts(alloc, inputs, names.scripts)?;

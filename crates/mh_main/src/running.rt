@@ -2,14 +2,15 @@ ghost use Rattle.std.specs.Prelude.{◌≡◌, ◌≢◌, ◌<◌, [], List, ℕ
 ghost use Rattle.std.specs.List.{flat_map};
 ghost use Rattle.std.specs.Io.KnownBytes.{Appends, Keeps};
 ghost use Rattle.mh_outside.specs.Causes.{Rose, IsStill, AppendsPart};
-ghost use Rattle.mh_plan.specs.Results.{results_of, results_said};
+ghost use Rattle.mh_plan.specs.Results.{AreCallsOf, results_of, results_said};
 ghost use Rattle.mh_main.specs.Words.{command_of, said};
 ghost use Rattle.mh_main.specs.Ledger.{Ledger, Naming};
-ghost use Rattle.mh_main.specs.Program.{forms, text};
+ghost use Rattle.mh_main.specs.Program.{text};
 ghost use Rattle.mh_main.specs.Input.{input, IsRefused, IsAccepted};
 ghost use Rattle.mh_main.specs.Stops.{stop_line, stop_status, AllStill, IsRefusedOrWant, IsDoneOrWant};
 ghost use Rattle.mh_main.specs.Due.{IsReportOf, IsListingOf, Reports, RefusesWords, RefusesInput, FailsToRead, IsDue, IsIdle, Writes, WritesPart};
 
+use crate::forms::count_forms;
 use crate::lines::{USAGE, write_pieces};
 use crate::listing::list_sites;
 use crate::reading::read_program;
@@ -19,7 +20,7 @@ use crate::{Program, TopAnswer};
 use itoa::Buffer;
 use mh_base::{NoMemory, Seq};
 use mh_outside::{Failed, Gate, Inputs, Sink, write_whole};
-use mh_plan::{Plan, ThreadAnswers, report, run_plan};
+use mh_plan::{ThreadAnswers, report, run_plan};
 use std::alloc::Global;
 use std::sync::Wait;
 use std::thread::Threads;
@@ -74,23 +75,15 @@ fn answer_line<S: Sink>(alloc: Global, sink: &mut S, status: u8, pieces: &[&[u8]
     }
 }
 
-fn count_forms(plan: &Plan) -> u32
-    ensures { result ≡ forms plan.now }
-{
-    match plan.as_slice() {
-        [calls, ..] => { if calls.is_empty() { 0 } else { 1 } }
-        [] => 0,
-    }
-}
-
 // The answers of a program's calls, and the text of the run.
 fn run_and_report(alloc: Global, program: &Program) -> Result<(ThreadAnswers, Vec<u8>), NoMemory>
+    requires { AreCallsOf program.now.leaves program.now.plan }
     ensures answers { IfOk result
         (λ r. results_said r.0 ≡ results_of program.now.leaves program.now.plan) }
     ensures text { IfOk result (λ r. r.1.items ≡ text program.now []) }
 {
     let threads = run_plan(alloc, &program.leaves, &program.plan)?;
-    let forms = count_forms(&program.plan);
+    let forms = count_forms(alloc, &program.leaves, &program.plan)?;
     let text = report(alloc, &threads, 0, forms, 0, &program.leaves)?;
     Ok((threads, text))
 }
@@ -112,6 +105,7 @@ fn answered(alloc: Global, status: u8, threads: ThreadAnswers) -> TopAnswer
 
 // Runs a program, and writes its report.
 fn run_program<S: Sink>(alloc: Global, sink: &mut S, program: &Program) -> TopAnswer
+    requires { AreCallsOf program.now.leaves program.now.plan }
     ensures done { result.status ≡ 0
         → Writes (IsReportOf program.now result) (S.taken sink.old) (S.taken sink.new) }
     ensures broken { result.status ≡ 7
