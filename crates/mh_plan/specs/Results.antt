@@ -1,9 +1,12 @@
 -- The result of each call of a plan.
-use Rattle.std.specs.Prelude.{List, map, Option}
+use Rattle.std.specs.Prelude.{◌<◌, List, length, map, All, Option}
 use Rattle.mh_values.specs.declared.value.Value.{Value}
 use Rattle.mh_values.specs.Computation.{Ran}
+use Rattle.mh_values.specs.HasType.{HaveTypes}
 use Rattle.mh_leaf.specs.LeafTable.{LeafTable}
-use Rattle.mh_leaf.specs.Outcome.{leaf_mean, ran_of}
+use Rattle.mh_leaf.specs.Outcome.{ran_of}
+use Rattle.mh_tree.specs.Tree as tree
+use Rattle.mh_tree.specs.Meaning.{exact}
 use Rattle.mh_plan.specs.declared.call.Call.{Call}
 use Rattle.mh_plan.specs.declared.call.Call.TheVariants.{Exact}
 use Rattle.mh_plan.specs.declared.answer.Answer.{Answer}
@@ -14,7 +17,15 @@ Result = Ran (Option Value)
 
 -- the result of a call
 abbrev pub result_of : LeafTable → Call → Result
-result_of table (Exact leaf ty args) = leaf_mean table leaf args 0
+result_of table (Exact leaf ty args) = exact table (tree.Leaf leaf) ty args 0
+
+-- a call that can be made: its leaf is there, and its arguments have the types of its type
+abbrev pub IsCallOf : LeafTable → Call → Type 0
+IsCallOf table (Exact leaf ty args) = (leaf.0 < length table.leaves) × HaveTypes table.classes args ty.params
+
+-- the calls of each thread can be made
+abbrev pub AreCallsOf : LeafTable → List (List Call) → Type 0
+AreCallsOf table threads = All (λ calls. All (IsCallOf table) calls) threads
 
 -- the results of one thread's calls, in order
 abbrev pub thread_results : LeafTable → List Call → List Result

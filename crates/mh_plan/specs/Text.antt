@@ -3,11 +3,13 @@ use Rattle.std.specs.Prelude.{ℕ, ◌+◌, List, [], ◌∷◌, ◌++◌, codes
 use Rattle.std.specs.List.{flat_map}
 use Rattle.std.specs.Fmt.{decimal}
 use Rattle.mh_values.specs.declared.value.LeafCall.{LeafCall}
+use Rattle.mh_values.specs.declared.value.Outcome.{Outcome}
+use Rattle.mh_values.specs.declared.value.Outcome.TheVariants.{Return, Throw}
 use Rattle.mh_values.specs.declared.value.Value.{Value}
 use Rattle.mh_values.specs.Computation.{Gave, Threw, Stuck}
 use Rattle.mh_values.specs.declared.class.Class.{Class}
+use Rattle.mh_texts.specs.Printed.{shown_value, shown_exception}
 use Rattle.mh_plan.specs.Results.{Result}
-use Rattle.mh_plan.specs.Interim.{value_text, exception_text}
 
 -- the byte that ends a line
 abbrev pub lf : List ℕ
@@ -16,22 +18,31 @@ lf = 10 ∷ []
 -- the value that was returned, or `void`
 abbrev pub returned_text : List Class → Option Value → List ℕ
 returned_text classes None = codes "void"
-returned_text classes (Some value) = value_text classes value
+returned_text classes (Some value) = shown_value classes value
 
 -- the numbers of the leaves, with spaces between, or a dash where there is none
 abbrev pub calls_text : List LeafCall → List ℕ
 calls_text [] = codes "-"
 calls_text (call ∷ calls) = decimal call.leaf.0 ++ flat_map (λ next. codes " " ++ decimal next.leaf.0) calls
 
+-- how a call ended: what it returned, or what it threw
+abbrev pub outcome_text : List Class → Outcome → List ℕ
+outcome_text classes (Return value) = codes "returns " ++ returned_text classes value
+outcome_text classes (Throw exc) = codes "throws " ++ shown_exception classes exc
+
 -- the line of a call; each call of a plan has a result
 abbrev pub result_line : List Class → Result → List ℕ
-result_line classes (Gave value calls) = codes "returns " ++ returned_text classes value ++ codes " calls " ++ calls_text calls ++ lf
-result_line classes (Threw exc calls) = codes "throws " ++ exception_text classes exc ++ codes " calls " ++ calls_text calls ++ lf
+result_line classes (Gave value calls) = outcome_text classes (Return value) ++ codes " calls " ++ calls_text calls ++ lf
+result_line classes (Threw exc calls) = outcome_text classes (Throw exc) ++ codes " calls " ++ calls_text calls ++ lf
 result_line classes Stuck = []
+
+-- the lines of the calls of a thread
+abbrev pub results_text : List Class → List Result → List ℕ
+results_text classes results = flat_map (λ result. result_line classes result) results
 
 -- the lines of a thread
 abbrev pub thread_text : List Class → ℕ → List Result → List ℕ
-thread_text classes n results = codes "thread " ++ decimal n ++ lf ++ flat_map (λ result. result_line classes result) results
+thread_text classes n results = codes "thread " ++ decimal n ++ lf ++ results_text classes results
 
 -- the lines of threads that are counted from a number
 abbrev pub threads_text : List Class → ℕ → List (List Result) → List ℕ

@@ -1,16 +1,164 @@
-ghost use Rattle.std.specs.Prelude.{◌≡◌, IfOk, List};
+ghost use Rattle.std.specs.Prelude.{◌≡◌, ◌+◌, ◌++◌, ◌<◌, ◌≤◌, ◌^◌, length, IfOk, OnOk, List};
+ghost use Rattle.std.specs.Fmt.{decimal};
 ghost use Rattle.mh_values.specs.declared.class.Class.{Class};
-ghost use Rattle.mh_plan.specs.Text.{report_text};
-ghost use Rattle.mh_plan.specs.Results.{results_said};
+ghost use Rattle.mh_plan.specs.Text.{outcome_text, returned_text, calls_text, result_line, results_text, thread_text, threads_text, summary_text, report_text};
+ghost use Rattle.mh_plan.specs.Results.{result_said, thread_said, results_said};
 
-use crate::ThreadAnswers;
+use crate::{Answer, ThreadAnswers};
+use itoa::Buffer;
 use mh_base::NoMemory;
 use mh_leaves::Leaves;
+use mh_texts::{show_exc, show_value};
+use mh_values::{Classes, LeafCall, Outcome, Value};
 use std::alloc::Global;
 
-/// The report on a run.
+fn push(text: &mut Vec<u8>, bytes: &[u8]) -> Result<(), NoMemory>
+    ensures { OnOk result (text.new.items ≡ text.old.items ++ bytes.now) }
+{
+    text.extend_from_slice(bytes)?;
+    Ok(())
+}
+
+fn push_number(text: &mut Vec<u8>, number: u64) -> Result<(), NoMemory>
+    ensures { OnOk result (text.new.items ≡ text.old.items ++ decimal number) }
+{
+    push(text, Buffer::new().format(number).as_bytes())
+}
+
+// The value that was returned, or `void`.
+fn push_returned(
+    alloc: Global,
+    text: &mut Vec<u8>,
+    value: &Option<Value>,
+    classes: &Classes,
+) -> Result<(), NoMemory>
+    ensures { OnOk result (text.new.items ≡ text.old.items ++ returned_text classes.now value.now) }
+{
+    match value {
+        None => push(text, b"void"),
+        Some(value) => push(text, &show_value(alloc, value, classes)?),
+    }
+}
+
+// The numbers of the leaves that were called, or a dash.
+fn push_calls(text: &mut Vec<u8>, calls: &[LeafCall]) -> Result<(), NoMemory>
+    ensures { OnOk result (text.new.items ≡ text.old.items ++ calls_text calls.now) }
+{
+    let Some((first, others)) = calls.split_first() else {
+        return push(text, b"-");
+    };
+    push_number(text, u64::from(first.leaf.0))?;
+    for next in others {
+        push(text, b" ")?;
+        push_number(text, u64::from(next.leaf.0))?;
+    }
+    Ok(())
+}
+
+// How a call ended: what it returned, or what it threw.
+fn push_outcome(
+    alloc: Global,
+    text: &mut Vec<u8>,
+    outcome: &Outcome,
+    classes: &Classes,
+) -> Result<(), NoMemory>
+    ensures { OnOk result (text.new.items ≡ text.old.items ++ outcome_text classes.now outcome.now) }
+{
+    match outcome {
+        Outcome::Return(value) => {
+            push(text, b"returns ")?;
+            push_returned(alloc, text, value, classes)
+        }
+        Outcome::Throw(exc) => {
+            push(text, b"throws ")?;
+            push(text, &show_exc(alloc, exc, classes)?)
+        }
+    }
+}
+
+// The line of a call.
+fn push_answer(
+    alloc: Global,
+    text: &mut Vec<u8>,
+    answer: &Answer,
+    classes: &Classes,
+) -> Result<(), NoMemory>
+    ensures { OnOk result (text.new.items ≡ text.old.items ++ result_line classes.now (result_said answer.now)) }
+{
+    push_outcome(alloc, text, &answer.outcome, classes)?;
+    push(text, b" calls ")?;
+    push_calls(text, answer.calls.as_slice())?;
+    push(text, b"\n")
+}
+
+// The lines of a thread's calls.
+fn push_answers(
+    alloc: Global,
+    text: &mut Vec<u8>,
+    answers: &[Answer],
+    classes: &Classes,
+) -> Result<(), NoMemory>
+    ensures { OnOk result (text.new.items ≡ text.old.items ++ results_text classes.now (thread_said answers.now)) }
+{
+    for answer in answers {
+        push_answer(alloc, text, answer, classes)?;
+    }
+    Ok(())
+}
+
+// The lines of a thread.
+fn push_thread(
+    alloc: Global,
+    text: &mut Vec<u8>,
+    number: usize,
+    answers: &[Answer],
+    classes: &Classes,
+) -> Result<(), NoMemory>
+    ensures { OnOk result (text.new.items ≡ text.old.items ++ thread_text classes.now number (thread_said answers.now)) }
+{
+    push(text, b"thread ")?;
+    push_number(text, number as u64)?;
+    push(text, b"\n")?;
+    push_answers(alloc, text, answers, classes)
+}
+
+// The lines of all threads.
+fn push_threads(
+    alloc: Global,
+    text: &mut Vec<u8>,
+    threads: &ThreadAnswers,
+    classes: &Classes,
+) -> Result<(), NoMemory>
+    ensures { OnOk result (text.new.items ≡ text.old.items ++ threads_text classes.now 0 (results_said threads.now)) }
+{
+    for number in 0..threads.len() {
+        push_thread(alloc, text, number, threads.get(number).as_slice(), classes)?;
+    }
+    Ok(())
+}
+
+// The last line.
+fn push_summary(
+    text: &mut Vec<u8>,
+    attempts: u32,
+    forms: u32,
+    types: u32,
+) -> Result<(), NoMemory>
+    ensures { OnOk result (text.new.items ≡ text.old.items ++ summary_text attempts forms types) }
+{
+    push(text, b"attempts ")?;
+    push_number(text, u64::from(attempts))?;
+    push(text, b" forms ")?;
+    push_number(text, u64::from(forms))?;
+    push(text, b" types ")?;
+    push_number(text, u64::from(types))?;
+    push(text, b"\n")
+}
+
+/// The report on a run: for each thread its number and a line for each of its calls, and then how many
+/// attempts were made, how many forms there are, and how many types the targets of sites hold.
 pub fn report(
-    _alloc: Global,
+    alloc: Global,
     threads: &ThreadAnswers,
     attempts: u32,
     forms: u32,
@@ -19,5 +167,8 @@ pub fn report(
 ) -> Result<Vec<u8>, NoMemory>
     ensures { IfOk result (λ text. text.items ≡ report_text leaves.now.classes (results_said threads.now) attempts forms types) }
 {
-    Err(NoMemory)
+    let mut text = Vec::new(alloc);
+    push_threads(alloc, &mut text, threads, leaves.classes())?;
+    push_summary(&mut text, attempts, forms, types)?;
+    Ok(text)
 }
