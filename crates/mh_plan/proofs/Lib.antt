@@ -1,2 +1,5 @@
 pub mod Running
 pub mod Calling
+pub mod Tokens
+pub mod Behind
+pub mod Threads

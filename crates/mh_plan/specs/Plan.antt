@@ -1,20 +1,179 @@
 -- What the lines of a plan mean.
-use Rattle.std.specs.Prelude.{ℕ, List, [], Result, Err, codes}
-use Rattle.mh_base.specs.Lines.{lines_of, built_from}
+use Rattle.std.specs.Prelude.{ℕ, ◌+◌, ◌==◌, Bool, true, false, not, ◌&&◌, ◌||◌, if◌then◌else◌, List, [], ◌∷◌, ◌++◌, codes, length, drop, nat_eq, nat_le, nat_lt, Option, None, Some, is_some, option_map, option_and_then, Result, Ok, Err}
+use Rattle.std.specs.List.{list_all, starts_with}
+use Rattle.std.specs.Str.{bytes_eq}
+use Rattle.mh_base.specs.Lines.{lines_of, tokens_of, is_passed, is_plain, built_from}
 use Rattle.mh_base.specs.declared.lines.LineFault.{LineFault}
+use Rattle.mh_values.specs.declared.class.Class.{Class}
+use Rattle.mh_values.specs.declared.types.Ty.{Ty}
+use Rattle.mh_values.specs.declared.value.LeafId.{LeafId}
+use Rattle.mh_values.specs.declared.value.Value.{Value}
+use Rattle.mh_values.specs.Descriptor.{desc}
+use Rattle.mh_values.specs.HasType.{has_type}
+use Rattle.mh_texts.specs.Literal.{literal_of}
 use Rattle.mh_leaf.specs.LeafTable.{LeafTable}
+use Rattle.mh_leaves.specs.declared.naming.How.TheVariants.{Any}
+use Rattle.mh_leaves.specs.Find.{find_leaf}
+use Rattle.mh_leaves.specs.Manifest.{type_if_read}
+use Rattle.mh_leaves.specs.Provided.{provided, provided_some}
+use Rattle.mh_leaves.specs.Reference.{Texts, reference_of}
 use Rattle.mh_plan.specs.declared.call.Call.{Call}
-use Rattle.mh_plan.specs.declared.reading.PlanKind.{PlanKind}
-use Rattle.mh_plan.specs.declared.reading.PlanKind.TheVariants.{NotBuilt}
+use Rattle.mh_plan.specs.declared.call.Call.TheVariants.{Exact}
+use Rattle.mh_plan.specs.declared.kinds.PlanKind.{PlanKind}
+use Rattle.mh_plan.specs.declared.kinds.PlanKind.TheVariants.{BadLine, TooMany, NoLeaf, NoSite, BadType, BadArguments, NotBuilt}
+use Rattle.mh_plan.specs.declared.counting.Counts.{Counts}
 
 -- the name of a kind of fault
 abbrev pub kind_word : PlanKind → List ℕ
+kind_word BadLine = codes "BadLine"
+kind_word TooMany = codes "TooMany"
+kind_word NoLeaf = codes "NoLeaf"
+kind_word NoSite = codes "NoSite"
+kind_word BadType = codes "BadType"
+kind_word BadArguments = codes "BadArguments"
 kind_word NotBuilt = codes "NotBuilt"
 
--- the threads so far, behind a line, or what is wrong with the line
+-- ---- the form of a line
+
+-- a token that is not empty
+abbrev pub is_full : List ℕ → Bool
+is_full token = not (length token == 0)
+
+-- a decimal digit
+abbrev pub is_digit : ℕ → Bool
+is_digit b = nat_le 48 b && nat_le b 57
+
+-- the number of a site: digits without a needless zero
+abbrev pub is_number : List ℕ → Bool
+is_number [] = false
+is_number (b ∷ bs) = list_all is_digit (b ∷ bs) && (length bs == 0 || not (b == 48))
+
+-- the texts of `leaf:OWNER.NAME:DESC`
+abbrev pub leaf_texts : List ℕ → Option Texts
+leaf_texts token = if starts_with nat_eq token (codes "leaf:") then reference_of (drop 5 token) else None
+
+-- a word of calls of leaves
+abbrev pub is_leaf_word : List ℕ → Bool
+is_leaf_word word = bytes_eq word (codes "exact") || bytes_eq word (codes "generic")
+
+-- `exact leaf:REF M ARG ..`, `generic leaf:REF M ARG ..` or `indy N ARG ..`, where so many tokens follow the second
+abbrev pub is_call_of : List ℕ → List ℕ → ℕ → Bool
+is_call_of word subject more =
+    if bytes_eq word (codes "indy") then is_number subject
+    else is_leaf_word word && is_some (leaf_texts subject) && not (more == 0)
+
+-- the tokens of a call
+abbrev pub is_call : List (List ℕ) → Bool
+is_call (word ∷ subject ∷ rest) = is_call_of word subject (length rest)
+is_call _ = false
+
+-- the one token `thread`
+abbrev pub is_thread : List (List ℕ) → Bool
+is_thread (word ∷ []) = bytes_eq word (codes "thread")
+is_thread _ = false
+
+-- ---- how many threads and calls there are
+
+-- no thread, and no call
+abbrev pub none_counted : Counts
+none_counted = record { threads = 0; calls = 0 }
+
+-- one more thread: there are at most 64
+abbrev pub thread_counted : Counts → Result Counts PlanKind
+thread_counted counts = provided (nat_lt counts.threads 64) TooMany (Ok (record { threads = counts.threads + 1; calls = counts.calls }))
+
+-- one more call, within a thread: there are at most 10,000 in all threads together
+abbrev pub call_counted : Counts → List (List ℕ) → Result Counts PlanKind
+call_counted counts tokens =
+    provided (is_call tokens && not (counts.threads == 0)) BadLine
+    (provided (nat_lt counts.calls 10000) TooMany (Ok (record { threads = counts.threads; calls = counts.calls + 1 })))
+
+-- the tokens of a line that counts; none is empty
+abbrev pub tokens_counted : Counts → List (List ℕ) → Result Counts PlanKind
+tokens_counted counts tokens =
+    provided (list_all is_full tokens) BadLine
+    (if is_thread tokens then thread_counted counts else call_counted counts tokens)
+
+-- what is counted after a line
+abbrev pub line_counted : Counts → List ℕ → Result Counts PlanKind
+line_counted counts line = provided (is_plain line) BadLine (if is_passed line then Ok counts else tokens_counted counts (tokens_of line))
+
+-- ---- calls
+
+-- the leaf that a token names
+abbrev pub leaf_if_found : {E : Type 0} → Result LeafId E → Option LeafId
+leaf_if_found (Ok leaf) = Some leaf
+leaf_if_found (Err e) = None
+
+-- the leaf of a reference, which may have a receiver
+abbrev pub leaf_named : LeafTable → List ℕ → Option LeafId
+leaf_named table token = option_and_then (λ texts. leaf_if_found (find_leaf table texts.owner texts.name texts.descriptor Any)) (leaf_texts token)
+
+-- the value of a token, if it has the type
+abbrev pub argument_of : List Class → List ℕ → Ty → Option Value
+argument_of classes token t = option_and_then (λ v. if has_type classes v t then Some v else None) (literal_of classes token)
+
+-- the values of tokens, if they have the types, one for each
+abbrev pub arguments_of : List Class → List (List ℕ) → List Ty → Option (List Value)
+arguments_of classes [] [] = Some []
+arguments_of classes (token ∷ tokens) (t ∷ types) =
+    option_and_then (λ v. option_map (λ vs. v ∷ vs) (arguments_of classes tokens types)) (argument_of classes token t)
+arguments_of classes _ _ = None
+
+-- the call of a leaf by a type, with arguments
+abbrev pub leaf_call : LeafTable → List ℕ → List ℕ → List (List ℕ) → Result Call PlanKind
+leaf_call table subject asked args =
+    provided_some (leaf_named table subject) NoLeaf (λ leaf.
+    provided_some (type_if_read (desc table.classes asked)) BadType (λ t.
+    provided_some (arguments_of table.classes args t.params) BadArguments (λ values. Ok (Exact leaf t values))))
+
+-- a call behind those of the last thread
+abbrev pub with_call : List (List Call) → Call → List (List Call)
+with_call [] call = []
+with_call (calls ∷ []) call = (calls ++ call ∷ []) ∷ []
+with_call (calls ∷ more) call = calls ∷ with_call more call
+
+-- the threads behind a call: one of a generic kind is not kept
+abbrev pub call_kept : Bool → List (List Call) → Result Call PlanKind → Result (List (List Call)) PlanKind
+call_kept is_kept threads (Ok call) = Ok (if is_kept then with_call threads call else threads)
+call_kept is_kept threads (Err kind) = Err kind
+
+-- the threads behind a call of a leaf; there are no sites that `indy` could call
+abbrev pub call_line : LeafTable → List (List Call) → List ℕ → List ℕ → List ℕ → List (List ℕ) → Result (List (List Call)) PlanKind
+call_line table threads word subject asked args =
+    if bytes_eq word (codes "indy") then Err NoSite
+    else call_kept (bytes_eq word (codes "exact")) threads (leaf_call table subject asked args)
+
+-- the threads behind a line that counts: two tokens are a site's call without arguments, one begins a thread
+abbrev pub tokens_meaning : LeafTable → List (List Call) → List (List ℕ) → Result (List (List Call)) PlanKind
+tokens_meaning table threads (word ∷ subject ∷ asked ∷ args) = call_line table threads word subject asked args
+tokens_meaning table threads (word ∷ subject ∷ []) = Err NoSite
+tokens_meaning table threads _ = Ok (threads ++ [] ∷ [])
+
+-- the threads behind a line, or what is wrong with the line
 abbrev pub line_meaning : LeafTable → List (List Call) → List ℕ → Result (List (List Call)) PlanKind
-line_meaning table threads line = Err NotBuilt
+line_meaning table threads line = if is_passed line then Ok threads else tokens_meaning table threads (tokens_of line)
+
+-- ---- what is built
+
+-- a line that is no `generic` call, which is not built
+abbrev pub line_built : Unit {0} → List ℕ → Result (Unit {0}) PlanKind
+line_built so_far line = provided (not (starts_with nat_eq line (codes "generic "))) NotBuilt (Ok so_far)
+
+-- ---- plans
+
+-- goes on where no line has a fault
+abbrev pub faultless : {A B : Type 0} → Result A (LineFault PlanKind) → (A → Result B (LineFault PlanKind)) → Result B (LineFault PlanKind)
+faultless (Ok a) next = next a
+faultless (Err fault) next = Err fault
+
+-- the calls of each thread of a plan of these lines: the form of all lines comes first, then their calls, then what is built
+abbrev pub plan_of : LeafTable → List (List ℕ) → Result (List (List Call)) (LineFault PlanKind)
+plan_of table lines =
+    faultless (built_from line_counted 1 none_counted lines) (λ counts.
+    faultless (built_from (line_meaning table) 1 [] lines) (λ threads.
+    faultless (built_from line_built 1 tt lines) (λ done. Ok threads)))
 
 -- the calls of each thread, or the faulty line that counts
 abbrev pub plan : List ℕ → LeafTable → Result (List (List Call)) (LineFault PlanKind)
-plan bytes table = built_from (line_meaning table) 1 [] (lines_of bytes)
+plan bytes table = plan_of table (lines_of bytes)

@@ -2,13 +2,18 @@
 #![tactic(auto)]
 
 mod answer;
+mod arguments;
 mod call;
+mod calls;
+mod counting;
+mod kinds;
 mod printing;
 mod reading;
 mod results;
 
 pub use answer::{Answer, Answers, ThreadAnswers};
 pub use call::{Call, Plan, ThreadCalls};
+pub use kinds::{PlanError, PlanFault, PlanKind};
 pub use printing::report;
-pub use reading::{PlanError, PlanFault, PlanKind, read_plan};
+pub use reading::read_plan;
 pub use results::run_plan;

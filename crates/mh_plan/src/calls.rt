@@ -1,0 +1,168 @@
+ghost use Rattle.std.specs.Prelude.{◌≡◌, ◌≤◌, ◌^◌, [], length, map, IfOk, OnOk};
+ghost use Rattle.mh_base.specs.Lines.{taken_or, built_from};
+ghost use Rattle.mh_values.specs.Descriptor.{desc};
+ghost use Rattle.mh_leaves.specs.Manifest.{type_if_read};
+ghost use Rattle.mh_plan.specs.Plan.{leaf_named, leaf_call, with_call, call_kept, call_line, tokens_meaning, line_meaning};
+ghost use Rattle.mh_plan.specs.Fault.{Tells};
+
+use crate::arguments::read_arguments;
+use crate::counting::leaf_texts;
+use crate::{Call, PlanError, PlanKind, ThreadCalls};
+use mh_base::{LineFault, NoMemory, Seq, is_passed, split_at_byte};
+use mh_leaves::{How, Leaves};
+use mh_values::{Classes, DescriptorError, LeafId, MethodTy, read_descriptor};
+use std::alloc::Global;
+
+// The leaf of a reference.
+fn leaf_named(leaves: &Leaves, token: &[u8]) -> Option<LeafId>
+    ensures { result ≡ leaf_named leaves.now token.now }
+{
+    let texts = leaf_texts(token)?;
+    leaves
+        .find(texts.owner, texts.name, texts.descriptor, How::Any)
+        .ok()
+}
+
+// The type of a descriptor, if all its types are there.
+fn type_of(
+    alloc: Global,
+    classes: &Classes,
+    descriptor: &[u8],
+) -> Result<Option<MethodTy>, NoMemory>
+    ensures { IfOk result (λ t. t ≡ type_if_read (desc classes.now descriptor.now)) }
+{
+    match read_descriptor(alloc, descriptor, classes) {
+        Ok(ty) => Ok(Some(ty)),
+        Err(DescriptorError::NoMemory) => Err(NoMemory),
+        Err(_) => Ok(None),
+    }
+}
+
+// The call of a leaf by a type, or what is wrong with it.
+fn read_call(
+    alloc: Global,
+    leaves: &Leaves,
+    subject: &[u8],
+    asked: &[u8],
+    args: &[&[u8]],
+) -> Result<Result<Call, PlanKind>, NoMemory>
+    ensures { IfOk result (λ call. call ≡ leaf_call leaves.now subject.now asked.now (map (λ t. t.now) args.now)) }
+{
+    let Some(leaf) = leaf_named(leaves, subject) else {
+        return Ok(Err(PlanKind::NoLeaf));
+    };
+    let Some(ty) = type_of(alloc, leaves.classes(), asked)? else {
+        return Ok(Err(PlanKind::BadType));
+    };
+    let Some(values) = read_arguments(alloc, leaves.classes(), args, ty.params.as_slice())? else {
+        return Ok(Err(PlanKind::BadArguments));
+    };
+    Ok(Ok(Call::Exact(leaf, ty, values)))
+}
+
+// Puts a call behind those of the last thread.
+fn add_call(threads: &mut Vec<ThreadCalls>, call: Call) -> Result<(), NoMemory>
+    ensures { OnOk result (threads.new.items ≡ with_call threads.old.items call) }
+{
+    let Some(mut calls) = threads.pop() else {
+        return Ok(());
+    };
+    calls.push(call)?;
+    threads.push(calls)?;
+    Ok(())
+}
+
+// Takes a call of a leaf, and says what is wrong with it. One that is not kept is only looked at.
+fn keep_call(
+    threads: &mut Vec<ThreadCalls>,
+    is_kept: bool,
+    call: Result<Call, PlanKind>,
+) -> Result<Option<PlanKind>, NoMemory>
+    ensures { IfOk result (λ fault. call_kept is_kept threads.old.items call ≡ taken_or fault threads.new.items) }
+{
+    match call {
+        Err(kind) => Ok(Some(kind)),
+        Ok(call) => {
+            if is_kept {
+                add_call(threads, call)?;
+            }
+            Ok(None)
+        }
+    }
+}
+
+// Takes a call, and says what is wrong with it.
+fn read_call_line(
+    alloc: Global,
+    leaves: &Leaves,
+    threads: &mut Vec<ThreadCalls>,
+    word: &[u8],
+    subject: &[u8],
+    asked: &[u8],
+    args: &[&[u8]],
+) -> Result<Option<PlanKind>, NoMemory>
+    ensures { IfOk result (λ fault. call_line leaves.now threads.old.items word.now subject.now asked.now (map (λ t. t.now) args.now) ≡ taken_or fault threads.new.items) }
+{
+    if word == b"indy".as_slice() {
+        return Ok(Some(PlanKind::NoSite));
+    }
+    let call = read_call(alloc, leaves, subject, asked, args)?;
+    keep_call(threads, word == b"exact".as_slice(), call)
+}
+
+// Takes the tokens of a line, and says what is wrong with them.
+fn read_tokens(
+    alloc: Global,
+    leaves: &Leaves,
+    threads: &mut Vec<ThreadCalls>,
+    tokens: &[&[u8]],
+) -> Result<Option<PlanKind>, NoMemory>
+    ensures { IfOk result (λ fault. tokens_meaning leaves.now threads.old.items (map (λ t. t.now) tokens.now) ≡ taken_or fault threads.new.items) }
+{
+    match tokens {
+        [word, subject, asked, args @ ..] => {
+            read_call_line(alloc, leaves, threads, word, subject, asked, args)
+        }
+        [_, _] => Ok(Some(PlanKind::NoSite)),
+        _ => {
+            threads.push(Seq::new(alloc))?;
+            Ok(None)
+        }
+    }
+}
+
+// Takes a line, and says what is wrong with it.
+fn read_line(
+    alloc: Global,
+    leaves: &Leaves,
+    threads: &mut Vec<ThreadCalls>,
+    line: &[u8],
+) -> Result<Option<PlanKind>, NoMemory>
+    ensures { IfOk result (λ fault. line_meaning leaves.now threads.old.items line.now ≡ taken_or fault threads.new.items) }
+{
+    if is_passed(line) {
+        return Ok(None);
+    }
+    let tokens = split_at_byte(alloc, line, b' ')?;
+    read_tokens(alloc, leaves, threads, &tokens)
+}
+
+/// The calls of lines whose form is good.
+pub(crate) fn read_lines(
+    alloc: Global,
+    leaves: &Leaves,
+    lines: &[&[u8]],
+) -> Result<Seq<ThreadCalls>, PlanError>
+    requires { length lines.now ≤ 2 ^ 31 }
+    ensures { Tells result (built_from (line_meaning leaves.now) 1 [] (map (λ l. l.now) lines.now)) }
+{
+    let mut threads = Vec::new(alloc);
+    let mut number = 1u32;
+    for line in lines {
+        if let Some(kind) = read_line(alloc, leaves, &mut threads, line)? {
+            return Err(PlanError::Fault(LineFault { line: number, kind }));
+        }
+        number += 1;
+    }
+    Ok(Seq::from_vec(threads))
+}

@@ -1,0 +1,85 @@
+ghost use Rattle.std.specs.Prelude.{◌≡◌};
+ghost use Rattle.mh_plan.specs.Plan.{kind_word};
+ghost use Rattle.mh_plan.specs.declared.kinds.PlanError.TheVariants.{NoMemory as WithoutMemory};
+
+use mh_base::{LineFault, NoMemory};
+use std::alloc::AllocError;
+use std::error::Error;
+use std::fmt;
+
+/// What is wrong with a line of a plan. The first line of the first two kinds counts, then the first of
+/// the others, and in it the first kind; a plan that has none of these may have the last.
+#[derive(Clone, Copy, Debug, PartialEq, Eq)]
+pub enum PlanKind {
+    /// The line is none of a plan, or a call in front of the first thread.
+    BadLine,
+    /// The thread is past 64, or the call past 10,000 of all threads.
+    TooMany,
+    /// No leaf has the texts of the reference.
+    NoLeaf,
+    /// The number is that of no site.
+    NoSite,
+    /// The type of the call is not readable.
+    BadType,
+    /// An argument is no literal, or the arguments have not the types of the call's parameters.
+    BadArguments,
+    /// The line is a `generic` call, which is not built.
+    NotBuilt,
+}
+
+impl PlanKind {
+    /// The kind's name, as a refusal prints it.
+    pub fn word(self) -> &'static str
+        ensures { result.now ≡ kind_word self }
+    {
+        match self {
+            PlanKind::BadLine => "BadLine",
+            PlanKind::TooMany => "TooMany",
+            PlanKind::NoLeaf => "NoLeaf",
+            PlanKind::NoSite => "NoSite",
+            PlanKind::BadType => "BadType",
+            PlanKind::BadArguments => "BadArguments",
+            PlanKind::NotBuilt => "NotBuilt",
+        }
+    }
+}
+
+/// The faulty line of a plan that counts, numbered from 1.
+pub type PlanFault = LineFault<PlanKind>;
+
+/// Why a plan was not read.
+#[derive(Clone, Copy, Debug, PartialEq, Eq)]
+pub enum PlanError {
+    NoMemory,
+    Fault(PlanFault),
+}
+
+impl fmt::Display for PlanError {
+    fn fmt<W: fmt::Write>(&self, f: &mut fmt::Formatter<W>) -> fmt::Result {
+        match self {
+            PlanError::NoMemory => f.write_str("no memory is left"),
+            PlanError::Fault(fault) => {
+                let (line, kind) = (fault.line, fault.kind.word());
+                write!(f, "line {line}: {kind}")
+            }
+        }
+    }
+}
+
+impl Error for PlanError {}
+
+impl From<NoMemory> for PlanError {
+    ghost from_gives = { λ _ e. e ≡ WithoutMemory };
+
+    fn from(_: NoMemory) -> Self {
+        PlanError::NoMemory
+    }
+}
+
+impl From<AllocError> for PlanError {
+    ghost from_gives = { λ _ e. e ≡ WithoutMemory };
+
+    fn from(_: AllocError) -> Self {
+        PlanError::NoMemory
+    }
+}
