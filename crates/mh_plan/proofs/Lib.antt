@@ -3,3 +3,4 @@ pub mod Calling
 pub mod Tokens
 pub mod Behind
 pub mod Threads
+pub mod Fitting
