@@ -1,5 +1,5 @@
 -- Arguments read one by one.
-use Rattle.std.proofs.Common.{◌≡◌, refl, sym, ◌∙◌, ap, suc, ℕ, List, [], ◌∷◌, ◌++◌, map, length, Bor, Option, None, Some, option_map, option_and_then}
+use Rattle.std.proofs.Common.{◌≡◌, refl, ap, suc, ℕ, List, [], ◌∷◌, ◌++◌, map, length, Bor, Option, None, Some, option_map, option_and_then}
 use Rattle.mh_values.specs.declared.class.Class.{Class}
 use Rattle.mh_values.specs.declared.types.Ty.{Ty}
 use Rattle.mh_values.specs.declared.value.Value.{Value}

@@ -17,7 +17,6 @@ use Rattle.mh_values.specs.Classes.{class_named}
 use Rattle.mh_values.specs.Descriptor.{desc}
 use Rattle.mh_values.specs.HasType.{has_type, HaveTypes}
 use Rattle.mh_texts.specs.Literal.{literal_of}
-use Rattle.mh_leaf.specs.declared.leaf.Leaf.{Leaf}
 use Rattle.mh_leaf.specs.LeafTable.{LeafTable}
 use Rattle.mh_leaves.specs.declared.naming.How.{How}
 use Rattle.mh_leaves.specs.declared.naming.How.TheVariants.{Any}

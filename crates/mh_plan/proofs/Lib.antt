@@ -4,3 +4,4 @@ pub mod Tokens
 pub mod Behind
 pub mod Threads
 pub mod Fitting
+pub mod Distinct

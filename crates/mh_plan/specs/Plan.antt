@@ -1,5 +1,5 @@
 -- What the lines of a plan mean.
-use Rattle.std.specs.Prelude.{ℕ, ◌+◌, ◌==◌, Bool, true, false, not, ◌&&◌, ◌||◌, if◌then◌else◌, List, [], ◌∷◌, ◌++◌, codes, length, drop, nat_eq, nat_le, nat_lt, Option, None, Some, is_some, option_map, option_and_then, Result, Ok, Err}
+use Rattle.std.specs.Prelude.{ℕ, ◌+◌, ◌==◌, Bool, false, not, ◌&&◌, ◌||◌, if◌then◌else◌, List, [], ◌∷◌, ◌++◌, codes, length, drop, nat_eq, nat_le, nat_lt, Option, None, Some, is_some, option_map, option_and_then, Result, Ok, Err}
 use Rattle.std.specs.List.{list_all, starts_with}
 use Rattle.std.specs.Str.{bytes_eq}
 use Rattle.mh_base.specs.Lines.{lines_of, tokens_of, is_passed, is_plain, built_from}

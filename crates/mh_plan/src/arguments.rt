@@ -16,7 +16,11 @@ fn read_argument(
     ensures { IfOk result (λ value. value ≡ argument_of classes.now token.now ty) }
 {
     match read_literal(alloc, token, classes) {
-        Ok(value) => Ok(if has_type(&value, ty, classes) { Some(value) } else { None }),
+        Ok(value) => Ok(if has_type(&value, ty, classes) {
+            Some(value)
+        } else {
+            None
+        }),
         Err(LiteralError::NoMemory) => Err(NoMemory),
         Err(LiteralError::Bad) => Ok(None),
     }

@@ -6,6 +6,7 @@ mod arguments;
 mod call;
 mod calls;
 mod counting;
+mod forms;
 mod kinds;
 mod printing;
 mod reading;
@@ -13,6 +14,7 @@ mod results;
 
 pub use answer::{Answer, Answers, ThreadAnswers};
 pub use call::{Call, Plan, ThreadCalls};
+pub use forms::count_forms;
 pub use kinds::{PlanError, PlanFault, PlanKind};
 pub use printing::report;
 pub use reading::read_plan;

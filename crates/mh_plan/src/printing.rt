@@ -138,12 +138,7 @@ fn push_threads(
 }
 
 // The last line.
-fn push_summary(
-    text: &mut Vec<u8>,
-    attempts: u32,
-    forms: u32,
-    types: u32,
-) -> Result<(), NoMemory>
+fn push_summary(text: &mut Vec<u8>, attempts: u32, forms: u32, types: u32) -> Result<(), NoMemory>
     ensures { OnOk result (text.new.items ≡ text.old.items ++ summary_text attempts forms types) }
 {
     push(text, b"attempts ")?;

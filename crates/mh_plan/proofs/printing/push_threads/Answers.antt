@@ -1,4 +1,4 @@
-use Rattle.std.proofs.Common.{◌≡◌, ◌∙◌, ap, ◌<◌, length, arith}
+use Rattle.std.proofs.Common.{◌<◌, length, arith}
 use Rattle.mh_plan.proofs.Running.{threads_text-more}
 use Rattle.mh_plan.proofs.printing.push_threads.Goals as goal
 

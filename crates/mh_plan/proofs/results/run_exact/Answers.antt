@@ -19,7 +19,7 @@ returns-then-is_same_method_type c =
 pub returns : goal.returns
 returns c =
     let thrown : c.in_ok-mismatch.field-0 ≡ mismatch c.args.leaves.now.classes c.get-leaf.result.now.ty c.args.ty.now =
-        c.in_ok-mismatch.ensures ∙ ap (λ classes. mismatch classes c.get-leaf.result.now.ty c.args.ty.now) c.classes.ensures in
+    c.in_ok-mismatch.ensures ∙ ap (λ classes. mismatch classes c.get-leaf.result.now.ty c.args.ty.now) c.classes.ensures in
     ap₂ Threw thrown c.new.ensures
     ∙ exact-other c.args.leaves.now c.args.id c.get-leaf.result.now c.args.ty.now c.args.args.now 0 c.get-leaf.ensures.leaf
     (sym c.is_same_method_type.ensures ∙ c.if-is_same_method_type.false)
