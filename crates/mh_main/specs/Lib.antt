@@ -1,6 +1,5 @@
 pub mod Classes
 pub mod Due
-pub mod Forms
 pub mod Input
 pub mod Kinds
 pub mod Ledger

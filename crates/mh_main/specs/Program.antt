@@ -4,10 +4,10 @@ use Rattle.std.specs.List.{flat_map}
 use Rattle.mh_plan.specs.declared.call.Call.{Call}
 use Rattle.mh_plan.specs.declared.call.Call.TheVariants.{Exact}
 use Rattle.mh_plan.specs.Results.{Result, results_of}
+use Rattle.mh_plan.specs.Forms.{forms}
 use Rattle.mh_plan.specs.Text.{report_text}
 use Rattle.mh_main.specs.declared.answer.Attempt.{Attempt}
 use Rattle.mh_main.specs.declared.program.Program.{Program}
-use Rattle.mh_main.specs.Forms.{forms}
 use Rattle.mh_main.specs.Ledger.{Naming}
 
 -- the sites that a call names: a call of a leaf names none

@@ -2,7 +2,6 @@
 #![tactic(auto)]
 
 mod answer;
-mod forms;
 mod lines;
 mod listing;
 mod program;

@@ -10,7 +10,6 @@ ghost use Rattle.mh_main.specs.Input.{input, IsRefused, IsAccepted};
 ghost use Rattle.mh_main.specs.Stops.{stop_line, stop_status, AllStill, IsRefusedOrWant, IsDoneOrWant};
 ghost use Rattle.mh_main.specs.Due.{IsReportOf, IsListingOf, Reports, RefusesWords, RefusesInput, FailsToRead, IsDue, IsIdle, Writes, WritesPart};
 
-use crate::forms::count_forms;
 use crate::lines::{USAGE, write_pieces};
 use crate::listing::list_sites;
 use crate::reading::read_program;
@@ -20,7 +19,7 @@ use crate::{Program, TopAnswer};
 use itoa::Buffer;
 use mh_base::{NoMemory, Seq};
 use mh_outside::{Failed, Gate, Inputs, Sink, write_whole};
-use mh_plan::{ThreadAnswers, report, run_plan};
+use mh_plan::{ThreadAnswers, count_forms, report, run_plan};
 use std::alloc::Global;
 use std::sync::Wait;
 use std::thread::Threads;
@@ -83,7 +82,7 @@ fn run_and_report(alloc: Global, program: &Program) -> Result<(ThreadAnswers, Ve
     ensures text { IfOk result (λ r. r.1.items ≡ text program.now []) }
 {
     let threads = run_plan(alloc, &program.leaves, &program.plan)?;
-    let forms = count_forms(alloc, &program.leaves, &program.plan)?;
+    let forms = count_forms(alloc, &program.plan, &program.leaves)?;
     let text = report(alloc, &threads, 0, forms, 0, &program.leaves)?;
     Ok((threads, text))
 }

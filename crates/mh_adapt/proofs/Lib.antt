@@ -1,2 +1,0 @@
-pub mod BindStands
-pub mod DropStands

@@ -1,2 +1,0 @@
-//! The seven adapters: bind, drop, permute, filters, fold and collect.
-#![tactic(auto)]
