@@ -34,11 +34,12 @@ nothing-has :
     (body : FormBody) → is_nothing body ≡ true → (length body.params ≡ 0) × (body.fields ≡ 0) × (length body.names ≡ 0) × (is_some body.out ≡ false)
 nothing-has body h =
     let rest = second-true (length body.params == 0) _ h in
-    let more = second-true (body.fields == 0) _ rest in
-    (same-number (length body.params) 0 (first-true (length body.params == 0) _ h),
-    same-number body.fields 0 (first-true (body.fields == 0) _ rest),
-    same-number (length body.names) 0 (first-true (length body.names == 0) _ more),
-    lone (is_some body.out) (second-true (length body.names == 0) _ more))
+    let more = second-true (body.fields == 0) _ rest in (
+      same-number (length body.params) 0 (first-true (length body.params == 0) _ h),
+      same-number body.fields 0 (first-true (body.fields == 0) _ rest),
+      same-number (length body.names) 0 (first-true (length body.names == 0) _ more),
+      lone (is_some body.out) (second-true (length body.names == 0) _ more),
+    )
 
 nothing-if :
     (body : FormBody) → length body.params ≡ 0 → body.fields ≡ 0 → length body.names ≡ 0 → is_some body.out ≡ false → is_nothing body ≡ true

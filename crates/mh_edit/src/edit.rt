@@ -9,9 +9,7 @@ use crate::fit::taken_by;
 use crate::frame::{Splice, converting, edited, finished, reframed, returning};
 use crate::names::{push_elems, range, single};
 use crate::narrow::narrow;
-use crate::roots::{
-    catch_body, constant_body, guard_body, identity_body, leaf_body, throw_body,
-};
+use crate::roots::{catch_body, constant_body, guard_body, identity_body, leaf_body, throw_body};
 use crate::{Key, Places, RetEntry};
 use mh_base::{Copied, NoMemory, Seq};
 use mh_form::{Basic, BasicRet, Basics, FormBody, Name, Names, Operands};
@@ -41,12 +39,7 @@ fn binding(alloc: Global, body: &FormBody, pos: u8) -> Result<FormBody, NoMemory
     edited(alloc, body, splice, before, range(alloc, made, 1)?, 1)
 }
 
-fn adding(
-    alloc: Global,
-    body: &FormBody,
-    pos: u8,
-    basics: &Basics,
-) -> Result<FormBody, NoMemory>
+fn adding(alloc: Global, body: &FormBody, pos: u8, basics: &Basics) -> Result<FormBody, NoMemory>
     requires { pos ≤ length body.now.params }
     ensures { IfOk result (λ new. new ≡ adding pos basics.now body.now) }
 {
@@ -78,7 +71,14 @@ fn permuting(
     ensures { IfOk result (λ new. new ≡ permuting basics.now reorder.now body.now) }
 {
     let table = widened(alloc, reorder)?;
-    reframed(alloc, body, basics.copy()?, Seq::new(alloc), table.as_slice(), 0)
+    reframed(
+        alloc,
+        body,
+        basics.copy()?,
+        Seq::new(alloc),
+        table.as_slice(),
+        0,
+    )
 }
 
 fn collecting(
@@ -100,7 +100,14 @@ fn collecting(
     let width = narrow(body.params.len() as u64)? as u64 + put as u64;
     let made = narrow(width - splice.taken as u64)?;
     let part = Name::Link(body.fields, range(alloc, pos as u32, put)?);
-    edited(alloc, body, splice, single(alloc, part)?, given(alloc, ret, made)?, 1)
+    edited(
+        alloc,
+        body,
+        splice,
+        single(alloc, part)?,
+        given(alloc, ret, made)?,
+        1,
+    )
 }
 
 fn folding(
@@ -120,7 +127,14 @@ fn folding(
     };
     let made = narrow((body.params.len() - splice.taken as usize) as u64)?;
     let part = Name::Link(body.fields, range(alloc, pos as u32, count as u32)?);
-    edited(alloc, body, splice, single(alloc, part)?, given(alloc, ret, made)?, 1)
+    edited(
+        alloc,
+        body,
+        splice,
+        single(alloc, part)?,
+        given(alloc, ret, made)?,
+        1,
+    )
 }
 
 /// The places of a result, if there is one.
@@ -173,15 +187,13 @@ fn repeated(alloc: Global, count: u8, basic: Basic) -> Result<Basics, NoMemory>
 fn array_name(alloc: Global, comp: u32, from: u32, count: u8) -> Result<Names, NoMemory>
     ensures { IfOk result (λ names. names ≡ MakeArray comp (range_with_len from count) ∷ []) }
 {
-    single(alloc, Name::MakeArray(comp, range(alloc, from, count as u32)?))
+    single(
+        alloc,
+        Name::MakeArray(comp, range(alloc, from, count as u32)?),
+    )
 }
 
-fn gathering(
-    alloc: Global,
-    body: &FormBody,
-    count: u8,
-    basic: Basic,
-) -> Result<FormBody, NoMemory>
+fn gathering(alloc: Global, body: &FormBody, count: u8, basic: Basic) -> Result<FormBody, NoMemory>
     requires { 1 ≤ length body.now.params }
     ensures { IfOk result (λ new. new ≡ gathering count basic body.now) }
 {

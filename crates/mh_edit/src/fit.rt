@@ -104,7 +104,10 @@ pub fn key_fits(body: &FormBody, key: &Key) -> bool
             !nothing && takes_result(params, *pos, *ret) && end <= params.len()
         }
         Key::FilterReturn { .. } => !nothing,
-        Key::Convert { params: entries, .. } => !nothing && entries.len() == params.len(),
+        Key::Convert {
+            params: entries,
+            ..
+        } => !nothing && entries.len() == params.len(),
         Key::Spread { count, basic } => !nothing && ends_with(params, *count as usize, *basic),
         Key::Gather { .. } => {
             !nothing && !params.is_empty() && is_basic_at(params, params.len() - 1, Basic::L)

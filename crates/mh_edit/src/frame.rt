@@ -6,7 +6,9 @@ ghost use Rattle.mh_edit.specs.Applied.{converting, finishing, out_of, returning
 ghost use Rattle.mh_edit.specs.Rename.{edited, ending_with, reframed, table};
 
 use crate::RetEntry;
-use crate::names::{conv_count, push_all, push_conv_params, push_conv_places, push_convs, push_range};
+use crate::names::{
+    conv_count, push_all, push_conv_params, push_conv_places, push_convs, push_range,
+};
 use crate::narrow::narrow;
 use crate::rename::{Renaming, place_if_any, rename_all};
 use mh_base::{NoMemory, Seq};
@@ -56,13 +58,7 @@ pub(crate) fn reframed(
 }
 
 /// The new places of parameters around those that were taken out.
-fn table(
-    alloc: Global,
-    pos: u32,
-    put: u32,
-    mid: Operands,
-    rest: u32,
-) -> Result<Operands, NoMemory>
+fn table(alloc: Global, pos: u32, put: u32, mid: Operands, rest: u32) -> Result<Operands, NoMemory>
     ensures { IfOk result (λ places. places ≡ table pos put mid rest) }
 {
     let mut places = Seq::new(alloc);
@@ -113,7 +109,10 @@ pub(crate) fn finished(body: FormBody, last: Name, ret: BasicRet) -> Result<Form
     ensures { IfOk result (λ new. new ≡ ending_with body last
         (out_of ret (length body.params + length body.names))) }
 {
-    let out = out_of(ret, narrow(body.params.len() as u64 + body.names.len() as u64)?);
+    let out = out_of(
+        ret,
+        narrow(body.params.len() as u64 + body.names.len() as u64)?,
+    );
     let FormBody {
         params,
         fields,

@@ -21,24 +21,46 @@ pub enum RetEntry {
 #[derive(Debug, Drop)]
 pub enum Key {
     /// A call of a leaf. Field: the leaf.
-    LeafRoot { shape: Shape },
+    LeafRoot {
+        shape: Shape,
+    },
     /// A constant. Field: its slot.
-    ConstRoot { basic: Basic },
+    ConstRoot {
+        basic: Basic,
+    },
     /// The one argument.
-    IdentityRoot { basic: Basic },
+    IdentityRoot {
+        basic: Basic,
+    },
     /// Throws the one argument.
-    ThrowRoot { ret: BasicRet },
+    ThrowRoot {
+        ret: BasicRet,
+    },
     /// A test on the first arguments, which picks one of two parts. Fields: the three parts.
-    GuardRoot { shape: Shape, test: u8 },
+    GuardRoot {
+        shape: Shape,
+        test: u8,
+    },
     /// A part, with a handler that takes the exception and the first arguments. Fields: the part,
     /// the class of exceptions, and the handler.
-    CatchRoot { shape: Shape, handler: u8 },
+    CatchRoot {
+        shape: Shape,
+        handler: u8,
+    },
     /// A parameter becomes a constant. Field: its slot.
-    Bind { pos: u8 },
+    Bind {
+        pos: u8,
+    },
     /// Parameters are put in, and not used.
-    Add { pos: u8, basics: Basics },
+    Add {
+        pos: u8,
+        basics: Basics,
+    },
     /// Parameters are replaced: the old parameter i is the new one at `reorder[i]`.
-    Permute { basics: Basics, reorder: Places },
+    Permute {
+        basics: Basics,
+        reorder: Places,
+    },
     /// A part runs first on parameters that are put in, and its result stands for a parameter.
     /// Field: the part.
     Collect {
@@ -48,14 +70,29 @@ pub enum Key {
     },
     /// A part runs first on parameters that stay, and its result stands for a parameter before
     /// them. Field: the part.
-    Fold { pos: u8, count: u8, ret: BasicRet },
+    Fold {
+        pos: u8,
+        count: u8,
+        ret: BasicRet,
+    },
     /// A part runs last, on the result. Field: the part.
-    FilterReturn { ret: BasicRet },
+    FilterReturn {
+        ret: BasicRet,
+    },
     /// Parameters are converted, from left to right, and then the result. Fields: the conversions
     /// of the parameters that have an entry, and the return conversion where there is one.
-    Convert { params: Entries, ret: RetEntry },
+    Convert {
+        params: Entries,
+        ret: RetEntry,
+    },
     /// The last parameters become one array.
-    Spread { count: u8, basic: Basic },
+    Spread {
+        count: u8,
+        basic: Basic,
+    },
     /// The last parameter, an array, becomes its items. Field: the component type.
-    Gather { count: u8, basic: Basic },
+    Gather {
+        count: u8,
+        basic: Basic,
+    },
 }

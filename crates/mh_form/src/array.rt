@@ -64,11 +64,7 @@ fn items_of(alloc: Global, values: Items) -> Result<Option<Cells>, NoMemory>
     Ok(Some(items))
 }
 
-fn array_of(
-    alloc: Global,
-    comp: Comp,
-    values: Items,
-) -> Result<Result<Value, Exc>, NoMemory>
+fn array_of(alloc: Global, comp: Comp, values: Items) -> Result<Result<Value, Exc>, NoMemory>
     ensures { IfOk result (λ array. array ≡ array_of comp values) }
 {
     match items_of(alloc, values)? {
@@ -102,7 +98,10 @@ pub(crate) fn check_array(alloc: Global, slot: &Slot, count: u32) -> Result<Step
             Ok(fill(alloc, Slot::I(0)))
         }
         Slot::L(Value::Array(..)) => {
-            Ok(end(alloc, Exc::saying(alloc, ClassId::ILLEGAL_ARGUMENT, b"spread")?))
+            Ok(end(
+                alloc,
+                Exc::saying(alloc, ClassId::ILLEGAL_ARGUMENT, b"spread")?,
+            ))
         }
         _ => unreachable!(),
     }

@@ -59,7 +59,7 @@ fn run_guarded(
         (is_caught leaves.now.classes guard.class) guard.handler guard.kept args n ≢ Stuck }
     ensures { IfOk result (λ r. ran_of_run r
         ≡ guarded_field (senses_in leaves.now bound.now) guard.part
-            (is_caught leaves.now.classes guard.class) guard.handler guard.kept args n) }
+        (is_caught leaves.now.classes guard.class) guard.handler guard.kept args n) }
 {
     let kept = first(alloc, &args, guard.kept)?;
     let Ran { outcome, mut calls } = run_part(alloc, bound, leaves, guard.part, args, n)?;
@@ -114,7 +114,11 @@ fn step(
             if at >= slots.len() {
                 unreachable!()
             }
-            let chosen = if holds_one(slots.get(at)) { *field } else { *other };
+            let chosen = if holds_one(slots.get(at)) {
+                *field
+            } else {
+                *other
+            };
             let args = pick(alloc, slots, args)?;
             Ok(filled(run_part(alloc, bound, leaves, chosen, args, n)?))
         }

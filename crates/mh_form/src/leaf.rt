@@ -38,12 +38,7 @@ fn lacks_receiver(is_virtual: bool, args: &Items) -> bool
 }
 
 /// The leaf call that a leaf makes, if it runs.
-fn calls_of(
-    alloc: Global,
-    id: LeafId,
-    is_virtual: bool,
-    args: Items,
-) -> Result<Calls, NoMemory>
+fn calls_of(alloc: Global, id: LeafId, is_virtual: bool, args: Items) -> Result<Calls, NoMemory>
     ensures { (leaf : Leaf) → leaf.is_virtual ≡ is_virtual →
         IfOk result (λ calls. calls ≡ calls_of id leaf args) }
 {

@@ -23,7 +23,7 @@ pub use body::FormBody;
 pub use duplicate::{copy_bound, copy_field, copy_fields};
 pub use erasure::{all_typed, erase, erase_all, shape, typed};
 pub use field::{Bound, Field, Fields};
+pub use interpreter::run;
 pub use name::{Name, Names, Operands};
 pub use outcome::{Ran, SlotOutcome};
-pub use interpreter::run;
 pub use slot::{Slot, Slots};

@@ -129,12 +129,7 @@ pub(crate) fn check(
     check_array(alloc, slots.get(at), count)
 }
 
-pub(crate) fn item(
-    alloc: Global,
-    slot: u32,
-    item: u32,
-    slots: &Slots,
-) -> Result<Stepped, NoMemory>
+pub(crate) fn item(alloc: Global, slot: u32, item: u32, slots: &Slots) -> Result<Stepped, NoMemory>
     requires { step (Elem slot item) [] slots.now 0 ≢ Stuck }
     ensures { IfOk result (λ r. ran_of_step r ≡ step (Elem slot item) [] slots.now 0) }
 {

@@ -76,12 +76,25 @@ fn gets(rt: HostRuntime) -> Result<(), Fail> {
 fn converts(rt: HostRuntime) -> Result<(), Fail> {
     let alloc = rt.alloc();
     let leaves = no_leaves(alloc)?;
-    let ran = convert(alloc, &leaves, Conv { from: INT, to: INTEGER }, Slot::I(7))?;
-    assert!(rt; matches!(
-        ran.outcome,
-        SlotOutcome::Return(Some(Slot::L(Value::Boxed(Num::I(7)))))
-    ));
-    let unboxing = Conv { from: OBJECT, to: LONG };
+    let ran = convert(
+        alloc,
+        &leaves,
+        Conv {
+            from: INT,
+            to: INTEGER,
+        },
+        Slot::I(7),
+    )?;
+    assert!(rt;
+        matches!(
+            ran.outcome,
+            SlotOutcome::Return(Some(Slot::L(Value::Boxed(Num::I(7)))))
+        )
+    );
+    let unboxing = Conv {
+        from: OBJECT,
+        to: LONG,
+    };
     let ran = convert(alloc, &leaves, unboxing, Slot::L(Value::Boxed(Num::I(7))))?;
     assert!(rt; matches!(ran.outcome, SlotOutcome::Return(Some(Slot::J(7)))));
     let ran = convert(alloc, &leaves, unboxing, Slot::L(Value::Null))?;
@@ -93,12 +106,17 @@ fn converts(rt: HostRuntime) -> Result<(), Fail> {
 fn casts(rt: HostRuntime) -> Result<(), Fail> {
     let alloc = rt.alloc();
     let leaves = no_leaves(alloc)?;
-    let casting = Conv { from: OBJECT, to: INTEGER };
+    let casting = Conv {
+        from: OBJECT,
+        to: INTEGER,
+    };
     let ran = cast(alloc, &leaves, casting, Slot::L(Value::Boxed(Num::I(7))))?;
-    assert!(rt; matches!(
-        ran.outcome,
-        SlotOutcome::Return(Some(Slot::L(Value::Boxed(Num::I(7)))))
-    ));
+    assert!(rt;
+        matches!(
+            ran.outcome,
+            SlotOutcome::Return(Some(Slot::L(Value::Boxed(Num::I(7)))))
+        )
+    );
     let ran = cast(alloc, &leaves, casting, Slot::L(Value::Boxed(Num::J(7))))?;
     assert!(rt; threw(&ran, ClassId::CLASS_CAST, ""));
     Ok(())
@@ -114,7 +132,10 @@ fn converts_results(rt: HostRuntime) -> Result<(), Fail> {
     assert!(rt; matches!(ran.outcome, SlotOutcome::Return(Some(Slot::I(0)))));
     let ran = convert_result(alloc, &leaves, RetConv::Default(LONG), Slot::I(5))?;
     assert!(rt; matches!(ran.outcome, SlotOutcome::Return(Some(Slot::J(0)))));
-    let casting = RetConv::Value(Conv { from: OBJECT, to: INTEGER });
+    let casting = RetConv::Value(Conv {
+        from: OBJECT,
+        to: INTEGER,
+    });
     let ran = convert_result(alloc, &leaves, casting, Slot::L(Value::Boxed(Num::J(7))))?;
     assert!(rt; threw(&ran, ClassId::CLASS_CAST, ""));
     Ok(())
