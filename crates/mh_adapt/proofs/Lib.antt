@@ -1,0 +1,5 @@
+mod Answered
+mod BindStands
+mod DropStands
+mod InsertingFits
+mod PermuteStands
