@@ -1,0 +1,9 @@
+mod CollectStands
+mod FilterReturnStands
+mod FilterStands
+mod FoldStands
+mod PartAnswers
+mod PartFits
+mod PartRuns
+mod PartSuits
+mod Parted
