@@ -1,11 +1,11 @@
 -- Forms that were asked for, with their index, and one more.
-use Rattle.std.proofs.Common.{◌≡◌, ◌≢◌, ℕ, zero, suc, ◌+◌, ◌<◌, ◌≤◌, List, [], ◌∷◌, ◌++◌, length, replicate, set, map, get_or, sym, refl, ap, ◌∙◌, subst, arith, ◌⊎◌, inl, inr, ⊎_elim, Some}
+use Rattle.std.proofs.Common.{◌≡◌, ◌≢◌, ℕ, zero, suc, ◌+◌, ◌<◌, ◌≤◌, List, [], ◌∷◌, ◌++◌, length, replicate, set, map, get_or, sym, refl, ap, ◌∙◌, subst, arith, ⊎_elim, Some}
 use Rattle.std.specs.Prelude.{slice_get, slice_index}
 use native.Mathlib.Decide.{dec_lt}
-use Rattle.std.proofs.lemmas.List.{map-append, length-map, length-replicate, get_or-replicate}
+use Rattle.std.proofs.lemmas.List.{map-append, length-map, length-replicate}
 use Rattle.std.proofs.lemmas.Option.{slice_get-map, get_or_from_slice_get, slice_get_within}
 use Rattle.std.specs.Option.{option_map}
-use Rattle.mh_setonce.specs.Walks.{Distinct, Lacks, Has}
+use Rattle.mh_setonce.specs.Walks.{Distinct, Lacks}
 use Rattle.mh_setonce.proofs.Nodes.{at_push}
 use Rattle.mh_edit.specs.declared.key.Key.{Key}
 use Rattle.mh_handle.specs.Form.{FormView}

@@ -1,5 +1,5 @@
 -- A handle whose fields stand for what those of another one stand for stands for what that one stands for.
-use Rattle.std.proofs.Common.{◌≡◌, sym, subst, ap, ◌∙◌, ℕ, ◌<◌, ◌^◌, List, Ok, map, length}
+use Rattle.std.proofs.Common.{◌≡◌, sym, subst, ap, ◌∙◌, ℕ, List, Ok, map, length}
 use Rattle.std.proofs.lemmas.List.{length-map}
 use Rattle.mh_values.specs.declared.types.MethodTy.{MethodTy}
 use Rattle.mh_values.specs.declared.value.Value.{Value}

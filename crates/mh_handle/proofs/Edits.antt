@@ -1,5 +1,5 @@
 -- What an edit leaves of a pass, where a form had to be made.
-use Rattle.std.proofs.Common.{◌≡◌, ℕ, ◌<◌, List, [], ◌∷◌, ◌++◌, sym, ap, ◌∙◌, subst, ◌⊎◌, inl, inr, ⊎_elim, Result, Ok, Err, Some}
+use Rattle.std.proofs.Common.{◌≡◌, ℕ, List, [], ◌∷◌, ◌++◌, ap, ◌∙◌, subst, inl, inr, ⊎_elim, Result, Ok, Err}
 use Rattle.std.specs.Prelude.{slice_get}
 use denote.Ref.{Bor}
 use Rattle.mh_edit.specs.declared.key.Key.{Key}
@@ -9,7 +9,7 @@ use Rattle.mh_handle.specs.declared.error.EditError.{EditError}
 use Rattle.mh_handle.specs.declared.error.EditError.TheVariants.{NoMemory, FormsFull}
 use Rattle.mh_handle.specs.Form.{FormView}
 use Rattle.mh_handle.specs.Index.{recipe_of}
-use Rattle.mh_handle.specs.Passes.{SeatView, PassView, Learns, Draws, DrawsAtMostOne, Edits, Makes}
+use Rattle.mh_handle.specs.Passes.{PassView, Learns, Draws, Edits, Makes}
 use Rattle.mh_handle.proofs.Passing.{lacks-same}
 
 lacks-before : (nodes nodes' : List FormView) (recipe : List Key) → StartsWith nodes' nodes → Lacks recipe_of nodes' recipe → Lacks recipe_of nodes recipe

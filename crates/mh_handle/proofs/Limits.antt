@@ -9,7 +9,7 @@ use Rattle.mh_values.specs.declared.types.MethodTy.{MethodTy}
 use Rattle.mh_values.specs.Class.{internal_error_class}
 use Rattle.mh_values.specs.Exception.{saying}
 use Rattle.mh_values.specs.Slots.{slots_of, slots_of_all}
-use Rattle.mh_tree.specs.Rows.{Checked, illegal, limited, provided}
+use Rattle.mh_tree.specs.Rows.{illegal, limited, provided}
 use Rattle.mh_tree.proofs.Provided.{provided-parts}
 
 -- each type takes at least one slot

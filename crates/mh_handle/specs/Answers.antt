@@ -1,5 +1,5 @@
 -- What a call of a handle gives.
-use Rattle.std.specs.Prelude.{◌≡◌, ℕ, List, Option, Some, None, length, map}
+use Rattle.std.specs.Prelude.{◌≡◌, ℕ, List, Option, Some, None}
 use Rattle.mh_values.specs.declared.class.Class.{Class}
 use Rattle.mh_values.specs.declared.types.Ty.{Ty}
 use Rattle.mh_values.specs.declared.value.LeafCall.{LeafCall}

@@ -1,5 +1,5 @@
 -- How a handle grows by an edit of its form, and what it is as a part of another handle.
-use Rattle.std.specs.Prelude.{◌≡◌, ℕ, List, [], ◌∷◌, ◌++◌, None}
+use Rattle.std.specs.Prelude.{◌≡◌, ℕ, List, [], ◌∷◌, ◌++◌, None, Result, IfOk}
 use Rattle.std.specs.declared.boxed.Box.{Box}
 use Rattle.std.specs.declared.alloc.Global.{Global}
 use Rattle.mh_values.specs.declared.types.MethodTy.{MethodTy}
@@ -7,7 +7,10 @@ use Rattle.mh_form.specs.declared.field.Bound.{Bound}
 use Rattle.mh_form.specs.declared.field.Field.{Field}
 use Rattle.mh_form.specs.declared.field.Field.TheVariants as field
 use Rattle.mh_edit.specs.declared.key.Key.{Key}
-use Rattle.mh_handle.specs.Form.{base_form}
+use Rattle.mh_handle.specs.declared.error.HandleError.{HandleError}
+use Rattle.mh_handle.specs.declared.grow.Growth.{Growth}
+use Rattle.mh_handle.specs.declared.handle.Handle.{Handle}
+use Rattle.mh_handle.specs.Form.{FormView, base_form}
 use Rattle.mh_handle.specs.Stands.{HandleView, handle_body}
 
 -- the new handle has this type and this weight, and side types, a key and fields behind those that the old one has
@@ -18,9 +21,17 @@ pub record Grows (old new : HandleView) (ty : MethodTy) (weight : ℕ) (sides : 
   pub made : new.form.recipe ≡ old.form.recipe ++ key ∷ []
   pub fielded : new.fields ≡ old.fields ++ fields
 
--- the handle of the form that does nothing, of which roots are made
+-- a form with fields and side types, of which a handle is made
+abbrev pub untyped : FormView → List MethodTy → List Field → HandleView
+untyped form sides fields = record { ty = record { params = []; ret = None }; weight = 0; sides = sides; form = form; fields = fields }
+
+-- the form that does nothing, of which roots are made
 abbrev pub base_handle : HandleView
-base_handle = record { ty = record { params = []; ret = None }; weight = 0; sides = []; form = base_form; fields = [] }
+base_handle = untyped base_form [] []
+
+-- a handle that was made has grown by all that the combinator adds
+abbrev pub GrowsBy : HandleView → Growth → Result Handle HandleError → Type 0
+GrowsBy old by made = IfOk made (λ new. Grows old new by.ty by.weight by.sides by.key by.fields.items)
 
 -- the field holds the handle's form, bound to the handle's fields
 abbrev pub IsPartOf : HandleView → Field → Type 0

@@ -13,6 +13,7 @@ use Rattle.mh_form.specs.declared.body.FormBody.{FormBody}
 use Rattle.mh_form.specs.declared.field.Field.{Field}
 use Rattle.mh_form.specs.Erasure.{basic_of, erased, erased_ran}
 use Rattle.mh_form.specs.Run.{Part, run_on}
+use Rattle.mh_edit.specs.Fit.{is_nothing}
 use Rattle.mh_handle.specs.Form.{FormView, body_of}
 use Rattle.mh_handle.specs.Recipe.{recipe}
 
@@ -35,6 +36,15 @@ handle_run table h = run_on table (handle_body h) h.fields
 -- a body that does something: it has a name, or a result
 abbrev pub IsMade : FormBody → Type 0
 IsMade body = (length body.names == 0 && not (is_some body.out)) ≡ false
+
+-- the body takes what the type says, with types erased
+abbrev pub HasShape : FormBody → MethodTy → Type 0
+HasShape body t = body.params ≡ map basic_of t.params
+
+-- the handle's form was made by a key, and takes what the handle's type says
+pub record IsShaped (h : HandleView) : Type 0 where
+  pub made : is_nothing (handle_body h) ≡ false
+  pub params : HasShape (handle_body h) h.ty
 
 -- the handle has the type, the weight, the recipe and the side types of the tree, and on all arguments of its type it does what the tree does, with types erased; that is well formed, and what it returns has the return type
 pub record Stands (table : LeafTable) (h : HandleView) (t : Tree) : Type 0 where

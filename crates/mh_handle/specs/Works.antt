@@ -1,12 +1,11 @@
 -- What the calls that make handles need of a thread's work, and what they leave of it.
 use Rattle.std.specs.Prelude.{◌≡◌, ℕ, ◌≤◌, ◌<◌, List, Result, Ok, Err}
-use Rattle.mh_setonce.specs.Walks.{StartsWith, Lacks}
+use Rattle.mh_setonce.specs.Walks.{StartsWith}
 use Rattle.mh_edit.specs.declared.key.Key.{Key}
 use Rattle.mh_handle.specs.declared.error.HandleError.{HandleError}
 use Rattle.mh_handle.specs.declared.error.HandleError.TheVariants.{NoMemory, FormsFull, Refused}
 use Rattle.mh_handle.specs.declared.handle.Handle.{Handle}
 use Rattle.mh_handle.specs.declared.work.Work.{Work}
-use Rattle.mh_handle.specs.Index.{recipe_of}
 use Rattle.mh_handle.specs.Passes.{PassView, AsksFor, NotAsked, Draws, DrawsAtMostOne}
 
 -- the pass is one of the table, and may draw so many numbers

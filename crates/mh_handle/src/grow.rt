@@ -1,13 +1,15 @@
 ghost use Rattle.std.specs.Prelude.{◌≡◌, ◌≤◌, ◌++◌, ◌∷◌, [], IfOk, IsTrue};
-ghost use Rattle.mh_edit.specs.Fit.{fits};
 ghost use Rattle.mh_form.specs.Body.{nothing};
-ghost use Rattle.mh_handle.specs.Stands.{handle_body};
-ghost use Rattle.mh_handle.specs.Grows.{Grows, IsPartOf, base_handle};
+ghost use Rattle.mh_edit.specs.Applied.{applied};
+ghost use Rattle.mh_edit.specs.Fit.{fits};
+ghost use Rattle.mh_handle.specs.Form.{body_of};
+ghost use Rattle.mh_handle.specs.Stands.{HasShape, handle_body};
+ghost use Rattle.mh_handle.specs.Grows.{GrowsBy, IsPartOf, base_handle, untyped};
 ghost use Rattle.mh_handle.specs.Works.{IsReady, GoesOn, Makes, IsAccepted};
 
 use crate::error::HandleError;
+use crate::form::Form;
 use crate::handle::{Handle, MethodTys};
-use crate::table::FormTable;
 use crate::work::Work;
 use mh_base::{NoMemory, Seq};
 use mh_edit::Key;
@@ -27,6 +29,50 @@ pub struct Growth<'t> {
     pub fields: Fields<'t>,
 }
 
+/// The handle that an edit makes of a form with its fields and the types of its side parts.
+fn edited<'t, R: Wait>(
+    rt: &R,
+    alloc: Global,
+    w: &mut Work<'_, 't>,
+    form: &'t Form,
+    fields: Fields<'t>,
+    sides: MethodTys,
+    by: Growth<'t>,
+) -> Result<Handle<'t>, HandleError>
+    requires fits { IsTrue (fits by.key (body_of form.now.recipe)) }
+    requires shaped { HasShape (applied by.key (body_of form.now.recipe)) by.ty }
+    requires light { by.weight ≤ 256 }
+    requires ready { IsReady w.old 1 }
+    ensures goes_on { GoesOn w.old w.new }
+    ensures makes { Makes (form.entry.now.recipe ++ by.entry.key ∷ [])
+        w.old.pass.now w.new.pass.now result }
+    ensures accepted { IsAccepted result }
+    ensures grows { GrowsBy (untyped form.entry.now sides fields.entry.items) by.entry result }
+{
+    let Growth {
+        ty,
+        weight,
+        sides: more_sides,
+        key,
+        fields: mut more_fields,
+    } = by;
+    let mut sides = sides;
+    let mut fields = fields;
+    sides.append(more_sides)?;
+    append_fields(&mut fields, &mut more_fields)?;
+    let form = w.edit(rt, alloc, form, key)?;
+    Ok(Handle {
+        ty,
+        weight,
+        sides,
+        form,
+        bound: Bound {
+            body: form.body(),
+            fields,
+        },
+    })
+}
+
 impl<'t> Handle<'t> {
     /// The handle after an edit of its form.
     pub fn grown<R: Wait>(
@@ -37,44 +83,24 @@ impl<'t> Handle<'t> {
         by: Growth<'t>,
     ) -> Result<Handle<'t>, HandleError>
         requires fits { IsTrue (fits by.key (handle_body self)) }
+        requires shaped { HasShape (applied by.key (handle_body self)) by.ty }
         requires light { by.weight ≤ 256 }
         requires ready { IsReady w.old 1 }
         ensures goes_on { GoesOn w.old w.new }
-        ensures makes { Makes (self.entry.form.recipe ++ by.entry.key ∷ []) w.old.pass.now w.new.pass.now result }
+        ensures makes { Makes (self.entry.form.recipe ++ by.entry.key ∷ [])
+            w.old.pass.now w.new.pass.now result }
         ensures accepted { IsAccepted result }
-        ensures grows { IfOk result (λ h. Grows self.entry h by.entry.ty by.entry.weight by.entry.sides by.entry.key by.entry.fields.items) }
+        ensures grows { GrowsBy self.entry by.entry result }
     {
         let Handle {
             ty: _,
             weight: _,
-            mut sides,
+            sides,
             form,
             bound,
         } = self;
-        let Bound {
-            body: _,
-            mut fields,
-        } = bound;
-        let Growth {
-            ty,
-            weight,
-            sides: more_sides,
-            key,
-            fields: mut more_fields,
-        } = by;
-        sides.append(more_sides)?;
-        append_fields(&mut fields, &mut more_fields)?;
-        let form = w.edit(rt, alloc, form, key)?;
-        Ok(Handle {
-            ty,
-            weight,
-            sides,
-            form,
-            bound: Bound {
-                body: form.body(),
-                fields,
-            },
-        })
+        let Bound { body: _, fields } = bound;
+        edited(rt, alloc, w, form, fields, sides, by)
     }
 
     /// A handle whose form is made by a root.
@@ -85,33 +111,16 @@ impl<'t> Handle<'t> {
         by: Growth<'t>,
     ) -> Result<Handle<'t>, HandleError>
         requires fits { IsTrue (fits by.key nothing) }
+        requires shaped { HasShape (applied by.key nothing) by.ty }
         requires light { by.weight ≤ 256 }
         requires ready { IsReady w.old 1 }
         ensures goes_on { GoesOn w.old w.new }
         ensures makes { Makes (by.entry.key ∷ []) w.old.pass.now w.new.pass.now result }
         ensures accepted { IsAccepted result }
-        ensures grows { IfOk result (λ h. Grows base_handle h by.entry.ty by.entry.weight by.entry.sides by.entry.key by.entry.fields.items) }
+        ensures grows { GrowsBy base_handle by.entry result }
     {
-        Handle::base(alloc, w.forms).grown(rt, alloc, w, by)
-    }
-
-    fn base(alloc: Global, forms: &'t FormTable) -> Handle<'t>
-        ensures { result ≡ base_handle }
-    {
-        let form = forms.base();
-        Handle {
-            ty: MethodTy {
-                params: Seq::new(alloc),
-                ret: None,
-            },
-            weight: 0,
-            sides: Seq::new(alloc),
-            form,
-            bound: Bound {
-                body: form.body(),
-                fields: Vec::new(alloc),
-            },
-        }
+        let base = w.forms.base();
+        edited(rt, alloc, w, base, Vec::new(alloc), Seq::new(alloc), by)
     }
 
     /// The handle as a part of another one: the field that holds it, and the types that it holds.

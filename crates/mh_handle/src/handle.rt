@@ -1,5 +1,6 @@
 ghost use Rattle.std.specs.Prelude.{◌≡◌, ◌≤◌, [], length};
 ghost use Rattle.mh_handle.specs.Form.{base_form, body_of};
+ghost use Rattle.mh_handle.specs.Stands.{IsShaped};
 
 use crate::form::Form;
 use crate::table::FormTable;
@@ -40,13 +41,20 @@ impl<'t> Model for Handle<'t> {
 
     ghost view = { λ h. record { ty = h.ty; weight = h.weight; sides = h.sides; form = h.form.now; fields = h.bound.fields.items } };
 
-    ghost invariant = { λ h. (h.bound.body.now ≡ body_of h.form.now.recipe) × (h.weight ≤ 256) };
+    ghost use Rattle.std.specs.Prelude.{false};
+    ghost use Rattle.mh_edit.specs.Fit.{is_nothing};
+    ghost use Rattle.mh_handle.specs.Stands.{HasShape};
+
+    ghost invariant = { λ h. (h.bound.body.now ≡ body_of h.form.now.recipe) × (h.weight ≤ 256)
+        × (is_nothing (body_of h.form.now.recipe) ≡ false)
+        × HasShape (body_of h.form.now.recipe) h.ty };
 }
 
 impl<'t> Handle<'t> {
-    /// The handle's type.
+    /// The handle's type, of which its form has the shape.
     pub fn ty(&self) -> &MethodTy
-        ensures { result.now ≡ self.now.ty }
+        ensures ty { result.now ≡ self.now.ty }
+        ensures shaped { IsShaped self.now }
     {
         &self.ty
     }

@@ -1,4 +1,5 @@
 ghost use Rattle.std.specs.Prelude.{◌≡◌, ◌++◌, ◌∷◌, [], IsTrue};
+ghost use Rattle.mh_values.specs.Classes.{AreClasses};
 ghost use Rattle.mh_edit.specs.Fit.{fits};
 ghost use Rattle.mh_handle.specs.Form.{body_of};
 ghost use Rattle.mh_handle.specs.Passes.{Edits};
@@ -10,6 +11,7 @@ use crate::pass::FormPass;
 use crate::table::FormTable;
 use mh_edit::Key;
 use mh_leaves::Leaves;
+use mh_values::Classes;
 use std::alloc::Global;
 use std::sync::Wait;
 
@@ -22,6 +24,16 @@ pub struct Work<'w, 't> {
 }
 
 impl<'w, 't> Work<'w, 't> {
+    /// The classes of the leaves.
+    pub fn classes(&self) -> &'t Classes
+        ensures classes { result.now ≡ self.now.leaves.now.classes }
+        ensures are { AreClasses result.now }
+    {
+        let classes = self.leaves.classes();
+        let _count = classes.len();
+        classes
+    }
+
     /// The form whose recipe is that of `form` followed by the key, as `FormTable::edit`.
     pub(crate) fn edit<R: Wait>(
         &mut self,

@@ -1,4 +1,4 @@
-use Rattle.std.proofs.Common.{◌≡◌, refl, sym, ap, ◌∙◌, rules}
+use Rattle.std.proofs.Common.{refl, ap, ◌∙◌}
 use Rattle.mh_handle.proofs.handle.Handle.into_part.Goals as goal
 
 pub returns-clause-part : goal.returns-clause-part

@@ -1,4 +1,4 @@
-use Rattle.std.proofs.Common.{◌≡◌, ap, ◌∙◌, sym, rules, arith, map, ◌++◌, ◌∷◌, []}
+use Rattle.std.proofs.Common.{ap, ◌∙◌, arith, map, ◌++◌, ◌∷◌, []}
 use Rattle.std.proofs.lemmas.List.{length-map}
 use Rattle.mh_handle.proofs.Asked.{indexed-add, mapped-push, read-is}
 use Rattle.mh_handle.proofs.seen.SeenForms.add.Goals as goal
