@@ -7,20 +7,22 @@ use Rattle.mh_values.specs.Classes.{AreClasses}
 use Rattle.mh_values.specs.Same.{is_same_method_type}
 use Rattle.mh_leaf.specs.LeafTable.{LeafTable}
 use Rattle.mh_tree.specs.Tree.{Tree}
-use Rattle.mh_tree.specs.Check.{Tells}
 use Rattle.mh_tree.specs.Rows.{Checked, astype_row}
 use Rattle.mh_tree.specs.declared.error.CheckError.{CheckError}
 use Rattle.mh_tree.specs.declared.error.CheckError.TheVariants as check
 use Rattle.mh_tree.proofs.RowParts.{astype_row-parts}
 use Rattle.mh_edit.specs.declared.key.Key.{Key}
 use Rattle.mh_handle.specs.declared.error.HandleError.{HandleError}
+use Rattle.mh_handle.specs.declared.error.HandleError.TheVariants.{NoMemory, FormsFull, Refused}
 use Rattle.mh_handle.specs.declared.handle.Handle.{Handle}
 use Rattle.mh_handle.specs.Converting.{IsUsedAs}
 use Rattle.mh_handle.specs.Errors.{of_check}
+use Rattle.mh_handle.specs.Obeys.{Obeys}
 use Rattle.mh_handle.specs.Passes.{PassView}
 use Rattle.mh_handle.specs.Recipe.{convert_keys}
 use Rattle.mh_handle.specs.Stands.{HandleView, Stands}
-use Rattle.mh_astype.specs.Use.{MakesBy, TellsRow, use_keys, use_row, used_as}
+use Rattle.mh_handle.specs.Works.{IsAccepted}
+use Rattle.mh_astype.specs.Use.{MakesBy, use_keys, use_row, used_as}
 use Rattle.mh_astype.proofs.Using.{trivial, used-kept, used-stands}
 
 pub differs : (b : Bool) (own own' asked : MethodTy) → b ≡ false → b ≡ is_same_method_type own asked → own ≡ own' → is_same_method_type own' asked ≡ false
@@ -36,10 +38,13 @@ row-of-other classes own w asked other = sym (ap (λ b. cond b (Ok own) (astype_
 pub found-row : (classes : List Class) (own : MethodTy) (w : ℕ) (asked u : MethodTy) → astype_row classes own w asked ≡ Ok u → astype_row classes own w u ≡ Ok u
 found-row classes own w asked u row = let P : MethodTy → Type 0 = λ a. astype_row classes own w a ≡ Ok u in subst P (sym (astype_row-parts classes own w asked u row).2) row
 
-pub refused-tells : (row row' : Checked) (e : CheckError) (r : Result Handle HandleError) → Tells (Err e) row → row ≡ row' → IsErrAnd r (λ x. x ≡ of_check e) → TellsRow r row'
-refused-tells row row' e (Ok h) tells same is = absurd is
-refused-tells row row' check.NoMemory (Err x) tells same is = subst (λ v. TellsRow (Err v) row') (sym is) tt
-refused-tells row row' (check.Refused e) (Err x) tells same is = subst (λ v. TellsRow (Err v) row') (sym is) (sym same ∙ tells)
+pub used-obeys :
+    (row : Checked) (classes : List Class) (asked : MethodTy) (old : HandleView) (r : Result Handle HandleError) →
+    row ≡ Ok asked → IsAccepted r → IfOk r (IsUsedAs classes asked old) → Obeys row r
+used-obeys row classes asked old (Ok h) is accepted used = is ∙ ap Ok (sym used.ty)
+used-obeys row classes asked old (Err NoMemory) is accepted used = tt
+used-obeys row classes asked old (Err (FormsFull drawn)) is accepted used = (asked, is)
+used-obeys row classes asked old (Err (Refused e)) is accepted used = absurd accepted
 
 pub refused-makes : (recipe keys : List Key) (pass : PassView) (e : CheckError) (r : Result Handle HandleError) → IsErrAnd r (λ x. x ≡ of_check e) → MakesBy recipe keys pass pass r
 refused-makes recipe keys pass e (Ok h) is = absurd is

@@ -1,6 +1,5 @@
 -- What exact and generic calls of a handle answer that stands for a tree.
-use Rattle.std.proofs.Common.{◌≡◌, ◌≢◌, refl, sym, ap, ap₂, ◌∙◌, subst, ℕ, ◌+◌, ◌<◌, ◌^◌, Bool, true, false, cond, ◌&&◌, List, [], ◌∷◌, ◌++◌, length, map, Option, Some, Result, Ok, Err, IfOk, inl, inr, ⊎_elim, ◌⊎◌}
-use Rattle.std.specs.Prelude.{IsErrAnd}
+use Rattle.std.proofs.Common.{◌≡◌, ◌≢◌, refl, sym, ap, ap₂, ◌∙◌, subst, ℕ, ◌+◌, ◌<◌, ◌^◌, Bool, true, false, cond, List, [], ◌∷◌, ◌++◌, length, map, Option, Some, Result, Ok, Err, IfOk}
 use Rattle.std.proofs.lemmas.List.{append-nil}
 use Rattle.mh_values.specs.declared.class.Class.{Class}
 use Rattle.mh_values.specs.declared.types.MethodTy.{MethodTy}
@@ -8,7 +7,7 @@ use Rattle.mh_values.specs.declared.value.Exc.{Exc}
 use Rattle.mh_values.specs.declared.value.Outcome.TheVariants.{Throw}
 use Rattle.mh_values.specs.declared.value.Value.{Value}
 use Rattle.mh_values.specs.Classes.{AreClasses}
-use Rattle.mh_values.specs.Computation.{Ran, Gave, Threw, Stuck, and_then}
+use Rattle.mh_values.specs.Computation.{Threw, Stuck, and_then}
 use Rattle.mh_values.specs.HasType.{HaveTypes}
 use Rattle.mh_values.specs.Same.{is_same_method_type}
 use Rattle.mh_values.proofs.SameTypes.{both, same_method_type-is}
@@ -22,14 +21,14 @@ use Rattle.mh_tree.specs.Meaning as meaning
 use Rattle.mh_tree.proofs.RowParts.{astype_row-parts}
 use Rattle.mh_tree.proofs.SoundConversions.{conv_all-converts}
 use Rattle.mh_form.specs.declared.field.Field.{Field}
-use Rattle.mh_form.specs.Erasure.{erased, erased_ran}
+use Rattle.mh_form.specs.Erasure.{erased}
 use Rattle.mh_form.specs.Run.{run_on}
 use Rattle.mh_edit.specs.declared.key.Key.{Key}
 use Rattle.mh_handle.specs.Answers.{AnswerView, IsAnswer, typed_ran}
 use Rattle.mh_handle.specs.Form.{FormView, body_of}
 use Rattle.mh_handle.specs.Recipe.{are_trivial, convert_keys, recipe}
 use Rattle.mh_handle.specs.Recipe as Rec
-use Rattle.mh_handle.specs.Stands.{HandleView, Stands, handle_run}
+use Rattle.mh_handle.specs.Stands.{HandleView, Stands}
 use Rattle.mh_handle.specs.Converting.{IsUsedAs, convert_fields}
 use Rattle.mh_handle.proofs.Answering.{typed_run-stands, typed_run-well_formed}
 use Rattle.mh_handle.proofs.AsTypeStands.{astype-stands}

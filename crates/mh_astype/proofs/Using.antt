@@ -1,5 +1,5 @@
 -- What is known where a handle is used as another type.
-use Rattle.std.proofs.Common.{◌≡◌, refl, sym, ap, ap₂, ◌∙◌, subst, ℕ, ◌+◌, ◌≤◌, Bool, true, false, cond, ◌&&◌, List, [], ◌∷◌, ◌++◌, length, map, codes, Option, Result, Ok, Err, IfOk, inl}
+use Rattle.std.proofs.Common.{◌≡◌, refl, sym, ap, ap₂, ◌∙◌, subst, ℕ, ◌+◌, ◌≤◌, Bool, true, false, not, cond, ◌&&◌, List, [], ◌∷◌, ◌++◌, length, map, codes, Result, Ok, Err, IfOk, inl}
 use Rattle.std.specs.Prelude.{nat_le, option_to_list, IsErrAnd}
 use Rattle.std.proofs.lemmas.Bool.{eq-eqb, leb-true}
 use Rattle.std.proofs.lemmas.List.{append-nil, length-map}
@@ -14,7 +14,7 @@ use Rattle.mh_values.proofs.SameTypes.{both, both-true}
 use Rattle.mh_convert.specs.Conversion.{is_trivial_ret, ret_conversion_of}
 use Rattle.mh_leaf.specs.LeafTable.{LeafTable}
 use Rattle.mh_tree.specs.Tree.{Tree, AsType}
-use Rattle.mh_tree.specs.Rows.{Checked, illegal, provided, limited, can_be_used_as, mismatch, astype_row}
+use Rattle.mh_tree.specs.Rows.{illegal, provided, limited, can_be_used_as, mismatch, astype_row}
 use Rattle.mh_tree.proofs.RowParts.{provided-parts, astype_row-parts}
 use Rattle.mh_form.specs.declared.field.Field.{Field}
 use Rattle.mh_form.specs.declared.field.Field.TheVariants as field
@@ -22,23 +22,23 @@ use Rattle.mh_form.specs.Erasure.{basic_of}
 use Rattle.mh_edit.specs.declared.key.Key.{Key}
 use Rattle.mh_edit.specs.declared.key.Key.TheVariants.{Convert}
 use Rattle.mh_edit.specs.declared.key.RetEntry.{RetEntry}
+use Rattle.mh_edit.specs.Applied.{applied, conv_params, converting}
 use Rattle.mh_edit.specs.Fit.{fits}
 use Rattle.mh_handle.specs.declared.error.HandleError.{HandleError}
-use Rattle.mh_handle.specs.declared.error.HandleError.TheVariants.{NoMemory, FormsFull, Refused}
+use Rattle.mh_handle.specs.declared.error.HandleError.TheVariants.{NoMemory}
 use Rattle.mh_handle.specs.declared.handle.Handle.{Handle}
 use Rattle.mh_handle.specs.declared.work.Work.{Work}
-use Rattle.mh_handle.specs.Converting.{IsUsedAs, convert_fields, convs_of, ret_fields_of}
+use Rattle.mh_handle.specs.Converting.{IsUsedAs, convert_fields}
 use Rattle.mh_handle.specs.Grows.{Grows}
 use Rattle.mh_handle.specs.Passes.{PassView}
 use Rattle.mh_handle.specs.Recipe.{are_trivial, convert_keys, entries_of, ret_entry_of}
-use Rattle.mh_handle.specs.Stands.{HandleView, Stands, handle_body}
+use Rattle.mh_handle.specs.Stands.{HandleView, HasShape, IsShaped, Stands, handle_body}
 use Rattle.mh_handle.specs.Works.{GoesOn, Makes}
 use Rattle.mh_handle.proofs.AsTypeStands.{astype-stands}
-use Rattle.mh_handle.proofs.ConvertedParameters.{length-entries}
+use Rattle.mh_handle.proofs.ConvertedParameters.{length-entries, params-converted, params-kept, returning-params}
 use Rattle.mh_handle.proofs.Passing.{starts-refl}
-use Rattle.mh_handle.proofs.Standing.{made-fits}
 use Rattle.mh_handle.proofs.TrivialConversions.{none-converted}
-use Rattle.mh_astype.specs.Use.{StandsForSome, MakesBy, TellsRow, use_keys, use_row, used_as}
+use Rattle.mh_astype.specs.Use.{MakesBy, used_as}
 
 -- ---- the row
 
@@ -54,15 +54,32 @@ light classes own weight asked u h =
 
 -- the key of the conversions fits
 pub convert-fits :
-    (table : LeafTable) (h : HandleView) (asked u : MethodTy) (re : RetEntry) →
-    StandsForSome table h → astype_row table.classes h.ty h.weight asked ≡ Ok u →
-    fits (Convert (entries_of table.classes asked.params h.ty.params) re) (handle_body h) ≡ true
-convert-fits table h asked u re some row =
-    let st : Stands table h some.0 = some.1 in
-    let q = astype_row-parts table.classes h.ty h.weight asked u row in
-    let long : length (entries_of table.classes asked.params h.ty.params) ≡ length (handle_body h).params =
-    length-entries table.classes asked.params h.ty.params q.0 ∙ sym (ap length st.shaped ∙ length-map h.ty.params basic_of) in
-    both-true _ _ (made-fits (handle_body h) st.begun) (eq-eqb _ _ long)
+    (classes : List Class) (h : HandleView) (asked u : MethodTy) (re : RetEntry) →
+    IsShaped h → astype_row classes h.ty h.weight asked ≡ Ok u →
+    fits (Convert (entries_of classes asked.params h.ty.params) re) (handle_body h) ≡ true
+convert-fits classes h asked u re shaped row =
+    let q = astype_row-parts classes h.ty h.weight asked u row in
+    let long : length (entries_of classes asked.params h.ty.params) ≡ length (handle_body h).params =
+    length-entries classes asked.params h.ty.params q.0 ∙ sym (ap length shaped.params ∙ length-map h.ty.params basic_of) in
+    both-true _ _ (ap not shaped.made) (eq-eqb _ _ long)
+
+-- what the key makes takes what the type says
+pub convert-shaped :
+    (classes : List Class) (h : HandleView) (asked u : MethodTy) (re : RetEntry) →
+    IsShaped h → astype_row classes h.ty h.weight asked ≡ Ok u →
+    HasShape (applied (Convert (entries_of classes asked.params h.ty.params) re) (handle_body h)) asked
+convert-shaped classes h asked u re shaped row =
+    let es = entries_of classes asked.params h.ty.params in
+    returning-params re (converting es (handle_body h))
+    ∙ (ap (conv_params es) shaped.params ∙ params-converted classes asked.params h.ty.params (astype_row-parts classes h.ty h.weight asked u row).0)
+
+-- where nothing is converted the shape stays
+pub kept-shaped :
+    (classes : List Class) (h : HandleView) (asked u : MethodTy) →
+    IsShaped h → astype_row classes h.ty h.weight asked ≡ Ok u → are_trivial classes asked.params h.ty.params ≡ true →
+    HasShape (handle_body h) asked
+kept-shaped classes h asked u shaped row kept =
+    shaped.params ∙ params-kept classes asked.params h.ty.params (astype_row-parts classes h.ty h.weight asked u row).0 kept
 
 -- ---- the key and the fields
 

@@ -1,5 +1,5 @@
 -- What a handle becomes that is used as a type, and what that leaves of a pass.
-use Rattle.std.specs.Prelude.{◌≡◌, ℕ, ◌<◌, List, [], ◌∷◌, ◌++◌, if◌then◌else◌, Result, Ok, Err}
+use Rattle.std.specs.Prelude.{◌≡◌, ℕ, List, [], ◌∷◌, ◌++◌, if◌then◌else◌, Result, Ok, Err}
 use Rattle.mh_values.specs.declared.class.Class.{Class}
 use Rattle.mh_values.specs.declared.types.MethodTy.{MethodTy}
 use Rattle.mh_values.specs.Same.{is_same_method_type}
@@ -8,7 +8,7 @@ use Rattle.mh_tree.specs.Tree.{Tree, AsType}
 use Rattle.mh_tree.specs.Rows.{Checked, astype_row}
 use Rattle.mh_edit.specs.declared.key.Key.{Key}
 use Rattle.mh_handle.specs.declared.error.HandleError.{HandleError}
-use Rattle.mh_handle.specs.declared.error.HandleError.TheVariants.{NoMemory, FormsFull, Refused}
+use Rattle.mh_handle.specs.declared.error.HandleError.TheVariants.{FormsFull}
 use Rattle.mh_handle.specs.declared.handle.Handle.{Handle}
 use Rattle.mh_handle.specs.Passes.{PassView}
 use Rattle.mh_handle.specs.Recipe.{convert_keys}
@@ -30,12 +30,6 @@ use_row classes own weight asked = if is_same_method_type own asked then Ok own 
 -- the key of the conversions, none where nothing changes
 abbrev pub use_keys : List Class → MethodTy → MethodTy → List Key
 use_keys classes own asked = if is_same_method_type own asked then [] else convert_keys classes asked own
-
--- the very type, or the very refusal; want of memory or forms tells nothing
-abbrev pub TellsRow : Result Handle HandleError → Checked → Type 0
-TellsRow (Ok h) row = row ≡ Ok h.ty
-TellsRow (Err (Refused e)) row = row ≡ Err e
-TellsRow (Err e) row = Unit {0}
 
 -- what a call leaves of the pass that adds these keys to a recipe: nothing is asked for where there is none
 abbrev pub MakesBy : List Key → List Key → PassView → PassView → Result Handle HandleError → Type 0
