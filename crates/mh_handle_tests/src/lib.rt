@@ -1,0 +1,7 @@
+//! Handles that are made by the combinators, and called.
+#![tactic(auto)]
+
+#[cfg(test)]
+mod making;
+#[cfg(test)]
+mod parts_tests;
