@@ -1,2 +1,16 @@
 pub mod Placing
 pub mod Runs
+pub mod Spelling
+pub mod EntrySpelling
+pub mod PoolSpelling
+pub mod Standing
+pub mod Good
+pub mod CodeSpelling
+pub mod MethodSpelling
+pub mod BootstrapSpelling
+pub mod Reading
+pub mod Fitting
+pub mod Entries
+pub mod Counting
+pub mod WholeClass
+pub mod MadeFile

@@ -3,3 +3,4 @@ pub mod Layout
 pub mod Constants
 pub mod Parts
 pub mod File
+pub mod ReadBack

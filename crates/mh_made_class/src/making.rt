@@ -1,7 +1,8 @@
 ghost use Rattle.std.specs.Prelude.{◌≡◌, ◌<◌, ◌^◌, ◌++◌, IfOk, OnOk};
 ghost use Rattle.mh_made_class.specs.Sites.{AreMakeable};
 ghost use Rattle.mh_made_class.specs.Constants.{pool_of};
-ghost use Rattle.mh_made_class.specs.File.{version, class_names, fields, made_class};
+ghost use Rattle.mh_made_class.specs.File.{version, class_names, made_class};
+ghost use Rattle.mh_made_class.specs.ReadBack.{ReadsBack};
 
 use crate::constants::{push_common, push_site};
 use crate::layout::{Layout, place};
@@ -51,11 +52,8 @@ fn push_pool(alloc: Global, file: &mut Vec<u8>, layout: &Layout<'_>) -> Result<(
     Ok(())
 }
 
-/// The class file of a class `made/Main` with these call sites, one behind the other in its method
-/// `run()V`, each with a bootstrap method of its own. It serves tests and inputs that are generated.
-/// The class is read back by `mh_classfile::read` where each type is a method descriptor.
 #[tactic(auto, unfolding(crate::specs::File::made_class))]
-pub fn make_class(alloc: Global, sites: &MadeSites) -> Result<Vec<u8>, NoMemory>
+fn write_class(alloc: Global, sites: &MadeSites) -> Result<Vec<u8>, NoMemory>
     requires { AreMakeable sites.now }
     ensures { IfOk result (λ file. file.items ≡ made_class sites.now) }
 {
@@ -68,4 +66,17 @@ pub fn make_class(alloc: Global, sites: &MadeSites) -> Result<Vec<u8>, NoMemory>
     push_methods(alloc, &mut file, &layout.sites)?;
     push_class_attributes(alloc, &mut file, &layout.sites)?;
     Ok(file)
+}
+
+/// The class file of a class `made/Main` with these call sites, one behind the other in its method
+/// `run()V`, each with a bootstrap method of its own in `made/Boot`. It is made for tests and for
+/// inputs that are generated, and not to be loaded: `made/Boot` need not be there.
+pub fn make_class(alloc: Global, sites: &MadeSites) -> Result<Vec<u8>, NoMemory>
+    requires { AreMakeable sites.now }
+    ensures bytes { IfOk result (λ file. file.items ≡ made_class sites.now) }
+
+    // Where each type is a method descriptor, `mh_classfile::read` gives a class with these sites.
+    ensures class { IfOk result (λ file. ReadsBack sites.now file.items) }
+{
+    write_class(alloc, sites)
 }

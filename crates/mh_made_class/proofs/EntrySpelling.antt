@@ -1,0 +1,254 @@
+-- An entry of the pool is spelled by the bytes that are written of it.
+use Rattle.std.proofs.Common.{◌≡◌, ℕ, ◌<◌, ◌^◌, Bool, false, not, ◌&&◌, [], ◌∷◌, ◌++◌, length, refl, sym, ap}
+use Rattle.std.proofs.lemmas.Bool.{eq-eqb}
+use Rattle.std.proofs.lemmas.List.{append-nil}
+use Rattle.mh_class_bytes.specs.Mutf8.{sound_len}
+use Rattle.mh_class_bytes.specs.Format.{Spells}
+use Rattle.mh_class_pool.specs.declared.entry.Entry.{Entry}
+use Rattle.mh_class_pool.specs.declared.entry.Entry.TheVariants as entries
+use Rattle.mh_class_pool.specs.Entries.{entry, utf8, utf8_bytes, contents, numeric, named, paired, handle, is_wide}
+use Rattle.mh_made_class.specs.Constants.{u2, u4, entry_bytes}
+use Rattle.mh_made_class.proofs.Spelling.{u2_is, u4_is}
+
+-- an entry whose numbers fit, and whose text is one
+abbrev pub IsWritable : Entry → Type 0
+IsWritable (entries.Utf8 text) = (sound_len text ≡ length text) × (length text < 2 ^ 16)
+IsWritable (entries.Integer n) = n < 2 ^ 32
+IsWritable (entries.Long high low) = (high < 2 ^ 32) × (low < 2 ^ 32)
+IsWritable (entries.Class name) = name < 2 ^ 16
+IsWritable (entries.Str text) = text < 2 ^ 16
+IsWritable (entries.Methodref class name) = (class < 2 ^ 16) × (name < 2 ^ 16)
+IsWritable (entries.NameAndType name descriptor) = (name < 2 ^ 16) × (descriptor < 2 ^ 16)
+IsWritable (entries.MethodHandle kind reference) = (kind ≡ 6) × (reference < 2 ^ 16)
+IsWritable (entries.InvokeDynamic bootstrap name) = (bootstrap < 2 ^ 16) × (name < 2 ^ 16)
+IsWritable _ = ⊥
+
+-- An entry is spelled by its bytes, at any index but the last for one that takes two.
+pub entry_spelled : (is_last : Bool) (at : ℕ) (e : Entry) → IsWritable e → (is_last && is_wide e) ≡ false → Spells (entry is_last) at (entry_bytes e) e
+unfolding entry entry_bytes utf8 utf8_bytes contents numeric named paired handle
+entry_spelled is_last at (entries.Utf8 text) w last =
+    let rest = u2 (length text) ++ text in (
+      at,
+      [],
+      1 ∷ rest,
+      refl,
+      (refl, refl),
+      (
+        1,
+        1 ∷ [],
+        rest,
+        refl,
+        (refl, refl),
+        (
+          tt,
+          [],
+          rest,
+          refl,
+          (refl, ap not last),
+          (
+            _,
+            [],
+            rest,
+            refl,
+            (refl, refl),
+            (
+              text,
+              rest,
+              [],
+              sym (append-nil rest),
+              (length text, u2 (length text), text, refl, (refl, u2_is (length text) w.1), (refl, refl)),
+              (tt, [], [], refl, (refl, eq-eqb _ _ w.0), (refl, refl)),
+            ),
+          ),
+        ),
+      ),
+    )
+entry_spelled is_last at (entries.Integer n) w last = (
+  at,
+  [],
+  3 ∷ u4 n,
+  refl,
+  (refl, refl),
+  (
+    3,
+    3 ∷ [],
+    u4 n,
+    refl,
+    (refl, refl),
+    (
+      tt,
+      [],
+      u4 n,
+      refl,
+      (refl, ap not last),
+      (n, u4 n, [], refl, (refl, u4_is n w), (refl, refl)),
+    ),
+  ),
+)
+entry_spelled is_last at (entries.Long high low) w last =
+    let rest = u4 high ++ u4 low in (
+      at,
+      [],
+      5 ∷ rest,
+      refl,
+      (refl, refl),
+      (
+        5,
+        5 ∷ [],
+        rest,
+        refl,
+        (refl, refl),
+        (
+          tt,
+          [],
+          rest,
+          refl,
+          (refl, ap not last),
+          (high, u4 high, u4 low, refl, (refl, u4_is high w.0), (low, u4 low, [], refl, (refl, u4_is low w.1), (refl, refl))),
+        ),
+      ),
+    )
+entry_spelled is_last at (entries.Class name) w last = (
+  at,
+  [],
+  7 ∷ u2 name,
+  refl,
+  (refl, refl),
+  (
+    7,
+    7 ∷ [],
+    u2 name,
+    refl,
+    (refl, refl),
+    (
+      tt,
+      [],
+      u2 name,
+      refl,
+      (refl, ap not last),
+      (name, u2 name, [], refl, (refl, u2_is name w), (refl, refl)),
+    ),
+  ),
+)
+entry_spelled is_last at (entries.Str text) w last = (
+  at,
+  [],
+  8 ∷ u2 text,
+  refl,
+  (refl, refl),
+  (
+    8,
+    8 ∷ [],
+    u2 text,
+    refl,
+    (refl, refl),
+    (
+      tt,
+      [],
+      u2 text,
+      refl,
+      (refl, ap not last),
+      (text, u2 text, [], refl, (refl, u2_is text w), (refl, refl)),
+    ),
+  ),
+)
+entry_spelled is_last at (entries.Methodref class name) w last =
+    let rest = u2 class ++ u2 name in (
+      at,
+      [],
+      10 ∷ rest,
+      refl,
+      (refl, refl),
+      (
+        10,
+        10 ∷ [],
+        rest,
+        refl,
+        (refl, refl),
+        (
+          tt,
+          [],
+          rest,
+          refl,
+          (refl, ap not last),
+          (class, u2 class, u2 name, refl, (refl, u2_is class w.0), (name, u2 name, [], refl, (refl, u2_is name w.1), (refl, refl))),
+        ),
+      ),
+    )
+entry_spelled is_last at (entries.NameAndType name descriptor) w last =
+    let rest = u2 name ++ u2 descriptor in (
+      at,
+      [],
+      12 ∷ rest,
+      refl,
+      (refl, refl),
+      (
+        12,
+        12 ∷ [],
+        rest,
+        refl,
+        (refl, refl),
+        (
+          tt,
+          [],
+          rest,
+          refl,
+          (refl, ap not last),
+          (name, u2 name, u2 descriptor, refl, (refl, u2_is name w.0), (descriptor, u2 descriptor, [], refl, (refl, u2_is descriptor w.1), (refl, refl))),
+        ),
+      ),
+    )
+entry_spelled is_last at (entries.MethodHandle kind reference) w last =
+    let rest = kind ∷ u2 reference in (
+      at,
+      [],
+      15 ∷ rest,
+      refl,
+      (refl, refl),
+      (
+        15,
+        15 ∷ [],
+        rest,
+        refl,
+        (refl, refl),
+        (
+          tt,
+          [],
+          rest,
+          refl,
+          (refl, ap not last),
+          (kind, kind ∷ [], u2 reference, refl, (refl, rw (w.0) refl), (reference, u2 reference, [], refl, (refl, u2_is reference w.1), (refl, refl))),
+        ),
+      ),
+    )
+entry_spelled is_last at (entries.InvokeDynamic bootstrap name) w last =
+    let rest = u2 bootstrap ++ u2 name in (
+      at,
+      [],
+      18 ∷ rest,
+      refl,
+      (refl, refl),
+      (
+        18,
+        18 ∷ [],
+        rest,
+        refl,
+        (refl, refl),
+        (
+          tt,
+          [],
+          rest,
+          refl,
+          (refl, ap not last),
+          (bootstrap, u2 bootstrap, u2 name, refl, (refl, u2_is bootstrap w.0), (name, u2 name, [], refl, (refl, u2_is name w.1), (refl, refl))),
+        ),
+      ),
+    )
+entry_spelled is_last at entries.Float w last = absurd w
+entry_spelled is_last at entries.Double w last = absurd w
+entry_spelled is_last at (entries.Fieldref class name) w last = absurd w
+entry_spelled is_last at (entries.InterfaceMethodref class name) w last = absurd w
+entry_spelled is_last at (entries.MethodType name) w last = absurd w
+entry_spelled is_last at (entries.Dynamic bootstrap name) w last = absurd w
+entry_spelled is_last at (entries.Module name) w last = absurd w
+entry_spelled is_last at (entries.Package name) w last = absurd w
