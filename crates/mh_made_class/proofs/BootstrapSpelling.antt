@@ -1,9 +1,9 @@
 -- The bootstrap methods of a made class are spelled.
-use Rattle.std.proofs.Common.{◌≡◌, ℕ, ◌+◌, ◌<◌, ◌^◌, true, codes, List, [], ◌∷◌, ◌++◌, length, map, Option, None, Some, Ok, refl, sym, ap, subst, append_assoc, arith}
+use Rattle.std.proofs.Common.{◌≡◌, ℕ, ◌+◌, ◌<◌, ◌^◌, true, codes, List, [], ◌∷◌, ◌++◌, length, map, Option, None, Some, Ok, refl, sym, ap, subst, arith}
 use Rattle.std.proofs.lemmas.List.{append-nil}
 use Rattle.std.specs.List.{AllByRecursion, flat_map}
 use Rattle.std.specs.Str.{bytes_eq}
-use Rattle.mh_class_bytes.specs.Format.{Format, Spells, check, done, ◌>>=◌, repeated, listed}
+use Rattle.mh_class_bytes.specs.Format.{Spells, check, done, ◌>>=◌, repeated, listed}
 use Rattle.mh_class_pool.specs.declared.entry.Entry.TheVariants as entries
 use Rattle.mh_class_pool.specs.declared.entry.Kind.TheVariants as kinds
 use Rattle.mh_class_pool.specs.declared.fault.ClassKind.TheVariants.{Truncated, BadBootstraps}
@@ -16,26 +16,11 @@ use Rattle.mh_made_class.specs.Layout.{PlacedArgument, PlacedSite, placed_argume
 use Rattle.mh_made_class.specs.Constants.{u2, u4}
 use Rattle.mh_made_class.specs.Parts.{attribute, argument_index, bootstrap, bootstraps, class_attributes}
 use Rattle.mh_made_class.proofs.Spelling.{u2_is, u4_is, where_true}
-use Rattle.mh_made_class.proofs.PoolSpelling.{At}
+use Rattle.mh_made_class.proofs.Lookups.{At}
 use Rattle.mh_made_class.proofs.Standing.{HasCommon}
 use Rattle.mh_made_class.proofs.Placing.{arguments-length}
-use Rattle.mh_made_class.proofs.MethodSpelling.{index_spelled}
-
--- So many of one format are spelled, one behind the other.
-pub times_spelled : {K X A : Type 0} (one : Format K A) (bytes : X → List ℕ) (value : X → A) (xs : List X) (so_far : List A) (at : ℕ) → AllByRecursion (λ x. (place : ℕ) → Spells one place (bytes x) (value x)) xs
-    → Spells (repeated (listed one) (length xs) so_far) at (flat_map bytes xs) (so_far ++ map value xs)
-unfolding repeated
-times_spelled one bytes value [] so_far at all = (refl, append-nil so_far)
-times_spelled {A = A} one bytes value (x ∷ xs) so_far at all =
-    let next = so_far ++ value x ∷ [] in (
-      next,
-      bytes x,
-      flat_map bytes xs,
-      refl,
-      (value x, bytes x, [], sym (append-nil (bytes x)), all.0 at, (refl, refl)),
-      subst (λ (ys : List A). Spells (repeated (listed one) (length xs) next) (at + length (bytes x)) (flat_map bytes xs) ys) (append_assoc so_far (value x ∷ []) (map value xs))
-          (times_spelled one bytes value xs next (at + length (bytes x)) all.1),
-    )
+use Rattle.mh_made_class.proofs.Names.{index_spelled}
+use Rattle.mh_made_class.proofs.Times.{times_spelled}
 
 -- an argument's index names one
 pub record IsNamed (pool : List Slot) (a : PlacedArgument) : Type 0 where

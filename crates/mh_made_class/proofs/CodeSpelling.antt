@@ -16,7 +16,7 @@ use Rattle.mh_made_class.specs.Layout.{PlacedSite, sites_from}
 use Rattle.mh_made_class.specs.Constants.{u2}
 use Rattle.mh_made_class.specs.Parts.{instruction}
 use Rattle.mh_made_class.proofs.Spelling.{u2_is, otherwise, where_true}
-use Rattle.mh_made_class.proofs.PoolSpelling.{At}
+use Rattle.mh_made_class.proofs.Lookups.{At}
 use Rattle.mh_made_class.proofs.Good.{named_at}
 
 -- the call entry of a call site, whose index fits

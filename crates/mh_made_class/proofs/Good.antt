@@ -8,7 +8,7 @@ use Rattle.mh_class_pool.specs.declared.entry.Kind.TheVariants as kinds
 use Rattle.mh_class_pool.specs.declared.fault.ClassKind.TheVariants.{WrongKind, BadDescriptor}
 use Rattle.mh_class_pool.specs.Entries.{Slot, slot, is_kind}
 use Rattle.mh_class_pool.specs.References.{Verdict, ◌>>=◌, holds, is_usable, names, good_name, good_member, own_references, is_descriptor, good_method_name, good_descriptor, good_slot}
-use Rattle.mh_made_class.proofs.PoolSpelling.{At}
+use Rattle.mh_made_class.proofs.Lookups.{At}
 
 -- an entry's references are good, wherever it stands
 abbrev pub IsGood : List Slot → Entry → Type 0

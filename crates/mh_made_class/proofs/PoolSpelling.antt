@@ -1,16 +1,15 @@
 -- A row of entries is spelled as the pool reads it, and stands in it index by index.
-use Rattle.std.proofs.Common.{◌≡◌, ℕ, zero, suc, ◌+◌, ◌≤◌, ◌<◌, Bool, true, false, ◌&&◌, cond, eqb, leb, List, [], ◌∷◌, ◌++◌, length, Some, None, Ok, refl, sym, ap, subst, ◌∙◌, append_assoc, length-append, arith}
+use Rattle.std.proofs.Common.{◌≡◌, ℕ, zero, suc, ◌+◌, ◌≤◌, ◌<◌, Bool, true, false, ◌&&◌, cond, eqb, leb, List, [], ◌∷◌, ◌++◌, length, Some, None, refl, sym, ap, subst, ◌∙◌, append_assoc, length-append, arith}
 use Rattle.std.proofs.lemmas.Bool.Decides.{nat_tests}
 use Rattle.std.proofs.lemmas.List.{append-nil}
-use Rattle.std.proofs.Math.Seq.{get_or-append_seam}
 use Rattle.std.specs.List.{AllByRecursion, flat_map}
 use Rattle.mh_class_bytes.specs.Format.{Spells, done, here, ◌>>=◌, repeated}
 use Rattle.mh_class_pool.specs.declared.entry.Entry.{Entry}
-use Rattle.mh_class_pool.specs.Entries.{Part, Slot, entry, is_wide, indexes_of, next_slots, slot}
-use Rattle.mh_class_pool.specs.References.{Verdict, each}
+use Rattle.mh_class_pool.specs.Entries.{Part, Slot, entry, is_wide, indexes_of, next_slots}
 use Rattle.mh_made_class.specs.Constants.{entry_bytes}
 use Rattle.mh_made_class.proofs.Spelling.{otherwise, where_true}
-use Rattle.mh_made_class.proofs.EntrySpelling.{IsWritable, entry_spelled}
+use Rattle.mh_made_class.proofs.SingleEntries.{IsWritable}
+use Rattle.mh_made_class.proofs.EntrySpelling.{entry_spelled}
 
 -- how many indexes an entry takes
 abbrev pub entry_width : Entry → ℕ
@@ -33,7 +32,7 @@ width_pos e = go (is_wide e)
     go true = omega arith
     go false = omega arith
 
-indexes_len : (at : ℕ) (e : Entry) → length (indexes_of at e) ≡ entry_width e
+pub indexes_len : (at : ℕ) (e : Entry) → length (indexes_of at e) ≡ entry_width e
 indexes_len at e = go (is_wide e)
   where
     s : Slot
@@ -101,58 +100,3 @@ few_entries (e ∷ es) = omega (arith, width_pos e, few_entries es)
 pub width-append : (es fs : List Entry) → entries_width (es ++ fs) ≡ entries_width es + entries_width fs
 width-append [] fs = omega arith
 width-append (e ∷ es) fs = omega (arith, width-append es fs)
-
--- ---- what stands at the indexes
-
--- an entry stands at an index
-abbrev pub At : List Slot → ℕ → Entry → Type 0
-At pool i e = (at : ℕ) × (slot pool i ≡ Some (at, e))
-
--- entries stand at the indexes from one on
-abbrev pub Holds : List Slot → ℕ → List Entry → Type 0
-Holds pool i [] = Unit {0}
-Holds pool i (e ∷ es) = At pool i e × Holds pool (i + entry_width e) es
-
-front_slot : (front rest : List Slot) (at : ℕ) (e : Entry) → slot (front ++ (indexes_of at e ++ rest)) (length front) ≡ Some (at, e)
-front_slot front rest at e = go (is_wide e)
-  where
-    s : Slot
-    s = Some (at, e)
-
-    go : (b : Bool) → slot (front ++ (cond b (s ∷ None ∷ []) (s ∷ []) ++ rest)) (length front) ≡ s
-    go true = get_or-append_seam front s (None ∷ rest) None
-    go false = get_or-append_seam front s rest None
-
--- Entries stand where the pool reads them.
-pub holds : (es : List Entry) (front pool : List Slot) (i at : ℕ) → i ≡ length front → pool ≡ front ++ slots_from at es → Holds pool i es
-holds [] front pool i at e is = tt
-holds (e ∷ es) front pool i at k is =
-    let rest = slots_from (at + length (entry_bytes e)) es in
-    let len : i + entry_width e ≡ length (front ++ indexes_of at e) = omega (arith, k, length-append front (indexes_of at e), indexes_len at e) in (
-      (at, ap (λ x. slot x i) is ∙ ap (slot (front ++ (indexes_of at e ++ rest))) k ∙ front_slot front rest at e),
-      holds es (front ++ indexes_of at e) pool (i + entry_width e) (at + length (entry_bytes e)) len (is ∙ sym (append_assoc front (indexes_of at e) rest)),
-    )
-
--- two rows of entries
-pub holds_split : (pool : List Slot) (i : ℕ) (es fs : List Entry) → Holds pool i (es ++ fs) → Holds pool i es × Holds pool (i + entries_width es) fs
-holds_split pool i [] fs h = let e : i ≡ i + 0 = omega arith in (tt, subst (λ n. Holds pool n fs) e h)
-holds_split pool i (e ∷ es) fs h =
-    let r = holds_split pool (i + entry_width e) es fs h.1 in
-    let k : i + entry_width e + entries_width es ≡ i + (entry_width e + entries_width es) = omega arith in
-    ((h.0, r.0), subst (λ n. Holds pool n fs) k r.1)
-
--- A check passes each slot that it passes as an entry.
-pub each_slot : (f : Slot → Verdict) → f None ≡ Ok tt → (es : List Entry) (at : ℕ) → AllByRecursion (λ e. (place : ℕ) → f (Some (place, e)) ≡ Ok tt) es → each f (slots_from at es) ≡ Ok tt
-unfolding each
-each_slot f none [] at all = refl
-each_slot f none (e ∷ es) at all = go (is_wide e) (each_slot f none es (at + length (entry_bytes e)) all.1)
-  where
-    s : Slot
-    s = Some (at, e)
-
-    rest : List Slot
-    rest = slots_from (at + length (entry_bytes e)) es
-
-    go : (b : Bool) → each f rest ≡ Ok tt → each f (cond b (s ∷ None ∷ []) (s ∷ []) ++ rest) ≡ Ok tt
-    go true h = rw (all.0 at, none) h
-    go false h = rw (all.0 at) h

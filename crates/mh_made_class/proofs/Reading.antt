@@ -20,10 +20,10 @@ use Rattle.mh_made_class.specs.Layout.{arguments_from, PlacedSite, sites_from, p
 use Rattle.mh_made_class.specs.Constants.{bootstrap_type, entries_at, argument_entries}
 use Rattle.mh_made_class.specs.Parts.{index_at, argument_index}
 use Rattle.mh_made_class.specs.ReadBack.{IsNumber, IsReadable, constant_of, bootstrap_of, site_of, sites_of}
-use Rattle.mh_made_class.proofs.PoolSpelling.{Holds}
+use Rattle.mh_made_class.proofs.Lookups.{Holds}
 use Rattle.mh_made_class.proofs.Standing.{HasCommon, HasSite}
 use Rattle.mh_made_class.proofs.Good.{named_at}
-use Rattle.mh_made_class.proofs.MethodSpelling.{run_method, sites_found}
+use Rattle.mh_made_class.proofs.CodeContents.{run_method, sites_found}
 use Rattle.mh_made_class.proofs.CodeSpelling.{site_found}
 use Rattle.mh_made_class.proofs.BootstrapSpelling.{row_of}
 

@@ -10,7 +10,8 @@ use Rattle.mh_made_class.specs.declared.site.MadeSite.{MadeSite}
 use Rattle.mh_made_class.specs.Sites.{argument_width, site_width}
 use Rattle.mh_made_class.specs.Layout.{arguments_from, PlacedSite, sites_from, placed_arguments}
 use Rattle.mh_made_class.specs.Constants.{bootstrap_type, common_entries, entries_at, argument_entries, site_entries}
-use Rattle.mh_made_class.proofs.PoolSpelling.{At, Holds, holds_split, entries_width, width-append}
+use Rattle.mh_made_class.proofs.PoolSpelling.{entries_width, width-append}
+use Rattle.mh_made_class.proofs.Lookups.{At, Holds, holds_split}
 
 -- the entries that each made class has
 pub record HasCommon (pool : List Slot) : Type 0 where

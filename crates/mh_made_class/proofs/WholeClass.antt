@@ -7,7 +7,8 @@ use Rattle.mh_made_class.specs.declared.site.MadeSite.{MadeSite}
 use Rattle.mh_made_class.specs.Sites.{AreMakeable}
 use Rattle.mh_made_class.specs.Layout.{PlacedArgument, PlacedSite, IsPlaced, IsPlacedArgument, placed, placed_arguments}
 use Rattle.mh_made_class.specs.Constants.{common_entries, argument_entries, site_entries}
-use Rattle.mh_made_class.proofs.PoolSpelling.{Holds, slots_from, holds, holds_split}
+use Rattle.mh_made_class.proofs.PoolSpelling.{slots_from}
+use Rattle.mh_made_class.proofs.Lookups.{Holds, holds, holds_split}
 use Rattle.mh_made_class.proofs.Standing.{HasCommon, HasSite, has_common, sites_stand, arguments_stand}
 use Rattle.mh_made_class.proofs.CodeSpelling.{HasCall}
 use Rattle.mh_made_class.proofs.BootstrapSpelling.{IsNamed, HasBootstrap}
