@@ -1,0 +1,23 @@
+-- The class file that is made for call sites (JVMS 4.1).
+use Rattle.std.specs.Prelude.{List, ◌++◌, ℕ}
+use Rattle.mh_made_class.specs.declared.site.MadeSite.{MadeSite}
+use Rattle.mh_made_class.specs.Sites.{pool_count}
+use Rattle.mh_made_class.specs.Layout.{placed}
+use Rattle.mh_made_class.specs.Constants.{u2, u4, pool_of}
+use Rattle.mh_made_class.specs.Parts.{methods, class_attributes}
+
+-- magic, minor version 0 and major version 61
+abbrev pub version : List ℕ
+version = u4 0xCAFEBABE ++ u2 0 ++ u2 61
+
+-- the class: public, with ACC_SUPER; its name and its superclass, and no interfaces
+abbrev pub class_names : List ℕ
+class_names = u2 0x0021 ++ u2 2 ++ u2 4 ++ u2 0
+
+-- no fields
+abbrev pub fields : List ℕ
+fields = u2 0
+
+-- the bytes of the class file
+unfoldable pub made_class : List MadeSite → List ℕ
+made_class sites = version ++ pool_of (pool_count sites) (placed sites) ++ class_names ++ fields ++ methods (placed sites) ++ class_attributes (placed sites)
