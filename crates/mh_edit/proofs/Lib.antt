@@ -2,6 +2,7 @@ pub mod Arrays
 pub mod Converted
 pub mod Converting
 pub mod Edited
+mod Examples
 pub mod Finishing
 pub mod Fitting
 pub mod Laws
