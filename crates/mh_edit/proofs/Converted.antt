@@ -1,9 +1,8 @@
 -- The law of Convert.
-use Rattle.std.proofs.Common.{◌≡◌, refl, subst, Option, Some, None, ℕ, zero, suc, ◌+◌, List, [], ◌∷◌, ◌++◌, sym, ap, ◌∙◌, zero-add, length, map, arith}
+use Rattle.std.proofs.Common.{◌≡◌, refl, subst, Option, Some, None, ℕ, suc, ◌+◌, List, [], ◌∷◌, ◌++◌, sym, ap, ◌∙◌, zero-add, length, map, arith}
 use Rattle.std.specs.Prelude.{slice_get}
-use Rattle.std.proofs.lemmas.List.{append-nil, length-map, map-append}
-use Rattle.mh_values.specs.Computation.{Ran, Gave, Threw, Stuck, Refines, and_then, found}
-use Rattle.mh_convert.specs.declared.conv.Conv.{Conv as Conversion}
+use Rattle.std.proofs.lemmas.List.{length-map, map-append}
+use Rattle.mh_values.specs.Computation.{Ran, Refines, and_then, found}
 use Rattle.mh_convert.specs.declared.conv.RetConv.{RetConv}
 use Rattle.mh_leaf.specs.LeafTable.{LeafTable}
 use Rattle.mh_form.specs.declared.basic.Basic.{Basic}
@@ -11,71 +10,21 @@ use Rattle.mh_form.specs.declared.basic.BasicRet.{BasicRet}
 use Rattle.mh_form.specs.declared.body.FormBody.{FormBody}
 use Rattle.mh_form.specs.declared.name.Name.TheVariants.{Ret}
 use Rattle.mh_form.specs.declared.slot.Slot.{Slot}
-use Rattle.mh_form.specs.declared.field.Field.{Field}
 use Rattle.mh_form.specs.declared.field.Field.TheVariants as field
 use Rattle.mh_form.specs.Slots.{converted, filled, ret_converted}
-use Rattle.mh_form.specs.Run.{IsConv, IsRet, Sense, conv_of, field_of, of_kind, ret_of, run_body, sense, step, with_result}
-use Rattle.mh_form.proofs.Computations.{and_then-assoc}
+use Rattle.mh_form.specs.Run.{IsRet, Sense, conv_of, field_of, of_kind, ret_of, run_body, sense, with_result}
 use Rattle.mh_form.proofs.Refines.{refines-refl, refines-is, refines-trans, refines-and_then}
 use Rattle.mh_edit.specs.Applied.{applied, conv_count, conv_names, conv_params, conv_table, converting}
 use Rattle.mh_edit.specs.declared.key.Key.TheVariants.{Convert}
 use Rattle.mh_edit.specs.declared.key.RetEntry.{RetEntry}
 use Rattle.mh_edit.specs.declared.key.RetEntry.TheVariants.{Keep, New}
 use Rattle.mh_edit.specs.Law.{ConvertLaw, converting_slots, ret_entry_on, ret_fields, returned}
-use Rattle.mh_edit.proofs.Renaming.{Extends}
+use Rattle.mh_edit.proofs.RenamedSlots.{Extends}
 use Rattle.mh_edit.proofs.Reframing.{run-reframed}
 use Rattle.mh_edit.proofs.Places.{extends-more, extends-same}
 use Rattle.mh_edit.proofs.Finishing.{run-finishing}
 use Rattle.mh_edit.proofs.Converting.{converts-run}
-
--- what runs on the converted arguments may be replaced by what does more
-converting-refines :
-    {B : Type 0} →
-    (es : List (Option Basic)) (convs : List (Slot → Ran Slot)) (xs : List Slot) (n : ℕ) (f g : List Slot → ℕ → Ran B) →
-    ((ys : List Slot) (k : ℕ) → Refines (f ys k) (g ys k)) →
-    Refines (converting_slots es convs xs n f) (converting_slots es convs xs n g)
-converting-refines [] convs [] n f g h = h [] n
-converting-refines [] convs (x ∷ xs) n f g h = tt
-converting-refines (None ∷ es) convs [] n f g h = tt
-converting-refines (None ∷ es) convs (x ∷ xs) n f g h = converting-refines es convs xs n _ _ (λ ys k. h (x ∷ ys) k)
-converting-refines (Some b ∷ es) [] xs n f g h = tt
-converting-refines (Some b ∷ es) (c ∷ convs) [] n f g h = tt
-converting-refines (Some b ∷ es) (c ∷ convs) (x ∷ xs) n f g h =
-    refines-and_then (c x) (c x) n _ _ (refines-refl (c x)) (λ y k. converting-refines es convs xs k _ _ (λ ys m. h (y ∷ ys) m))
-
--- what follows follows what runs on the converted arguments
-converting-then :
-    {A B : Type 0} →
-    (es : List (Option Basic)) (convs : List (Slot → Ran Slot)) (xs : List Slot) (n : ℕ) (f : List Slot → ℕ → Ran A) (g : A → ℕ → Ran B) →
-    and_then (converting_slots es convs xs n f) n g ≡ converting_slots es convs xs n (λ ys k. and_then (f ys k) k g)
-converting-then [] convs [] n f g = refl
-converting-then [] convs (x ∷ xs) n f g = refl
-converting-then (None ∷ es) convs [] n f g = refl
-converting-then (None ∷ es) convs (x ∷ xs) n f g = converting-then es convs xs n (λ ys k. f (x ∷ ys) k) g
-converting-then (Some b ∷ es) [] xs n f g = refl
-converting-then (Some b ∷ es) (c ∷ convs) [] n f g = refl
-converting-then (Some b ∷ es) (c ∷ convs) (x ∷ xs) n f g =
-    and_then-assoc (c x) n (λ y k. converting_slots es convs xs k (λ ys m. f (y ∷ ys) m)) g
-    ∙ ap (and_then (c x) n) (λ i y k. converting-then es convs xs k (λ ys m. f (y ∷ ys) m) g i)
-
-and_then-unit : {A : Type 0} → (r : Ran A) (n : ℕ) → and_then r n (λ a k. Gave a []) ≡ r
-and_then-unit (Gave a calls) n = ap (Gave a) (append-nil calls)
-and_then-unit (Threw e calls) n = refl
-and_then-unit Stuck n = refl
-
-slice_get-later : {A : Type 0} → (xs ys : List A) (j : ℕ) → slice_get (xs ++ ys) (length xs + j) ≡ slice_get ys j
-slice_get-later [] ys j = ap (slice_get ys) (zero-add j)
-slice_get-later (x ∷ xs) ys j =
-    let e : suc (length xs) + j ≡ suc (length xs + j) = omega arith in ap (slice_get (x ∷ (xs ++ ys))) e ∙ slice_get-later xs ys j
-
--- the fields of conversions, in front of others
-conv-at :
-    (leaves : LeafTable) (convs : List Conversion) (more : List Sense) (j : ℕ) (g : Slot → Ran Slot) →
-    slice_get (map (converted leaves.classes) convs) j ≡ Some g →
-    slice_get (map (sense leaves) (map (λ d. field.Conv d) convs) ++ more) j ≡ Some (IsConv g)
-conv-at leaves [] more j g h = absurd cc
-conv-at leaves (c ∷ convs) more zero g h = let e : converted leaves.classes c ≡ g = cc in ap (λ v. Some (IsConv v)) e
-conv-at leaves (c ∷ convs) more (suc j) g h = conv-at leaves convs more j g h
+use Rattle.mh_edit.proofs.ConvertedSlots.{converting-refines, converting-then, and_then-unit, slice_get-later, conv-at}
 
 pub length-conv_params : (es : List (Option Basic)) (params : List Basic) → length es ≡ length params → length (conv_params es params) ≡ length params
 length-conv_params [] [] h = refl

@@ -1,17 +1,12 @@
 -- The law of Convert: arguments converted from left to right, and then the result.
-use Rattle.std.proofs.Common.{◌≡◌, refl, subst, Option, Some, None, ℕ, zero, suc, ◌+◌, List, [], ◌∷◌, ◌++◌, sym, ap, ◌∙◌, add-zero, length, map, length-append, append_assoc, arith}
+use Rattle.std.proofs.Common.{◌≡◌, refl, subst, Option, Some, None, ℕ, suc, ◌+◌, List, [], ◌∷◌, ◌++◌, sym, ap, ◌∙◌, add-zero, length, length-append, arith}
 use Rattle.std.specs.Prelude.{slice_get}
-use Rattle.std.proofs.lemmas.List.{append-nil, length-map, map-append}
-use Rattle.mh_values.specs.Computation.{Ran, Gave, Threw, Stuck, Refines, and_then, after, found}
-use Rattle.mh_convert.specs.declared.conv.Conv.{Conv as Conversion}
-use Rattle.mh_leaf.specs.LeafTable.{LeafTable}
+use Rattle.mh_values.specs.Computation.{Ran, Refines, and_then, found}
 use Rattle.mh_form.specs.declared.basic.Basic.{Basic}
 use Rattle.mh_form.specs.declared.basic.Basic.TheVariants.{L, I, J}
 use Rattle.mh_form.specs.declared.name.Name.{Name}
 use Rattle.mh_form.specs.declared.slot.Slot.{Slot}
-use Rattle.mh_form.specs.declared.field.Field.TheVariants as field
-use Rattle.mh_form.specs.Slots.{converted}
-use Rattle.mh_form.specs.Run.{IsConv, Sense, sense, step, run_names, picked, picked_more, with_field, field_of, of_kind, conv_of}
+use Rattle.mh_form.specs.Run.{Sense, step, run_names, picked, picked_more, with_field, field_of, conv_of}
 use Rattle.mh_form.proofs.Refines.{refines-refl, refines-trans, refines-and_then}
 use Rattle.mh_edit.specs.Applied.{conv_name, conv_names, conv_table}
 use Rattle.mh_edit.specs.Law.{converting_slots}

@@ -1,6 +1,5 @@
 -- A body that is edited at a position runs one new name, and then the old body with what it put.
-use Rattle.std.proofs.Common.{◌≡◌, refl, subst, Option, Some, ℕ, ◌+◌, ◌-◌, ◌≤◌, List, [], ◌∷◌, ◌++◌, sym, ap, ◌∙◌, length, arith}
-use Rattle.std.proofs.lemmas.List.{append-nil}
+use Rattle.std.proofs.Common.{◌≡◌, refl, subst, Option, Some, ℕ, ◌+◌, ◌-◌, ◌≤◌, List, [], ◌∷◌, ◌++◌, sym, ap, length, arith}
 use Rattle.mh_values.specs.Computation.{Ran, Refines, and_then, found, spliced}
 use Rattle.mh_form.specs.declared.basic.Basic.{Basic}
 use Rattle.mh_form.specs.declared.body.FormBody.{FormBody}
@@ -9,7 +8,7 @@ use Rattle.mh_form.specs.declared.slot.Slot.{Slot}
 use Rattle.mh_form.specs.Run.{Sense, step, run_names, run_body, picked}
 use Rattle.mh_form.proofs.Refines.{refines-refl, refines-is, refines-trans, refines-and_then}
 use Rattle.mh_edit.specs.Rename.{table, edited}
-use Rattle.mh_edit.proofs.Renaming.{Extends}
+use Rattle.mh_edit.proofs.RenamedSlots.{Extends}
 use Rattle.mh_edit.proofs.Reframing.{run-reframed}
 use Rattle.mh_edit.proofs.Places.{picked-table, length-spliced}
 

@@ -13,11 +13,12 @@ use Rattle.mh_form.specs.declared.slot.Slot.{Slot}
 use Rattle.mh_form.specs.Slots.{filled, none_as_zero}
 use Rattle.mh_form.specs.Run.{Sense, step, run_names, run_body, ended, with_result}
 use Rattle.mh_form.proofs.Computations.{after-nil, and_then-assoc}
-use Rattle.mh_form.proofs.Refines.{refines-refl, refines-is, refines-trans, refines-and_then}
+use Rattle.mh_form.proofs.Refines.{refines-refl, refines-trans, refines-and_then}
 use Rattle.mh_edit.specs.Applied.{finishing, out_of}
 use Rattle.mh_edit.specs.Law.{returned}
 use Rattle.mh_edit.specs.Rename.{renamed}
-use Rattle.mh_edit.proofs.Renaming.{Extends, Renames, step-renamed, slice_get-end}
+use Rattle.mh_edit.proofs.Renaming.{step-renamed, slice_get-end}
+use Rattle.mh_edit.proofs.RenamedSlots.{Extends, Renames}
 use Rattle.mh_edit.proofs.Reframing.{run_names-append, refines-end}
 
 map-same : (ps : List ℕ) → map (λ i. i) ps ≡ ps

@@ -1,5 +1,5 @@
 -- Each key's law holds of the body that it makes.
-use Rattle.std.proofs.Common.{◌≡◌, subst, sym, Result, Ok, Err, IfOk, ℕ, ◌-◌, ◌<◌, ◌≤◌, length, arith}
+use Rattle.std.proofs.Common.{◌≡◌, subst, sym, Result, Ok, Err, IfOk, ◌-◌, ◌<◌, length, arith}
 use Rattle.std.specs.Prelude.{IsTrue, not}
 use Rattle.mh_base.specs.declared.memory.NoMemory.{NoMemory}
 use Rattle.mh_form.specs.declared.basic.Basic.TheVariants as basic

@@ -1,9 +1,12 @@
 pub mod Arrays
 pub mod Converted
+pub mod ConvertedSlots
 pub mod Converting
 pub mod Edited
+mod Examples
 pub mod Finishing
 pub mod Fitting
+pub mod Items
 pub mod Laws
 pub mod Made
 pub mod Parameters
@@ -11,6 +14,7 @@ pub mod Parts
 pub mod Places
 pub mod Ranges
 pub mod Reframing
+pub mod RenamedSlots
 pub mod Renaming
 pub mod Results
 pub mod RootLaws

@@ -1,8 +1,7 @@
 -- What a key that fits makes is not nothing, so that further keys can be applied to it.
-use Rattle.std.proofs.Common.{◌≡◌, refl, sym, ap, ◌∙◌, Bool, true, false, ◌&&◌, if◌then◌else◌, Option, Some, None, ℕ, zero, suc, ◌+◌, ◌-◌, ◌<◌, ◌≤◌, List, [], ◌∷◌, ◌++◌, length, map, length-append, arith}
-use Rattle.std.specs.Prelude.{IsTrue, is_some, nat_le, not, ◌==◌, replicate}
+use Rattle.std.proofs.Common.{◌≡◌, refl, sym, ap, ◌∙◌, Bool, true, false, ◌&&◌, Option, Some, None, ℕ, suc, ◌+◌, List, [], ◌∷◌, length, map, length-append, arith}
+use Rattle.std.specs.Prelude.{IsTrue, is_some, not, ◌==◌}
 use Rattle.std.specs.Option.{option_map}
-use Rattle.std.proofs.lemmas.Bool.{eqb-true}
 use Rattle.std.proofs.lemmas.List.{length-map}
 use Rattle.mh_values.specs.Computation.{spliced}
 use Rattle.mh_form.specs.declared.basic.Basic.{Basic}
@@ -15,10 +14,9 @@ use Rattle.mh_edit.specs.Fit.{fits, is_basic_at, is_nothing, names_each}
 use Rattle.mh_edit.specs.Rename.{place_by, reframed, renamed}
 use Rattle.mh_edit.specs.declared.key.Key.{Key}
 use Rattle.mh_edit.specs.declared.key.Key.TheVariants.{LeafRoot, ConstRoot, IdentityRoot, ThrowRoot, GuardRoot, CatchRoot, Bind, Add, Permute, Collect, Fold, FilterReturn, Convert, Spread, Gather}
-use Rattle.mh_edit.specs.declared.key.RetEntry.{RetEntry}
 use Rattle.mh_edit.specs.declared.key.RetEntry.TheVariants.{Keep, New}
 use Rattle.mh_edit.proofs.Converted.{length-conv_params}
-use Rattle.mh_edit.proofs.Fitting.{first-true, second-true, same-number, is-parameter, at-most}
+use Rattle.mh_edit.proofs.Fitting.{first-true, second-true, same-number, at-most}
 use Rattle.mh_edit.proofs.Places.{length-spliced}
 
 not-true : (b : Bool) → (b ≡ true → ⊥) → b ≡ false

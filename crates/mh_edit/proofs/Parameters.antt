@@ -2,10 +2,9 @@
 use Rattle.std.proofs.Common.{◌≡◌, refl, subst, Option, Some, ℕ, ◌+◌, ◌-◌, ◌<◌, ◌≤◌, List, [], ◌∷◌, ◌++◌, sym, ap, ◌∙◌, length, map, arith}
 use Rattle.std.specs.Prelude.{slice_get}
 use Rattle.std.proofs.lemmas.List.{append-nil, map-append, length-map}
-use Rattle.mh_values.specs.Computation.{Ran, Gave, Refines, and_then, found, spliced}
+use Rattle.mh_values.specs.Computation.{Ran, Gave, Refines, found, spliced}
 use Rattle.mh_form.specs.declared.basic.Basic.{Basic}
 use Rattle.mh_form.specs.declared.body.FormBody.{FormBody}
-use Rattle.mh_form.specs.declared.name.Name.{Name}
 use Rattle.mh_form.specs.declared.name.Name.TheVariants.{Get}
 use Rattle.mh_form.specs.declared.slot.Slot.{Slot}
 use Rattle.mh_form.specs.declared.field.Field.TheVariants as field
@@ -15,7 +14,7 @@ use Rattle.mh_form.proofs.Refines.{refines-trans}
 use Rattle.mh_edit.specs.Applied.{applied}
 use Rattle.mh_edit.specs.declared.key.Key.TheVariants.{Bind, Add, Permute}
 use Rattle.mh_edit.specs.Law.{BindLaw, AddLaw, PermuteLaw}
-use Rattle.mh_edit.specs.Rename.{table, edited}
+use Rattle.mh_edit.specs.Rename.{table}
 use Rattle.mh_edit.proofs.Reframing.{run-reframed}
 use Rattle.mh_edit.proofs.Places.{picked-table, picked-end, length-spliced, extends-more, extends-same, new-field}
 use Rattle.mh_edit.proofs.Edited.{old-picked, run-edited}

@@ -5,7 +5,7 @@ use Rattle.std.specs.List.{range_with_len}
 use Rattle.std.specs.declared.boxed.Box.{Box}
 use Rattle.std.specs.declared.alloc.Global.{Global}
 use Rattle.std.proofs.lemmas.List.{map-append, length-map}
-use Rattle.mh_values.specs.Computation.{Ran, Refines, and_then, found, spliced}
+use Rattle.mh_values.specs.Computation.{Refines, and_then, found, spliced}
 use Rattle.mh_leaf.specs.LeafTable.{LeafTable}
 use Rattle.mh_form.specs.declared.basic.Basic.{Basic}
 use Rattle.mh_form.specs.declared.basic.BasicRet.{BasicRet}

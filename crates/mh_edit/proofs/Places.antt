@@ -1,5 +1,5 @@
 -- The slots that a table of places picks.
-use Rattle.std.proofs.Common.{◌≡◌, refl, Option, Some, None, ℕ, zero, suc, ◌+◌, ◌≤◌, List, [], ◌∷◌, ◌++◌, sym, ap, ap₂, ◌∙◌, length-append, add-one, drop-cons, take_all, length-take-le, length-drop, take, drop, map, length, get_or, arith}
+use Rattle.std.proofs.Common.{◌≡◌, refl, Some, None, ℕ, zero, suc, ◌+◌, ◌≤◌, List, [], ◌∷◌, ◌++◌, sym, ap, ap₂, ◌∙◌, length-append, add-one, drop-cons, take_all, length-take-le, length-drop, take, drop, length, get_or, arith}
 use Rattle.std.specs.Prelude.{slice_get}
 use Rattle.std.specs.List.{range_with_len}
 use Rattle.std.proofs.Math.Seq.{take-append_seam}
@@ -13,7 +13,8 @@ use Rattle.mh_form.specs.Slots.{none_as_zero}
 use Rattle.mh_form.specs.Run.{Sense, picked, picked_more}
 use Rattle.mh_edit.specs.Applied.{given}
 use Rattle.mh_edit.specs.Rename.{table}
-use Rattle.mh_edit.proofs.Renaming.{Extends, slice_get-append_left, slice_get-end}
+use Rattle.mh_edit.proofs.Renaming.{slice_get-append_left, slice_get-end}
+use Rattle.mh_edit.proofs.RenamedSlots.{Extends}
 use Rattle.mh_edit.proofs.Reframing.{picked_more-parts}
 
 -- picking two lists of places, one after the other

@@ -1,10 +1,10 @@
 -- A reframed body first runs the new names, and then the old body on the slots that the table picks.
-use Rattle.std.proofs.Common.{◌≡◌, refl, subst, ℕ, zero, suc, ◌+◌, ◌-◌, ◌<◌, ◌≤◌, Bool, true, false, List, [], ◌∷◌, ◌++◌, Option, Some, None, sym, ap, ◌∙◌, ◌⊎◌, inl, inr, length-append, take, map, length, get_or, arith}
-use Rattle.std.specs.Prelude.{slice_get, slice_index, nat_lt, if◌then◌else◌}
+use Rattle.std.proofs.Common.{◌≡◌, refl, ℕ, zero, suc, ◌+◌, ◌<◌, List, [], ◌∷◌, ◌++◌, Option, Some, None, sym, ap, ◌∙◌, length-append, map, length, arith}
+use Rattle.std.specs.Prelude.{slice_get, slice_index}
 use Rattle.std.specs.Option.{option_map}
 use Rattle.std.proofs.lemmas.Option.{slice_get_within}
 use Rattle.std.proofs.lemmas.Bool.Decides.{nat_tests}
-use Rattle.mh_values.specs.Computation.{Ran, Gave, Threw, Stuck, Refines, and_then, found}
+use Rattle.mh_values.specs.Computation.{Ran, Refines, and_then, found}
 use Rattle.mh_form.specs.declared.basic.Basic.{Basic}
 use Rattle.mh_form.specs.declared.body.FormBody.{FormBody}
 use Rattle.mh_form.specs.declared.name.Name.{Name}
@@ -12,7 +12,8 @@ use Rattle.mh_form.specs.declared.slot.Slot.{Slot}
 use Rattle.mh_form.specs.Run.{Sense, step, run_names, run_body, ended, picked, picked_more}
 use Rattle.mh_edit.specs.Rename.{renamed, place_by, reframed}
 use Rattle.mh_form.proofs.Refines.{refines-refl, refines-and_then, refines-found}
-use Rattle.mh_edit.proofs.Renaming.{Extends, Renames, run-renamed}
+use Rattle.mh_edit.proofs.Renaming.{run-renamed}
+use Rattle.mh_edit.proofs.RenamedSlots.{Extends, Renames}
 
 -- the names of two lists are those of the one and then those of the other
 pub run_names-append :

@@ -1,16 +1,12 @@
 -- The law of FilterReturn: a part on the result.
-use Rattle.std.proofs.Common.{◌≡◌, refl, subst, Option, Some, None, ℕ, List, [], ◌∷◌, ◌++◌, sym, ap, ◌∙◌, length, map}
+use Rattle.std.proofs.Common.{◌≡◌, refl, subst, Option, Some, None, ℕ, List, [], ◌∷◌, ◌++◌, sym, ap, ◌∙◌, map}
 use Rattle.std.specs.Prelude.{slice_get}
-use Rattle.std.specs.declared.boxed.Box.{Box}
-use Rattle.std.specs.declared.alloc.Global.{Global}
 use Rattle.std.proofs.lemmas.List.{map-append, length-map}
-use Rattle.mh_values.specs.Computation.{Ran, Refines, and_then, found}
-use Rattle.mh_leaf.specs.LeafTable.{LeafTable}
+use Rattle.mh_values.specs.Computation.{Refines, and_then, found}
 use Rattle.mh_form.specs.declared.basic.BasicRet.{BasicRet}
 use Rattle.mh_form.specs.declared.body.FormBody.{FormBody}
 use Rattle.mh_form.specs.declared.name.Name.TheVariants.{Link}
 use Rattle.mh_form.specs.declared.slot.Slot.{Slot}
-use Rattle.mh_form.specs.declared.field.Bound.{Bound}
 use Rattle.mh_form.specs.declared.field.Field.TheVariants as field
 use Rattle.mh_form.specs.Slots.{filled}
 use Rattle.mh_form.specs.Run.{Part, Sense, sense, picked_more, run_body, run_bound, run_field, step, with_result}

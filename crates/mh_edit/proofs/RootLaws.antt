@@ -1,5 +1,5 @@
 -- The laws of the roots.
-use Rattle.std.proofs.Common.{◌≡◌, refl, subst, Bool, true, false, Option, Some, None, ℕ, suc, ◌+◌, ◌≤◌, List, [], ◌∷◌, ◌++◌, sym, ap, ◌∙◌, length, map, take, length-append, arith}
+use Rattle.std.proofs.Common.{◌≡◌, refl, subst, Bool, true, false, Option, Some, ℕ, ◌+◌, ◌≤◌, List, [], ◌∷◌, ◌++◌, sym, ap, ◌∙◌, length, take, length-append, arith}
 use Rattle.std.specs.Prelude.{slice_get, if◌then◌else◌}
 use Rattle.std.specs.List.{range_with_len}
 use Rattle.std.proofs.Math.Seq.{take-append_seam}
@@ -7,11 +7,10 @@ use Rattle.std.specs.declared.boxed.Box.{Box}
 use Rattle.std.specs.declared.alloc.Global.{Global}
 use Rattle.mh_values.specs.declared.class.ClassId.{ClassId}
 use Rattle.mh_values.specs.declared.value.Value.TheVariants as value
-use Rattle.mh_values.specs.Computation.{Ran, Gave, Threw, Stuck, Refines, and_then, found, guarded, mapped}
+use Rattle.mh_values.specs.Computation.{Ran, Refines, and_then, found, guarded}
 use Rattle.mh_leaf.specs.LeafTable.{LeafTable}
 use Rattle.mh_form.specs.declared.basic.Basic.{Basic}
 use Rattle.mh_form.specs.declared.basic.BasicRet.{BasicRet}
-use Rattle.mh_form.specs.declared.basic.BasicRet.TheVariants.{V, Is}
 use Rattle.mh_form.specs.declared.basic.Shape.{Shape}
 use Rattle.mh_form.specs.declared.body.FormBody.{FormBody}
 use Rattle.mh_form.specs.declared.name.Name.{Name}
@@ -20,9 +19,9 @@ use Rattle.mh_form.specs.declared.slot.Slot.{Slot}
 use Rattle.mh_form.specs.declared.slot.Slot.TheVariants as slot
 use Rattle.mh_form.specs.declared.field.Bound.{Bound}
 use Rattle.mh_form.specs.declared.field.Field.TheVariants as field
-use Rattle.mh_form.specs.Slots.{called, filled, holds_one, is_caught, raised_slot}
+use Rattle.mh_form.specs.Slots.{called, filled, holds_one, is_caught}
 use Rattle.mh_form.specs.Run.{Sense, ended, guarded_field, picked, run_bound, run_field, run_names, sense, step, with_field, class_of}
-use Rattle.mh_form.proofs.Refines.{refines-refl, refines-is, refines-trans, refines-and_then}
+use Rattle.mh_form.proofs.Refines.{refines-refl, refines-is, refines-and_then}
 use Rattle.mh_edit.specs.Applied.{applied, out_of}
 use Rattle.mh_edit.specs.declared.key.Key.TheVariants.{LeafRoot, ConstRoot, IdentityRoot, ThrowRoot, GuardRoot, CatchRoot}
 use Rattle.mh_edit.specs.Law.{LeafRootLaw, ConstRootLaw, IdentityRootLaw, ThrowRootLaw, GuardRootLaw, CatchRootLaw, returned}

@@ -14,7 +14,7 @@ use Rattle.mh_edit.specs.declared.key.Key.TheVariants as key
 use Rattle.mh_edit.specs.declared.key.RetEntry.{RetEntry}
 use Rattle.mh_edit.specs.declared.key.RetEntry.TheVariants as entry
 use Rattle.mh_edit.specs.Fit.{taken_by}
-use Rattle.mh_edit.specs.Rename.{reframed, table, edited, ending_with}
+use Rattle.mh_edit.specs.Rename.{reframed, edited, ending_with}
 
 -- what stands for the result of a part: nothing where the part is void
 abbrev pub given : {A : Type 0} → BasicRet → A → List A

@@ -6,7 +6,7 @@ use Rattle.mh_values.specs.declared.class.ClassId.{ClassId}
 use Rattle.mh_values.specs.declared.types.Comp.{Comp}
 use Rattle.mh_values.specs.declared.value.LeafId.{LeafId}
 use Rattle.mh_values.specs.declared.value.Value.TheVariants as value
-use Rattle.mh_values.specs.Computation.{Ran, Gave, Threw, Stuck, Refines, and_then, found, mapped, guarded, spliced}
+use Rattle.mh_values.specs.Computation.{Ran, Gave, Stuck, Refines, and_then, found, mapped, guarded, spliced}
 use Rattle.mh_convert.specs.declared.conv.Conv.{Conv}
 use Rattle.mh_convert.specs.declared.conv.RetConv.{RetConv}
 use Rattle.mh_leaf.specs.LeafTable.{LeafTable}
@@ -25,7 +25,7 @@ use Rattle.mh_edit.specs.declared.key.Key.{Key}
 use Rattle.mh_edit.specs.declared.key.Key.TheVariants as key
 use Rattle.mh_edit.specs.declared.key.RetEntry.{RetEntry}
 use Rattle.mh_edit.specs.declared.key.RetEntry.TheVariants as entry
-use Rattle.mh_edit.specs.Applied.{conv_count, given, places_of}
+use Rattle.mh_edit.specs.Applied.{conv_count, given}
 use Rattle.mh_edit.specs.Fit.{taken_by}
 
 -- a result as one of a basic return type: nothing where that is void, and a slot else

@@ -16,9 +16,9 @@ impl Copied for Key {
             Key::LeafRoot { shape } => Key::LeafRoot {
                 shape: shape.copy(alloc)?,
             },
-            Key::ConstRoot { basic } => Key::ConstRoot { basic: *basic },
-            Key::IdentityRoot { basic } => Key::IdentityRoot { basic: *basic },
-            Key::ThrowRoot { ret } => Key::ThrowRoot { ret: *ret },
+            &Key::ConstRoot { basic } => Key::ConstRoot { basic },
+            &Key::IdentityRoot { basic } => Key::IdentityRoot { basic },
+            &Key::ThrowRoot { ret } => Key::ThrowRoot { ret },
             Key::GuardRoot { shape, test } => Key::GuardRoot {
                 shape: shape.copy(alloc)?,
                 test: *test,
@@ -27,7 +27,7 @@ impl Copied for Key {
                 shape: shape.copy(alloc)?,
                 handler: *handler,
             },
-            Key::Bind { pos } => Key::Bind { pos: *pos },
+            &Key::Bind { pos } => Key::Bind { pos },
             Key::Add { pos, basics } => Key::Add {
                 pos: *pos,
                 basics: basics.copy()?,
@@ -41,24 +41,14 @@ impl Copied for Key {
                 basics: basics.copy()?,
                 ret: *ret,
             },
-            Key::Fold { pos, count, ret } => Key::Fold {
-                pos: *pos,
-                count: *count,
-                ret: *ret,
-            },
-            Key::FilterReturn { ret } => Key::FilterReturn { ret: *ret },
+            &Key::Fold { pos, count, ret } => Key::Fold { pos, count, ret },
+            &Key::FilterReturn { ret } => Key::FilterReturn { ret },
             Key::Convert { params, ret } => Key::Convert {
                 params: copy_entries(alloc, params)?,
                 ret: *ret,
             },
-            Key::Spread { count, basic } => Key::Spread {
-                count: *count,
-                basic: *basic,
-            },
-            Key::Gather { count, basic } => Key::Gather {
-                count: *count,
-                basic: *basic,
-            },
+            &Key::Spread { count, basic } => Key::Spread { count, basic },
+            &Key::Gather { count, basic } => Key::Gather { count, basic },
         })
     }
 }

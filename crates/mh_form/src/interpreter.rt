@@ -1,7 +1,7 @@
-ghost use Rattle.std.specs.Prelude.{◌≡◌, ◌≢◌, IfOk};
+ghost use Rattle.std.specs.Prelude.{◌≡◌, ◌≢◌, if◌then◌else◌, IfOk};
 ghost use Rattle.mh_values.specs.Computation.{Stuck};
 ghost use Rattle.mh_form.specs.Run.{guarded_field, ran_of_run, ran_of_step, run_bound, run_field, senses_in, step};
-ghost use Rattle.mh_form.specs.Slots.{is_caught};
+ghost use Rattle.mh_form.specs.Slots.{holds_one, is_caught};
 
 use crate::lookup::class_in;
 use crate::outcome::Stepped;
@@ -89,6 +89,13 @@ fn run_guarded(
     }
 }
 
+/// The field of one of two parts: the first where the slot of the test is int 1.
+fn chosen(test: &Slot, field: u32, other: u32) -> u32
+    ensures { result ≡ (if holds_one test.now then field else other) }
+{
+    if holds_one(test) { field } else { other }
+}
+
 #[cycle(run)]
 fn step(
     alloc: Global,
@@ -114,13 +121,9 @@ fn step(
             if at >= slots.len() {
                 unreachable!()
             }
-            let chosen = if holds_one(slots.get(at)) {
-                *field
-            } else {
-                *other
-            };
+            let part = chosen(slots.get(at), *field, *other);
             let args = pick(alloc, slots, args)?;
-            Ok(filled(run_part(alloc, bound, leaves, chosen, args, n)?))
+            Ok(filled(run_part(alloc, bound, leaves, part, args, n)?))
         }
         Name::Guarded(part, class, handler, args, kept) => {
             let args = pick(alloc, slots, args)?;

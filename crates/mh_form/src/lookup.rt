@@ -11,7 +11,8 @@ use mh_leaves::Leaves;
 use mh_values::{ClassId, Comp, LeafId};
 
 pub(crate) fn slot_in<'a>(bound: &'a Bound<'_>, leaves: &Leaves, field: u32) -> Option<&'a Slot>
-    ensures { option_copied result ≡ field_of slot_of (senses_in leaves.now bound.now) field }
+    ensures { option_copied result
+        ≡ field_of slot_of (senses_in leaves.now bound.now) field }
 {
     let at = field as usize;
     if at >= bound.fields.len() {
@@ -24,7 +25,8 @@ pub(crate) fn slot_in<'a>(bound: &'a Bound<'_>, leaves: &Leaves, field: u32) -> 
 }
 
 pub(crate) fn leaf_in(bound: &Bound<'_>, leaves: &Leaves, field: u32) -> Option<LeafId>
-    ensures { option_map (called leaves.now) result ≡ field_of leaf_of (senses_in leaves.now bound.now) field }
+    ensures { option_map (called leaves.now) result
+        ≡ field_of leaf_of (senses_in leaves.now bound.now) field }
 {
     let at = field as usize;
     if at >= bound.fields.len() {
@@ -37,7 +39,8 @@ pub(crate) fn leaf_in(bound: &Bound<'_>, leaves: &Leaves, field: u32) -> Option<
 }
 
 pub(crate) fn class_in(bound: &Bound<'_>, leaves: &Leaves, field: u32) -> Option<ClassId>
-    ensures { option_map (is_caught leaves.now.classes) result ≡ field_of class_of (senses_in leaves.now bound.now) field }
+    ensures { option_map (is_caught leaves.now.classes) result
+        ≡ field_of class_of (senses_in leaves.now bound.now) field }
 {
     let at = field as usize;
     if at >= bound.fields.len() {
@@ -50,7 +53,8 @@ pub(crate) fn class_in(bound: &Bound<'_>, leaves: &Leaves, field: u32) -> Option
 }
 
 pub(crate) fn conv_in(bound: &Bound<'_>, leaves: &Leaves, field: u32) -> Option<Conv>
-    ensures { option_map (converted leaves.now.classes) result ≡ field_of conv_of (senses_in leaves.now bound.now) field }
+    ensures { option_map (converted leaves.now.classes) result
+        ≡ field_of conv_of (senses_in leaves.now bound.now) field }
 {
     let at = field as usize;
     if at >= bound.fields.len() {
@@ -63,7 +67,8 @@ pub(crate) fn conv_in(bound: &Bound<'_>, leaves: &Leaves, field: u32) -> Option<
 }
 
 pub(crate) fn ret_in(bound: &Bound<'_>, leaves: &Leaves, field: u32) -> Option<RetConv>
-    ensures { option_map (ret_converted leaves.now.classes) result ≡ field_of ret_of (senses_in leaves.now bound.now) field }
+    ensures { option_map (ret_converted leaves.now.classes) result
+        ≡ field_of ret_of (senses_in leaves.now bound.now) field }
 {
     let at = field as usize;
     if at >= bound.fields.len() {
@@ -76,7 +81,8 @@ pub(crate) fn ret_in(bound: &Bound<'_>, leaves: &Leaves, field: u32) -> Option<R
 }
 
 pub(crate) fn comp_in(bound: &Bound<'_>, leaves: &Leaves, field: u32) -> Option<Comp>
-    ensures { option_map (made_array leaves.now.classes) result ≡ field_of comp_of (senses_in leaves.now bound.now) field }
+    ensures { option_map (made_array leaves.now.classes) result
+        ≡ field_of comp_of (senses_in leaves.now bound.now) field }
 {
     let at = field as usize;
     if at >= bound.fields.len() {

@@ -102,7 +102,8 @@ pub(crate) fn array(
     items: &Operands,
     slots: &Slots,
 ) -> Result<Stepped, NoMemory>
-    requires { step (MakeArray field items.now) (senses_in leaves.now bound.now) slots.now 0 ≢ Stuck }
+    requires { step (MakeArray field items.now) (senses_in leaves.now bound.now) slots.now 0
+        ≢ Stuck }
     ensures { IfOk result (λ r. ran_of_step r
         ≡ step (MakeArray field items.now) (senses_in leaves.now bound.now) slots.now 0) }
 {

@@ -42,7 +42,8 @@ impl Index {
 
     /// No leaf.
     pub(crate) fn new(alloc: Global) -> Index
-        ensures { (owner : Class) (name descriptor : List ℕ) → found_at result owner name descriptor ≡ None }
+        ensures { (owner : Class) (name descriptor : List ℕ) →
+            found_at result owner name descriptor ≡ None }
     {
         Index {
             texts: BTreeMap::new(alloc),
@@ -68,7 +69,8 @@ impl Index {
         descriptor: &[u8],
         number: u32,
     ) -> Result<(), NoMemory>
-        ensures ok { OnOk result (FindsOneMore self.old self.new owner name.now descriptor.now number) }
+        ensures ok { OnOk result
+            (FindsOneMore self.old self.new owner name.now descriptor.now number) }
         ensures err { OnErr result (FindsSame self.old self.new) }
     {
         let name = number_text(alloc, &mut self.texts, name)?;

@@ -90,7 +90,8 @@ impl Leaves {
 
     // The place of the leaf with these texts, of which there is at most one.
     fn place_of(&self, owner: ClassId, name: &[u8], descriptor: &[u8]) -> Option<u32>
-        ensures found { result ≡ position (has_texts owner name.now descriptor.now) self.now.leaves }
+        ensures found { result
+            ≡ position (has_texts owner name.now descriptor.now) self.now.leaves }
         ensures within { IfSome result (λ at. at < length self.now.leaves) }
     {
         self.index.find(owner, name, descriptor)
@@ -98,7 +99,8 @@ impl Leaves {
 
     // The same, where it is called in that way.
     fn place_called(&self, owner: ClassId, name: &[u8], descriptor: &[u8], how: How) -> Option<u32>
-        ensures found { result ≡ position (is_called owner name.now descriptor.now how) self.now.leaves }
+        ensures found { result
+            ≡ position (is_called owner name.now descriptor.now how) self.now.leaves }
         ensures within { IfSome result (λ at. at < length self.now.leaves) }
     {
         let at = self.place_of(owner, name, descriptor)?;
@@ -120,7 +122,8 @@ impl Leaves {
     pub(crate) fn add_leaf(&mut self, alloc: Global, leaf: Leaf) -> Result<(), NoMemory>
         requires few { length self.old.leaves ≢ most_leaves }
         requires leaf { IsLeafOf self.old.classes leaf }
-        requires new { list_any (has_texts leaf.owner leaf.name leaf.descriptor) self.old.leaves ≡ false }
+        requires new { list_any (has_texts leaf.owner leaf.name leaf.descriptor) self.old.leaves
+            ≡ false }
         ensures ok { OnOk result (self.new ≡ with_leaf self.old leaf) }
         ensures err { OnErr result (self.new ≡ self.old) }
     {

@@ -113,7 +113,8 @@ fn add_class(
 ) -> Result<Option<ManifestKind>, NoMemory>
     requires new { class_named leaves.old.classes name.now ≡ None }
     requires superclass { superclass.0 < length leaves.old.classes }
-    ensures { IfOk result (λ fault. class_added leaves.old name.now superclass ≡ taken_or fault leaves.new) }
+    ensures { IfOk result
+        (λ fault. class_added leaves.old name.now superclass ≡ taken_or fault leaves.new) }
 {
     if leaves.has_most_classes() {
         return Ok(Some(ManifestKind::TooMany));
@@ -128,7 +129,8 @@ fn read_class(
     name: &[u8],
     superclass: &[u8],
 ) -> Result<Option<ManifestKind>, NoMemory>
-    ensures { IfOk result (λ fault. class_line leaves.old name.now superclass.now ≡ taken_or fault leaves.new) }
+    ensures { IfOk result
+        (λ fault. class_line leaves.old name.now superclass.now ≡ taken_or fault leaves.new) }
 {
     if !(is_class_name(name) && is_class_name(superclass)) {
         return Ok(Some(ManifestKind::BadLine));
@@ -181,7 +183,8 @@ fn add_leaf(
     leaf: Leaf,
 ) -> Result<Option<ManifestKind>, NoMemory>
     requires owner { leaf.owner.0 < length leaves.old.classes }
-    requires new { list_any (has_texts leaf.owner leaf.name leaf.descriptor) leaves.old.leaves ≡ false }
+    requires new { list_any (has_texts leaf.owner leaf.name leaf.descriptor) leaves.old.leaves
+        ≡ false }
     ensures { IfOk result (λ fault. leaf_added leaves.old leaf ≡ taken_or fault leaves.new) }
 {
     if all_slots(leaf.ty.params.as_slice()) > MOST_SLOTS {
@@ -257,8 +260,11 @@ fn read_owned(
     kind: Kind,
 ) -> Result<Option<ManifestKind>, NoMemory>
     requires owner { owner.0 < length leaves.old.classes }
-    requires new { list_any (has_texts owner texts.name.now texts.descriptor.now) leaves.old.leaves ≡ false }
-    ensures { IfOk result (λ fault. owned_leaf leaves.old is_virtual (texts_of texts.entry) owner kind ≡ taken_or fault leaves.new) }
+    requires new { list_any (has_texts owner texts.name.now texts.descriptor.now)
+        leaves.old.leaves ≡ false }
+    ensures { IfOk result
+        (λ fault. owned_leaf leaves.old is_virtual (texts_of texts.entry) owner kind
+        ≡ taken_or fault leaves.new) }
 {
     if !has_known_classes(alloc, leaves.classes(), texts.descriptor)? {
         return Ok(Some(ManifestKind::UnknownClass));
@@ -295,7 +301,9 @@ fn read_leaf(
     texts: Reference<'_>,
     word: &[u8],
 ) -> Result<Option<ManifestKind>, NoMemory>
-    ensures { IfOk result (λ fault. leaf_line leaves.old is_virtual (texts_of texts.entry) word.now ≡ taken_or fault leaves.new) }
+    ensures { IfOk result
+        (λ fault. leaf_line leaves.old is_virtual (texts_of texts.entry) word.now
+        ≡ taken_or fault leaves.new) }
 {
     if !is_leaf_text(texts, word) {
         return Ok(Some(ManifestKind::BadLine));
@@ -332,7 +340,9 @@ fn read_three(
     name: &[u8],
     superclass: &[u8],
 ) -> Result<Option<ManifestKind>, NoMemory>
-    ensures { IfOk result (λ fault. three_tokens leaves.old word.now name.now superclass.now ≡ taken_or fault leaves.new) }
+    ensures { IfOk result
+        (λ fault. three_tokens leaves.old word.now name.now superclass.now
+        ≡ taken_or fault leaves.new) }
 {
     if word != b"class".as_slice() {
         return Ok(Some(ManifestKind::BadLine));
@@ -348,7 +358,9 @@ fn read_five(
     texts: Reference<'_>,
     kind: &[u8],
 ) -> Result<Option<ManifestKind>, NoMemory>
-    ensures { IfOk result (λ fault. five_tokens leaves.old word.now (texts_of texts.entry) kind.now ≡ taken_or fault leaves.new) }
+    ensures { IfOk result
+        (λ fault. five_tokens leaves.old word.now (texts_of texts.entry) kind.now
+        ≡ taken_or fault leaves.new) }
 {
     let Some(is_virtual) = is_virtual_word(word) else {
         return Ok(Some(ManifestKind::BadLine));
@@ -362,7 +374,9 @@ fn read_tokens(
     leaves: &mut Leaves,
     tokens: &[&[u8]],
 ) -> Result<Option<ManifestKind>, NoMemory>
-    ensures { IfOk result (λ fault. tokens_meaning leaves.old (map (λ t. t.now) tokens.now) ≡ taken_or fault leaves.new) }
+    ensures { IfOk result
+        (λ fault. tokens_meaning leaves.old (map (λ t. t.now) tokens.now)
+        ≡ taken_or fault leaves.new) }
 {
     match tokens {
         [word, name, superclass] => read_three(leaves, word, name, superclass),

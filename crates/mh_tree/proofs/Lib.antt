@@ -2,6 +2,7 @@ pub mod Calls
 pub mod Host
 mod Lengths
 pub mod Orders
+pub mod OtherCalls
 pub mod Provided
 pub mod Registered
 pub mod Returning
@@ -17,3 +18,4 @@ pub mod Trivial
 pub mod TypedLists
 mod WorkedAdapters
 mod WorkedBranches
+mod WorkedWeights

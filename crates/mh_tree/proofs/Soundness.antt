@@ -1,12 +1,15 @@
 -- A tree that has a type returns values of its return type or throws exceptions, and is never stuck, where each leaf is well typed.
 use Rattle.std.proofs.Common.{◌≡◌, refl, sym, subst, ℕ, ◌-◌, List, [], ◌∷◌, take, Option, Some, None, Ok}
-use Rattle.std.specs.Prelude.{slice_get, option_to_list}
+use Rattle.std.specs.Prelude.{IsTrue, slice_get, option_to_list}
 use Rattle.mh_values.specs.declared.types.MethodTy.{MethodTy}
+use Rattle.mh_values.specs.declared.value.Exc.{Exc}
+use Rattle.mh_values.specs.declared.value.LeafCall.{LeafCall}
 use Rattle.mh_values.specs.declared.value.LeafId.{LeafId}
 use Rattle.mh_values.specs.declared.value.Value.{Value}
 use Rattle.mh_values.specs.declared.value.Value.TheVariants as value
 use Rattle.mh_values.specs.Array.{array_of, spread_values}
-use Rattle.mh_values.specs.Computation.{found, and_then, guarded, spliced}
+use Rattle.mh_values.specs.Class.{is_subclass, throwable_class}
+use Rattle.mh_values.specs.Computation.{Threw, found, and_then, guarded, spliced}
 use Rattle.mh_values.specs.HasType.{HaveTypes}
 use Rattle.mh_values.specs.Returns.{Returns}
 use Rattle.mh_convert.specs.Conversion.{fit}
@@ -98,3 +101,7 @@ mean-sound table are (tree.Catch t class h) u typed =
 -- on arguments of its parameter types
 pub mean-returns : (table : LeafTable) → IsWellTyped table → (t : Tree) (u : MethodTy) (args : List Value) (n : ℕ) → type_of table t ≡ Ok u → HaveTypes table.classes args u.params → Returns table.classes (mean table t args n) u.ret
 mean-returns table are t u args n typed have = mean-sound table are t u typed args n have
+
+-- what it throws there is of a class at or below Throwable
+pub mean-throws : (table : LeafTable) → IsWellTyped table → (t : Tree) (u : MethodTy) (args : List Value) (n : ℕ) (e : Exc) (calls : List LeafCall) → type_of table t ≡ Ok u → HaveTypes table.classes args u.params → mean table t args n ≡ Threw e calls → IsTrue (is_subclass table.classes e.class throwable_class)
+mean-throws table are t u args n e calls typed have is = subst (λ r. Returns table.classes r u.ret) is (mean-returns table are t u args n typed have)

@@ -12,7 +12,7 @@ use Rattle.mh_values.specs.Classes.{AreClasses}
 use Rattle.mh_values.specs.Computation.{Gave, Threw, Stuck, after, and_then, found}
 use Rattle.mh_values.specs.HasType.{HaveTypes}
 use Rattle.mh_values.specs.Returns.{Returns}
-use Rattle.mh_values.proofs.BelowTypes.{value-below}
+use Rattle.mh_values.proofs.BelowTypes.{type_below-itself, value-below}
 use Rattle.mh_values.proofs.SameTypes.{both}
 use Rattle.mh_convert.specs.declared.conv.Conv.{Conv}
 use Rattle.mh_convert.specs.Conversion.{conv, is_trivial, is_trivial_ret, value_conversion, ret_conv}
@@ -101,3 +101,16 @@ astype-twice table are t ty between asked args n typed typed_between same same_a
     let q = both (are_trivial table.classes asked.params between.params) (is_trivial_ret table.classes between.ret asked.ret) same_again in
     astype-trivial table are (tree.AsType t between) between asked args n typed_between same_again have
     ∙ astype-trivial table are t ty between args n typed same (trivial-typed table.classes are.classes asked.params between.params args q.0 have)
+
+are_trivial-itself : (classes : List Class) (ts : List Ty) → are_trivial classes ts ts ≡ true
+are_trivial-itself classes [] = refl
+are_trivial-itself classes (t ∷ ts) = ap₂ (λ a b. a && b) (type_below-itself classes t) (are_trivial-itself classes ts)
+
+is_trivial_ret-itself : (classes : List Class) (t : Option Ty) → is_trivial_ret classes t t ≡ true
+is_trivial_ret-itself classes None = refl
+is_trivial_ret-itself classes (Some t) = type_below-itself classes t
+
+-- used as its own type, a tree means what it means by itself
+pub astype-itself : (table : LeafTable) → IsWellTyped table → (t : Tree) (ty : MethodTy) (args : List Value) (n : ℕ) → type_of table t ≡ Ok ty → HaveTypes table.classes args ty.params → mean table (tree.AsType t ty) args n ≡ mean table t args n
+astype-itself table are t ty args n typed have =
+    astype-trivial table are t ty ty args n typed (ap₂ (λ a b. a && b) (are_trivial-itself table.classes ty.params) (is_trivial_ret-itself table.classes ty.ret)) have

@@ -1,5 +1,5 @@
--- Worked examples of arrays, branches, exceptions, conversions and weights: what the checker computes of the definitions.
-use Rattle.std.specs.Prelude.{◌≡◌, refl, ℕ, pos, zero, suc, [], ◌∷◌, codes, replicate, Option, Some, None, Ok, Err}
+-- Worked examples of arrays, branches, exceptions and conversions: what the checker computes of the definitions.
+use Rattle.std.specs.Prelude.{◌≡◌, refl, pos, [], ◌∷◌, codes, replicate, Option, Some, None, Err}
 use Rattle.std.specs.Int.{int_wrap}
 use Rattle.mh_values.specs.declared.types.Primitive.TheVariants as primitive
 use Rattle.mh_values.specs.declared.types.Comp.TheVariants as comp
@@ -75,6 +75,13 @@ a_handler_counts_the_calls_before_it :
     ∷ called 12 (value.Thrown (saying arithmetic_class (codes "/ by zero")) ∷ int (pos 1) ∷ []) ∷ [])
 a_handler_counts_the_calls_before_it = refl
 
+an_exception_below_the_class_is_caught :
+    mean host (tree.Catch (leaf 2) runtime_class (leaf 12)) (int (pos 1) ∷ int (pos 0) ∷ []) 0
+    ≡ Gave (Some (int (pos 1)))
+    (called 2 (int (pos 1) ∷ int (pos 0) ∷ [])
+    ∷ called 12 (value.Thrown (saying arithmetic_class (codes "/ by zero")) ∷ int (pos 1) ∷ []) ∷ [])
+an_exception_below_the_class_is_caught = refl
+
 an_exception_of_another_class_passes :
     mean host (tree.Catch (leaf 2) class_cast_class (leaf 12)) (int (pos 1) ∷ int (pos 0) ∷ []) 0
     ≡ Threw (saying arithmetic_class (codes "/ by zero")) (called 2 (int (pos 1) ∷ int (pos 0) ∷ []) ∷ [])
@@ -122,23 +129,3 @@ an_int_returned_as_a_long_is_widened :
     mean host (tree.AsType (leaf 4) (of (int_type ∷ []) (Some long_type))) (int (pos 5) ∷ []) 0
     ≡ Gave (Some (long (pos 5))) (called 4 (int (pos 5) ∷ []) ∷ [])
 an_int_returned_as_a_long_is_widened = refl
-
--- `same` on its own result, so often
-abbrev doubled : ℕ → Tree
-doubled zero = leaf 4
-doubled (suc n) = tree.FilterRet (doubled n) (doubled n)
-
-seven_doublings_weigh_255 : weight (doubled 7) ≡ 255
-seven_doublings_weigh_255 = refl
-
-a_weight_of_256_is_allowed : type_of host (tree.Drop (doubled 7) 1 (int_type ∷ [])) ≡ Ok (of (int_type ∷ int_type ∷ []) (Some int_type))
-a_weight_of_256_is_allowed = refl
-
-a_weight_of_257_is_not :
-    type_of host (tree.Drop (tree.Drop (doubled 7) 1 (int_type ∷ [])) 0 (int_type ∷ [])) ≡ Err (saying internal_error_class (codes "weight"))
-a_weight_of_257_is_not = refl
-
-seven_doublings_call_128_times :
-    mean host (tree.Drop (doubled 7) 1 (int_type ∷ [])) (int (pos 4) ∷ int (pos 5) ∷ []) 0
-    ≡ Gave (Some (int (pos 4))) (replicate 128 (called 4 (int (pos 4) ∷ [])))
-seven_doublings_call_128_times = refl

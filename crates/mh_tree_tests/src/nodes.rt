@@ -1,0 +1,176 @@
+//! Nodes by the texts of their types, for the tests.
+
+use mh_base::NoMemory;
+use mh_leaves::{How, Leaves};
+use mh_tree::{
+    CheckError, check_astype, check_bind, check_catch, check_collect, check_constant, check_drop,
+    check_filter, check_filterret, check_fold, check_gather, check_guard, check_identity,
+    check_leaf, check_permute, check_spread, check_throw,
+};
+use mh_values::{
+    ClassId, Classes, MethodTy, Num, Ty, Tys, Value, read_descriptor, read_type, read_types,
+};
+use std::alloc::Global;
+
+/// A value that is bound, or that is constant.
+#[derive(Clone, Copy, Debug)]
+pub enum Given {
+    Null,
+    Int,
+    Long,
+}
+
+/// What a node of one part adds to it. Types are texts, `V` is void.
+#[derive(Clone, Copy, Debug)]
+pub enum Adapter {
+    Bind(u8, Given),
+    Drop(u8, &'static str),
+    Permute(&'static str, &'static [u8]),
+    Spread(&'static str, u8),
+    Gather(&'static str, u8),
+    AsType(&'static str),
+}
+
+/// What a node of two parts adds to them.
+#[derive(Clone, Copy, Debug)]
+pub enum Joint {
+    Filter(u8),
+    FilterReturn,
+    Fold(u8),
+    Collect(u8),
+    Catch(ClassId),
+}
+
+/// A node: the types of its parts, each a descriptor, and what it adds.
+#[derive(Clone, Copy, Debug)]
+pub enum Node {
+    Leaf,
+    Constant(&'static str, Given),
+    Identity(&'static str),
+    Throw(&'static str, ClassId),
+    One(&'static str, Adapter),
+    Two(&'static str, &'static str, Joint),
+    Guard(&'static str, &'static str, &'static str),
+}
+
+fn value(given: Given) -> Value {
+    match given {
+        Given::Null => Value::Null,
+        Given::Int => Value::Boxed(Num::I(5)),
+        Given::Long => Value::Boxed(Num::J(5)),
+    }
+}
+
+/// The method type of a descriptor.
+pub fn method_type(alloc: Global, text: &str, classes: &Classes) -> Result<MethodTy, NoMemory> {
+    read_descriptor(alloc, text.as_bytes(), classes).map_err(|_| NoMemory)
+}
+
+fn types(alloc: Global, text: &str, classes: &Classes) -> Result<Tys, NoMemory> {
+    read_types(alloc, text.as_bytes(), classes).map_err(|_| NoMemory)
+}
+
+/// A type, and nothing for `V`.
+fn option_type(text: &str, classes: &Classes) -> Option<Ty> {
+    read_type(text.as_bytes(), classes).ok()
+}
+
+/// The type of the leaf `demo/Host.add`.
+fn checked_leaf(alloc: Global, leaves: &Leaves) -> Result<MethodTy, CheckError> {
+    match leaves.find(b"demo/Host", b"add", b"(II)I", How::Static) {
+        Ok(leaf) => check_leaf(alloc, leaf, leaves),
+        Err(_) => Err(CheckError::NoMemory),
+    }
+}
+
+/// The type of a node of one part, of this type and weight.
+fn checked_one(
+    alloc: Global,
+    classes: &Classes,
+    t: &str,
+    weight: u32,
+    adapter: Adapter,
+) -> Result<MethodTy, CheckError> {
+    let t = method_type(alloc, t, classes)?;
+    match adapter {
+        Adapter::Bind(pos, v) => check_bind(alloc, &t, weight, pos, &value(v), classes),
+        Adapter::Drop(pos, put) => {
+            let put = types(alloc, put, classes)?;
+            check_drop(alloc, &t, weight, pos, &put, classes)
+        }
+        Adapter::Permute(asked, order) => {
+            let asked = method_type(alloc, asked, classes)?;
+            check_permute(alloc, &t, weight, &asked, order, classes)
+        }
+        Adapter::Spread(array, count) => {
+            let array = option_type(array, classes);
+            check_spread(alloc, &t, weight, array, count, classes)
+        }
+        Adapter::Gather(array, count) => {
+            let array = option_type(array, classes);
+            check_gather(alloc, &t, weight, array, count, classes)
+        }
+        Adapter::AsType(asked) => {
+            let asked = method_type(alloc, asked, classes)?;
+            check_astype(alloc, &t, weight, &asked, classes)
+        }
+    }
+}
+
+/// The type of a node of two parts, of these types and each of this weight.
+fn checked_two(
+    alloc: Global,
+    classes: &Classes,
+    t: &str,
+    part: &str,
+    weight: u32,
+    joint: Joint,
+) -> Result<MethodTy, CheckError> {
+    let t = method_type(alloc, t, classes)?;
+    let part = method_type(alloc, part, classes)?;
+    match joint {
+        Joint::Filter(pos) => check_filter(alloc, &t, weight, pos, &part, weight, classes),
+        Joint::FilterReturn => check_filterret(alloc, &t, weight, &part, weight, classes),
+        Joint::Fold(pos) => check_fold(alloc, &t, weight, pos, &part, weight, classes),
+        Joint::Collect(pos) => check_collect(alloc, &t, weight, pos, &part, weight, classes),
+        Joint::Catch(class) => check_catch(alloc, &t, weight, class, &part, weight, classes),
+    }
+}
+
+/// The type of a guard, each part of which has this weight.
+fn checked_guard(
+    alloc: Global,
+    classes: &Classes,
+    test: &str,
+    target: &str,
+    fallback: &str,
+    weight: u32,
+) -> Result<MethodTy, CheckError> {
+    let c = method_type(alloc, test, classes)?;
+    let t = method_type(alloc, target, classes)?;
+    let e = method_type(alloc, fallback, classes)?;
+    check_guard(alloc, &c, weight, &t, weight, &e, weight, classes)
+}
+
+/// The type of a node, each part of which has this weight, or its refusal.
+pub fn checked(
+    alloc: Global,
+    leaves: &Leaves,
+    node: Node,
+    weight: u32,
+) -> Result<MethodTy, CheckError> {
+    let classes = leaves.classes();
+    match node {
+        Node::Leaf => checked_leaf(alloc, leaves),
+        Node::Constant(ty, v) => {
+            check_constant(alloc, option_type(ty, classes), &value(v), classes)
+        }
+        Node::Identity(ty) => check_identity(alloc, option_type(ty, classes), classes),
+        Node::Throw(ret, class) => check_throw(alloc, option_type(ret, classes), class, classes),
+        Node::One(t, adapter) => checked_one(alloc, classes, t, weight, adapter),
+        Node::Two(t, part, joint) => checked_two(alloc, classes, t, part, weight, joint),
+        Node::Guard(test, target, fallback) => {
+            checked_guard(alloc, classes, test, target, fallback, weight)
+        }
+    }
+}
