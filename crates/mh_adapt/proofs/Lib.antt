@@ -1,9 +1,14 @@
+mod Answered
+mod BindStands
 mod CollectStands
+mod DropStands
 mod FilterReturnStands
 mod FilterStands
 mod FoldStands
+mod InsertingFits
 mod PartAnswers
 mod PartFits
 mod PartRuns
 mod PartSuits
 mod Parted
+mod PermuteStands

@@ -1,7 +1,10 @@
-//! Adapters: arguments bound, dropped, permuted, filtered, folded and collected, results filtered.
+//! Adapters of method handles: bound values, dropped and permuted arguments, and parts that run
+//! before or behind a handle.
 #![tactic(auto)]
 
 mod growths;
+mod inserting;
 mod parts;
 
+pub use inserting::{bind, drop_args, permute};
 pub use parts::{collect, filter, filterret, fold};

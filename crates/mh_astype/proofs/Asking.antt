@@ -1,6 +1,7 @@
 -- A call that uses a handle as a type: what its check tells, and what it leaves.
-use Rattle.std.proofs.Common.{◌≡◌, refl, sym, ap, ap₂, ◌∙◌, subst, ℕ, ◌+◌, Bool, true, false, cond, List, [], ◌∷◌, Result, Ok, Err, IfOk, inl}
+use Rattle.std.proofs.Common.{◌≡◌, refl, sym, ap, ap₂, ◌∙◌, subst, ℕ, ◌+◌, Bool, true, false, cond, List, [], ◌∷◌, ◌++◌, Result, Ok, Err, IfOk, inl}
 use Rattle.std.specs.Prelude.{IsErrAnd}
+use Rattle.std.proofs.lemmas.List.{append-nil}
 use Rattle.mh_values.specs.declared.class.Class.{Class}
 use Rattle.mh_values.specs.declared.types.MethodTy.{MethodTy}
 use Rattle.mh_values.specs.Classes.{AreClasses}
@@ -22,7 +23,7 @@ use Rattle.mh_handle.specs.Passes.{PassView}
 use Rattle.mh_handle.specs.Recipe.{convert_keys}
 use Rattle.mh_handle.specs.Stands.{HandleView, Stands}
 use Rattle.mh_handle.specs.Works.{IsAccepted}
-use Rattle.mh_astype.specs.Use.{MakesBy, use_keys, use_row, used_as}
+use Rattle.mh_astype.specs.Use.{IsUse, MakesBy, use_keys, use_row, used_as}
 use Rattle.mh_astype.proofs.Using.{trivial, used-kept, used-stands}
 
 pub differs : (b : Bool) (own own' asked : MethodTy) → b ≡ false → b ≡ is_same_method_type own asked → own ≡ own' → is_same_method_type own' asked ≡ false
@@ -45,6 +46,24 @@ used-obeys row classes asked old (Ok h) is accepted used = is ∙ ap Ok (sym use
 used-obeys row classes asked old (Err NoMemory) is accepted used = tt
 used-obeys row classes asked old (Err (FormsFull drawn)) is accepted used = (asked, is)
 used-obeys row classes asked old (Err (Refused e)) is accepted used = absurd accepted
+
+-- the handle itself, where it has the type
+pub use-same : (classes : List Class) (asked : MethodTy) (h : HandleView) → is_same_method_type h.ty asked ≡ true → IsUse classes asked h h
+use-same classes asked h same = record {
+  weight = sym (ap (λ b. cond b h.weight (1 + h.weight)) same);
+  recipe = sym (ap (λ b. h.form.recipe ++ cond b [] (convert_keys classes asked h.ty)) same ∙ append-nil h.form.recipe);
+}
+
+-- and one that is converted, where it has another
+pub use-other :
+    (classes : List Class) (own : MethodTy) (asked u : MethodTy) (h : HandleView) (r : Result Handle HandleError) →
+    is_same_method_type h.ty asked ≡ false → astype_row classes h.ty h.weight asked ≡ Ok u → IfOk r (IsUsedAs classes u h) → IfOk r (IsUse classes asked h)
+use-other classes own asked u h (Ok new) other row used = record {
+  weight = used.weight ∙ sym (ap (λ b. cond b h.weight (1 + h.weight)) other);
+  recipe = used.recipe ∙ (ap (λ a. h.form.recipe ++ convert_keys classes a h.ty) (astype_row-parts classes h.ty h.weight asked u row).2
+      ∙ sym (ap (λ b. h.form.recipe ++ cond b [] (convert_keys classes asked h.ty)) other));
+}
+use-other classes own asked u h (Err e) other row used = used
 
 pub refused-makes : (recipe keys : List Key) (pass : PassView) (e : CheckError) (r : Result Handle HandleError) → IsErrAnd r (λ x. x ≡ of_check e) → MakesBy recipe keys pass pass r
 refused-makes recipe keys pass e (Ok h) is = absurd is

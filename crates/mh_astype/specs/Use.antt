@@ -1,5 +1,5 @@
 -- What a handle becomes that is used as a type, and what that leaves of a pass.
-use Rattle.std.specs.Prelude.{◌≡◌, ℕ, List, [], ◌∷◌, ◌++◌, if◌then◌else◌, Result, Ok, Err}
+use Rattle.std.specs.Prelude.{◌+◌, ◌≡◌, ℕ, List, [], ◌∷◌, ◌++◌, if◌then◌else◌, Result, Ok, Err}
 use Rattle.mh_values.specs.declared.class.Class.{Class}
 use Rattle.mh_values.specs.declared.types.MethodTy.{MethodTy}
 use Rattle.mh_values.specs.Same.{is_same_method_type}
@@ -30,6 +30,15 @@ use_row classes own weight asked = if is_same_method_type own asked then Ok own 
 -- the key of the conversions, none where nothing changes
 abbrev pub use_keys : List Class → MethodTy → MethodTy → List Key
 use_keys classes own asked = if is_same_method_type own asked then [] else convert_keys classes asked own
+
+-- the weight of a tree that is used as a type: one more, where it has another type
+abbrev pub use_weight : MethodTy → ℕ → MethodTy → ℕ
+use_weight own weight asked = if is_same_method_type own asked then weight else 1 + weight
+
+-- the handle that a use as a type makes: its weight, and the recipe of its form
+pub record IsUse (classes : List Class) (asked : MethodTy) (old new : HandleView) : Type 0 where
+  pub weight : new.weight ≡ use_weight old.ty old.weight asked
+  pub recipe : new.form.recipe ≡ old.form.recipe ++ use_keys classes old.ty asked
 
 -- what a call leaves of the pass that adds these keys to a recipe: nothing is asked for where there is none
 abbrev pub MakesBy : List Key → List Key → PassView → PassView → Result Handle HandleError → Type 0

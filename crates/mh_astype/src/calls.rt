@@ -56,14 +56,19 @@ fn invoke_converted<'t, R: Wait>(
     args: &Items,
     n: u32,
 ) -> Result<Answer, EditError>
-    requires row { astype_row w.old.leaves.now.classes h.now.ty h.now.weight call.now ≡ Ok call.now }
-    requires changes { (are_trivial w.old.leaves.now.classes call.now.params h.now.ty.params && is_trivial_ret w.old.leaves.now.classes h.now.ty.ret call.now.ret) ≡ false }
+    requires row { astype_row w.old.leaves.now.classes h.now.ty h.now.weight call.now ≡ Ok
+        call.now }
+    requires changes { (are_trivial w.old.leaves.now.classes call.now.params h.now.ty.params &&
+        is_trivial_ret w.old.leaves.now.classes h.now.ty.ret call.now.ret) ≡ false }
     requires typed { HaveTypes w.old.leaves.now.classes args.now call.now.params }
     requires stands { StandsForSome w.old.leaves.now h.now }
     requires ready { IsReady w.old 1 }
     ensures goes_on { GoesOn w.old w.new }
-    ensures asks { AsksBy h.now.form.recipe (convert_keys w.old.leaves.now.classes call.now h.now.ty) w.old.pass.now w.new.pass.now result }
-    ensures answer { (t : Tree) → Stands w.old.leaves.now h.now t → IfOk result (IsAnswer (mean w.old.leaves.now (AsType t call.now) args.now n) (length (recipe w.old.leaves.now (AsType t call.now)))) }
+    ensures asks { AsksBy h.now.form.recipe (convert_keys w.old.leaves.now.classes call.now
+        h.now.ty) w.old.pass.now w.new.pass.now result }
+    ensures answer { (t : Tree) → Stands w.old.leaves.now h.now t
+        → IfOk result (IsAnswer (mean w.old.leaves.now (AsType t call.now) args.now n)
+        (length (recipe w.old.leaves.now (AsType t call.now)))) }
 {
     are_classes(w.leaves);
     let classes = w.leaves.classes();
@@ -83,13 +88,17 @@ fn invoke_used<'t, R: Wait>(
     args: &Items,
     n: u32,
 ) -> Result<Answer, EditError>
-    requires row { astype_row w.old.leaves.now.classes h.now.ty h.now.weight call.now ≡ Ok call.now }
+    requires row { astype_row w.old.leaves.now.classes h.now.ty h.now.weight call.now ≡ Ok
+        call.now }
     requires typed { HaveTypes w.old.leaves.now.classes args.now call.now.params }
     requires stands { StandsForSome w.old.leaves.now h.now }
     requires ready { IsReady w.old 1 }
     ensures goes_on { GoesOn w.old w.new }
-    ensures asks { AsksBy h.now.form.recipe (convert_keys w.old.leaves.now.classes call.now h.now.ty) w.old.pass.now w.new.pass.now result }
-    ensures answer { (t : Tree) → Stands w.old.leaves.now h.now t → IfOk result (IsAnswer (mean w.old.leaves.now (AsType t call.now) args.now n) (length (recipe w.old.leaves.now (AsType t call.now)))) }
+    ensures asks { AsksBy h.now.form.recipe (convert_keys w.old.leaves.now.classes call.now
+        h.now.ty) w.old.pass.now w.new.pass.now result }
+    ensures answer { (t : Tree) → Stands w.old.leaves.now h.now t
+        → IfOk result (IsAnswer (mean w.old.leaves.now (AsType t call.now) args.now n)
+        (length (recipe w.old.leaves.now (AsType t call.now)))) }
 {
     are_classes(w.leaves);
     if is_trivial(call, h.ty(), w.leaves.classes()) {
@@ -106,7 +115,8 @@ fn refusal<'t>(
     call: &MethodTy,
     classes: &Classes,
 ) -> Result<Option<Exc>, NoMemory>
-    ensures { IfOk result (IsRefusal (astype_row classes.now h.now.ty h.now.weight call.now) call.now) }
+    ensures { IfOk result (IsRefusal (astype_row classes.now h.now.ty h.now.weight call.now)
+        call.now) }
 {
     match check_astype(alloc, h.ty(), h.weight(), call, classes) {
         Ok(_) => Ok(None),
@@ -132,9 +142,11 @@ pub fn invoke_generic<'t, R: Wait>(
     requires ready { IsReady w.old 1 }
     ensures goes_on { GoesOn w.old w.new }
     ensures asks { AsksBy h.now.form.recipe
-        (call_keys w.old.leaves.now.classes h.now.ty h.now.weight call.now) w.old.pass.now w.new.pass.now result }
+        (call_keys w.old.leaves.now.classes h.now.ty h.now.weight call.now) w.old.pass.now
+        w.new.pass.now result }
     ensures answer { (t : Tree) → Stands w.old.leaves.now h.now t → IfOk result
-        (IsAnswer (generic w.old.leaves.now t call.now args.now n) (generic_keys w.old.leaves.now t call.now)) }
+        (IsAnswer (generic w.old.leaves.now t call.now args.now n)
+        (generic_keys w.old.leaves.now t call.now)) }
 {
     if is_same_method_type(h.ty(), call) {
         return Ok(h.invoke(alloc, w.leaves, args, n)?);

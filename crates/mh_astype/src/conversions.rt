@@ -42,7 +42,8 @@ fn is_trivial_ret(own: Option<Ty>, asked: Option<Ty>, classes: &Classes) -> bool
 
 /// Whether no conversion to the type changes anything, so that no key is added.
 pub(crate) fn is_trivial(asked: &MethodTy, own: &MethodTy, classes: &Classes) -> bool
-    ensures { result ≡ (are_trivial classes.now asked.now.params own.now.params && is_trivial_ret classes.now own.now.ret asked.now.ret) }
+    ensures { result ≡ (are_trivial classes.now asked.now.params own.now.params && is_trivial_ret
+        classes.now own.now.ret asked.now.ret) }
 {
     are_trivial(asked.params.as_slice(), own.params.as_slice(), classes)
         && is_trivial_ret(own.ret, asked.ret, classes)
@@ -93,7 +94,9 @@ pub(crate) fn convert_key(
     own: &MethodTy,
     classes: &Classes,
 ) -> Result<Key, NoMemory>
-    ensures { IfOk result (λ key. key ≡ Convert (entries_of classes.now asked.now.params own.now.params) (ret_entry_of classes.now own.now.ret asked.now.ret)) }
+    ensures { IfOk result (λ key. key ≡ Convert
+        (entries_of classes.now asked.now.params own.now.params)
+        (ret_entry_of classes.now own.now.ret asked.now.ret)) }
 {
     let shape = shape(alloc, asked)?;
     let mut params = Seq::new(alloc);
@@ -115,7 +118,8 @@ fn push_convs<'t>(
     own: &[Ty],
     classes: &Classes,
 ) -> Result<(), NoMemory>
-    ensures { OnOk result (fields.new.items ≡ fields.old.items ++ map (λ c. field.Conv c) (convs_of classes.now asked.now own.now)) }
+    ensures { OnOk result (fields.new.items ≡ fields.old.items ++ map (λ c. field.Conv c)
+        (convs_of classes.now asked.now own.now)) }
 {
     let [from, asked @ ..] = asked else {
         return Ok(());
@@ -141,7 +145,8 @@ fn push_ret<'t>(
     asked: Option<Ty>,
     classes: &Classes,
 ) -> Result<(), NoMemory>
-    ensures { OnOk result (fields.new.items ≡ fields.old.items ++ ret_fields_of classes.now own asked) }
+    ensures { OnOk result (fields.new.items ≡ fields.old.items ++ ret_fields_of classes.now own
+        asked) }
 {
     if is_trivial_ret(own, asked, classes) {
         return Ok(());

@@ -9,7 +9,7 @@ ghost use Rattle.mh_handle.specs.Recipe.{are_trivial, convert_keys};
 ghost use Rattle.mh_handle.specs.Obeys.{Obeys};
 ghost use Rattle.mh_handle.specs.Stands.{Stands};
 ghost use Rattle.mh_handle.specs.Works.{IsReady, GoesOn, IsAccepted};
-ghost use Rattle.mh_astype.specs.Use.{MakesBy, used_as, use_row, use_keys};
+ghost use Rattle.mh_astype.specs.Use.{IsUse, MakesBy, used_as, use_row, use_keys};
 
 use crate::conversions::{convert_fields, convert_key, is_trivial};
 use mh_base::Seq;
@@ -29,10 +29,12 @@ fn converted<'t, R: Wait>(
     ty: MethodTy,
 ) -> Result<Handle<'t>, HandleError>
     requires row { astype_row w.old.leaves.now.classes h.ty h.weight ty ≡ Ok ty }
-    requires changes { (are_trivial w.old.leaves.now.classes ty.params h.ty.params && is_trivial_ret w.old.leaves.now.classes h.ty.ret ty.ret) ≡ false }
+    requires changes { (are_trivial w.old.leaves.now.classes ty.params h.ty.params && is_trivial_ret
+        w.old.leaves.now.classes h.ty.ret ty.ret) ≡ false }
     requires ready { IsReady w.old 1 }
     ensures goes_on { GoesOn w.old w.new }
-    ensures makes { MakesBy h.entry.form.recipe (convert_keys w.old.leaves.now.classes ty h.entry.ty) w.old.pass.now w.new.pass.now result }
+    ensures makes { MakesBy h.entry.form.recipe
+        (convert_keys w.old.leaves.now.classes ty h.entry.ty) w.old.pass.now w.new.pass.now result }
     ensures accepted { IsAccepted result }
     ensures used { IfOk result (IsUsedAs w.old.leaves.now.classes ty h.entry) }
 {
@@ -60,7 +62,8 @@ fn used<'t, R: Wait>(
     requires row { astype_row w.old.leaves.now.classes h.ty h.weight ty ≡ Ok ty }
     requires ready { IsReady w.old 1 }
     ensures goes_on { GoesOn w.old w.new }
-    ensures makes { MakesBy h.entry.form.recipe (convert_keys w.old.leaves.now.classes ty h.entry.ty) w.old.pass.now w.new.pass.now result }
+    ensures makes { MakesBy h.entry.form.recipe
+        (convert_keys w.old.leaves.now.classes ty h.entry.ty) w.old.pass.now w.new.pass.now result }
     ensures accepted { IsAccepted result }
     ensures used { IfOk result (IsUsedAs w.old.leaves.now.classes ty h.entry) }
 {
@@ -92,10 +95,14 @@ pub fn as_type<'t, R: Wait>(
 ) -> Result<Handle<'t>, HandleError>
     requires ready { IsReady w.old 1 }
     ensures goes_on { GoesOn w.old w.new }
-    ensures obeys { Obeys (use_row w.old.leaves.now.classes h.entry.ty h.entry.weight ty.now) result }
-    ensures makes { MakesBy h.entry.form.recipe (use_keys w.old.leaves.now.classes h.entry.ty ty.now) w.old.pass.now w.new.pass.now result }
+    ensures obeys { Obeys (use_row w.old.leaves.now.classes h.entry.ty h.entry.weight ty.now)
+        result }
+    ensures makes { MakesBy h.entry.form.recipe
+        (use_keys w.old.leaves.now.classes h.entry.ty ty.now) w.old.pass.now w.new.pass.now result }
     ensures same { IsTrue (is_same_method_type h.entry.ty ty.now) → result ≡ Ok h.entry }
-    ensures stands { (t : Tree) → Stands w.old.leaves.now h.entry t → IfOk result (λ r. Stands w.old.leaves.now r (used_as h.entry.ty ty.now t)) }
+    ensures used { IfOk result (IsUse w.old.leaves.now.classes ty.now h.entry) }
+    ensures stands { (t : Tree) → Stands w.old.leaves.now h.entry t
+        → IfOk result (λ r. Stands w.old.leaves.now r (used_as h.entry.ty ty.now t)) }
 {
     if is_same_method_type(h.ty(), ty) {
         return Ok(h);

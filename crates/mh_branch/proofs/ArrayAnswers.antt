@@ -1,6 +1,6 @@
 -- What the call of a gather answers, from what it adds to the handle that it adapts.
-use Rattle.std.proofs.Common.{◌≡◌, sym, subst, ap, ◌∙◌, ℕ, ◌+◌, ◌-◌, ◌≤◌, Bool, true, ◌&&◌, List, [], ◌∷◌, ◌++◌, length, map, replicate, Option, Some, Result, Ok, Err, IfOk, codes, nat_lt}
-use Rattle.std.specs.Prelude.{slice_get, IsTrue}
+use Rattle.std.proofs.Common.{◌≡◌, sym, subst, ap, ◌∙◌, ℕ, ◌+◌, ◌-◌, ◌≤◌, Bool, ◌&&◌, List, [], ◌∷◌, ◌++◌, length, replicate, Option, Some, Result, Ok, Err, IfOk, codes, nat_lt}
+use Rattle.std.specs.Prelude.{slice_get}
 use Rattle.mh_values.specs.declared.class.Class.{Class}
 use Rattle.mh_values.specs.declared.types.Comp.{Comp}
 use Rattle.mh_values.specs.declared.types.Ty.{Ty}
@@ -19,16 +19,14 @@ use Rattle.mh_form.specs.declared.field.Field.TheVariants as field
 use Rattle.mh_form.specs.Erasure.{basic_of}
 use Rattle.mh_edit.specs.declared.key.Key.{Key}
 use Rattle.mh_edit.specs.declared.key.Key.TheVariants as key
-use Rattle.mh_edit.specs.Fit.{fits}
 use Rattle.mh_handle.specs.declared.error.HandleError.{HandleError}
 use Rattle.mh_handle.specs.Grows.{Grows}
 use Rattle.mh_handle.specs.Passes.{PassView}
 use Rattle.mh_handle.specs.Recipe.{at_some}
-use Rattle.mh_handle.specs.Stands.{HandleView, Stands, handle_body}
+use Rattle.mh_handle.specs.Stands.{HandleView, Stands}
 use Rattle.mh_handle.specs.Works.{Makes}
 use Rattle.mh_handle.proofs.Limits.{limited-low}
-use Rattle.mh_branch.specs.Growths.{StandsForSome, gather_keys}
-use Rattle.mh_branch.proofs.ArrayFits.{gather-fits}
+use Rattle.mh_branch.specs.Growths.{gather_keys}
 use Rattle.mh_branch.proofs.GatherStands.{gather-stands}
 
 pub gather-array : (classes : List Class) (t : MethodTy) (weight : ℕ) (array : Option Ty) (count : ℕ) (u : MethodTy) → gather_row classes t weight array count ≡ Ok u → (c : Comp) × (component_of array ≡ Some c)
@@ -44,16 +42,6 @@ gather-light classes t weight array count u row =
     let q = provided_some-parts (component_of array) (illegal (codes "gather")) (λ c. provided (test c) (illegal (codes "gather")) (within c)) u row in
     let r = provided-parts (test q.0) (illegal (codes "gather")) (within q.0) u q.2 in
     (limited-low (codes "gather") (1 + weight) (made q.0) u r.1).1
-
-pub gather-fits-by :
-    (table : LeafTable) (h : HandleView) (array : Option Ty) (count : ℕ) (u : MethodTy) (k : Key) (c : Comp) →
-    gather_row table.classes h.ty h.weight array count ≡ Ok u →
-    StandsForSome table h →
-    k ≡ key.Gather count (basic_of (item_type c)) →
-    IsTrue (fits k (handle_body h))
-gather-fits-by table h array count u k c row some is =
-    subst (λ x. IsTrue (fits x (handle_body h))) (sym is)
-    (gather-fits table.classes h.ty h.weight array count u (basic_of (item_type c)) (handle_body h) row some.1.begun some.1.shaped)
 
 pub gather-makes :
     (array : Option Ty) (count : ℕ) (c : Comp) (k : Key) (recipe : List Key) (old new : PassView) (r : Result HandleView HandleError) →

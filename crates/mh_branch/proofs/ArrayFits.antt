@@ -1,5 +1,5 @@
 -- The keys of Spread and Gather fit the bodies of handles, where their rows give a type.
-use Rattle.std.proofs.Common.{◌≡◌, refl, sym, subst, ap, ap₂, ◌∙◌, ℕ, ◌-◌, Bool, true, false, not, ◌&&◌, List, [], ◌∷◌, drop, length, map, Option, Some, None, Ok, nat_le}
+use Rattle.std.proofs.Common.{◌≡◌, refl, sym, subst, ap, ◌∙◌, ℕ, ◌-◌, true, false, not, List, [], ◌∷◌, drop, length, map, Option, Some, Ok, nat_le}
 use Rattle.std.specs.Prelude.{slice_get, IsTrue}
 use Rattle.std.specs.List.{list_all}
 use Rattle.std.specs.Option.{option_map, option_map_or}
@@ -23,8 +23,6 @@ use Rattle.mh_form.specs.declared.body.FormBody.{FormBody}
 use Rattle.mh_form.specs.Erasure.{basic_of}
 use Rattle.mh_edit.specs.declared.key.Key.TheVariants as key
 use Rattle.mh_edit.specs.Fit.{ends_with, fits, is_basic_at, is_nothing, is_same_basic}
-use Rattle.mh_handle.specs.Stands.{IsMade}
-use Rattle.mh_handle.proofs.Standing.{made-fits}
 
 same_basic-itself : (b : Basic) → is_same_basic b b ≡ true
 same_basic-itself basic.L = refl
@@ -42,7 +40,7 @@ pub spread-fits :
     (t : MethodTy) (weight : ℕ) (array : Option Ty) (count : ℕ) (c : Comp) (u : MethodTy) (body : FormBody) →
     spread_row t weight array count ≡ Ok u →
     component_of array ≡ Some c →
-    IsMade body →
+    is_nothing body ≡ false →
     body.params ≡ map basic_of t.params →
     IsTrue (fits (key.Spread count (basic_of (item_type c))) body)
 spread-fits t weight array count c u body row some begun shaped =
@@ -59,7 +57,7 @@ spread-fits t weight array count c u body row some begun shaped =
     ap (λ n. list_all (is_same_basic b) (drop (n - count) (map basic_of t.params))) many
     ∙ (ap (list_all (is_same_basic b)) (drop-map basic_of (length t.params - count) t.params) ∙ one_basic (item_type c) (drop (length t.params - count) t.params) all) in
     let ends : ends_with body.params count b ≡ true = ap (λ ps. ends_with ps count b) shaped ∙ both-true _ _ within basics in
-    both-true (not (is_nothing body)) (ends_with body.params count b) (made-fits body begun) ends
+    both-true (not (is_nothing body)) (ends_with body.params count b) (ap not begun) ends
 
 -- what takes an array is a reference
 takes_reference : (classes : List Class) (c : Comp) (t : Ty) → is_type_below classes (ty.Array c) t ≡ true → is_same_basic basic.L (basic_of t) ≡ true
@@ -70,7 +68,7 @@ takes_reference classes c (ty.Prim p) h = absurd cc
 pub gather-fits :
     (classes : List Class) (t : MethodTy) (weight : ℕ) (array : Option Ty) (count : ℕ) (u : MethodTy) (b : Basic) (body : FormBody) →
     gather_row classes t weight array count ≡ Ok u →
-    IsMade body →
+    is_nothing body ≡ false →
     body.params ≡ map basic_of t.params →
     IsTrue (fits (key.Gather count b) body)
 gather-fits classes t weight array count u b body row begun shaped =
@@ -82,4 +80,4 @@ gather-fits classes t weight array count u b body row begun shaped =
     ∙ takes_reference classes parts.0 last.0 last.2 in
     let ends : is_basic_at body.params (length body.params - 1) basic.L ≡ true =
     ap (λ ps. is_basic_at ps (length ps - 1) basic.L) shaped ∙ (ap (λ n. is_basic_at (map basic_of t.params) (n - 1) basic.L) (length-map t.params basic_of) ∙ at) in
-    both-true (not (is_nothing body)) (is_basic_at body.params (length body.params - 1) basic.L) (made-fits body begun) ends
+    both-true (not (is_nothing body)) (is_basic_at body.params (length body.params - 1) basic.L) (ap not begun) ends

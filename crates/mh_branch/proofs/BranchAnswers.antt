@@ -1,5 +1,5 @@
 -- What the calls of guards and catches answer, from what they add to the form that does nothing.
-use Rattle.std.proofs.Common.{◌≡◌, sym, subst, ap, ◌∙◌, ℕ, ◌+◌, ◌-◌, ◌≤◌, Bool, true, ◌&&◌, List, [], ◌∷◌, ◌++◌, length, map, Option, Some, Result, Ok, Err, IfOk, codes, arith}
+use Rattle.std.proofs.Common.{◌≡◌, sym, subst, ap, ◌∙◌, ◌+◌, ◌≤◌, true, ◌&&◌, List, [], ◌∷◌, length, Some, Result, Ok, Err, IfOk, codes, arith}
 use Rattle.std.specs.Prelude.{IsTrue}
 use Rattle.std.proofs.lemmas.List.{length-map}
 use Rattle.mh_values.specs.declared.class.Class.{Class}
@@ -18,7 +18,6 @@ use Rattle.mh_tree.proofs.Provided.{provided-parts}
 use Rattle.mh_tree.proofs.RowParts.{catch_row-parts, guard_row-parts}
 use Rattle.mh_form.specs.Body.{nothing}
 use Rattle.mh_form.specs.Erasure.{basic_of}
-use Rattle.mh_edit.specs.declared.key.Key.{Key}
 use Rattle.mh_edit.specs.Fit.{fits}
 use Rattle.mh_handle.specs.declared.error.HandleError.{HandleError}
 use Rattle.mh_handle.specs.declared.grow.Growth.{Growth}

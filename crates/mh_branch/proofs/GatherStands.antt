@@ -1,5 +1,5 @@
 -- A handle that gathers its last arguments into an array stands for the Gather of its tree.
-use Rattle.std.proofs.Common.{◌≡◌, ◌≢◌, refl, sym, subst, ap, ap₂, ◌∙◌, ℕ, zero, suc, ◌+◌, ◌-◌, ◌<◌, ◌≤◌, ◌^◌, true, List, [], ◌∷◌, ◌++◌, append-nil, take, drop, length, map, replicate, Option, Some, Result, Ok, Err, arith}
+use Rattle.std.proofs.Common.{◌≡◌, ◌≢◌, refl, sym, subst, ap, ◌∙◌, ℕ, ◌+◌, ◌-◌, ◌<◌, ◌≤◌, ◌^◌, true, List, [], ◌∷◌, ◌++◌, append-nil, take, drop, length, map, replicate, Option, Some, Result, Ok, Err, arith}
 use Rattle.std.specs.Prelude.{slice_get}
 use Rattle.std.proofs.lemmas.List.{length-map, length-replicate}
 use Rattle.std.proofs.lemmas.Option.{slice_get_within}
@@ -44,15 +44,12 @@ use Rattle.mh_handle.specs.Recipe.{at_some, recipe}
 use Rattle.mh_handle.specs.Stands.{HandleView, Stands, handle_body}
 use Rattle.mh_handle.proofs.Erasing.{part-map, returns-runs, spliced-map}
 use Rattle.mh_handle.proofs.Standing.{stands-grown}
+use Rattle.mh_branch.proofs.ArrayShapes.{gather-shaped}
 use Rattle.mh_branch.proofs.Rooted.{made-named}
 
 map-same : {A B : Type 0} (b : B) (xs : List A) → map (λ x. b) xs ≡ replicate (length xs) b
 map-same b [] = refl
 map-same b (x ∷ xs) = ap (λ ys. b ∷ ys) (map-same b xs)
-
-map-replicate : {A B : Type 0} (f : A → B) (n : ℕ) (a : A) → map f (replicate n a) ≡ replicate n (f a)
-map-replicate f zero a = refl
-map-replicate f (suc n) a = ap (λ ys. f a ∷ ys) (map-replicate f n a)
 
 -- the array of values of its items' type, erased
 array-erased : (classes : List Class) (c : Comp) (count : ℕ) (vs : List Value) → length vs ≡ count → HaveTypes classes vs (replicate count (item_type c)) → made_array classes c (map erased vs) ≡ slot_or_throw (array_of c vs)
@@ -99,10 +96,6 @@ gather-stands table h h' t array count c u are st row some grows =
     let inside : place < length h.ty.params = slice_get_within h.ty.params place last.0 last.1 in
     let arity : length old.params ≡ length h.ty.params = ap length st.shaped ∙ length-map h.ty.params basic_of in
     let typed : type_of table gather ≡ Ok u = (λ i. with_type (st.typed i) (λ m. gather_row table.classes m (sym st.weighed i) array count)) ∙ row in
-    let shaped : new.params ≡ map basic_of u.params =
-    ap₂ (λ k ps. spliced (k - 1) 1 (replicate count b) ps) arity st.shaped
-    ∙ (ap (λ bs. spliced place 1 bs (map basic_of h.ty.params)) (sym (map-replicate basic_of count (item_type c)))
-    ∙ (sym (spliced-map basic_of place 1 items h.ty.params) ∙ ap (λ (m : MethodTy). map basic_of m.params) (sym made))) in
     let sound : IsSound table.classes (mean table gather) u =
     subst (λ o. IsSound table.classes (λ args n. found (component_of array) (λ d. or_throw (array_of d (part_of (arity_of o - 1) count args)) (λ v. mean table t (spliced (arity_of o - 1) count (v ∷ []) args) n))) u) (sym st.typed)
     (gather-sound table.classes are (mean table t) h.ty h.weight array count u st.returns row) in
@@ -142,7 +135,7 @@ gather-stands table h h' t array count c u are st row some grows =
       holds = sym (append-nil (sides table t));
       keyed = ap (λ o. recipe table t ++ at_some o (λ d. key.Gather count (basic_of (item_type d)))) some;
       fielded = refl;
-      shaped = shaped;
+      shaped = gather-shaped table.classes h.ty h.weight array count c u old row some st.shaped;
       begun = made-named new _ _ refl;
       runs = runs;
       returns = sound;

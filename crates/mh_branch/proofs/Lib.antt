@@ -1,5 +1,6 @@
 mod ArrayAnswers
 mod ArrayFits
+mod ArrayShapes
 mod BranchAnswers
 mod Branching
 mod CatchStands
@@ -10,4 +11,6 @@ mod GuardStands
 mod RootAnswers
 mod RootStands
 mod Rooted
+mod SpreadCall
+mod SpreadRules
 mod SpreadStands

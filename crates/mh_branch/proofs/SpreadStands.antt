@@ -1,5 +1,5 @@
 -- A handle that spreads its last argument stands for the Spread of its tree.
-use Rattle.std.proofs.Common.{◌≡◌, ◌≢◌, refl, sym, subst, ap, ap₂, ◌∙◌, ℕ, ◌+◌, ◌-◌, ◌<◌, ◌≤◌, ◌^◌, true, List, [], ◌∷◌, ◌++◌, append-nil, take, drop, length, map, Option, Some, Ok, nat_le, arith}
+use Rattle.std.proofs.Common.{◌≡◌, ◌≢◌, refl, sym, subst, ap, ◌∙◌, ℕ, ◌+◌, ◌-◌, ◌<◌, ◌≤◌, ◌^◌, true, List, [], ◌∷◌, ◌++◌, append-nil, take, drop, length, map, Option, Some, Ok, nat_le, arith}
 use Rattle.std.specs.Prelude.{slice_get}
 use Rattle.std.specs.List.{list_all}
 use Rattle.std.specs.Option.{option_map}
@@ -29,7 +29,6 @@ use Rattle.mh_tree.proofs.RowParts.{spread_row-parts}
 use Rattle.mh_tree.proofs.SoundAdapters.{at_most}
 use Rattle.mh_tree.proofs.SoundSpread.{Spreads, spreads, spliced_at, spread-sound}
 use Rattle.mh_tree.proofs.TypedLists.{types-get, types-length, types-splice}
-use Rattle.mh_form.specs.declared.basic.Basic.TheVariants as basic
 use Rattle.mh_form.specs.declared.slot.Slot.{Slot}
 use Rattle.mh_form.specs.Erasure.{basic_of, erased, erased_ran}
 use Rattle.mh_form.specs.Run.{run_on}
@@ -44,6 +43,7 @@ use Rattle.mh_handle.specs.Recipe.{at_some, recipe}
 use Rattle.mh_handle.specs.Stands.{HandleView, Stands, handle_body}
 use Rattle.mh_handle.proofs.Erasing.{erased-after, raised-low, returns-runs, spliced-map}
 use Rattle.mh_handle.proofs.Standing.{stands-grown}
+use Rattle.mh_branch.proofs.ArrayShapes.{spread-shaped}
 use Rattle.mh_branch.proofs.Rooted.{made-named}
 
 -- what an array of a type is spread to, erased
@@ -89,9 +89,6 @@ spread-stands table h h' t array count c u are st row some grows =
     let all : list_all (λ p. is_same_type p (item_type c)) (drop place h.ty.params) ≡ true = subst (λ d. list_all (λ p. is_same_type p (item_type d)) (drop place h.ty.params) ≡ true) is last.1 in
     let arity : length old.params ≡ length h.ty.params = ap length st.shaped ∙ length-map h.ty.params basic_of in
     let typed : type_of table spread ≡ Ok u = (λ i. with_type (st.typed i) (λ m. spread_row m (sym st.weighed i) array count)) ∙ row in
-    let shaped : new.params ≡ map basic_of u.params =
-    ap₂ (λ k ps. spliced (k - count) count (basic.L ∷ []) ps) arity st.shaped
-    ∙ (sym (spliced-map basic_of place count (ty.Array c ∷ []) h.ty.params) ∙ ap (λ (m : MethodTy). map basic_of m.params) (sym made)) in
     let sound : IsSound table.classes (mean table spread) u =
     subst (λ o. IsSound table.classes (λ args n. found (slice_get args (arity_of o - count)) (λ v. and_then (spread_values count v) n (λ items k. mean table t (spliced (arity_of o - count) 1 items args) k))) u) (sym st.typed)
     (spread-sound table.classes are (mean table t) h.ty h.weight array count u st.returns row) in
@@ -133,7 +130,7 @@ spread-stands table h h' t array count c u are st row some grows =
       holds = sym (append-nil (sides table t));
       keyed = ap (λ o. recipe table t ++ at_some o (λ d. key.Spread count (basic_of (item_type d)))) some;
       fielded = refl;
-      shaped = shaped;
+      shaped = spread-shaped h.ty h.weight array count c u old row some st.shaped;
       begun = made-named new _ _ refl;
       runs = runs;
       returns = sound;

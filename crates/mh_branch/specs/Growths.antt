@@ -4,9 +4,7 @@ use Rattle.mh_values.specs.declared.class.ClassId.{ClassId}
 use Rattle.mh_values.specs.declared.types.Ty.{Ty}
 use Rattle.mh_values.specs.declared.types.MethodTy.{MethodTy}
 use Rattle.mh_values.specs.Array.{item_type}
-use Rattle.mh_leaf.specs.LeafTable.{LeafTable}
 use Rattle.mh_tree.specs.Rows.{component_of}
-use Rattle.mh_tree.specs.Tree.{Tree}
 use Rattle.mh_form.specs.declared.field.Field.{Field}
 use Rattle.mh_form.specs.declared.field.Field.TheVariants as field
 use Rattle.mh_form.specs.Erasure.{basic_of, shape_of}
@@ -15,7 +13,7 @@ use Rattle.mh_edit.specs.declared.key.Key.TheVariants as key
 use Rattle.mh_handle.specs.declared.grow.Growth.{Growth}
 use Rattle.mh_handle.specs.Grows.{IsPartOf}
 use Rattle.mh_handle.specs.Recipe.{at_some}
-use Rattle.mh_handle.specs.Stands.{HandleView, Stands}
+use Rattle.mh_handle.specs.Stands.{HandleView}
 
 -- the types that a handle holds as a part
 abbrev pub held_by : HandleView → List MethodTy
@@ -36,10 +34,6 @@ spread_keys array count = at_some (component_of array) (λ c. key.Spread count (
 -- the key of a gather of an array type's items; none where the type is no array
 abbrev pub gather_keys : Option Ty → ℕ → List Key
 gather_keys array count = at_some (component_of array) (λ c. key.Gather count (basic_of (item_type c)))
-
--- the handle stands for some tree
-abbrev pub StandsForSome : LeafTable → HandleView → Type 0
-StandsForSome table h = (t : Tree) × Stands table h t
 
 -- one field more, which holds the handle
 abbrev pub AddsPart : HandleView → List Field → List Field → Type 0

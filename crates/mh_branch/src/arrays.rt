@@ -6,7 +6,7 @@ ghost use Rattle.mh_tree.specs.Tree as tree;
 ghost use Rattle.mh_handle.specs.Obeys.{Obeys};
 ghost use Rattle.mh_handle.specs.Stands.{Stands};
 ghost use Rattle.mh_handle.specs.Works.{IsReady, GoesOn, Makes};
-ghost use Rattle.mh_branch.specs.Growths.{StandsForSome, gather_keys, spread_keys};
+ghost use Rattle.mh_branch.specs.Growths.{gather_keys, spread_keys};
 
 use crate::known::{are_classes, basic_of};
 use mh_base::Seq;
@@ -41,11 +41,13 @@ pub fn gather<'t, R: Wait>(
     n: u8,
 ) -> Result<Handle<'t>, HandleError>
     requires ready { IsReady w.old 1 }
-    requires stands { StandsForSome w.old.leaves.now t }
     ensures goes_on { GoesOn w.old w.new }
-    ensures obeys { Obeys (gather_row w.old.leaves.now.classes t.entry.ty t.entry.weight arr n) result }
-    ensures makes { Makes (t.entry.form.recipe ++ gather_keys arr n) w.old.pass.now w.new.pass.now result }
-    ensures stands { (a : Tree) → Stands w.old.leaves.now t.entry a → IfOk result (λ h. Stands w.old.leaves.now h (tree.Gather a arr n)) }
+    ensures obeys { Obeys (gather_row w.old.leaves.now.classes t.entry.ty t.entry.weight arr n)
+        result }
+    ensures makes { Makes (t.entry.form.recipe ++ gather_keys arr n) w.old.pass.now w.new.pass.now
+        result }
+    ensures stands { (a : Tree) → Stands w.old.leaves.now t.entry a
+        → IfOk result (λ h. Stands w.old.leaves.now h (tree.Gather a arr n)) }
 {
     are_classes(w.leaves);
     let own = check_gather(alloc, t.ty(), t.weight(), arr, n, w.leaves.classes())?;

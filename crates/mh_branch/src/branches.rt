@@ -28,9 +28,13 @@ pub fn guard<'t, R: Wait>(
 ) -> Result<Handle<'t>, HandleError>
     requires ready { IsReady w.old 1 }
     ensures goes_on { GoesOn w.old w.new }
-    ensures obeys { Obeys (guard_row c.entry.ty c.entry.weight t.entry.ty t.entry.weight e.entry.ty e.entry.weight) result }
-    ensures makes { Makes (guard_key t.entry.ty c.entry.ty ∷ []) w.old.pass.now w.new.pass.now result }
-    ensures stands { (a b d : Tree) → Stands w.old.leaves.now c.entry a → Stands w.old.leaves.now t.entry b → Stands w.old.leaves.now e.entry d → IfOk result (λ h. Stands w.old.leaves.now h (tree.Guard a b d)) }
+    ensures obeys { Obeys (guard_row c.entry.ty c.entry.weight t.entry.ty t.entry.weight e.entry.ty
+        e.entry.weight) result }
+    ensures makes { Makes (guard_key t.entry.ty c.entry.ty ∷ []) w.old.pass.now w.new.pass.now
+        result }
+    ensures stands { (a b d : Tree) → Stands w.old.leaves.now c.entry a
+        → Stands w.old.leaves.now t.entry b → Stands w.old.leaves.now e.entry d
+        → IfOk result (λ h. Stands w.old.leaves.now h (tree.Guard a b d)) }
 {
     let own = check_guard(
         alloc,
@@ -60,9 +64,13 @@ pub fn catch<'t, R: Wait>(
 ) -> Result<Handle<'t>, HandleError>
     requires ready { IsReady w.old 1 }
     ensures goes_on { GoesOn w.old w.new }
-    ensures obeys { Obeys (catch_row w.old.leaves.now.classes t.entry.ty t.entry.weight class h.entry.ty h.entry.weight) result }
-    ensures makes { Makes (catch_key t.entry.ty h.entry.ty ∷ []) w.old.pass.now w.new.pass.now result }
-    ensures stands { (a b : Tree) → Stands w.old.leaves.now t.entry a → Stands w.old.leaves.now h.entry b → IfOk result (λ x. Stands w.old.leaves.now x (tree.Catch a class b)) }
+    ensures obeys { Obeys (catch_row w.old.leaves.now.classes t.entry.ty t.entry.weight class
+        h.entry.ty h.entry.weight) result }
+    ensures makes { Makes (catch_key t.entry.ty h.entry.ty ∷ []) w.old.pass.now w.new.pass.now
+        result }
+    ensures stands { (a b : Tree) → Stands w.old.leaves.now t.entry a
+        → Stands w.old.leaves.now h.entry b → IfOk result
+        (λ x. Stands w.old.leaves.now x (tree.Catch a class b)) }
 {
     are_classes(w.leaves);
     let classes = w.leaves.classes();

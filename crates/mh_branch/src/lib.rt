@@ -1,4 +1,4 @@
-//! Roots, branches and arrays: constants, identities, throws, guards, catches and gathers.
+//! Roots, branches and arrays: constants, identities, throws, guards, catches, spreads and gathers.
 #![tactic(auto)]
 
 mod arrays;
@@ -6,7 +6,9 @@ mod branches;
 mod growths;
 mod known;
 mod roots;
+mod spreading;
 
 pub use arrays::gather;
 pub use branches::{catch, guard};
 pub use roots::{constant, identity, throw};
+pub use spreading::spread;

@@ -41,7 +41,8 @@ pub fn constant<'t, R: Wait>(
     requires ready { IsReady w.old 1 }
     ensures goes_on { GoesOn w.old w.new }
     ensures obeys { Obeys (constant_row w.old.leaves.now.classes ty v) result }
-    ensures makes { Makes (recipe w.old.leaves.now (tree.Constant ty v)) w.old.pass.now w.new.pass.now result }
+    ensures makes { Makes (recipe w.old.leaves.now (tree.Constant ty v)) w.old.pass.now
+        w.new.pass.now result }
     ensures stands { IfOk result (λ h. Stands w.old.leaves.now h (tree.Constant ty v)) }
 {
     let classes = w.leaves.classes();
@@ -71,7 +72,8 @@ pub fn identity<'t, R: Wait>(
     requires ready { IsReady w.old 1 }
     ensures goes_on { GoesOn w.old w.new }
     ensures obeys { Obeys (identity_row ty) result }
-    ensures makes { Makes (recipe w.old.leaves.now (tree.Identity ty)) w.old.pass.now w.new.pass.now result }
+    ensures makes { Makes (recipe w.old.leaves.now (tree.Identity ty)) w.old.pass.now w.new.pass.now
+        result }
     ensures stands { IfOk result (λ h. Stands w.old.leaves.now h (tree.Identity ty)) }
 {
     let own = check_identity(alloc, ty, w.leaves.classes())?;
@@ -100,7 +102,8 @@ pub fn throw<'t, R: Wait>(
     requires ready { IsReady w.old 1 }
     ensures goes_on { GoesOn w.old w.new }
     ensures obeys { Obeys (throw_row w.old.leaves.now.classes ret class) result }
-    ensures makes { Makes (recipe w.old.leaves.now (tree.Throw ret class)) w.old.pass.now w.new.pass.now result }
+    ensures makes { Makes (recipe w.old.leaves.now (tree.Throw ret class)) w.old.pass.now
+        w.new.pass.now result }
     ensures stands { IfOk result (λ h. Stands w.old.leaves.now h (tree.Throw ret class)) }
 {
     are_classes(w.leaves);

@@ -4,7 +4,8 @@ use Rattle.mh_tree.specs.Rows.{astype_row}
 use Rattle.mh_handle.specs.Obeys.{Obeys}
 use Rattle.mh_handle.proofs.Obeying.{refused-obeys}
 use Rattle.mh_astype.specs.Use.{use_row}
-use Rattle.mh_astype.proofs.Asking.{asked-stands, differs, found-row, refused-makes, row-at, row-of-other, used-makes, used-obeys}
+use Rattle.mh_astype.proofs.Asking.{asked-stands, differs, found-row, refused-makes, row-at, row-of-other, use-other, use-same, used-makes, used-obeys}
+use Rattle.mh_astype.proofs.Calling.{types-are}
 use Rattle.mh_astype.proofs.use_as.as_type.Goals as goal
 
 pub returns-in_err-asked-clause-obeys : goal.returns-in_err-asked-clause-obeys
@@ -53,3 +54,17 @@ returns-clause-stands g c t st =
     sym (row-at c.classes.result.now c.args.w.now.leaves.now.classes c.ty-2.result.now c.args.h.ty c.weight.result c.args.h.weight c.args.ty.now c.classes.ensures c.ty-2.ensures.ty c.weight.ensures.weight)
     ∙ c.in_ok-asked.ensures in
     asked-stands c.args.w.now.leaves.now c.args.ty.now c.in_ok-asked.asked c.args.h t c.used.result c.are_classes.ensures other row st c.used.ensures.used
+
+pub returns-then-is_same_method_type-clause-used : goal.returns-then-is_same_method_type-clause-used
+returns-then-is_same_method_type-clause-used g c =
+    use-same c.args.w.now.leaves.now.classes c.args.ty.now c.args.h
+    (types-are c.is_same_method_type.result c.ty.result.now c.args.h.ty c.args.ty.now c.if-is_same_method_type.true c.is_same_method_type.ensures c.ty.ensures.ty)
+
+pub returns-clause-used : goal.returns-clause-used
+returns-clause-used g c =
+    let other : is_same_method_type c.args.h.ty c.args.ty.now ≡ false =
+    differs c.is_same_method_type.result c.ty.result.now c.args.h.ty c.args.ty.now c.if-is_same_method_type.false c.is_same_method_type.ensures c.ty.ensures.ty in
+    let row : astype_row c.args.w.now.leaves.now.classes c.args.h.ty c.args.h.weight c.args.ty.now ≡ Ok c.in_ok-asked.asked =
+    sym (row-at c.classes.result.now c.args.w.now.leaves.now.classes c.ty-2.result.now c.args.h.ty c.weight.result c.args.h.weight c.args.ty.now c.classes.ensures c.ty-2.ensures.ty c.weight.ensures.weight)
+    ∙ c.in_ok-asked.ensures in
+    use-other c.args.w.now.leaves.now.classes c.args.h.ty c.args.ty.now c.in_ok-asked.asked c.args.h c.used.result other row c.used.ensures.used

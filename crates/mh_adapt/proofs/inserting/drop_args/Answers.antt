@@ -1,0 +1,35 @@
+use Rattle.std.proofs.Common.{◌≡◌, sym, subst, ap, ◌∙◌, ◌+◌, []}
+use Rattle.mh_tree.specs.Rows.{drop_row}
+use Rattle.mh_tree.specs.Tree as tree
+use Rattle.mh_form.specs.Erasure.{basic_of}
+use Rattle.mh_edit.specs.declared.key.Key.TheVariants as key
+use Rattle.mh_edit.specs.Applied.{applied}
+use Rattle.std.proofs.Common.{map}
+use Rattle.mh_handle.specs.Grows.{Grows}
+use Rattle.mh_handle.specs.Stands.{HasShape, Stands, handle_body}
+use Rattle.mh_adapt.proofs.Answered.{grows-as, if-ok}
+use Rattle.mh_adapt.proofs.DropStands.{drop-stands}
+use Rattle.mh_adapt.proofs.InsertingFits.{drop-fits, drop-shaped}
+use Rattle.mh_adapt.proofs.inserting.drop_args.Goals as goal
+
+pub grown-requires-clause-shaped : goal.grown-requires-clause-shaped
+grown-requires-clause-shaped g c =
+    let same : drop_row c.ty.result.now c.weight.result c.args.pos c.args.tys.now ≡ drop_row c.args.t.ty c.args.t.weight c.args.pos c.args.tys.now =
+    λ i. drop_row (c.ty.ensures.ty i) (c.weight.ensures.weight i) c.args.pos c.args.tys.now in
+    subst (λ bs. HasShape (applied (key.Add c.args.pos bs) (handle_body c.args.t)) c.in_ok-own.own) (sym c.in_ok-basics_of.ensures)
+    (drop-shaped c.args.t c.args.pos c.args.tys.now c.in_ok-own.own (sym same ∙ c.in_ok-own.ensures) c.ty.ensures.shaped)
+
+pub returns-clause-stands : goal.returns-clause-stands
+returns-clause-stands g c a st =
+    let same : drop_row c.ty.result.now c.weight.result c.args.pos c.args.tys.now ≡ drop_row c.args.t.ty c.args.t.weight c.args.pos c.args.tys.now =
+    λ i. drop_row (c.ty.ensures.ty i) (c.weight.ensures.weight i) c.args.pos c.args.tys.now in
+    let row = sym same ∙ c.in_ok-own.ensures in
+    let own = key.Add c.args.pos (map basic_of c.args.tys.now) in
+    if-ok (λ x. Grows c.args.t x c.in_ok-own.own (1 + c.weight-2.result) c.new.result (key.Add c.args.pos c.in_ok-basics_of.field-0) c.new-2.result.items)
+    (λ x. Stands c.args.w.now.leaves.now x (tree.Drop a c.args.pos c.args.tys.now)) c.grown.result c.grown.ensures.grows
+    (λ x grows.
+    drop-stands c.args.w.now.leaves.now c.args.t x a c.args.pos c.args.tys.now c.in_ok-own.own row
+    (drop-fits c.args.t c.args.pos c.args.tys.now c.in_ok-own.own row c.ty.ensures.shaped)
+    (grows-as c.args.t x c.in_ok-own.own (1 + c.weight-2.result) (1 + c.args.t.weight) c.new.result [] (key.Add c.args.pos c.in_ok-basics_of.field-0) own c.new-2.result.items []
+    (ap (λ n. 1 + n) c.weight-2.ensures.weight) c.new.ensures (ap (key.Add c.args.pos) c.in_ok-basics_of.ensures) c.new-2.ensures.items grows)
+    st)

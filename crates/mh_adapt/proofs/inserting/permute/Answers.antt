@@ -1,0 +1,40 @@
+use Rattle.std.proofs.Common.{◌≡◌, sym, subst, ap, ap₂, ◌∙◌, ◌+◌, [], map, List, ℕ}
+use Rattle.mh_tree.specs.Rows.{permute_row}
+use Rattle.mh_tree.specs.Tree as tree
+use Rattle.mh_form.specs.declared.basic.Basic.{Basic}
+use Rattle.mh_form.specs.Erasure.{basic_of}
+use Rattle.mh_edit.specs.declared.key.Key.TheVariants as key
+use Rattle.mh_edit.specs.Fit.{fits}
+use Rattle.std.specs.Prelude.{IsTrue}
+use Rattle.mh_handle.specs.Grows.{Grows}
+use Rattle.mh_handle.specs.Stands.{Stands, handle_body}
+use Rattle.mh_adapt.proofs.Answered.{grows-as, if-ok}
+use Rattle.mh_adapt.proofs.PermuteStands.{permute-stands}
+use Rattle.mh_adapt.proofs.InsertingFits.{permute-fits}
+use Rattle.mh_adapt.proofs.inserting.permute.Goals as goal
+
+pub grown-requires-clause-fits : goal.grown-requires-clause-fits
+grown-requires-clause-fits g c =
+    let same : permute_row c.ty.result.now c.weight.result c.args.ty.now c.args.reorder.now ≡ permute_row c.args.t.ty c.args.t.weight c.args.ty.now c.args.reorder.now =
+    λ i. permute_row (c.ty.ensures.ty i) (c.weight.ensures.weight i) c.args.ty.now c.args.reorder.now in
+    let is : key.Permute c.in_ok-basics_of.field-0 c.in_ok-places_of.field-0 ≡ key.Permute (map basic_of c.args.ty.now.params) c.args.reorder.now =
+    ap₂ (λ (bs : List Basic) (r : List ℕ). key.Permute bs r) c.in_ok-basics_of.ensures c.in_ok-places_of.ensures in
+    subst (λ k. IsTrue (fits k (handle_body c.args.t))) (sym is)
+    (permute-fits c.args.t c.args.ty.now c.args.reorder.now c.in_ok-own.own (sym same ∙ c.in_ok-own.ensures) c.ty.ensures.shaped)
+
+pub returns-clause-stands : goal.returns-clause-stands
+returns-clause-stands g c a st =
+    let same : permute_row c.ty.result.now c.weight.result c.args.ty.now c.args.reorder.now ≡ permute_row c.args.t.ty c.args.t.weight c.args.ty.now c.args.reorder.now =
+    λ i. permute_row (c.ty.ensures.ty i) (c.weight.ensures.weight i) c.args.ty.now c.args.reorder.now in
+    let row = sym same ∙ c.in_ok-own.ensures in
+    let made = key.Permute c.in_ok-basics_of.field-0 c.in_ok-places_of.field-0 in
+    let own = key.Permute (map basic_of c.args.ty.now.params) c.args.reorder.now in
+    let is : made ≡ own = ap₂ (λ (bs : List Basic) (r : List ℕ). key.Permute bs r) c.in_ok-basics_of.ensures c.in_ok-places_of.ensures in
+    if-ok (λ x. Grows c.args.t x c.in_ok-own.own (1 + c.weight-2.result) c.new.result made c.new-2.result.items)
+    (λ x. Stands c.args.w.now.leaves.now x (tree.Permute a c.args.ty.now c.args.reorder.now)) c.grown.result c.grown.ensures.grows
+    (λ x grows.
+    permute-stands c.args.w.now.leaves.now c.args.t x a c.args.ty.now c.args.reorder.now c.in_ok-own.own row
+    (permute-fits c.args.t c.args.ty.now c.args.reorder.now c.in_ok-own.own row c.ty.ensures.shaped)
+    (grows-as c.args.t x c.in_ok-own.own (1 + c.weight-2.result) (1 + c.args.t.weight) c.new.result [] made own c.new-2.result.items []
+    (ap (λ n. 1 + n) c.weight-2.ensures.weight) c.new.ensures is c.new-2.ensures.items grows)
+    st)
