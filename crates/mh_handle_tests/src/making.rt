@@ -36,8 +36,7 @@ pub enum Step {
     Doubled,
 }
 
-/// The leaves of the tests.
-pub fn demo_leaves(alloc: Global) -> Result<Leaves, NoMemory> {
+fn demo_leaves(alloc: Global) -> Result<Leaves, NoMemory> {
     read_manifest(alloc, MANIFEST).map_err(|_| NoMemory)
 }
 
@@ -143,19 +142,19 @@ fn call<'t>(
 pub fn answer_of<R: Wait>(
     rt: &R,
     alloc: Global,
-    leaves: &Leaves,
     start: LeafId,
     steps: &[Step],
     numbers: &[i32],
 ) -> Result<Answer, HandleError>
     requires few { length steps.now ≤ 100 }
 {
+    let leaves = demo_leaves(alloc)?;
     let (table, seat) = FormTable::new(alloc)?;
     let mut pass = table.first_pass(alloc, seat)?;
     let mut w = Work {
         forms: &table,
         pass: &mut pass,
-        leaves,
+        leaves: &leaves,
     };
     let h = made(&mut w, rt, alloc, start, steps);
     let Work {
@@ -163,5 +162,5 @@ pub fn answer_of<R: Wait>(
         pass: _,
         leaves: _,
     } = w;
-    Ok(call(alloc, &h?, leaves, numbers)?)
+    Ok(call(alloc, &h?, &leaves, numbers)?)
 }

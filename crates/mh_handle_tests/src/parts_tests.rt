@@ -1,16 +1,70 @@
-use crate::making::{ADD, NOTHING, SAME, SUB, Step, TICK, answer_of, demo_leaves};
+use crate::making::{ADD, NOTHING, SAME, SUB, Step, TICK, answer_of};
 use mh_handle::{Answer, HandleError};
 use mh_values::{LeafId, Num, Outcome, Value};
 use std::test::Fail;
 
-/// What a case wants: an int with the leaf calls, or a refusal with this message.
+/// An int with the leaf calls, or a refusal with this message.
 #[derive(Clone, Copy)]
-enum Wanted<'a> {
-    Int(i32, &'a [LeafId]),
-    Refused(&'a str),
+enum Wanted {
+    Int(i32, &'static [LeafId]),
+    Refused(&'static str),
 }
 
-fn is_wanted(answer: &Result<Answer, HandleError>, wanted: &Wanted<'_>) -> bool {
+/// A leaf, the steps that adapt it, the arguments of the call, and what that answers.
+type Case = (LeafId, &'static [Step], &'static [i32], Wanted);
+
+const CASES: [Case; 6] = [
+    // The later filter runs first.
+    (
+        SUB,
+        &[Step::Filter(1, TICK), Step::Filter(0, TICK)],
+        &[7, 7],
+        Wanted::Int(-1, &[TICK, TICK, SUB]),
+    ),
+    (
+        ADD,
+        &[Step::Collect(2, NOTHING)],
+        &[1, 2],
+        Wanted::Int(3, &[NOTHING, ADD]),
+    ),
+    (
+        ADD,
+        &[Step::Collect(3, NOTHING)],
+        &[1, 2],
+        Wanted::Refused("collect"),
+    ),
+    (
+        SUB,
+        &[Step::Fold(0, TICK)],
+        &[5],
+        Wanted::Int(-5, &[TICK, SUB]),
+    ),
+    // Weight 255.
+    (
+        SAME,
+        &[Step::Doubled; 7],
+        &[4],
+        Wanted::Int(4, &[SAME; 128]),
+    ),
+    // Weight 257.
+    (
+        SAME,
+        &[
+            Step::Doubled,
+            Step::Doubled,
+            Step::Doubled,
+            Step::Doubled,
+            Step::Doubled,
+            Step::Doubled,
+            Step::Doubled,
+            Step::FilterResult(SAME),
+        ],
+        &[4],
+        Wanted::Refused("weight"),
+    ),
+];
+
+fn is_wanted(answer: &Result<Answer, HandleError>, wanted: &Wanted) -> bool {
     match (answer, wanted) {
         (Ok(answer), Wanted::Int(number, calls)) => {
             matches!(answer.outcome(), Outcome::Return(Some(Value::Prim(Num::I(n)))) if n == number)
@@ -31,50 +85,8 @@ fn is_wanted(answer: &Result<Answer, HandleError>, wanted: &Wanted<'_>) -> bool 
 #[test]
 fn runs_parts_in_order(rt: HostRuntime) -> Result<(), Fail> {
     let alloc = rt.alloc();
-    let leaves = demo_leaves(alloc)?;
-    let doubled = [Step::Doubled; 7];
-    let heavy = [
-        Step::Doubled,
-        Step::Doubled,
-        Step::Doubled,
-        Step::Doubled,
-        Step::Doubled,
-        Step::Doubled,
-        Step::Doubled,
-        Step::FilterResult(SAME),
-    ];
-    let cases: [(LeafId, &[Step], &[i32], Wanted<'_>); 6] = [
-        // The later filter runs first.
-        (
-            SUB,
-            &[Step::Filter(1, TICK), Step::Filter(0, TICK)],
-            &[7, 7],
-            Wanted::Int(-1, &[TICK, TICK, SUB]),
-        ),
-        (
-            ADD,
-            &[Step::Collect(2, NOTHING)],
-            &[1, 2],
-            Wanted::Int(3, &[NOTHING, ADD]),
-        ),
-        (
-            ADD,
-            &[Step::Collect(3, NOTHING)],
-            &[1, 2],
-            Wanted::Refused("collect"),
-        ),
-        (
-            SUB,
-            &[Step::Fold(0, TICK)],
-            &[5],
-            Wanted::Int(-5, &[TICK, SUB]),
-        ),
-        // Weight 255, and 257.
-        (SAME, &doubled, &[4], Wanted::Int(4, &[SAME; 128])),
-        (SAME, &heavy, &[4], Wanted::Refused("weight")),
-    ];
-    for (start, steps, numbers, wanted) in &cases {
-        let answer = answer_of(&rt, alloc, &leaves, *start, steps, numbers);
+    for (start, steps, numbers, wanted) in &CASES {
+        let answer = answer_of(&rt, alloc, *start, steps, numbers);
         assert!(rt; is_wanted(&answer, wanted));
     }
     Ok(())
