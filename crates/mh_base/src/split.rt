@@ -9,7 +9,8 @@ pub fn split_at_byte<'b>(
     bytes: &'b [u8],
     at: u8,
 ) -> Result<Vec<&'b [u8]>, AllocError>
-    ensures pieces { IfOk result (λ v. map (λ x. x.now) v.items ≡ slice_split (λ b. b == at) bytes.now) }
+    ensures pieces { IfOk result (λ v. map (λ x. x.now) v.items ≡ slice_split
+        (λ b. b == at) bytes.now) }
     ensures few { IfOk result (λ v. length v.items ≤ length bytes.now + 1) }
 {
     bytes.split(|byte| *byte == at).collect(alloc)

@@ -30,9 +30,13 @@ impl<'t> Handle<'t> {
         n: u32,
     ) -> Result<Answer, NoMemory>
         requires typed { HaveTypes leaves.now.classes args.now self.now.ty.params }
-        requires runs { typed_ran leaves.now.classes self.now.ty.ret (handle_run leaves.now self.now (map erased args.now) n) ≢ Stuck }
-        ensures run { IfOk result (IsAnswer (typed_ran leaves.now.classes self.now.ty.ret (handle_run leaves.now self.now (map erased args.now) n)) (length self.now.form.recipe)) }
-        ensures tree { (t : Tree) → Stands leaves.now self.now t → IfOk result (IsAnswer (mean leaves.now t args.now n) (length self.now.form.recipe)) }
+        requires runs { typed_ran leaves.now.classes self.now.ty.ret
+            (handle_run leaves.now self.now (map erased args.now) n) ≢ Stuck }
+        ensures run { IfOk result (IsAnswer (typed_ran leaves.now.classes self.now.ty.ret
+            (handle_run leaves.now self.now (map erased args.now) n))
+            (length self.now.form.recipe)) }
+        ensures tree { (t : Tree) → Stands leaves.now self.now t
+            → IfOk result (IsAnswer (mean leaves.now t args.now n) (length self.now.form.recipe)) }
     {
         answer_of(
             alloc,
@@ -57,8 +61,12 @@ impl<'t> Handle<'t> {
         args: &Items,
         n: u32,
     ) -> Result<Answer, NoMemory>
-        requires runs { typed_ran leaves.now.classes ret (run_on leaves.now (body_of form.now.recipe) (self.now.fields ++ more.items) (map erased args.now) n) ≢ Stuck }
-        ensures run { IfOk result (IsAnswer (typed_ran leaves.now.classes ret (run_on leaves.now (body_of form.entry.now.recipe) (self.now.fields ++ more.entry.items) (map erased args.now) n)) (length form.entry.now.recipe)) }
+        requires runs { typed_ran leaves.now.classes ret
+            (run_on leaves.now (body_of form.now.recipe) (self.now.fields ++ more.items)
+            (map erased args.now) n) ≢ Stuck }
+        ensures run { IfOk result (IsAnswer (typed_ran leaves.now.classes ret
+            (run_on leaves.now (body_of form.entry.now.recipe) (self.now.fields ++ more.entry.items)
+            (map erased args.now) n)) (length form.entry.now.recipe)) }
     {
         let mut fields = copy_fields(alloc, self.bound.fields.as_slice())?;
         let mut more = more;
@@ -81,8 +89,10 @@ fn answer_of<'t>(
     args: &Items,
     n: u32,
 ) -> Result<Answer, NoMemory>
-    requires { typed_ran leaves.now.classes ret (run_bound leaves.now bound.now (map erased args.now) n) ≢ Stuck }
-    ensures { IfOk result (IsAnswer (typed_ran leaves.now.classes ret (run_bound leaves.now bound.now (map erased args.now) n)) keys) }
+    requires { typed_ran leaves.now.classes ret
+        (run_bound leaves.now bound.now (map erased args.now) n) ≢ Stuck }
+    ensures { IfOk result (IsAnswer (typed_ran leaves.now.classes ret
+        (run_bound leaves.now bound.now (map erased args.now) n)) keys) }
 {
     let Ok(keys) = u32::try_from(keys) else {
         return Err(NoMemory);
@@ -95,8 +105,10 @@ fn answer_of<'t>(
 
 /// An outcome with its result typed.
 fn type_outcome(outcome: SlotOutcome, ret: Option<Ty>, classes: &Classes) -> Outcome
-    requires { (calls : List LeafCall) × (typed_ran classes.now ret (ran_of_outcome outcome calls) ≢ Stuck) }
-    ensures { (calls : List LeafCall) → typed_ran classes.now ret (ran_of_outcome outcome calls) ≡ ran_of result calls }
+    requires { (calls : List LeafCall) × (typed_ran classes.now ret
+        (ran_of_outcome outcome calls) ≢ Stuck) }
+    ensures { (calls : List LeafCall) → typed_ran classes.now ret
+        (ran_of_outcome outcome calls) ≡ ran_of result calls }
 {
     match outcome {
         SlotOutcome::Throw(exc) => Outcome::Throw(exc),

@@ -15,7 +15,8 @@ impl<'t> Handle<'t> {
     pub fn copy(&self, alloc: Global, w: &mut Work<'_, 't>) -> Result<Handle<'t>, NoMemory>
         ensures same { w.new ≡ w.old }
         ensures form { IfOk result (λ h. h.form ≡ self.now.form) }
-        ensures stands { (table : LeafTable) (t : Tree) → Stands table self.now t → IfOk result (λ h. Stands table h t) }
+        ensures stands { (table : LeafTable) (t : Tree) → Stands table self.now t
+            → IfOk result (λ h. Stands table h t) }
     {
         let _leaves = w.leaves;
         Ok(Handle {

@@ -27,7 +27,8 @@ pub fn leaf<'t, R: Wait>(
     requires leaf { id.0 < length w.old.leaves.now.leaves }
     requires ready { IsReady w.old 1 }
     ensures goes_on { GoesOn w.old w.new }
-    ensures makes { Makes (recipe w.old.leaves.now (tree.Leaf id)) w.old.pass.now w.new.pass.now result }
+    ensures makes { Makes (recipe w.old.leaves.now (tree.Leaf id)) w.old.pass.now w.new.pass.now
+        result }
     ensures accepted { IsAccepted result }
     ensures stands { IfOk result (λ h. Stands w.old.leaves.now h (tree.Leaf id)) }
 {

@@ -84,7 +84,8 @@ impl<'t> FormPass<'t> {
     pub(crate) fn ask(&mut self, form: &'t Form) -> Result<(), NoMemory>
         requires new { Lacks recipe_of self.old.asked form.now.recipe }
         requires learnt { Has recipe_of self.old.nodes form.now.recipe form.now }
-        ensures ok { OnOk result (self.new ≡ record self.old { asked = self.old.asked ++ form.entry.now ∷ [] }) }
+        ensures ok { OnOk result (self.new ≡ record self.old
+            { asked = self.old.asked ++ form.entry.now ∷ [] }) }
         ensures err { OnErr result (self.new ≡ self.old) }
     {
         self.seen.add(form)

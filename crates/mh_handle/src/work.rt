@@ -45,7 +45,8 @@ impl<'w, 't> Work<'w, 't> {
         requires fits { IsTrue (fits key (body_of form.now.recipe)) }
         requires ready { IsReady self.old 1 }
         ensures goes_on { GoesOn self.old self.new }
-        ensures edits { Edits (form.entry.now.recipe ++ key ∷ []) self.old.pass.now self.new.pass.now result }
+        ensures edits { Edits (form.entry.now.recipe ++ key ∷ []) self.old.pass.now
+            self.new.pass.now result }
     {
         self.forms.edit(rt, alloc, self.pass, form, key)
     }
