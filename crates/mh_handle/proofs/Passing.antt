@@ -1,5 +1,5 @@
 -- What a pass keeps while it learns, and while it draws a number.
-use Rattle.std.proofs.Common.{◌≡◌, ℕ, zero, suc, ◌+◌, ◌-◌, ◌^◌, ◌<◌, ◌≤◌, List, [], ◌∷◌, ◌++◌, length, sym, ap, ◌∙◌, subst, arith, add-one, append-nil, append_assoc, Some, ⊎_elim, Result, Ok, Err, OnOk, OnErr}
+use Rattle.std.proofs.Common.{◌≡◌, ℕ, zero, suc, ◌+◌, ◌-◌, ◌^◌, ◌<◌, ◌≤◌, List, [], ◌∷◌, ◌++◌, length, length-append, sym, refl, ap, ◌∙◌, subst, arith, add-one, append-nil, append_assoc, Some, ◌⊎◌, ⊎_elim, Result, Ok, Err, OnOk, OnErr}
 use Rattle.std.specs.Prelude.{slice_get, slice_index_or}
 use Rattle.std.specs.List.{All}
 use Rattle.std.proofs.lemmas.List.Elements.{All-append}
@@ -19,11 +19,17 @@ numbers-low (suc last) n low = All-append (λ k. k < n) (numbers_to last) (suc l
     one zero d here = low
     one (suc k) d here = absurd (omega arith)
 
+-- there are as many numbers as the last one says
+numbers-count : (last : ℕ) → length (numbers_to last) ≡ last
+numbers-count zero = refl
+numbers-count (suc last) = length-append (numbers_to last) (suc last ∷ []) ∙ (ap (λ k. k + 1) (numbers-count last) ∙ add-one last)
+
 pub draws-next : (last : ℕ) → 1 ≤ 2 ^ 62 - last → Draws (last + 1) (seat_at last) (seat_at (last + 1))
 draws-next last room = record {
   numbers = ap numbers_to (add-one last) ∙ ap (λ k. numbers_to last ++ k ∷ []) (sym (add-one last));
   room = omega (arith, room);
   greater = numbers-low last (last + 1) (omega arith);
+  next = λ whole. ap (λ k. k + 1) (sym (numbers-count last));
 }
 
 pub starts-refl : {V : Type 0} (xs : List V) → StartsWith xs xs

@@ -1,5 +1,5 @@
 -- What contracts see of the seats and passes of a table of forms, and what an edit leaves of a pass.
-use Rattle.std.specs.Prelude.{◌≡◌, ℕ, zero, suc, ◌+◌, ◌-◌, ◌^◌, ◌<◌, ◌⊎◌, List, [], ◌∷◌, ◌++◌, slice_get, Result, Ok, Err, Some}
+use Rattle.std.specs.Prelude.{◌≡◌, ℕ, zero, suc, ◌+◌, ◌-◌, ◌^◌, ◌<◌, ◌⊎◌, List, [], ◌∷◌, ◌++◌, length, slice_get, Result, Ok, Err, Some}
 use Rattle.std.specs.List.{All}
 use denote.Ref.{Bor}
 use Rattle.mh_setonce.specs.Walks.{StartsWith, Lacks, Has}
@@ -34,11 +34,12 @@ seat_at last = record { numbers = numbers_to last; room = 2 ^ 62 - last }
 abbrev pub pass_at : List ℕ → SeatView → PassView
 pass_at cells seat = record { cells = cells; nodes = []; asked = []; seat = seat }
 
--- this number was drawn, which is greater than all that the seat had
+-- this number was drawn, which is greater than all that the seat had; where those and the room are 2^62 together, it is the next one
 pub record Draws (number : ℕ) (old new : SeatView) : Type 0 where
   pub numbers : new.numbers ≡ old.numbers ++ number ∷ []
   pub room : new.room + 1 ≡ old.room
   pub greater : All (λ n. n < number) old.numbers
+  pub next : length old.numbers + old.room ≡ 2 ^ 62 → number ≡ length old.numbers + 1
 
 -- each form that was asked for is one that the pass has learnt
 abbrev pub AreLearnt : List FormView → List FormView → Type 0

@@ -1,13 +1,16 @@
 -- What is due where the reading stopped.
-use Rattle.std.proofs.Common.{◌≡◌, ◌≢◌, refl, subst, inl, inr, ℕ, List, Option, Some}
+use Rattle.std.proofs.Common.{◌≡◌, ◌≢◌, ◌<◌, refl, sym, subst, inl, inr, ℕ, List, Option, Some}
 use Rattle.mh_outside.specs.Told.{Told}
 use Rattle.mh_main.specs.declared.answer.TopAnswer.{TopAnswer}
 use Rattle.mh_main.specs.declared.stop.Stop.{Stop}
 use Rattle.mh_main.specs.declared.stop.Stop.TheVariants.{NoMemory, ReadFault, TooLong, Fault, Place}
-use Rattle.mh_main.specs.Words.{Command, command_of}
-use Rattle.mh_main.specs.Input.{IfRefused, input_of, command_input, too_long_line, fault_line, place_line}
+use Rattle.mh_main.specs.declared.program.Program.{Program}
+use Rattle.mh_classfile.specs.Class.{Class}
+use Rattle.mh_plan.specs.Forms.{forms}
+use Rattle.mh_main.specs.Words.{Command, Named, command_of, run}
+use Rattle.mh_main.specs.Input.{IfAccepted, IfProgram, IfRefused, Input, command_input, fault_line, input_of, listed, named_input, place_line, program, refused, too_long_line, untold, usage}
 use Rattle.mh_main.specs.Stops.{Refuses, StopsIn, IsReached, stop_line, stop_status, unread_line}
-use Rattle.mh_main.specs.Due.{FailsToRead, IsDue, IsIdle}
+use Rattle.mh_main.specs.Due.{FailsToRead, IsDue, IsDueOf, IsIdle, IsListingOf, IsReportOf}
 
 -- a stop that is no want of memory has a line that is due
 pub due-at-stop :
@@ -21,7 +24,7 @@ pub due-at-stop :
 due-at-stop words files before now answer command NoMemory asked idle spoken stops refuses = absurd (spoken refl)
 due-at-stop words files before now answer command (ReadFault at) asked idle spoken stops refuses =
     let P : Option Command → Type 0 = λ o. FailsToRead o files before now (unread_line at.now) in
-    inr (idle, inr (inr (subst P asked (at.now, stops.0, stops.1, refl))))
+    inr (idle, inr (inr (inl (subst P asked (at.now, stops.0, stops.1, refl)))))
 due-at-stop words files before now answer command (TooLong at) asked idle spoken stops refuses =
     let P : Option Command → Type 0 = λ o. IfRefused (input_of o files) (λ line. line ≡ too_long_line at.now) in
     inr (idle, inr (inl (subst P asked refuses, stops)))
@@ -31,3 +34,31 @@ due-at-stop words files before now answer command (Fault at number kind) asked i
 due-at-stop words files before now answer command (Place at place kind) asked idle spoken stops refuses =
     let P : Option Command → Type 0 = λ o. IfRefused (input_of o files) (λ line. line ≡ place_line at.now place kind.now) in
     inr (idle, inr (inl (subst P asked refuses, stops)))
+
+-- where the inputs are this program, what holds of it holds of what they are
+accepted : (i : Input) (p : Program) (P : Program → Type 0) (Q : List Class → Type 0) → IfProgram i (λ q. q ≡ p) → P p → IfAccepted i P Q
+accepted usage p P Q is holds = is
+accepted (refused line) p P Q is holds = is
+accepted (program q) p P Q is holds = subst P (sym is) holds
+accepted (listed classes) p P Q is holds = absurd is
+accepted untold p P Q is holds = tt
+
+-- what is due of a program is due of the words and files that give it
+pub due-of-program :
+    (words : List (List ℕ)) (files : List ℕ → Told) (before now : List ℕ → ℕ) (answer : TopAnswer) (names : Named) (p : Program) (bytes : List ℕ) →
+    Some (run names) ≡ command_of words →
+    IfProgram (named_input names files) (λ q. q ≡ p) →
+    IsDueOf p answer bytes →
+    IsDue words files before now answer bytes
+due-of-program words files before now answer names p bytes asked is (inl report) =
+    inl (subst (λ o. IfAccepted (input_of o files) (λ q. IsReportOf q answer bytes) (λ classes. IsListingOf classes answer bytes)) asked
+    (accepted (named_input names files) p (λ q. IsReportOf q answer bytes) (λ classes. IsListingOf classes answer bytes) is report))
+due-of-program words files before now answer names p bytes asked is (inr full) =
+    inr (
+      full.0,
+      inr (inr (inr (
+        subst (λ o. IfAccepted (input_of o files) (λ q. 16384 < forms q.leaves q.plan) (λ classes. ⊥)) asked
+            (accepted (named_input names files) p (λ q. 16384 < forms q.leaves q.plan) (λ classes. ⊥) is full.1.0),
+        full.1.1,
+      ))),
+    )

@@ -1,11 +1,14 @@
 -- What a run has to write, and why.
-use Rattle.std.specs.Prelude.{◌≡◌, ◌⊎◌, ℕ, List, [], ◌++◌, codes, ◌∷◌, Option, None, Some}
+use Rattle.std.specs.Prelude.{◌≡◌, ◌⊎◌, ℕ, ◌<◌, List, [], ◌++◌, codes, ◌∷◌, Option, None, Some}
 use Rattle.std.specs.Io.KnownBytes.{Appends}
 use Rattle.mh_outside.specs.Causes.{Rose, AreSame, AppendsPart}
 use Rattle.mh_outside.specs.Told.{Told}
 use Rattle.mh_classfile.specs.Class.{Class}
 use Rattle.mh_listing.specs.Listing.{listing}
-use Rattle.mh_plan.specs.Results.{results_of, results_said}
+use Rattle.mh_handle.specs.declared.answer.Answer.{Answer}
+use Rattle.mh_plan.specs.Forms.{forms}
+use Rattle.mh_plan.specs.Results.{results_of, results_said, keys_said}
+use Rattle.mh_runtime.specs.Keys.{plan_keys}
 use Rattle.mh_main.specs.declared.answer.TopAnswer.{TopAnswer}
 use Rattle.mh_main.specs.declared.program.Program.{Program}
 use Rattle.mh_main.specs.Words.{Command, command_of}
@@ -17,6 +20,10 @@ use Rattle.mh_main.specs.Stops.{IsReached, unread_line}
 -- the line for refused words
 abbrev pub usage_line : List ℕ
 usage_line = codes "usage: mh --mode run --leaves F --scripts F --plan F [CLASS]... or --mode sites [CLASS]... or --mode gen --number N\n"
+
+-- the line for a program whose calls need more forms than there are
+abbrev pub full_line : List ℕ
+full_line = codes "forms full\n"
 
 -- nothing ran
 abbrev pub IsIdle : TopAnswer → Type 0
@@ -30,6 +37,10 @@ IsReportOf p answer bytes =
     × (results_said answer.threads ≡ results_of p.leaves p.plan)
     × (bytes ≡ text p answer.attempts)
 
+-- the answers of a program's calls: the result of each, and how many keys the form has that it ran
+abbrev pub AreAnswersOf : Program → List (List Answer) → Type 0
+AreAnswersOf p threads = (results_said threads ≡ results_of p.leaves p.plan) × (keys_said threads ≡ plan_keys p.leaves p.plan)
+
 -- the listing of classes; nothing ran
 abbrev pub IsListingOf : List Class → TopAnswer → List ℕ → Type 0
 IsListingOf classes answer bytes = IsIdle answer × (bytes ≡ listing classes)
@@ -38,6 +49,23 @@ IsListingOf classes answer bytes = IsIdle answer × (bytes ≡ listing classes)
 abbrev pub Reports : List (List ℕ) → (List ℕ → Told) → TopAnswer → List ℕ → Type 0
 Reports words files answer bytes =
     IfAccepted (input words files) (λ p. IsReportOf p answer bytes) (λ classes. IsListingOf classes answer bytes)
+
+-- the line of a program whose calls need more than 16,384 forms
+abbrev pub IsFullOf : Program → List ℕ → Type 0
+IsFullOf p bytes = (16384 < forms p.leaves p.plan) × (bytes ≡ full_line)
+
+-- what is due of a program: its report, or that it needs too many forms, and then nothing is answered
+abbrev pub IsDueOf : Program → TopAnswer → List ℕ → Type 0
+IsDueOf p answer bytes = IsReportOf p answer bytes ⊎ (IsIdle answer × IsFullOf p bytes)
+
+-- the answers of the calls of the program that the words and the files give; classes are not run
+abbrev pub AnswersCalls : List (List ℕ) → (List ℕ → Told) → List (List Answer) → Type 0
+AnswersCalls words files threads = IfAccepted (input words files) (λ p. AreAnswersOf p threads) (λ classes. threads ≡ [])
+
+-- the line of a program that the words and the files give and whose calls need more than 16,384 forms
+abbrev pub FillsForms : List (List ℕ) → (List ℕ → Told) → List ℕ → Type 0
+FillsForms words files bytes =
+    IfAccepted (input words files) (λ p. 16384 < forms p.leaves p.plan) (λ classes. ⊥) × (bytes ≡ full_line)
 
 -- the line of the first input that is refused, where no read failed
 abbrev pub RefusesInput : List (List ℕ) → (List ℕ → Told) → (List ℕ → ℕ) → (List ℕ → ℕ) → List ℕ → Type 0
@@ -67,4 +95,5 @@ IsDue words files before now answer bytes =
     Reports words files answer bytes
     ⊎ (IsIdle answer × (RefusesWords words bytes
     ⊎ RefusesInput words files before now bytes
-    ⊎ FailsToRead (command_of words) files before now bytes))
+    ⊎ FailsToRead (command_of words) files before now bytes
+    ⊎ FillsForms words files bytes))

@@ -9,6 +9,7 @@ use Rattle.mh_classfile.specs.Class.{Class}
 use Rattle.mh_classfile.specs.File.{class_or_fault}
 use Rattle.mh_leaf.specs.LeafTable.{LeafTable}
 use Rattle.mh_leaves.specs.Manifest.{manifest, kind_word as manifest_word}
+use Rattle.mh_plan.specs.Forms.{forms}
 use Rattle.mh_plan.specs.Plan.{plan, kind_word as plan_word}
 use Rattle.mh_main.specs.declared.program.Program.{Program}
 use Rattle.mh_main.specs.declared.stop.ScriptsKind.{ScriptsKind}
@@ -166,6 +167,14 @@ IsAccepted (refused line) = ⊥
 IsAccepted (program p) = Unit {0}
 IsAccepted (listed classes) = Unit {0}
 IsAccepted untold = ⊥
+
+-- the calls of a program need at most as many forms as there are numbers
+abbrev pub FitsForms : Input → Type 0
+FitsForms usage = Unit {0}
+FitsForms (refused line) = Unit {0}
+FitsForms (program p) = forms p.leaves p.plan ≤ 16384
+FitsForms (listed classes) = Unit {0}
+FitsForms untold = Unit {0}
 
 -- where it is told, a file within its limit has this meaning
 abbrev pub Means : {T K : Type 0} → ℕ → (List ℕ → Result T K) → Told → T → Type 0

@@ -2,7 +2,7 @@
 use Rattle.std.specs.Prelude.{ℕ, List, [], ◌∷◌, Option, length, map}
 use Rattle.std.specs.List.{flat_map}
 use Rattle.mh_plan.specs.declared.call.Call.{Call}
-use Rattle.mh_plan.specs.declared.call.Call.TheVariants.{Exact}
+use Rattle.mh_plan.specs.declared.call.Call.TheVariants.{Exact, Generic}
 use Rattle.mh_plan.specs.Results.{Result, results_of}
 use Rattle.mh_plan.specs.Forms.{forms}
 use Rattle.mh_plan.specs.Text.{report_text}
@@ -13,6 +13,7 @@ use Rattle.mh_main.specs.Ledger.{Naming}
 -- the sites that a call names: a call of a leaf names none
 abbrev pub sites_named : Call → List ℕ
 sites_named (Exact leaf ty args) = []
+sites_named (Generic leaf ty args) = []
 
 -- the sites that each thread's calls name
 abbrev pub naming_of : List (List Call) → Naming

@@ -113,3 +113,7 @@ IsRefusedOrWant status = (status ≡ 1) ⊎ (status ≡ 3)
 -- the run is complete, or memory was wanting
 abbrev pub IsDoneOrWant : ℕ → Type 0
 IsDoneOrWant status = (status ≡ 0) ⊎ (status ≡ 3)
+
+-- the run is complete, or memory or forms were wanting
+abbrev pub IsDoneFullOrWant : ℕ → Type 0
+IsDoneFullOrWant status = (status ≡ 0) ⊎ ((status ≡ 3) ⊎ (status ≡ 4))

@@ -22,6 +22,7 @@ pub struct TopAnswer {
     pub status: u8,
     pub table: Serials,
     pub attempts: Attempts,
-    /// The answer of each call, thread by thread.
+    /// The answer of each call, thread by thread: how it ended, which leaves it called, and how many
+    /// keys the form has that it ran.
     pub threads: ThreadAnswers,
 }

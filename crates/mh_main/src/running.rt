@@ -2,24 +2,27 @@ ghost use Rattle.std.specs.Prelude.{◌≡◌, ◌≢◌, ◌<◌, [], List, ℕ
 ghost use Rattle.std.specs.List.{flat_map};
 ghost use Rattle.std.specs.Io.KnownBytes.{Appends, Keeps};
 ghost use Rattle.mh_outside.specs.Causes.{Rose, IsStill, AppendsPart};
-ghost use Rattle.mh_plan.specs.Results.{AreCallsOf, results_of, results_said};
+ghost use Rattle.mh_plan.specs.Forms.{forms};
+ghost use Rattle.mh_plan.specs.Results.{AreCallsOf};
+ghost use Rattle.mh_runtime.specs.Asking.{IfFull};
 ghost use Rattle.mh_main.specs.Words.{command_of, said};
 ghost use Rattle.mh_main.specs.Ledger.{Ledger, Naming};
 ghost use Rattle.mh_main.specs.Program.{text};
-ghost use Rattle.mh_main.specs.Input.{input, IsRefused, IsAccepted};
-ghost use Rattle.mh_main.specs.Stops.{stop_line, stop_status, AllStill, IsRefusedOrWant, IsDoneOrWant};
-ghost use Rattle.mh_main.specs.Due.{IsReportOf, IsListingOf, Reports, RefusesWords, RefusesInput, FailsToRead, IsDue, IsIdle, Writes, WritesPart};
+ghost use Rattle.mh_main.specs.Input.{input, IsRefused, IsAccepted, FitsForms};
+ghost use Rattle.mh_main.specs.Stops.{stop_line, stop_status, AllStill, IsRefusedOrWant, IsDoneOrWant, IsDoneFullOrWant};
+ghost use Rattle.mh_main.specs.Due.{AnswersCalls, AreAnswersOf, FailsToRead, FillsForms, IsDue, IsDueOf, IsFullOf, IsIdle, IsListingOf, IsReportOf, RefusesInput, RefusesWords, Reports, Writes, WritesPart};
 
-use crate::lines::{USAGE, write_pieces};
+use crate::lines::{FULL, USAGE, write_pieces};
 use crate::listing::list_sites;
 use crate::reading::read_program;
 use crate::stop::Stop;
 use crate::words::{Command, read_words};
 use crate::{Program, TopAnswer};
 use itoa::Buffer;
-use mh_base::{NoMemory, Seq};
+use mh_base::Seq;
 use mh_outside::{Failed, Gate, Inputs, Sink, write_whole};
-use mh_plan::{ThreadAnswers, count_forms, report, run_plan};
+use mh_plan::{ThreadAnswers, report};
+use mh_runtime::{WorkError, run_plan};
 use std::alloc::Global;
 use std::sync::Wait;
 use std::thread::Threads;
@@ -35,6 +38,9 @@ const USAGE_WANTED: u8 = 2;
 
 /// No memory was left.
 const NO_MEMORY: u8 = 3;
+
+/// No number was left for a form.
+const FORMS_FULL: u8 = 4;
 
 /// An input could not be read.
 const READ_FAILED: u8 = 6;
@@ -75,16 +81,19 @@ fn answer_line<S: Sink>(alloc: Global, sink: &mut S, status: u8, pieces: &[&[u8]
 }
 
 // The answers of a program's calls, and the text of the run.
-fn run_and_report(alloc: Global, program: &Program) -> Result<(ThreadAnswers, Vec<u8>), NoMemory>
+fn run_and_report<R: Wait>(
+    rt: &R,
+    alloc: Global,
+    program: &Program,
+) -> Result<(ThreadAnswers, Vec<u8>), WorkError>
     requires { AreCallsOf program.now.leaves program.now.plan }
-    ensures answers { IfOk result
-        (λ r. results_said r.0 ≡ results_of program.now.leaves program.now.plan) }
+    ensures answers { IfOk result (λ r. AreAnswersOf program.now r.0) }
     ensures text { IfOk result (λ r. r.1.items ≡ text program.now []) }
+    ensures full { IfFull result (16384 < forms program.now.leaves program.now.plan) }
 {
-    let threads = run_plan(alloc, &program.leaves, &program.plan)?;
-    let forms = count_forms(alloc, &program.plan, &program.leaves)?;
-    let text = report(alloc, &threads, 0, forms, 0, &program.leaves)?;
-    Ok((threads, text))
+    let run = run_plan(rt, alloc, &program.leaves, &program.plan)?;
+    let text = report(alloc, &run.threads, 0, run.forms, 0, &program.leaves)?;
+    Ok((run.threads, text))
 }
 
 // The answer of a run that has no sites.
@@ -102,26 +111,57 @@ fn answered(alloc: Global, status: u8, threads: ThreadAnswers) -> TopAnswer
     }
 }
 
-// Runs a program, and writes its report.
-fn run_program<S: Sink>(alloc: Global, sink: &mut S, program: &Program) -> TopAnswer
+// Writes the report of a program's run.
+fn answer_report<S: Sink>(
+    alloc: Global,
+    sink: &mut S,
+    threads: ThreadAnswers,
+    text: &[u8],
+) -> TopAnswer
+    ensures threads { result.threads ≡ threads }
+    ensures ledger { (naming : Naming) → Ledger naming 0 result.table result.attempts }
+    ensures attempts { result.attempts ≡ [] }
+    ensures status { result.status ≢ 7 → result.status ≡ 0 }
+    ensures written { result.status ≢ 7 → Appends (S.taken sink.old) (S.taken sink.new) text.now }
+    ensures still { result.status ≢ 7 → S.faults sink.new ≡ S.faults sink.old }
+    ensures part { result.status ≡ 7 → AppendsPart (S.taken sink.old) (S.taken sink.new) text.now }
+    ensures failed { result.status ≡ 7 → Rose (S.faults sink.old) (S.faults sink.new) }
+    ensures fault { S.faults sink.old < S.faults sink.new → result.status ≡ 7 }
+{
+    match write_whole(sink, text) {
+        Ok(()) => answered(alloc, DONE, threads),
+        Err(Failed) => answered(alloc, WRITE_FAILED, threads),
+    }
+}
+
+// Runs a program, and writes its report, or that there are too few forms for it.
+fn run_program<R: Wait, S: Sink>(
+    rt: &R,
+    alloc: Global,
+    sink: &mut S,
+    program: &Program,
+) -> TopAnswer
     requires { AreCallsOf program.now.leaves program.now.plan }
     ensures done { result.status ≡ 0
         → Writes (IsReportOf program.now result) (S.taken sink.old) (S.taken sink.new) }
+    ensures answers { result.status ≡ 0 → AreAnswersOf program.now result.threads }
+    ensures full { result.status ≡ 4
+        → Writes (IsFullOf program.now) (S.taken sink.old) (S.taken sink.new) }
     ensures broken { result.status ≡ 7
-        → WritesPart (IsReportOf program.now result) (S.taken sink.old) (S.taken sink.new) }
+        → WritesPart (IsDueOf program.now result) (S.taken sink.old) (S.taken sink.new) }
     ensures nothing { result.status ≡ 3 → Keeps (S.taken sink.old) (S.taken sink.new) }
-    ensures idle { result.status ≡ 3 → IsIdle result }
-    ensures status { result.status ≢ 7 → IsDoneOrWant result.status }
+    ensures idle { result.status ≢ 0 → result.status ≢ 7 → IsIdle result }
+    ensures status { result.status ≢ 7 → IsDoneFullOrWant result.status }
     ensures still { result.status ≢ 7 → S.faults sink.new ≡ S.faults sink.old }
     ensures failed { result.status ≡ 7 → Rose (S.faults sink.old) (S.faults sink.new) }
     ensures fault { S.faults sink.old < S.faults sink.new → result.status ≡ 7 }
 {
-    let Ok((threads, text)) = run_and_report(alloc, program) else {
-        return nothing_ran(alloc, NO_MEMORY);
-    };
-    match write_whole(sink, &text) {
-        Ok(()) => answered(alloc, DONE, threads),
-        Err(Failed) => answered(alloc, WRITE_FAILED, threads),
+    match run_and_report(rt, alloc, program) {
+        Ok((threads, text)) => answer_report(alloc, sink, threads, &text),
+        Err(WorkError::NoMemory) => nothing_ran(alloc, NO_MEMORY),
+        Err(WorkError::FormsFull { drawn: _ }) => {
+            answer_line(alloc, sink, FORMS_FULL, &[FULL.as_bytes()])
+        }
     }
 }
 
@@ -203,7 +243,7 @@ fn answer_listing<S: Sink>(alloc: Global, sink: &mut S, text: &[u8]) -> TopAnswe
 /// The program: it reads what the words name, runs it, and writes what it gives. The gate is where the
 /// threads of a run may be held.
 pub fn top<'a, R: Threads + Wait + Sync, I: Inputs, S: Sink, G: Gate + Sync>(
-    _rt: &R,
+    rt: &R,
     alloc: Global,
     words: &'a [&'a str],
     inputs: &mut I,
@@ -213,12 +253,16 @@ pub fn top<'a, R: Threads + Wait + Sync, I: Inputs, S: Sink, G: Gate + Sync>(
     // What was written, by the status: at 7 a front part of what was due at another one.
     ensures headline { result.status ≡ 0
         → Writes (Reports (said words.now) (I.told inputs.old) result) (S.taken sink.old) (S.taken sink.new) }
+    ensures answers { result.status ≡ 0
+        → AnswersCalls (said words.now) (I.told inputs.old) result.threads }
     ensures refused { result.status ≡ 1
         → Writes (RefusesInput (said words.now) (I.told inputs.old) (I.faults inputs.old) (I.faults inputs.new))
         (S.taken sink.old) (S.taken sink.new) }
     ensures usage { result.status ≡ 2
         → Writes (RefusesWords (said words.now)) (S.taken sink.old) (S.taken sink.new) }
     ensures nothing { result.status ≡ 3 → Keeps (S.taken sink.old) (S.taken sink.new) }
+    ensures full { result.status ≡ 4
+        → Writes (FillsForms (said words.now) (I.told inputs.old)) (S.taken sink.old) (S.taken sink.new) }
     ensures unread { result.status ≡ 6
         → Writes (FailsToRead (command_of (said words.now)) (I.told inputs.old) (I.faults inputs.old) (I.faults inputs.new))
         (S.taken sink.old) (S.taken sink.new) }
@@ -232,13 +276,15 @@ pub fn top<'a, R: Threads + Wait + Sync, I: Inputs, S: Sink, G: Gate + Sync>(
     ensures fault { S.faults sink.old < S.faults sink.new → result.status ≡ 7 }
     ensures still { result.status ≢ 7 → S.faults sink.new ≡ S.faults sink.old }
 
-    // Where nothing failed, the words and the inputs decide the status, but for want of memory.
+    // Where nothing failed, the words and the inputs decide the status, but for want of memory; a
+    // program is run to its end if its calls need no more forms than there are.
     ensures usage_wanted { command_of (said words.now) ≡ None
         → IsStill (S.faults sink.old) (S.faults sink.new) → result.status ≡ 2 }
     ensures refusal_wanted { IsRefused (input (said words.now) (I.told inputs.old))
         → AllStill (I.faults inputs.old) (I.faults inputs.new)
         → IsStill (S.faults sink.old) (S.faults sink.new) → IsRefusedOrWant result.status }
     ensures complete { IsAccepted (input (said words.now) (I.told inputs.old))
+        → FitsForms (input (said words.now) (I.told inputs.old))
         → AllStill (I.faults inputs.old) (I.faults inputs.new)
         → IsStill (S.faults sink.old) (S.faults sink.new) → IsDoneOrWant result.status }
 {
@@ -247,7 +293,7 @@ pub fn top<'a, R: Threads + Wait + Sync, I: Inputs, S: Sink, G: Gate + Sync>(
     };
     match command {
         Command::Run(names) => match read_program(alloc, inputs, names) {
-            Ok(program) => run_program(alloc, sink, &program),
+            Ok(program) => run_program(rt, alloc, sink, &program),
             Err(stop) => answer_stop(alloc, sink, stop),
         },
         Command::Sites(names) => match list_sites(alloc, inputs, names) {

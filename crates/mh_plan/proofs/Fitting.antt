@@ -26,12 +26,12 @@ use Rattle.mh_leaves.specs.Provided.{provided_some}
 use Rattle.mh_leaves.specs.Reference.{Texts}
 use Rattle.mh_leaves.proofs.Once.{position-within}
 use Rattle.mh_plan.specs.declared.call.Call.{Call}
-use Rattle.mh_plan.specs.declared.call.Call.TheVariants.{Exact}
+use Rattle.mh_plan.specs.declared.call.Call.TheVariants.{Exact, Generic}
 use Rattle.mh_plan.specs.declared.kinds.PlanError.{PlanError}
 use Rattle.mh_plan.specs.declared.kinds.PlanKind.{PlanKind}
 use Rattle.mh_plan.specs.declared.kinds.PlanKind.TheVariants.{NoLeaf, NoSite, BadType, BadArguments}
 use Rattle.mh_plan.specs.Fault.{Tells}
-use Rattle.mh_plan.specs.Plan.{leaf_texts, leaf_if_found, leaf_named, argument_of, arguments_of, leaf_call, with_call, call_kept, call_line, tokens_meaning, line_meaning, line_counted, none_counted, line_built, faultless, plan_of}
+use Rattle.mh_plan.specs.Plan.{leaf_texts, leaf_if_found, leaf_named, argument_of, arguments_of, call_by, leaf_call, with_call, call_put, call_line, tokens_meaning, line_meaning, line_counted, none_counted, faultless, plan_of}
 use Rattle.mh_plan.specs.Results.{IsCallOf, AreCallsOf}
 
 -- ---- leaves that are found
@@ -79,23 +79,28 @@ arguments-typed classes (token ∷ tokens) (t ∷ types) values is =
 
 -- ---- one call
 
-with_values : (table : LeafTable) (leaf : LeafId) (t : MethodTy) (args : List (List ℕ)) (o : Option (List Value)) (call : Call) → leaf.0 < length table.leaves → o ≡ arguments_of table.classes args t.params → provided_some o BadArguments (λ values. Ok (Exact leaf t values)) ≡ Ok call → IsCallOf table call
-with_values table leaf t args None call within read is = cc
-with_values table leaf t args (Some values) call within read is =
-    let same : Exact leaf t values ≡ call = cc in
-    subst (IsCallOf table) same (within, arguments-typed table.classes args t.params values (sym read))
+called-fits : (table : LeafTable) (is_exact : Bool) (leaf : LeafId) (t : MethodTy) (values : List Value) → leaf.0 < length table.leaves → HaveTypes table.classes values t.params → IsCallOf table (if is_exact then Exact leaf t values else Generic leaf t values)
+called-fits table true leaf t values within typed = (within, typed)
+called-fits table false leaf t values within typed = (within, typed)
 
-with_type : (table : LeafTable) (leaf : LeafId) (args : List (List ℕ)) (o : Option MethodTy) (call : Call) → leaf.0 < length table.leaves → provided_some o BadType (λ t. provided_some (arguments_of table.classes args t.params) BadArguments (λ values. Ok (Exact leaf t values))) ≡ Ok call → IsCallOf table call
-with_type table leaf args None call within is = cc
-with_type table leaf args (Some t) call within is = with_values table leaf t args (arguments_of table.classes args t.params) call within refl is
+with_values : (table : LeafTable) (word : List ℕ) (leaf : LeafId) (t : MethodTy) (args : List (List ℕ)) (o : Option (List Value)) (call : Call) → leaf.0 < length table.leaves → o ≡ arguments_of table.classes args t.params → provided_some o BadArguments (λ values. Ok (call_by word leaf t values)) ≡ Ok call → IsCallOf table call
+with_values table word leaf t args None call within read is = cc
+with_values table word leaf t args (Some values) call within read is =
+    let same : call_by word leaf t values ≡ call = cc in
+    subst (IsCallOf table) same
+    (called-fits table (bytes_eq word (codes "exact")) leaf t values within (arguments-typed table.classes args t.params values (sym read)))
 
-with_leaf : (table : LeafTable) (token asked : List ℕ) (args : List (List ℕ)) (o : Option LeafId) (call : Call) → o ≡ leaf_named table token → provided_some o NoLeaf (λ leaf. provided_some (type_if_read (desc table.classes asked)) BadType (λ t. provided_some (arguments_of table.classes args t.params) BadArguments (λ values. Ok (Exact leaf t values)))) ≡ Ok call → IsCallOf table call
-with_leaf table token asked args None call found is = cc
-with_leaf table token asked args (Some leaf) call found is =
-    with_type table leaf args (type_if_read (desc table.classes asked)) call (named-within table (leaf_texts token) leaf (sym found)) is
+with_type : (table : LeafTable) (word : List ℕ) (leaf : LeafId) (args : List (List ℕ)) (o : Option MethodTy) (call : Call) → leaf.0 < length table.leaves → provided_some o BadType (λ t. provided_some (arguments_of table.classes args t.params) BadArguments (λ values. Ok (call_by word leaf t values))) ≡ Ok call → IsCallOf table call
+with_type table word leaf args None call within is = cc
+with_type table word leaf args (Some t) call within is = with_values table word leaf t args (arguments_of table.classes args t.params) call within refl is
 
-leaf_call-fits : (table : LeafTable) (token asked : List ℕ) (args : List (List ℕ)) (call : Call) → leaf_call table token asked args ≡ Ok call → IsCallOf table call
-leaf_call-fits table token asked args call is = with_leaf table token asked args (leaf_named table token) call refl is
+with_leaf : (table : LeafTable) (word token asked : List ℕ) (args : List (List ℕ)) (o : Option LeafId) (call : Call) → o ≡ leaf_named table token → provided_some o NoLeaf (λ leaf. provided_some (type_if_read (desc table.classes asked)) BadType (λ t. provided_some (arguments_of table.classes args t.params) BadArguments (λ values. Ok (call_by word leaf t values)))) ≡ Ok call → IsCallOf table call
+with_leaf table word token asked args None call found is = cc
+with_leaf table word token asked args (Some leaf) call found is =
+    with_type table word leaf args (type_if_read (desc table.classes asked)) call (named-within table (leaf_texts token) leaf (sym found)) is
+
+leaf_call-fits : (table : LeafTable) (word token asked : List ℕ) (args : List (List ℕ)) (call : Call) → leaf_call table word token asked args ≡ Ok call → IsCallOf table call
+leaf_call-fits table word token asked args call is = with_leaf table word token asked args (leaf_named table token) call refl is
 
 -- ---- lines
 
@@ -107,19 +112,18 @@ with_call-fits table (calls ∷ next ∷ more) call all fits =
     All-cons (All (IsCallOf table)) calls _ (All-head (All (IsCallOf table)) calls (next ∷ more) all)
     (with_call-fits table (next ∷ more) call (All-tail (All (IsCallOf table)) calls (next ∷ more) all) fits)
 
-kept-fits : (table : LeafTable) (is_kept : Bool) (threads next : List (List Call)) (r : Result Call PlanKind) → AreCallsOf table threads → ((call : Call) → r ≡ Ok call → IsCallOf table call) → call_kept is_kept threads r ≡ Ok next → AreCallsOf table next
-kept-fits table is_kept threads next (Err kind) all fits is = cc
-kept-fits table true threads next (Ok call) all fits is =
+put-fits : (table : LeafTable) (threads next : List (List Call)) (r : Result Call PlanKind) → AreCallsOf table threads → ((call : Call) → r ≡ Ok call → IsCallOf table call) → call_put threads r ≡ Ok next → AreCallsOf table next
+put-fits table threads next (Err kind) all fits is = cc
+put-fits table threads next (Ok call) all fits is =
     let same : with_call threads call ≡ next = cc in subst (AreCallsOf table) same (with_call-fits table threads call all (fits call refl))
-kept-fits table false threads next (Ok call) all fits is = let same : threads ≡ next = cc in subst (AreCallsOf table) same all
 
 call_line-fits : (table : LeafTable) (threads next : List (List Call)) (word subject asked : List ℕ) (args : List (List ℕ)) → AreCallsOf table threads → call_line table threads word subject asked args ≡ Ok next → AreCallsOf table next
 call_line-fits table threads next word subject asked args all is =
     elim (cases_Bool (bytes_eq word (codes "indy"))) [
-      | inl e ↦ cc (ap (λ b. if b then Err NoSite else call_kept (bytes_eq word (codes "exact")) threads (leaf_call table subject asked args)) e)
+      | inl e ↦ cc (ap (λ b. if b then Err NoSite else call_put threads (leaf_call table word subject asked args)) e)
       | inr e ↦
-          kept-fits table (bytes_eq word (codes "exact")) threads next (leaf_call table subject asked args) all (leaf_call-fits table subject asked args)
-          (sym (ap (λ b. if b then Err NoSite else call_kept (bytes_eq word (codes "exact")) threads (leaf_call table subject asked args)) e) ∙ is)
+          put-fits table threads next (leaf_call table word subject asked args) all (leaf_call-fits table word subject asked args)
+          (sym (ap (λ b. if b then Err NoSite else call_put threads (leaf_call table word subject asked args)) e) ∙ is)
     ]
 
 thread-fits : (table : LeafTable) (threads next : List (List Call)) → AreCallsOf table threads → threads ++ [] ∷ [] ≡ next → AreCallsOf table next
@@ -160,11 +164,8 @@ first_part (Ok a) next b is = (a, refl, is)
 
 pub plan_of-calls : (table : LeafTable) (lines : List (List ℕ)) (threads : List (List Call)) → plan_of table lines ≡ Ok threads → AreCallsOf table threads
 plan_of-calls table lines threads is =
-    let counted = first_part (built_from line_counted 1 none_counted lines) (λ counts. faultless (built_from (line_meaning table) 1 [] lines) (λ found. faultless (built_from line_built 1 tt lines) (λ done. Ok found))) threads is in
-    let read = first_part (built_from (line_meaning table) 1 [] lines) (λ found. faultless (built_from line_built 1 tt lines) (λ done. Ok found)) threads counted.2 in
-    let built = first_part (built_from line_built 1 tt lines) (λ done. Ok read.0) threads read.2 in
-    let same : read.0 ≡ threads = cc (built.2) in
-    subst (AreCallsOf table) same (lines-fit table 1 [] read.0 lines (All-nil (All (IsCallOf table))) read.1)
+    let counted = first_part (built_from line_counted 1 none_counted lines) (λ counts. built_from (line_meaning table) 1 [] lines) threads is in
+    lines-fit table 1 [] threads lines (All-nil (All (IsCallOf table))) counted.2
 
 -- what a reader of plans answers
 pub told-calls : (table : LeafTable) (lines : List (List ℕ)) (r : Result (List (List Call)) PlanError) → Tells r (plan_of table lines) → IfOk r (AreCallsOf table)

@@ -1,7 +1,7 @@
 pub mod Running
-pub mod Calling
 pub mod Tokens
 pub mod Behind
 pub mod Threads
 pub mod Fitting
-pub mod Distinct
+pub mod Numbers
+pub mod Recipes

@@ -4,7 +4,7 @@ use Rattle.std.specs.List.{flat_map}
 use Rattle.std.proofs.lemmas.List.{drop_more, take_all}
 use Rattle.std.proofs.lemmas.Option.{get_or_from_slice_get}
 use Rattle.mh_values.specs.declared.class.Class.{Class}
-use Rattle.mh_plan.specs.declared.answer.Answer.{Answer}
+use Rattle.mh_handle.specs.declared.answer.Answer.{Answer}
 use Rattle.mh_plan.specs.Results.{result_said, thread_said, results_said}
 use Rattle.mh_plan.specs.Text.{result_line, results_text, thread_text, threads_text}
 

@@ -1,45 +1,45 @@
--- How many forms the calls of a plan need: leaves with one erased type have one form.
-use Rattle.std.specs.Prelude.{ℕ, ◌+◌, if◌then◌else◌, List, [], ◌∷◌, map, Option, None, Some, slice_get}
-use Rattle.std.specs.List.{flat_map, list_any}
-use Rattle.std.specs.Option.{option_map_or}
-use Rattle.std.specs.Str.{bytes_eq}
-use Rattle.mh_values.specs.declared.types.Primitive.TheVariants as primitive
-use Rattle.mh_values.specs.declared.types.Ty.{Ty}
-use Rattle.mh_values.specs.declared.types.Ty.TheVariants as ty
+-- Which forms the calls of a plan need: one for each recipe that they make.
+use Rattle.std.specs.Prelude.{ℕ, if◌then◌else◌, List, [], ◌∷◌, Ok, Err}
+use Rattle.std.specs.List.{flat_map}
+use Rattle.std.specs.Set.{distinct_count}
 use Rattle.mh_values.specs.declared.types.MethodTy.{MethodTy}
+use Rattle.mh_values.specs.Same.{is_same_method_type}
 use Rattle.mh_leaf.specs.LeafTable.{LeafTable}
+use Rattle.mh_tree.specs.Tree.{Tree}
+use Rattle.mh_tree.specs.Tree as tree
+use Rattle.mh_tree.specs.Rows.{Checked}
+use Rattle.mh_tree.specs.Typing.{type_of}
+use Rattle.mh_edit.specs.declared.key.Key.{Key}
+use Rattle.mh_handle.specs.Recipe.{recipe}
 use Rattle.mh_plan.specs.declared.call.Call.{Call}
-use Rattle.mh_plan.specs.declared.call.Call.TheVariants.{Exact}
+use Rattle.mh_plan.specs.declared.call.Call.TheVariants.{Exact, Generic}
+use Rattle.mh_plan.specs.SameRecipes.{same_recipe}
 
--- the letter of an erased type: `J` for a long, `I` for an int or a boolean, `L` for any reference
-abbrev pub erased_letter : Ty → ℕ
-erased_letter (ty.Prim primitive.J) = 74
-erased_letter (ty.Prim primitive.I) = 73
-erased_letter (ty.Prim primitive.Z) = 73
-erased_letter _ = 76
+-- edits that depend on a type, none where there is none
+abbrev pub at_type : Checked → (MethodTy → List (List Key)) → List (List Key)
+at_type (Ok t) edits = edits t
+at_type (Err e) edits = []
 
--- the letter of an erased return type: `V` for void
-abbrev pub return_letter : Option Ty → ℕ
-return_letter None = 86
-return_letter (Some t) = erased_letter t
+-- the recipe of a tree that is used as another type, if that is allowed; it is the tree's own where nothing is converted
+abbrev pub used_edits : LeafTable → Tree → MethodTy → List (List Key)
+used_edits table t asked =
+    at_type (type_of table t) (λ own.
+    if is_same_method_type own asked then []
+    else at_type (type_of table (tree.AsType t asked)) (λ _. recipe table (tree.AsType t asked) ∷ []))
 
--- an erased method type: the letter of its return, then those of its parameters
-abbrev pub erased_type : MethodTy → List ℕ
-erased_type t = return_letter t.ret ∷ map erased_letter t.params
+-- the recipes that a call makes: that of its leaf, whatever its type is, and of a generic one that of the leaf's use as its type
+abbrev pub call_edits : LeafTable → Call → List (List Key)
+call_edits table (Exact leaf ty args) = recipe table (tree.Leaf leaf) ∷ []
+call_edits table (Generic leaf ty args) = recipe table (tree.Leaf leaf) ∷ used_edits table (tree.Leaf leaf) ty
 
--- the erased type of the leaf that a call names, whatever the type of the call
-abbrev pub form_of : LeafTable → Call → List ℕ
-form_of table (Exact leaf ty args) = option_map_or (λ l. erased_type l.ty) (slice_get table.leaves leaf.0) []
+-- the recipes that the calls of one thread make
+abbrev pub thread_edits : LeafTable → List Call → List (List Key)
+thread_edits table calls = flat_map (λ call. call_edits table call) calls
 
--- the erased types of the leaves that all calls name
-abbrev pub forms_named : LeafTable → List (List Call) → List (List ℕ)
-forms_named table threads = flat_map (λ calls. map (form_of table) calls) threads
+-- the recipes that all calls make
+abbrev pub plan_edits : LeafTable → List (List Call) → List (List Key)
+plan_edits table threads = flat_map (λ calls. thread_edits table calls) threads
 
--- how many texts there are but for repeats
-abbrev pub distinct : List (List ℕ) → ℕ
-distinct [] = 0
-distinct (text ∷ texts) = if list_any (bytes_eq text) texts then distinct texts else 1 + distinct texts
-
--- how many forms the calls need
+-- how many forms the calls need: the number of different recipes that they make
 abbrev pub forms : LeafTable → List (List Call) → ℕ
-forms table threads = distinct (forms_named table threads)
+forms table threads = distinct_count same_recipe (plan_edits table threads)

@@ -6,6 +6,7 @@ use Rattle.mh_base.specs.Lines.{lines_of, tokens_of, is_passed, is_plain, built_
 use Rattle.mh_base.specs.declared.lines.LineFault.{LineFault}
 use Rattle.mh_values.specs.declared.class.Class.{Class}
 use Rattle.mh_values.specs.declared.types.Ty.{Ty}
+use Rattle.mh_values.specs.declared.types.MethodTy.{MethodTy}
 use Rattle.mh_values.specs.declared.value.LeafId.{LeafId}
 use Rattle.mh_values.specs.declared.value.Value.{Value}
 use Rattle.mh_values.specs.Descriptor.{desc}
@@ -18,9 +19,9 @@ use Rattle.mh_leaves.specs.Manifest.{type_if_read}
 use Rattle.mh_leaves.specs.Provided.{provided, provided_some}
 use Rattle.mh_leaves.specs.Reference.{Texts, reference_of}
 use Rattle.mh_plan.specs.declared.call.Call.{Call}
-use Rattle.mh_plan.specs.declared.call.Call.TheVariants.{Exact}
+use Rattle.mh_plan.specs.declared.call.Call.TheVariants.{Exact, Generic}
 use Rattle.mh_plan.specs.declared.kinds.PlanKind.{PlanKind}
-use Rattle.mh_plan.specs.declared.kinds.PlanKind.TheVariants.{BadLine, TooMany, NoLeaf, NoSite, BadType, BadArguments, NotBuilt}
+use Rattle.mh_plan.specs.declared.kinds.PlanKind.TheVariants.{BadLine, TooMany, NoLeaf, NoSite, BadType, BadArguments}
 use Rattle.mh_plan.specs.declared.counting.Counts.{Counts}
 
 -- the name of a kind of fault
@@ -31,7 +32,6 @@ kind_word NoLeaf = codes "NoLeaf"
 kind_word NoSite = codes "NoSite"
 kind_word BadType = codes "BadType"
 kind_word BadArguments = codes "BadArguments"
-kind_word NotBuilt = codes "NotBuilt"
 
 -- ---- the form of a line
 
@@ -120,12 +120,16 @@ arguments_of classes (token ∷ tokens) (t ∷ types) =
     option_and_then (λ v. option_map (λ vs. v ∷ vs) (arguments_of classes tokens types)) (argument_of classes token t)
 arguments_of classes _ _ = None
 
+-- the call that a word begins: an exact one where it says so, and else a generic one
+abbrev pub call_by : List ℕ → LeafId → MethodTy → List Value → Call
+call_by word leaf t values = if bytes_eq word (codes "exact") then Exact leaf t values else Generic leaf t values
+
 -- the call of a leaf by a type, with arguments
-abbrev pub leaf_call : LeafTable → List ℕ → List ℕ → List (List ℕ) → Result Call PlanKind
-leaf_call table subject asked args =
+abbrev pub leaf_call : LeafTable → List ℕ → List ℕ → List ℕ → List (List ℕ) → Result Call PlanKind
+leaf_call table word subject asked args =
     provided_some (leaf_named table subject) NoLeaf (λ leaf.
     provided_some (type_if_read (desc table.classes asked)) BadType (λ t.
-    provided_some (arguments_of table.classes args t.params) BadArguments (λ values. Ok (Exact leaf t values))))
+    provided_some (arguments_of table.classes args t.params) BadArguments (λ values. Ok (call_by word leaf t values))))
 
 -- a call behind those of the last thread
 abbrev pub with_call : List (List Call) → Call → List (List Call)
@@ -133,16 +137,15 @@ with_call [] call = []
 with_call (calls ∷ []) call = (calls ++ call ∷ []) ∷ []
 with_call (calls ∷ more) call = calls ∷ with_call more call
 
--- the threads behind a call: one of a generic kind is not kept
-abbrev pub call_kept : Bool → List (List Call) → Result Call PlanKind → Result (List (List Call)) PlanKind
-call_kept is_kept threads (Ok call) = Ok (if is_kept then with_call threads call else threads)
-call_kept is_kept threads (Err kind) = Err kind
+-- the threads behind a call
+abbrev pub call_put : List (List Call) → Result Call PlanKind → Result (List (List Call)) PlanKind
+call_put threads (Ok call) = Ok (with_call threads call)
+call_put threads (Err kind) = Err kind
 
 -- the threads behind a call of a leaf; there are no sites that `indy` could call
 abbrev pub call_line : LeafTable → List (List Call) → List ℕ → List ℕ → List ℕ → List (List ℕ) → Result (List (List Call)) PlanKind
 call_line table threads word subject asked args =
-    if bytes_eq word (codes "indy") then Err NoSite
-    else call_kept (bytes_eq word (codes "exact")) threads (leaf_call table subject asked args)
+    if bytes_eq word (codes "indy") then Err NoSite else call_put threads (leaf_call table word subject asked args)
 
 -- the threads behind a line that counts: two tokens are a site's call without arguments, one begins a thread
 abbrev pub tokens_meaning : LeafTable → List (List Call) → List (List ℕ) → Result (List (List Call)) PlanKind
@@ -154,12 +157,6 @@ tokens_meaning table threads _ = Ok (threads ++ [] ∷ [])
 abbrev pub line_meaning : LeafTable → List (List Call) → List ℕ → Result (List (List Call)) PlanKind
 line_meaning table threads line = if is_passed line then Ok threads else tokens_meaning table threads (tokens_of line)
 
--- ---- what is built
-
--- a line that is no `generic` call, which is not built
-abbrev pub line_built : Unit {0} → List ℕ → Result (Unit {0}) PlanKind
-line_built so_far line = provided (not (starts_with nat_eq line (codes "generic "))) NotBuilt (Ok so_far)
-
 -- ---- plans
 
 -- goes on where no line has a fault
@@ -167,12 +164,10 @@ abbrev pub faultless : {A B : Type 0} → Result A (LineFault PlanKind) → (A �
 faultless (Ok a) next = next a
 faultless (Err fault) next = Err fault
 
--- the calls of each thread of a plan of these lines: the form of all lines comes first, then their calls, then what is built
+-- the calls of each thread of a plan of these lines: the form of all lines comes first, then their calls
 abbrev pub plan_of : LeafTable → List (List ℕ) → Result (List (List Call)) (LineFault PlanKind)
 plan_of table lines =
-    faultless (built_from line_counted 1 none_counted lines) (λ counts.
-    faultless (built_from (line_meaning table) 1 [] lines) (λ threads.
-    faultless (built_from line_built 1 tt lines) (λ done. Ok threads)))
+    faultless (built_from line_counted 1 none_counted lines) (λ counts. built_from (line_meaning table) 1 [] lines)
 
 -- the calls of each thread, or the faulty line that counts
 abbrev pub plan : List ℕ → LeafTable → Result (List (List Call)) (LineFault PlanKind)

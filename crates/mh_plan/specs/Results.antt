@@ -1,15 +1,15 @@
 -- The result of each call of a plan.
-use Rattle.std.specs.Prelude.{◌<◌, List, length, map, All, Option}
+use Rattle.std.specs.Prelude.{ℕ, ◌<◌, List, length, map, All, Option}
 use Rattle.mh_values.specs.declared.value.Value.{Value}
 use Rattle.mh_values.specs.Computation.{Ran}
 use Rattle.mh_values.specs.HasType.{HaveTypes}
 use Rattle.mh_leaf.specs.LeafTable.{LeafTable}
 use Rattle.mh_leaf.specs.Outcome.{ran_of}
 use Rattle.mh_tree.specs.Tree as tree
-use Rattle.mh_tree.specs.Meaning.{exact}
+use Rattle.mh_tree.specs.Meaning.{exact, generic}
+use Rattle.mh_handle.specs.declared.answer.Answer.{Answer}
 use Rattle.mh_plan.specs.declared.call.Call.{Call}
-use Rattle.mh_plan.specs.declared.call.Call.TheVariants.{Exact}
-use Rattle.mh_plan.specs.declared.answer.Answer.{Answer}
+use Rattle.mh_plan.specs.declared.call.Call.TheVariants.{Exact, Generic}
 
 -- how a call ended: with what value or exception, and with which leaf calls
 abbrev pub Result : Type 0
@@ -18,10 +18,12 @@ Result = Ran (Option Value)
 -- the result of a call
 abbrev pub result_of : LeafTable → Call → Result
 result_of table (Exact leaf ty args) = exact table (tree.Leaf leaf) ty args 0
+result_of table (Generic leaf ty args) = generic table (tree.Leaf leaf) ty args 0
 
 -- a call that can be made: its leaf is there, and its arguments have the types of its type
 abbrev pub IsCallOf : LeafTable → Call → Type 0
 IsCallOf table (Exact leaf ty args) = (leaf.0 < length table.leaves) × HaveTypes table.classes args ty.params
+IsCallOf table (Generic leaf ty args) = (leaf.0 < length table.leaves) × HaveTypes table.classes args ty.params
 
 -- the calls of each thread can be made
 abbrev pub AreCallsOf : LeafTable → List (List Call) → Type 0
@@ -46,3 +48,11 @@ thread_said answers = map (λ answer. result_said answer) answers
 -- what the answers of each thread say
 abbrev pub results_said : List (List Answer) → List (List Result)
 results_said threads = map (λ answers. thread_said answers) threads
+
+-- how many keys the forms have that the calls of one thread ran
+abbrev pub thread_keys_said : List Answer → List ℕ
+thread_keys_said answers = map (λ answer. answer.keys) answers
+
+-- how many keys the forms have that the calls of each thread ran
+abbrev pub keys_said : List (List Answer) → List (List ℕ)
+keys_said threads = map (λ answers. thread_keys_said answers) threads

@@ -7,6 +7,9 @@ pub enum Call {
     /// A call of a leaf as `MethodHandle.invokeExact` makes it: with the type of the call, and with
     /// arguments of that type's parameters.
     Exact(LeafId, MethodTy, Items),
+    /// A call of a leaf as `MethodHandle.invoke` makes it: by the type of the call, as which the leaf
+    /// is used, and with arguments of that type's parameters.
+    Generic(LeafId, MethodTy, Items),
 }
 
 /// The calls of one thread, in order.

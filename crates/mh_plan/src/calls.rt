@@ -2,7 +2,7 @@ ghost use Rattle.std.specs.Prelude.{◌≡◌, ◌≤◌, ◌^◌, [], length, m
 ghost use Rattle.mh_base.specs.Lines.{taken_or, built_from};
 ghost use Rattle.mh_values.specs.Descriptor.{desc};
 ghost use Rattle.mh_leaves.specs.Manifest.{type_if_read};
-ghost use Rattle.mh_plan.specs.Plan.{leaf_named, leaf_call, with_call, call_kept, call_line, tokens_meaning, line_meaning};
+ghost use Rattle.mh_plan.specs.Plan.{leaf_named, call_by, leaf_call, with_call, call_put, call_line, tokens_meaning, line_meaning};
 ghost use Rattle.mh_plan.specs.Fault.{Tells};
 
 use crate::arguments::read_arguments;
@@ -10,7 +10,7 @@ use crate::counting::leaf_texts;
 use crate::{Call, PlanError, PlanKind, ThreadCalls};
 use mh_base::{LineFault, NoMemory, Seq, is_passed, split_at_byte};
 use mh_leaves::{How, Leaves};
-use mh_values::{Classes, DescriptorError, LeafId, MethodTy, read_descriptor};
+use mh_values::{Classes, DescriptorError, Items, LeafId, MethodTy, read_descriptor};
 use std::alloc::Global;
 
 // The leaf of a reference.
@@ -38,15 +38,28 @@ fn type_of(
     }
 }
 
+// The call that a word begins.
+fn call_by(word: &[u8], leaf: LeafId, ty: MethodTy, values: Items) -> Call
+    ensures { result ≡ call_by word.now leaf ty values }
+{
+    if word == b"exact".as_slice() {
+        Call::Exact(leaf, ty, values)
+    } else {
+        Call::Generic(leaf, ty, values)
+    }
+}
+
 // The call of a leaf by a type, or what is wrong with it.
 fn read_call(
     alloc: Global,
     leaves: &Leaves,
+    word: &[u8],
     subject: &[u8],
     asked: &[u8],
     args: &[&[u8]],
 ) -> Result<Result<Call, PlanKind>, NoMemory>
-    ensures { IfOk result (λ call. call ≡ leaf_call leaves.now subject.now asked.now (map (λ t. t.now) args.now)) }
+    ensures { IfOk result
+        (λ call. call ≡ leaf_call leaves.now word.now subject.now asked.now (map (λ t. t.now) args.now)) }
 {
     let Some(leaf) = leaf_named(leaves, subject) else {
         return Ok(Err(PlanKind::NoLeaf));
@@ -57,7 +70,7 @@ fn read_call(
     let Some(values) = read_arguments(alloc, leaves.classes(), args, ty.params.as_slice())? else {
         return Ok(Err(PlanKind::BadArguments));
     };
-    Ok(Ok(Call::Exact(leaf, ty, values)))
+    Ok(Ok(call_by(word, leaf, ty, values)))
 }
 
 // Puts a call behind those of the last thread.
@@ -72,20 +85,17 @@ fn add_call(threads: &mut Vec<ThreadCalls>, call: Call) -> Result<(), NoMemory>
     Ok(())
 }
 
-// Takes a call of a leaf, and says what is wrong with it. One that is not kept is only looked at.
-fn keep_call(
+// Takes a call of a leaf, and says what is wrong with it.
+fn put_call(
     threads: &mut Vec<ThreadCalls>,
-    is_kept: bool,
     call: Result<Call, PlanKind>,
 ) -> Result<Option<PlanKind>, NoMemory>
-    ensures { IfOk result (λ fault. call_kept is_kept threads.old.items call ≡ taken_or fault threads.new.items) }
+    ensures { IfOk result (λ fault. call_put threads.old.items call ≡ taken_or fault threads.new.items) }
 {
     match call {
         Err(kind) => Ok(Some(kind)),
         Ok(call) => {
-            if is_kept {
-                add_call(threads, call)?;
-            }
+            add_call(threads, call)?;
             Ok(None)
         }
     }
@@ -106,8 +116,8 @@ fn read_call_line(
     if word == b"indy".as_slice() {
         return Ok(Some(PlanKind::NoSite));
     }
-    let call = read_call(alloc, leaves, subject, asked, args)?;
-    keep_call(threads, word == b"exact".as_slice(), call)
+    let call = read_call(alloc, leaves, word, subject, asked, args)?;
+    put_call(threads, call)
 }
 
 // Takes the tokens of a line, and says what is wrong with them.

@@ -8,7 +8,7 @@ use std::error::Error;
 use std::fmt;
 
 /// What is wrong with a line of a plan. The first line of the first two kinds counts, then the first of
-/// the others, and in it the first kind; a plan that has none of these may have the last.
+/// the others, and in it the first kind.
 #[derive(Clone, Copy, Debug, PartialEq, Eq)]
 pub enum PlanKind {
     /// The line is none of a plan, or a call in front of the first thread.
@@ -23,8 +23,6 @@ pub enum PlanKind {
     BadType,
     /// An argument is no literal, or the arguments have not the types of the call's parameters.
     BadArguments,
-    /// The line is a `generic` call, which is not built.
-    NotBuilt,
 }
 
 impl PlanKind {
@@ -39,7 +37,6 @@ impl PlanKind {
             PlanKind::NoSite => "NoSite",
             PlanKind::BadType => "BadType",
             PlanKind::BadArguments => "BadArguments",
-            PlanKind::NotBuilt => "NotBuilt",
         }
     }
 }

@@ -4,9 +4,10 @@ ghost use Rattle.mh_values.specs.declared.class.Class.{Class};
 ghost use Rattle.mh_plan.specs.Text.{outcome_text, returned_text, calls_text, result_line, results_text, thread_text, threads_text, summary_text, report_text};
 ghost use Rattle.mh_plan.specs.Results.{result_said, thread_said, results_said};
 
-use crate::{Answer, ThreadAnswers};
+use crate::ThreadAnswers;
 use itoa::Buffer;
 use mh_base::NoMemory;
+use mh_handle::Answer;
 use mh_leaves::Leaves;
 use mh_texts::{show_exc, show_value};
 use mh_values::{Classes, LeafCall, Outcome, Value};
@@ -85,9 +86,9 @@ fn push_answer(
 ) -> Result<(), NoMemory>
     ensures { OnOk result (text.new.items ≡ text.old.items ++ result_line classes.now (result_said answer.now)) }
 {
-    push_outcome(alloc, text, &answer.outcome, classes)?;
+    push_outcome(alloc, text, answer.outcome(), classes)?;
     push(text, b" calls ")?;
-    push_calls(text, answer.calls.as_slice())?;
+    push_calls(text, answer.calls().as_slice())?;
     push(text, b"\n")
 }
 

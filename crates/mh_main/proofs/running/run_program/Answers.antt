@@ -1,17 +1,23 @@
-use Rattle.std.proofs.Common.{rules}
+use Rattle.std.proofs.Common.{◌≢◌, rules, refl, inl, arith}
+use Rattle.mh_main.specs.Due.{full_line}
 use Rattle.mh_main.specs.Program.{naming_of}
 use Rattle.mh_main.proofs.running.run_program.Goals as goal
 
-pub returns-in-Ok-write_whole-clause-done : goal.returns-in-Ok-write_whole-clause-done
-returns-in-Ok-write_whole-clause-done g c = λ done. (
+pub returns-in-Ok-clause-done : goal.returns-in-Ok-clause-done
+returns-in-Ok-clause-done g c = λ done. (
   c.in-Ok.text.items,
-  (c.answered.ensures.ledger (naming_of c.args.program.now.plan), search rules, search rules),
+  (c.answer_report.ensures.ledger (naming_of c.args.program.now.plan), search rules, search rules),
   search rules,
 )
 
-pub returns-clause-broken : goal.returns-clause-broken
-returns-clause-broken g c = λ failed. (
+pub returns-in-Ok-clause-broken : goal.returns-in-Ok-clause-broken
+returns-in-Ok-clause-broken g c = λ failed. (
   c.in-Ok.text.items,
-  (c.answered-in-Err.ensures.ledger (naming_of c.args.program.now.plan), search rules, search rules),
+  inl (c.answer_report.ensures.ledger (naming_of c.args.program.now.plan), search rules, search rules),
   search rules,
 )
+
+pub returns-in-Err-FormsFull-clause-full : goal.returns-in-Err-FormsFull-clause-full
+returns-in-Err-FormsFull-clause-full g c = λ full.
+    let ok : c.answer_line.result.status ≢ 7 = λ bad. omega (arith, full, bad) in
+    (full_line, (search rules, refl), rw c.as_bytes.ensures.value at c.answer_line.ensures.written ok)

@@ -1,7 +1,16 @@
 use Rattle.mh_main.specs.Words.{run, sites, held_names, said}
 use Rattle.mh_main.specs.Stops.{stop_line}
-use Rattle.mh_main.proofs.Endings.{due-at-stop}
+use Rattle.mh_main.proofs.Endings.{due-at-stop, due-of-program}
 use Rattle.mh_main.proofs.running.top.Goals as goal
+
+pub returns-in-Ok-clause-broken : goal.returns-in-Ok-clause-broken
+returns-in-Ok-clause-broken g c = λ failed.
+    let due = c.run_program.ensures.broken failed in (
+      due.0,
+      due-of-program (said c.args.words.now) (g.I.Inputs.told c.args.inputs.now) (g.I.Inputs.faults c.args.inputs.now) (g.I.Inputs.faults c.read_program.new.inputs)
+          c.run_program.result (held_names c.in-Run.names) c.in-Ok.program due.0 (rw c.in-Run.is at c.in-Some.ensures) c.in-Ok.ensures.ok due.1,
+      due.2,
+    )
 
 pub returns-in-Err-clause-broken : goal.returns-in-Err-clause-broken
 returns-in-Err-clause-broken g c = λ failed. (

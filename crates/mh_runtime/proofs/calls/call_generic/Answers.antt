@@ -1,0 +1,36 @@
+use Rattle.std.proofs.Common.{ap, IfOk}
+use Rattle.mh_leaf.specs.LeafTable.{LeafTable}
+use Rattle.mh_tree.specs.Meaning.{generic}
+use Rattle.mh_tree.specs.Tree.{Tree}
+use Rattle.mh_tree.specs.Tree as tree
+use Rattle.mh_handle.specs.declared.work.Work.{Work}
+use Rattle.mh_handle.specs.Answers.{IsAnswer}
+use Rattle.mh_handle.specs.Recipe.{recipe}
+use Rattle.mh_astype.specs.Calls.{generic_keys}
+use Rattle.mh_plan.specs.Forms.{used_edits}
+use Rattle.mh_runtime.proofs.Calling.{asks-generic, moved, stopped-early, stops, works-on}
+use Rattle.mh_runtime.proofs.calls.call_generic.Goals as goal
+
+pub returns-in_err-handle-clause-asks : goal.returns-in_err-handle-clause-asks
+returns-in_err-handle-clause-asks g c =
+    stops _ c.args.w.now.pass.now c.leaf_handle.new.w.pass.now c.in_err-handle.field-0.0 c.from_residual.result c.from_residual.ensures.1
+    (stopped-early (recipe c.args.w.now.leaves.now (tree.Leaf c.args.id)) (used_edits c.args.w.now.leaves.now (tree.Leaf c.args.id) c.args.ty.now)
+    c.args.w.now.pass.now c.in_err-handle.field-0.0 c.in_err-handle.ensures.asks)
+
+pub returns-clause-work : goal.returns-clause-work
+returns-clause-work g c =
+    works-on c.in_ok-handle.handle.form.recipe _ c.leaf_handle.new.w c.invoke_generic-answer.new.w c.give_back.new.w c.invoke_generic-answer.result
+    c.in_ok-handle.ensures.work c.invoke_generic-answer.ensures.goes_on c.give_back.ensures c.invoke_generic-answer.ensures.asks
+
+pub returns-clause-answer : goal.returns-clause-answer
+returns-clause-answer g c =
+    moved (λ (table : LeafTable) (t : Tree). IfOk c.invoke_generic-answer.result (IsAnswer (generic table t c.args.ty.now c.args.args.now 0) (generic_keys table t c.args.ty.now)))
+    c.args.w.now.leaves.now c.leaf_handle.new.w.leaves.now c.in_ok-handle.handle (tree.Leaf c.args.id)
+    (ap (λ leaves. leaves.now) c.in_ok-handle.ensures.leaves) c.in_ok-handle.ensures.stands c.invoke_generic-answer.ensures.answer
+
+pub returns-clause-asks : goal.returns-clause-asks
+returns-clause-asks g c =
+    asks-generic c.args.w.now.leaves.now c.leaf_handle.new.w.leaves.now (tree.Leaf c.args.id) c.in_ok-handle.handle c.args.ty.now
+    c.args.w.now.pass.now c.leaf_handle.new.w.pass.now c.invoke_generic-answer.new.w.pass.now c.give_back.new.w.pass.now c.invoke_generic-answer.result
+    (ap (λ leaves. leaves.now) c.in_ok-handle.ensures.leaves) (ap (λ (w : Work). w.pass.now) c.give_back.ensures) c.in_ok-handle.ensures.stands
+    c.in_ok-handle.ensures.work.in_order c.in_ok-handle.ensures.asks c.invoke_generic-answer.ensures.asks

@@ -1,0 +1,50 @@
+-- What calls leave of a pass, by the recipes that they make.
+use Rattle.std.specs.Prelude.{◌≡◌, ℕ, ◌+◌, ◌^◌, ◌<◌, ◌≤◌, List, ◌++◌, length, map, Result, Ok, Err}
+use Rattle.std.specs.List.{list_any, IsDistinct}
+use Rattle.std.specs.Set.{distinct_count}
+use Rattle.mh_edit.specs.declared.key.Key.{Key}
+use Rattle.mh_handle.specs.declared.error.EditError.{EditError}
+use Rattle.mh_handle.specs.declared.error.EditError.TheVariants.{NoMemory, FormsFull}
+use Rattle.mh_handle.specs.declared.work.Work.{Work}
+use Rattle.mh_handle.specs.Index.{recipe_of}
+use Rattle.mh_handle.specs.Passes.{PassView}
+use Rattle.mh_plan.specs.SameRecipes.{same_recipe}
+
+-- the recipes of the forms that a pass has asked for
+abbrev pub asked_recipes : PassView → List (List Key)
+asked_recipes pass = map recipe_of pass.asked
+
+-- the pass has drawn no more numbers than it has asked for forms, and each so far was the next one
+pub record DrawsInOrder (pass : PassView) : Type 0 where
+  pub few : length pass.seat.numbers ≤ length pass.asked
+  pub room : length pass.seat.numbers + pass.seat.room ≡ 2 ^ 62
+
+-- the pass is one of the work's table, and draws its numbers in order
+pub record IsWork (w : Work) : Type 0 where
+  pub of_table : w.pass.now.cells ≡ w.forms.now
+  pub in_order : DrawsInOrder w.pass.now
+
+-- the pass has asked for forms of these recipes and of no others, and for none twice
+pub record HasAsked (recipes : List (List Key)) (pass : PassView) : Type 0 where
+  pub once : IsDistinct same_recipe (asked_recipes pass)
+  pub same : (recipe : List Key) → list_any (same_recipe recipe) (asked_recipes pass) ≡ list_any (same_recipe recipe) recipes
+
+-- more recipes differ than there are numbers of forms
+abbrev pub AreTooMany : List (List Key) → Type 0
+AreTooMany recipes = 16384 < distinct_count same_recipe recipes
+
+-- what is known of a call that stopped, and that makes these recipes: for want of forms only where they are too many with those before
+abbrev pub Stopped : List (List Key) → PassView → EditError → Type 0
+Stopped recipes old (FormsFull drawn) = (before : List (List Key)) → HasAsked before old → AreTooMany (before ++ recipes)
+Stopped recipes old NoMemory = Unit {0}
+
+-- what a call leaves of a pass that makes these recipes: a form of each was asked for, whichever were made before
+abbrev pub Asks : {A : Type 0} → List (List Key) → PassView → PassView → Result A EditError → Type 0
+Asks recipes old new (Ok a) = (before : List (List Key)) → HasAsked before old → HasAsked (before ++ recipes) new
+Asks recipes old new (Err e) = Stopped recipes old e
+
+-- P holds where no number was left for a form
+abbrev pub IfFull : {A : Type 0} → Result A EditError → Type 0 → Type 0
+IfFull (Err (FormsFull drawn)) P = P
+IfFull (Err NoMemory) P = Unit {0}
+IfFull (Ok a) P = Unit {0}

@@ -1,0 +1,123 @@
+ghost use Rattle.std.specs.Prelude.{◌≡◌, ◌<◌, [], All, IfOk, OnOk};
+ghost use Rattle.mh_handle.specs.Passes.{pass_at, seat_at};
+ghost use Rattle.mh_plan.specs.Forms.{thread_edits, plan_edits, forms};
+ghost use Rattle.mh_plan.specs.Results.{IsCallOf, AreCallsOf, thread_results, results_of, thread_said, results_said, thread_keys_said, keys_said};
+ghost use Rattle.mh_runtime.specs.Asking.{Asks, IsWork, IfFull};
+ghost use Rattle.mh_runtime.specs.Keys.{thread_keys, plan_keys};
+
+use crate::calls::{WorkError, call};
+use mh_base::Seq;
+use mh_handle::{FormPass, FormSeat, FormTable, Work};
+use mh_leaves::Leaves;
+use mh_plan::{Answers, Plan, ThreadAnswers, ThreadCalls};
+use std::alloc::Global;
+use std::sync::Wait;
+
+/// What a run gave.
+#[derive(Debug, Drop)]
+pub struct RunReport {
+    /// The answer of each call, thread by thread.
+    pub threads: ThreadAnswers,
+    /// How many forms were asked for.
+    pub forms: u32,
+}
+
+// Makes the calls of a thread, in order.
+fn run_thread<'t, R: Wait>(
+    w: &mut Work<'_, 't>,
+    rt: &R,
+    alloc: Global,
+    calls: &ThreadCalls,
+) -> Result<Answers, WorkError>
+    requires calls { All (IsCallOf w.old.leaves.now) calls.now }
+    requires work { IsWork w.old }
+    ensures leaves { w.new.leaves ≡ w.old.leaves }
+    ensures work { OnOk result (IsWork w.new) }
+    ensures results { IfOk result
+        (λ answers. thread_said answers ≡ thread_results w.old.leaves.now calls.now) }
+    ensures keys { IfOk result
+        (λ answers. thread_keys_said answers ≡ thread_keys w.old.leaves.now calls.now) }
+    ensures asks { Asks (thread_edits w.old.leaves.now calls.now)
+        w.old.pass.now w.new.pass.now result }
+{
+    let mut answers = Seq::new(alloc);
+    for next in calls.as_slice() {
+        answers.push(call(w, rt, alloc, next)?)?;
+    }
+    Ok(answers)
+}
+
+// Makes the calls of all threads, one thread after the other.
+fn run_threads<'t, R: Wait>(
+    w: &mut Work<'_, 't>,
+    rt: &R,
+    alloc: Global,
+    plan: &Plan,
+) -> Result<ThreadAnswers, WorkError>
+    requires calls { AreCallsOf w.old.leaves.now plan.now }
+    requires work { IsWork w.old }
+    ensures leaves { w.new.leaves ≡ w.old.leaves }
+    ensures results { IfOk result
+        (λ threads. results_said threads ≡ results_of w.old.leaves.now plan.now) }
+    ensures keys { IfOk result (λ threads. keys_said threads ≡ plan_keys w.old.leaves.now plan.now) }
+    ensures asks { Asks (plan_edits w.old.leaves.now plan.now)
+        w.old.pass.now w.new.pass.now result }
+{
+    let mut threads = Seq::new(alloc);
+    for calls in plan.as_slice() {
+        threads.push(run_thread(w, rt, alloc, calls)?)?;
+    }
+    Ok(threads)
+}
+
+// Runs a plan over a new table.
+fn run_over<'t, R: Wait>(
+    rt: &R,
+    alloc: Global,
+    table: &'t FormTable,
+    seat: FormSeat,
+    leaves: &'t Leaves,
+    plan: &Plan,
+) -> Result<RunReport, WorkError>
+    requires calls { AreCallsOf leaves.now plan.now }
+    requires seat { seat ≡ seat_at 0 }
+    ensures results { IfOk result (λ run. results_said run.threads ≡ results_of leaves.now plan.now) }
+    ensures keys { IfOk result (λ run. keys_said run.threads ≡ plan_keys leaves.now plan.now) }
+    ensures forms { IfOk result (λ run. run.forms ≡ forms leaves.now plan.now) }
+    ensures full { IfFull result (16384 < forms leaves.now plan.now) }
+{
+    let mut pass = table.first_pass(alloc, seat)?;
+    let mut w = Work {
+        forms: table,
+        pass: &mut pass,
+        leaves,
+    };
+    let threads = run_threads(&mut w, rt, alloc, plan);
+    let Work {
+        forms: _,
+        pass: asked,
+        leaves: _,
+    } = w;
+    Ok(RunReport {
+        threads: threads?,
+        forms: asked.len(),
+    })
+}
+
+/// Runs the calls of a plan, one thread after the other, over one table of forms, as which 16,384
+/// fit. The plan is one of these leaves.
+pub fn run_plan<R: Wait>(
+    rt: &R,
+    alloc: Global,
+    leaves: &Leaves,
+    plan: &Plan,
+) -> Result<RunReport, WorkError>
+    requires { AreCallsOf leaves.now plan.now }
+    ensures results { IfOk result (λ run. results_said run.threads ≡ results_of leaves.now plan.now) }
+    ensures keys { IfOk result (λ run. keys_said run.threads ≡ plan_keys leaves.now plan.now) }
+    ensures forms { IfOk result (λ run. run.forms ≡ forms leaves.now plan.now) }
+    ensures full { IfFull result (16384 < forms leaves.now plan.now) }
+{
+    let (table, seat) = FormTable::new(alloc)?;
+    run_over(rt, alloc, &table, seat, leaves, plan)
+}
