@@ -4,7 +4,7 @@ ghost use Rattle.std.specs.Prelude.{◌≤◌, ◌+◌, ◌*◌, length, IfOk};
 ghost use Rattle.mh_handle.specs.Works.{IsReady};
 ghost use Rattle.mh_handle_tests.specs.Making.{Spends, StandsForSome};
 
-use mh_adapt::{collect, filter, filterret, fold};
+use mh_adapt::{collect, drop_args, filter, filterret, fold};
 use mh_astype::invoke_exact;
 use mh_base::{NoMemory, Seq};
 use mh_handle::{Answer, FormTable, Handle, HandleError, Work, leaf};
@@ -26,7 +26,8 @@ pub const SAME: LeafId = LeafId(3);
 
 pub const NOTHING: LeafId = LeafId(4);
 
-/// One adapter more: its part is a leaf, or a copy of the handle that it adapts.
+/// One adapter more: its part is a leaf, or a copy of the handle that it adapts. A dropped argument
+/// is an int.
 #[derive(Clone, Copy)]
 pub enum Step {
     Filter(u8, LeafId),
@@ -34,6 +35,7 @@ pub enum Step {
     Fold(u8, LeafId),
     Collect(u8, LeafId),
     Doubled,
+    Drop(u8),
 }
 
 fn demo_leaves(alloc: Global) -> Result<Leaves, NoMemory> {
@@ -72,8 +74,26 @@ fn part_of<'t, R: Wait>(
         Step::Filter(_, id) | Step::FilterResult(id) | Step::Fold(_, id) | Step::Collect(_, id) => {
             leaf_at(w, rt, alloc, id)
         }
-        Step::Doubled => Ok(h.copy(alloc, w)?),
+        // A drop has no part, and lets its copy go.
+        Step::Doubled | Step::Drop(_) => Ok(h.copy(alloc, w)?),
     }
+}
+
+fn dropped<'t, R: Wait>(
+    w: &mut Work<'_, 't>,
+    rt: &R,
+    alloc: Global,
+    h: Handle<'t>,
+    pos: u8,
+) -> Result<Handle<'t>, HandleError>
+    requires ready { IsReady w.old 1 }
+    requires stands { StandsForSome w.old.leaves.now h }
+    ensures spends { Spends 1 w.old w.new }
+    ensures stands { IfOk result (StandsForSome w.old.leaves.now) }
+{
+    let mut types = Seq::new(alloc);
+    types.push(Ty::Prim(Primitive::I))?;
+    drop_args(w, rt, alloc, h, pos, &types)
 }
 
 fn adapted<'t, R: Wait>(
@@ -95,6 +115,7 @@ fn adapted<'t, R: Wait>(
         Step::FilterResult(_) | Step::Doubled => filterret(w, rt, alloc, h, part),
         Step::Fold(pos, _) => fold(w, rt, alloc, h, pos, part),
         Step::Collect(pos, _) => collect(w, rt, alloc, h, pos, part),
+        Step::Drop(pos) => dropped(w, rt, alloc, h, pos),
     }
 }
 

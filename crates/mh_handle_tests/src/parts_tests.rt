@@ -39,11 +39,20 @@ const CASES: [Case; 6] = [
         &[5],
         Wanted::Int(-5, &[TICK, SUB]),
     ),
-    // Weight 255.
+    // Weight 256.
     (
         SAME,
-        &[Step::Doubled; 7],
-        &[4],
+        &[
+            Step::Doubled,
+            Step::Doubled,
+            Step::Doubled,
+            Step::Doubled,
+            Step::Doubled,
+            Step::Doubled,
+            Step::Doubled,
+            Step::Drop(1),
+        ],
+        &[4, 5],
         Wanted::Int(4, &[SAME; 128]),
     ),
     // Weight 257.
@@ -57,9 +66,10 @@ const CASES: [Case; 6] = [
             Step::Doubled,
             Step::Doubled,
             Step::Doubled,
-            Step::FilterResult(SAME),
+            Step::Drop(1),
+            Step::Drop(0),
         ],
-        &[4],
+        &[4, 5, 6],
         Wanted::Refused("weight"),
     ),
 ];
