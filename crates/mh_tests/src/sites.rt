@@ -133,14 +133,12 @@ fn class_files(alloc: Global) -> Result<BTreeMap<String, Vec<u8>>, Fail> {
     Ok(files)
 }
 
-/// What mode `sites` answers of class files, and what it writes.
-fn list<R: Threads + Wait + Sync>(
+/// What the program answers of class files, and what it writes.
+fn list<'a, R: Threads + Wait + Sync>(
     rt: &R,
     alloc: Global,
-    names: &[&str],
+    words: &'a [&'a str],
 ) -> Result<(u8, Vec<u8>), Fail> {
-    let mut words = Vec::from_slice(alloc, &["--mode", "sites"])?;
-    words.extend_from_slice(names)?;
     let mut inputs = MemoryInputs {
         files: class_files(alloc)?,
         fail: Vec::new(alloc),
@@ -153,39 +151,47 @@ fn list<R: Threads + Wait + Sync>(
         calls: 0,
         faults: 0,
     };
-    let answer = top(rt, alloc, &words, &mut inputs, &mut sink, &OpenGate);
+    let answer = top(rt, alloc, words, &mut inputs, &mut sink, &OpenGate);
     Ok((answer.status, sink.bytes))
 }
 
 #[test]
 fn call_sites_of_class_files(rt: HostRuntime) -> Result<(), Fail> {
     let cases: [(&[&str], u8, &[&str]); 7] = [
-        (&[], 0, &["sites 0\n"]),
-        (&["made.class"], 0, &["site 0 ", MADE_SITE, "sites 1\n"]),
-        (&["demo.class"], 0, &[DEMO_SITES, "sites 2\n"]),
+        (&["--mode", "sites"], 0, &["sites 0\n"]),
         (
-            &["none.class", "demo.class", "made.class"],
+            &["--mode", "sites", "made.class"],
+            0,
+            &["site 0 ", MADE_SITE, "sites 1\n"],
+        ),
+        (
+            &["--mode", "sites", "demo.class"],
+            0,
+            &[DEMO_SITES, "sites 2\n"],
+        ),
+        (
+            &["--mode", "sites", "none.class", "demo.class", "made.class"],
             0,
             &[DEMO_SITES, "site 2 ", MADE_SITE, "sites 3\n"],
         ),
         (
-            &["made.class", "other.class"],
+            &["--mode", "sites", "made.class", "other.class"],
             6,
             &["cannot read other.class\n"],
         ),
         (
-            &["long.class", "other.class"],
+            &["--mode", "sites", "long.class", "other.class"],
             1,
             &["refused long.class too long\n"],
         ),
         (
-            &["made.class", "short.class"],
+            &["--mode", "sites", "made.class", "short.class"],
             1,
             &["refused short.class at 92 Truncated\n"],
         ),
     ];
-    for (names, status, pieces) in cases {
-        let (found, bytes) = list(&rt, rt.alloc(), names)?;
+    for (words, status, pieces) in cases {
+        let (found, bytes) = list(&rt, rt.alloc(), words)?;
         assert_eq!(rt; found, status);
         assert_eq!(rt; bytes.as_slice(), pieces.concat(rt.alloc())?.as_bytes());
     }
@@ -194,11 +200,13 @@ fn call_sites_of_class_files(rt: HostRuntime) -> Result<(), Fail> {
 
 #[test]
 fn at_most_64_class_files(rt: HostRuntime) -> Result<(), Fail> {
-    let names = ["none.class"; 65];
-    let (status, bytes) = list(&rt, rt.alloc(), &names[..64])?;
+    let mut words = ["none.class"; 67];
+    words[0] = "--mode";
+    words[1] = "sites";
+    let (status, bytes) = list(&rt, rt.alloc(), &words[..66])?;
     assert_eq!(rt; status, 0);
     assert_eq!(rt; bytes.as_slice(), b"sites 0\n".as_slice());
-    let (status, bytes) = list(&rt, rt.alloc(), &names)?;
+    let (status, bytes) = list(&rt, rt.alloc(), &words)?;
     assert_eq!(rt; status, 2);
     assert_eq!(rt; bytes.as_slice(), USAGE.as_bytes());
     Ok(())

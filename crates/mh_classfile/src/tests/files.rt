@@ -1,5 +1,9 @@
+ghost use Rattle.std.specs.Prelude.{◌≡◌, length};
+
 /// Class `made/Main` with the method `run()V`, whose code is `return`, and no call sites: 271 bytes.
-pub fn made() -> &'static [u8] {
+pub fn made() -> &'static [u8]
+    ensures { length result.now ≡ 271 }
+{
     b"\
     \xCA\xFE\xBA\xBE\0\0\0=\0\x0D\x01\0\x09made/Main\x07\0\x01\x01\0\x10java/lang/Object\
     \x07\0\x03\x01\0\x03run\x01\0\x03()V\x01\0\x04Code\x01\0\x10BootstrapMethods\
@@ -13,7 +17,9 @@ pub fn made() -> &'static [u8] {
 }
 
 /// The same with a call site `f (II)I`, whose bootstrap method is `made/Boot.link`: 319 bytes.
-pub fn made_site() -> &'static [u8] {
+pub fn made_site() -> &'static [u8]
+    ensures { length result.now ≡ 319 }
+{
     b"\
     \xCA\xFE\xBA\xBE\0\0\0=\0\x14\x01\0\x09made/Main\x07\0\x01\x01\0\x10java/lang/Object\
     \x07\0\x03\x01\0\x03run\x01\0\x03()V\x01\0\x04Code\x01\0\x10BootstrapMethods\
@@ -29,7 +35,9 @@ pub fn made_site() -> &'static [u8] {
 
 /// Class `demo/Main` made of parts that javac writes, with `run(I)V`, whose code is a tableswitch and two call
 /// sites: of a string concatenation and of a lambda expression.
-pub fn demo() -> &'static [u8] {
+pub fn demo() -> &'static [u8]
+    ensures { length result.now ≡ 1019 }
+{
     b"\
     \xCA\xFE\xBA\xBE\0\0\0=\0/\x01\0\x09demo/Main\x07\0\x01\x01\0\x10java/lang/Object\
     \x07\0\x03\x01\0$java/lang/invoke/StringConcatFactory\x07\0\x05\
@@ -62,7 +70,9 @@ pub fn demo() -> &'static [u8] {
 
 /// Class `all/Tags`, of the oldest version, with an entry of each tag, an interface, a field, a method
 /// without code, and a bootstrap method that is given each kind of argument.
-pub fn all_tags() -> &'static [u8] {
+pub fn all_tags() -> &'static [u8]
+    ensures { length result.now ≡ 273 }
+{
     b"\
     \xCA\xFE\xBA\xBE\0\0\0-\0\x20\x01\0\x08all/Tags\x07\0\x01\x01\0\x10java/lang/Object\
     \x07\0\x03\x03\xFF\xFF\xFF\xFE\x04?\x80\0\0\x05\xFF\xFF\xFF\xFF\xFF\xFF\xFF\xFD\
@@ -80,7 +90,9 @@ pub fn all_tags() -> &'static [u8] {
 }
 
 /// The bytes of [`made`] before the length of its `Code` attribute.
-pub fn code_front() -> &'static [u8] {
+pub fn code_front() -> &'static [u8]
+    ensures { length result.now ≡ 244 }
+{
     b"\
     \xCA\xFE\xBA\xBE\0\0\0=\0\x0D\x01\0\x09made/Main\x07\0\x01\x01\0\x10java/lang/Object\
     \x07\0\x03\x01\0\x03run\x01\0\x03()V\x01\0\x04Code\x01\0\x10BootstrapMethods\
