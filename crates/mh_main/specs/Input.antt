@@ -7,7 +7,6 @@ use Rattle.mh_class_bytes.specs.Format.{Checked}
 use Rattle.mh_class_pool.specs.declared.fault.ClassKind.{ClassKind}
 use Rattle.mh_classfile.specs.Class.{Class}
 use Rattle.mh_classfile.specs.File.{class_or_fault}
-use Rattle.mh_leaf.specs.LeafTable.{LeafTable}
 use Rattle.mh_leaves.specs.Manifest.{manifest, kind_word as manifest_word}
 use Rattle.mh_plan.specs.Forms.{forms}
 use Rattle.mh_plan.specs.Plan.{plan, kind_word as plan_word}

@@ -1,9 +1,9 @@
 -- What a run writes.
-use Rattle.std.specs.Prelude.{ℕ, List, [], ◌∷◌, Option, length, map}
+use Rattle.std.specs.Prelude.{ℕ, List, [], length, map}
 use Rattle.std.specs.List.{flat_map}
 use Rattle.mh_plan.specs.declared.call.Call.{Call}
 use Rattle.mh_plan.specs.declared.call.Call.TheVariants.{Exact, Generic}
-use Rattle.mh_plan.specs.Results.{Result, results_of}
+use Rattle.mh_plan.specs.Results.{results_of}
 use Rattle.mh_plan.specs.Forms.{forms}
 use Rattle.mh_plan.specs.Text.{report_text}
 use Rattle.mh_main.specs.declared.answer.Attempt.{Attempt}

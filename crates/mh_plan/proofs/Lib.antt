@@ -3,5 +3,6 @@ pub mod Tokens
 pub mod Behind
 pub mod Threads
 pub mod Fitting
+pub mod FoundCalls
 pub mod Numbers
 pub mod Recipes

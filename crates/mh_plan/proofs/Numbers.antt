@@ -1,5 +1,5 @@
 -- A key is told by its numbers.
-use Rattle.std.proofs.Common.{◌≡◌, refl, sym, ◌∙◌, ap, ap₂, ℕ, zero, suc, ◌==◌, if◌then◌else◌, List, [], ◌∷◌, ◌++◌, length, map, take, drop, Option, Some, None}
+use Rattle.std.proofs.Common.{◌≡◌, refl, sym, ◌∙◌, ap, ap₂, ℕ, ◌==◌, if◌then◌else◌, List, [], ◌∷◌, ◌++◌, length, map, take, drop, Option, Some, None}
 use Rattle.mh_form.specs.declared.basic.Basic.{Basic}
 use Rattle.mh_form.specs.declared.basic.Basic.TheVariants as basic
 use Rattle.mh_form.specs.declared.basic.BasicRet.{BasicRet}

@@ -33,7 +33,8 @@ pub(crate) fn read_arguments(
     tokens: &[&[u8]],
     types: &[Ty],
 ) -> Result<Option<Items>, NoMemory>
-    ensures { IfOk result (λ values. values ≡ arguments_of classes.now (map (λ t. t.now) tokens.now) types.now) }
+    ensures { IfOk result
+        (λ values. values ≡ arguments_of classes.now (map (λ t. t.now) tokens.now) types.now) }
 {
     if tokens.len() != types.len() {
         return Ok(None);

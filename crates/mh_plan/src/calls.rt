@@ -90,7 +90,8 @@ fn put_call(
     threads: &mut Vec<ThreadCalls>,
     call: Result<Call, PlanKind>,
 ) -> Result<Option<PlanKind>, NoMemory>
-    ensures { IfOk result (λ fault. call_put threads.old.items call ≡ taken_or fault threads.new.items) }
+    ensures { IfOk result
+        (λ fault. call_put threads.old.items call ≡ taken_or fault threads.new.items) }
 {
     match call {
         Err(kind) => Ok(Some(kind)),
@@ -111,7 +112,9 @@ fn read_call_line(
     asked: &[u8],
     args: &[&[u8]],
 ) -> Result<Option<PlanKind>, NoMemory>
-    ensures { IfOk result (λ fault. call_line leaves.now threads.old.items word.now subject.now asked.now (map (λ t. t.now) args.now) ≡ taken_or fault threads.new.items) }
+    ensures { IfOk result
+        (λ fault. call_line leaves.now threads.old.items word.now subject.now asked.now
+        (map (λ t. t.now) args.now) ≡ taken_or fault threads.new.items) }
 {
     if word == b"indy".as_slice() {
         return Ok(Some(PlanKind::NoSite));
@@ -127,7 +130,9 @@ fn read_tokens(
     threads: &mut Vec<ThreadCalls>,
     tokens: &[&[u8]],
 ) -> Result<Option<PlanKind>, NoMemory>
-    ensures { IfOk result (λ fault. tokens_meaning leaves.now threads.old.items (map (λ t. t.now) tokens.now) ≡ taken_or fault threads.new.items) }
+    ensures { IfOk result
+        (λ fault. tokens_meaning leaves.now threads.old.items (map (λ t. t.now) tokens.now)
+        ≡ taken_or fault threads.new.items) }
 {
     match tokens {
         [word, subject, asked, args @ ..] => {
@@ -148,7 +153,8 @@ fn read_line(
     threads: &mut Vec<ThreadCalls>,
     line: &[u8],
 ) -> Result<Option<PlanKind>, NoMemory>
-    ensures { IfOk result (λ fault. line_meaning leaves.now threads.old.items line.now ≡ taken_or fault threads.new.items) }
+    ensures { IfOk result
+        (λ fault. line_meaning leaves.now threads.old.items line.now ≡ taken_or fault threads.new.items) }
 {
     if is_passed(line) {
         return Ok(None);
@@ -164,7 +170,8 @@ pub(crate) fn read_lines(
     lines: &[&[u8]],
 ) -> Result<Seq<ThreadCalls>, PlanError>
     requires { length lines.now ≤ 2 ^ 31 }
-    ensures { Tells result (built_from (line_meaning leaves.now) 1 [] (map (λ l. l.now) lines.now)) }
+    ensures { Tells result
+        (built_from (line_meaning leaves.now) 1 [] (map (λ l. l.now) lines.now)) }
 {
     let mut threads = Vec::new(alloc);
     let mut number = 1u32;

@@ -63,7 +63,8 @@ fn push_outcome(
     outcome: &Outcome,
     classes: &Classes,
 ) -> Result<(), NoMemory>
-    ensures { OnOk result (text.new.items ≡ text.old.items ++ outcome_text classes.now outcome.now) }
+    ensures { OnOk result
+        (text.new.items ≡ text.old.items ++ outcome_text classes.now outcome.now) }
 {
     match outcome {
         Outcome::Return(value) => {
@@ -84,7 +85,8 @@ fn push_answer(
     answer: &Answer,
     classes: &Classes,
 ) -> Result<(), NoMemory>
-    ensures { OnOk result (text.new.items ≡ text.old.items ++ result_line classes.now (result_said answer.now)) }
+    ensures { OnOk result
+        (text.new.items ≡ text.old.items ++ result_line classes.now (result_said answer.now)) }
 {
     push_outcome(alloc, text, answer.outcome(), classes)?;
     push(text, b" calls ")?;
@@ -99,7 +101,8 @@ fn push_answers(
     answers: &[Answer],
     classes: &Classes,
 ) -> Result<(), NoMemory>
-    ensures { OnOk result (text.new.items ≡ text.old.items ++ results_text classes.now (thread_said answers.now)) }
+    ensures { OnOk result
+        (text.new.items ≡ text.old.items ++ results_text classes.now (thread_said answers.now)) }
 {
     for answer in answers {
         push_answer(alloc, text, answer, classes)?;
@@ -115,7 +118,8 @@ fn push_thread(
     answers: &[Answer],
     classes: &Classes,
 ) -> Result<(), NoMemory>
-    ensures { OnOk result (text.new.items ≡ text.old.items ++ thread_text classes.now number (thread_said answers.now)) }
+    ensures { OnOk result (text.new.items
+        ≡ text.old.items ++ thread_text classes.now number (thread_said answers.now)) }
 {
     push(text, b"thread ")?;
     push_number(text, number as u64)?;
@@ -130,7 +134,8 @@ fn push_threads(
     threads: &ThreadAnswers,
     classes: &Classes,
 ) -> Result<(), NoMemory>
-    ensures { OnOk result (text.new.items ≡ text.old.items ++ threads_text classes.now 0 (results_said threads.now)) }
+    ensures { OnOk result (text.new.items
+        ≡ text.old.items ++ threads_text classes.now 0 (results_said threads.now)) }
 {
     for number in 0..threads.len() {
         push_thread(alloc, text, number, threads.get(number).as_slice(), classes)?;
@@ -161,7 +166,8 @@ pub fn report(
     types: u32,
     leaves: &Leaves,
 ) -> Result<Vec<u8>, NoMemory>
-    ensures { IfOk result (λ text. text.items ≡ report_text leaves.now.classes (results_said threads.now) attempts forms types) }
+    ensures { IfOk result (λ text. text.items
+        ≡ report_text leaves.now.classes (results_said threads.now) attempts forms types) }
 {
     let mut text = Vec::new(alloc);
     push_threads(alloc, &mut text, threads, leaves.classes())?;

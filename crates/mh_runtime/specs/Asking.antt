@@ -1,5 +1,5 @@
 -- What calls leave of a pass, by the recipes that they make.
-use Rattle.std.specs.Prelude.{◌≡◌, ℕ, ◌+◌, ◌^◌, ◌<◌, ◌≤◌, List, ◌++◌, length, map, Result, Ok, Err}
+use Rattle.std.specs.Prelude.{◌≡◌, ◌+◌, ◌^◌, ◌<◌, ◌≤◌, List, ◌++◌, length, map, Result, Ok, Err}
 use Rattle.std.specs.List.{list_any, IsDistinct}
 use Rattle.std.specs.Set.{distinct_count}
 use Rattle.mh_edit.specs.declared.key.Key.{Key}
@@ -14,7 +14,7 @@ use Rattle.mh_plan.specs.SameRecipes.{same_recipe}
 abbrev pub asked_recipes : PassView → List (List Key)
 asked_recipes pass = map recipe_of pass.asked
 
--- the pass has drawn no more numbers than it has asked for forms, and each so far was the next one
+-- the pass has drawn no more numbers than it has asked for forms; they and its room are 2^62 together, so that each number drawn is the next one
 pub record DrawsInOrder (pass : PassView) : Type 0 where
   pub few : length pass.seat.numbers ≤ length pass.asked
   pub room : length pass.seat.numbers + pass.seat.room ≡ 2 ^ 62

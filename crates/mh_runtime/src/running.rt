@@ -59,7 +59,8 @@ fn run_threads<'t, R: Wait>(
     ensures leaves { w.new.leaves ≡ w.old.leaves }
     ensures results { IfOk result
         (λ threads. results_said threads ≡ results_of w.old.leaves.now plan.now) }
-    ensures keys { IfOk result (λ threads. keys_said threads ≡ plan_keys w.old.leaves.now plan.now) }
+    ensures keys { IfOk result
+        (λ threads. keys_said threads ≡ plan_keys w.old.leaves.now plan.now) }
     ensures asks { Asks (plan_edits w.old.leaves.now plan.now)
         w.old.pass.now w.new.pass.now result }
 {
@@ -81,7 +82,8 @@ fn run_over<'t, R: Wait>(
 ) -> Result<RunReport, WorkError>
     requires calls { AreCallsOf leaves.now plan.now }
     requires seat { seat ≡ seat_at 0 }
-    ensures results { IfOk result (λ run. results_said run.threads ≡ results_of leaves.now plan.now) }
+    ensures results { IfOk result
+        (λ run. results_said run.threads ≡ results_of leaves.now plan.now) }
     ensures keys { IfOk result (λ run. keys_said run.threads ≡ plan_keys leaves.now plan.now) }
     ensures forms { IfOk result (λ run. run.forms ≡ forms leaves.now plan.now) }
     ensures full { IfFull result (16384 < forms leaves.now plan.now) }
@@ -104,8 +106,8 @@ fn run_over<'t, R: Wait>(
     })
 }
 
-/// Runs the calls of a plan, one thread after the other, over one table of forms, as which 16,384
-/// fit. The plan is one of these leaves.
+/// Runs the calls of a plan, one thread after the other, over one table, which has numbers for
+/// 16,384 forms. The plan is one of these leaves.
 pub fn run_plan<R: Wait>(
     rt: &R,
     alloc: Global,
@@ -113,7 +115,8 @@ pub fn run_plan<R: Wait>(
     plan: &Plan,
 ) -> Result<RunReport, WorkError>
     requires { AreCallsOf leaves.now plan.now }
-    ensures results { IfOk result (λ run. results_said run.threads ≡ results_of leaves.now plan.now) }
+    ensures results { IfOk result
+        (λ run. results_said run.threads ≡ results_of leaves.now plan.now) }
     ensures keys { IfOk result (λ run. keys_said run.threads ≡ plan_keys leaves.now plan.now) }
     ensures forms { IfOk result (λ run. run.forms ≡ forms leaves.now plan.now) }
     ensures full { IfFull result (16384 < forms leaves.now plan.now) }
