@@ -1,4 +1,6 @@
 pub mod Asking
 pub mod Calling
+pub mod ConvertKeys
 pub mod Editing
+pub mod OwnCalls
 pub mod Using

@@ -42,8 +42,7 @@ module _
     }
 
     recipe-made : (keys : List Key) → convert_keys table.classes asked h.ty ≡ keys → h.form.recipe ++ keys ≡ recipe table (AsType t asked)
-    recipe-made keys is =
-        ap₂ (λ (a b : List Key). a ++ b) st.made (sym is ∙ sym (ap (λ c. at_type c (convert_keys table.classes asked)) st.typed))
+    recipe-made keys is = ap₂ (λ (a b : List Key). a ++ b) st.made (sym is ∙ sym (ap (λ c. at_type c (convert_keys table.classes asked)) st.typed))
 
     with-key :
         (number : ℕ) →

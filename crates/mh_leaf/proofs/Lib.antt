@@ -1,2 +1,3 @@
 pub mod ArgumentTypes
 pub mod Outcomes
+pub mod SingleOutcomes

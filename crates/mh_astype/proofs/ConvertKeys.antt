@@ -1,0 +1,102 @@
+-- The key and the fields of a use as another type: that the key fits, and keeps to the types.
+use Rattle.std.proofs.Common.{◌≡◌, refl, sym, ap, ap₂, ◌∙◌, subst, ℕ, ◌+◌, ◌≤◌, Bool, true, false, not, cond, ◌&&◌, List, [], ◌∷◌, ◌++◌, length, map, codes, Result, Ok, Err, IfOk, inl}
+use Rattle.std.specs.Prelude.{nat_le, option_to_list, IsErrAnd}
+use Rattle.std.proofs.lemmas.Bool.{eq-eqb, leb-true}
+use Rattle.std.proofs.lemmas.List.{append-nil, length-map}
+use Rattle.mh_values.specs.declared.class.Class.{Class}
+use Rattle.mh_values.specs.declared.types.MethodTy.{MethodTy}
+use Rattle.mh_values.specs.Class.{internal_error_class}
+use Rattle.mh_values.specs.Classes.{AreClasses}
+use Rattle.mh_values.specs.Exception.{saying}
+use Rattle.mh_values.specs.Same.{is_same_method_type}
+use Rattle.mh_values.specs.Slots.{slots_of_all}
+use Rattle.mh_values.proofs.SameTypes.{both, both-true}
+use Rattle.mh_convert.specs.Conversion.{is_trivial_ret, ret_conversion_of}
+use Rattle.mh_leaf.specs.LeafTable.{LeafTable}
+use Rattle.mh_tree.specs.Tree.{Tree, AsType}
+use Rattle.mh_tree.specs.Rows.{illegal, provided, limited, can_be_used_as, mismatch, astype_row}
+use Rattle.mh_tree.proofs.RowParts.{provided-parts, astype_row-parts}
+use Rattle.mh_form.specs.declared.field.Field.{Field}
+use Rattle.mh_form.specs.declared.field.Field.TheVariants as field
+use Rattle.mh_form.specs.Erasure.{basic_of}
+use Rattle.mh_edit.specs.declared.key.Key.{Key}
+use Rattle.mh_edit.specs.declared.key.Key.TheVariants.{Convert}
+use Rattle.mh_edit.specs.declared.key.RetEntry.{RetEntry}
+use Rattle.mh_edit.specs.Applied.{applied, conv_params, converting}
+use Rattle.mh_edit.specs.Fit.{fits}
+use Rattle.mh_handle.specs.declared.error.HandleError.{HandleError}
+use Rattle.mh_handle.specs.declared.error.HandleError.TheVariants.{NoMemory}
+use Rattle.mh_handle.specs.declared.handle.Handle.{Handle}
+use Rattle.mh_handle.specs.declared.work.Work.{Work}
+use Rattle.mh_handle.specs.Converting.{IsUsedAs, convert_fields}
+use Rattle.mh_handle.specs.Grows.{Grows}
+use Rattle.mh_handle.specs.Passes.{PassView}
+use Rattle.mh_handle.specs.Recipe.{are_trivial, convert_keys, entries_of, ret_entry_of}
+use Rattle.mh_handle.specs.Stands.{HandleView, HasShape, IsShaped, Stands, handle_body}
+use Rattle.mh_handle.specs.Works.{GoesOn, Makes}
+use Rattle.mh_handle.proofs.AsTypeStands.{astype-stands}
+use Rattle.mh_handle.proofs.ConvertedParameters.{length-entries, params-converted, params-kept, returning-params}
+use Rattle.mh_handle.proofs.Passing.{starts-refl}
+use Rattle.mh_handle.proofs.TrivialConversions.{none-converted}
+use Rattle.mh_astype.specs.Use.{MakesBy, used_as}
+
+-- ---- the row
+
+-- what may be used as another type is within the limits
+pub light : (classes : List Class) (own : MethodTy) (weight : ℕ) (asked u : MethodTy) → astype_row classes own weight asked ≡ Ok u → 1 + weight ≤ 256
+light classes own weight asked u h =
+    let heavy = saying internal_error_class (codes "weight") in
+    let word = codes "astype" in
+    let q = provided-parts (can_be_used_as classes own asked) (mismatch classes own asked) (limited word (1 + weight) asked) u h in
+    let r = provided-parts (nat_le (slots_of_all asked.params) 254) (illegal word) (provided (nat_le (1 + weight) 256) heavy (Ok asked)) u q.1 in
+    let s = provided-parts (nat_le (1 + weight) 256) heavy (Ok asked) u r.1 in
+    leb-true (1 + weight) 256 s.0
+
+-- the key of the conversions fits
+pub convert-fits :
+    (classes : List Class) (h : HandleView) (asked u : MethodTy) (re : RetEntry) →
+    IsShaped h → astype_row classes h.ty h.weight asked ≡ Ok u →
+    fits (Convert (entries_of classes asked.params h.ty.params) re) (handle_body h) ≡ true
+convert-fits classes h asked u re shaped row =
+    let q = astype_row-parts classes h.ty h.weight asked u row in
+    let long : length (entries_of classes asked.params h.ty.params) ≡ length (handle_body h).params =
+    length-entries classes asked.params h.ty.params q.0 ∙ sym (ap length shaped.params ∙ length-map h.ty.params basic_of) in
+    both-true _ _ (ap not shaped.made) (eq-eqb _ _ long)
+
+-- what the key makes takes what the type says
+pub convert-shaped :
+    (classes : List Class) (h : HandleView) (asked u : MethodTy) (re : RetEntry) →
+    IsShaped h → astype_row classes h.ty h.weight asked ≡ Ok u →
+    HasShape (applied (Convert (entries_of classes asked.params h.ty.params) re) (handle_body h)) asked
+convert-shaped classes h asked u re shaped row =
+    let es = entries_of classes asked.params h.ty.params in
+    returning-params re (converting es (handle_body h))
+    ∙ (ap (conv_params es) shaped.params ∙ params-converted classes asked.params h.ty.params (astype_row-parts classes h.ty h.weight asked u row).0)
+
+-- where nothing is converted the shape stays
+pub kept-shaped :
+    (classes : List Class) (h : HandleView) (asked u : MethodTy) →
+    IsShaped h → astype_row classes h.ty h.weight asked ≡ Ok u → are_trivial classes asked.params h.ty.params ≡ true →
+    HasShape (handle_body h) asked
+kept-shaped classes h asked u shaped row kept =
+    shaped.params ∙ params-kept classes asked.params h.ty.params (astype_row-parts classes h.ty h.weight asked u row).0 kept
+
+-- ---- the key and the fields
+
+abbrev pub trivial : List Class → MethodTy → MethodTy → Bool
+trivial classes asked own = are_trivial classes asked.params own.params && is_trivial_ret classes own.ret asked.ret
+
+abbrev pub convert_key : List Class → MethodTy → MethodTy → Key
+convert_key classes asked own = Convert (entries_of classes asked.params own.params) (ret_entry_of classes own.ret asked.ret)
+
+pub keys-changed : (classes : List Class) (asked own : MethodTy) → trivial classes asked own ≡ false → convert_keys classes asked own ≡ convert_key classes asked own ∷ []
+keys-changed classes asked own is = ap (λ b. cond b [] (convert_key classes asked own ∷ [])) is
+
+pub keys-kept : (classes : List Class) (asked own : MethodTy) → trivial classes asked own ≡ true → convert_keys classes asked own ≡ []
+keys-kept classes asked own is = ap (λ b. cond b [] (convert_key classes asked own ∷ [])) is
+
+pub fields-kept : (classes : List Class) (asked own : MethodTy) → trivial classes asked own ≡ true → convert_fields classes asked own ≡ []
+fields-kept classes asked own is =
+    let p = both (are_trivial classes asked.params own.params) (is_trivial_ret classes own.ret asked.ret) is in
+    ap₂ (λ (a b : List Field). a ++ b) (ap (map (λ d. field.Conv d)) (none-converted classes asked.params own.params p.0))
+    (ap (λ b. cond b [] (map (λ c. field.Ret c) (option_to_list (ret_conversion_of classes own.ret asked.ret)))) p.1)

@@ -1,0 +1,116 @@
+-- Casts, unboxing and conversions give values of the type that is asked for, or throw exceptions.
+use Rattle.std.proofs.Common.{◌≡◌, refl, sym, ap, subst, Bool, true, false, ◌||◌, cond, List, Result, Ok, Err}
+use Rattle.mh_values.specs.declared.class.Class.{Class}
+use Rattle.mh_values.specs.declared.class.ClassId.{ClassId}
+use Rattle.mh_values.specs.declared.types.Primitive.{Primitive}
+use Rattle.mh_values.specs.declared.types.Primitive.TheVariants as primitive
+use Rattle.mh_values.specs.declared.types.Ty.{Ty}
+use Rattle.mh_values.specs.declared.types.Ty.TheVariants as ty
+use Rattle.mh_values.specs.declared.value.Num.{Num}
+use Rattle.mh_values.specs.declared.value.Num.TheVariants as num
+use Rattle.mh_values.specs.declared.value.Exc.{Exc}
+use Rattle.mh_values.specs.declared.value.Value.{Value}
+use Rattle.mh_values.specs.declared.value.Value.TheVariants as value
+use Rattle.mh_values.specs.Class.{is_subclass, throwable_class, class_cast_class, null_pointer_class}
+use Rattle.mh_values.specs.Classes.{AreClasses}
+use Rattle.mh_values.specs.Exception.{bare}
+use Rattle.mh_values.specs.HasType.{primitive_of, wrapper_of, is_same_primitive, has_type, is_type_below}
+use Rattle.mh_values.proofs.SameTypes.{same_primitive-is}
+use Rattle.mh_values.proofs.BelowTypes.{class_cast-below, null_pointer-below, value-below, type_below-itself}
+use Rattle.mh_convert.specs.Conversion.{widens, serves_as, can, widened, widened_value, boxed, cast, unboxed, conv, fit, is_trivial}
+
+-- the value of a result
+same_value : (v w : Value) → ◌≡◌ {A = Result Value Exc} (Ok v) (Ok w) → v ≡ w
+same_value v w h = cc
+
+same_exc : (d e : Exc) → ◌≡◌ {A = Result Value Exc} (Err d) (Err e) → d ≡ e
+same_exc d e h = cc
+
+-- the two cases of a choice
+chosen : (b : Bool) (r s : Result Value Exc) (P : Result Value Exc → Type 0) → (b ≡ true → P r) → (b ≡ false → P s) → P (cond b r s)
+chosen true r s P f g = f refl
+chosen false r s P f g = g refl
+
+-- a widened number has the type that it was widened to
+pub widened-typed : (classes : List Class) (n : Num) (q : Primitive) → serves_as (primitive_of n) q ≡ true → has_type classes (value.Prim (widened n q)) (ty.Prim q) ≡ true
+widened-typed classes (num.I n) primitive.J h = refl
+widened-typed classes (num.Z b) primitive.Z h = refl
+widened-typed classes (num.I n) primitive.I h = refl
+widened-typed classes (num.J n) primitive.J h = refl
+widened-typed classes n q h = absurd cc
+
+-- what a choice with an exception gives
+pub if_ok : (b : Bool) (v w : Value) (e : Exc) → ◌≡◌ {A = Result Value Exc} (cond b (Ok v) (Err e)) (Ok w) → (b ≡ true) × (v ≡ w)
+if_ok true v w e h = (refl, same_value v w h)
+if_ok false v w e h = absurd cc
+
+pub if_err : (b : Bool) (v : Value) (d e : Exc) → ◌≡◌ {A = Result Value Exc} (cond b (Ok v) (Err d)) (Err e) → d ≡ e
+if_err true v d e h = absurd cc
+if_err false v d e h = same_exc d e h
+
+-- ---- casts
+
+pub cast-typed : (classes : List Class) (v w : Value) (t : Ty) → cast classes v t ≡ Ok w → has_type classes w t ≡ true
+cast-typed classes v w t h =
+    let q = if_ok (has_type classes v t) v w (bare class_cast_class) h in subst (λ x. has_type classes x t ≡ true) q.1 q.0
+
+pub cast-throws : (classes : List Class) → AreClasses classes → (v : Value) (t : Ty) (e : Exc) → cast classes v t ≡ Err e → is_subclass classes e.class throwable_class ≡ true
+cast-throws classes are v t e h =
+    subst (λ (x : Exc). is_subclass classes x.class throwable_class ≡ true) (if_err (has_type classes v t) v (bare class_cast_class) e h) (class_cast-below classes are)
+
+-- ---- unboxing
+
+pub unboxed-typed : (classes : List Class) (v w : Value) (q : Primitive) → unboxed v q ≡ Ok w → has_type classes w (ty.Prim q) ≡ true
+unboxed-typed classes (value.Boxed n) w q h =
+    let r = if_ok (serves_as (primitive_of n) q) (value.Prim (widened n q)) w (bare class_cast_class) h in
+    subst (λ x. has_type classes x (ty.Prim q) ≡ true) r.1 (widened-typed classes n q r.0)
+unboxed-typed classes v w q h = absurd cc
+
+thrown_is : (classes : List Class) (d e : Exc) → is_subclass classes d.class throwable_class ≡ true → ◌≡◌ {A = Result Value Exc} (Err d) (Err e) → is_subclass classes e.class throwable_class ≡ true
+thrown_is classes d e below h = subst (λ (x : Exc). is_subclass classes x.class throwable_class ≡ true) (same_exc d e h) below
+
+pub unboxed-throws : (classes : List Class) → AreClasses classes → (v : Value) (q : Primitive) (e : Exc) → unboxed v q ≡ Err e → is_subclass classes e.class throwable_class ≡ true
+unboxed-throws classes are value.Null q e h = thrown_is classes (bare null_pointer_class) e (null_pointer-below classes are) h
+unboxed-throws classes are (value.Boxed n) q e h =
+    let d = if_err (serves_as (primitive_of n) q) (value.Prim (widened n q)) (bare class_cast_class) e h in
+    subst (λ (x : Exc). is_subclass classes x.class throwable_class ≡ true) d (class_cast-below classes are)
+unboxed-throws classes are v q e h = thrown_is classes (bare class_cast_class) e (class_cast-below classes are) h
+
+-- ---- bound and constant values
+
+pub fit-typed : (classes : List Class) (v w : Value) (t : Ty) → fit classes v t ≡ Ok w → has_type classes w t ≡ true
+fit-typed classes v w (ty.Prim q) h = unboxed-typed classes v w q h
+fit-typed classes v w t h = cast-typed classes v w t h
+
+-- ---- conversions
+
+prim-typed : (classes : List Class) (v w : Value) (p q : Primitive) → serves_as p q ≡ true → has_type classes v (ty.Prim p) ≡ true → ◌≡◌ {A = Result Value Exc} (Ok (widened_value v q)) (Ok w) → has_type classes w (ty.Prim q) ≡ true
+prim-typed classes (value.Prim n) w p q allowed typed h =
+    let P : Primitive → Type 0 = λ r. serves_as r q ≡ true in
+    subst (λ x. has_type classes x (ty.Prim q) ≡ true) (same_value (value.Prim (widened n q)) w h)
+    (widened-typed classes n q (subst P (sym (same_primitive-is (primitive_of n) p typed)) allowed))
+prim-typed classes v w p q allowed typed h = absurd cc
+
+boxed-typed : (classes : List Class) (v w : Value) (p : Primitive) (c : ClassId) → is_subclass classes (wrapper_of p) c ≡ true → has_type classes v (ty.Prim p) ≡ true → ◌≡◌ {A = Result Value Exc} (Ok (boxed v)) (Ok w) → has_type classes w (ty.Class c) ≡ true
+boxed-typed classes (value.Prim n) w p c allowed typed h =
+    let P : Primitive → Type 0 = λ r. is_subclass classes (wrapper_of r) c ≡ true in
+    subst (λ x. has_type classes x (ty.Class c) ≡ true) (same_value (value.Boxed n) w h)
+    (subst P (sym (same_primitive-is (primitive_of n) p typed)) allowed)
+boxed-typed classes v w p c allowed typed h = absurd cc
+
+pub conv-typed : (classes : List Class) (s t : Ty) (v w : Value) → can classes s t ≡ true → has_type classes v s ≡ true → conv classes s t v ≡ Ok w → has_type classes w t ≡ true
+conv-typed classes (ty.Prim p) (ty.Prim q) v w allowed typed h = prim-typed classes v w p q allowed typed h
+conv-typed classes (ty.Prim p) (ty.Class c) v w allowed typed h = boxed-typed classes v w p c allowed typed h
+conv-typed classes (ty.Prim p) (ty.Array c) v w allowed typed h = absurd cc
+conv-typed classes (ty.Class s) (ty.Prim q) v w allowed typed h = unboxed-typed classes v w q h
+conv-typed classes (ty.Array s) (ty.Prim q) v w allowed typed h = unboxed-typed classes v w q h
+conv-typed classes s t v w allowed typed h = cast-typed classes v w t h
+
+prim-throws : (classes : List Class) (v : Value) (e : Exc) → ◌≡◌ {A = Result Value Exc} (Ok v) (Err e) → is_subclass classes e.class throwable_class ≡ true
+prim-throws classes v e h = absurd cc
+
+pub conv-throws : (classes : List Class) → AreClasses classes → (s t : Ty) (v : Value) (e : Exc) → conv classes s t v ≡ Err e → is_subclass classes e.class throwable_class ≡ true
+conv-throws classes are (ty.Prim p) (ty.Prim q) v e h = prim-throws classes (widened_value v q) e h
+conv-throws classes are (ty.Prim p) t v e h = prim-throws classes (boxed v) e h
+conv-throws classes are s (ty.Prim q) v e h = unboxed-throws classes are v q e h
+conv-throws classes are s t v e h = cast-throws classes are v t e h
