@@ -1,10 +1,12 @@
-ghost use Rattle.std.specs.Prelude.{◌≡◌, ◌<◌, sum_by, IfOk};
+ghost use Rattle.std.specs.Prelude.{◌≡◌, ◌<◌, ◌^◌, length, sum_by, IfOk, IfErr};
 ghost use Rattle.std.specs.List.{AllByRecursion};
 ghost use Rattle.mh_made_class.specs.Sites.{IsMakeableArgument, argument_width, AreMakeable};
+ghost use Rattle.mh_class_pool.specs.declared.fault.ClassError.TheVariants as class_errors;
+ghost use Rattle.mh_made_class.specs.ReadBack.{IsReadable};
 
 use super::*;
 use mh_base::{NoMemory, Seq};
-use mh_classfile::{Constant, read};
+use mh_classfile::{ClassError, Constant, read};
 use mh_values::Str;
 use std::alloc::Global;
 use std::test::*;
@@ -44,6 +46,19 @@ fn one_site(alloc: Global, args: MadeArgs) -> Result<MadeSites, NoMemory>
         args,
     })?;
     Ok(sites)
+}
+
+/// How many call sites a made class is read with: as many as it was made for, unless memory runs out.
+fn count_read(alloc: Global, sites: &MadeSites) -> Result<u32, ClassError>
+    requires makeable { AreMakeable sites.now }
+    requires readable { AllByRecursion IsReadable sites.now }
+    requires few { length sites.now < 2 ^ 32 }
+    ensures same { IfOk result (λ count. count ≡ length sites.now) }
+    ensures no_fault { IfErr result (λ e. e ≡ class_errors.NoMemory) }
+{
+    let file = make_class(alloc, sites)?;
+    let view = read(alloc, &file, sites.len() as u32)?;
+    Ok(view.sites())
 }
 
 #[test]
