@@ -51,7 +51,7 @@ impl<'t> Model for Handle<'t> {
 }
 
 impl<'t> Handle<'t> {
-    /// The handle's type, of which its form has the shape.
+    /// The handle's type. Its form takes what the type says, with types erased.
     pub fn ty(&self) -> &MethodTy
         ensures ty { result.now ≡ self.now.ty }
         ensures shaped { IsShaped self.now }

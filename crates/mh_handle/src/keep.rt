@@ -15,6 +15,9 @@ impl<'t> Handle<'t> {
     pub fn copy(&self, alloc: Global, w: &mut Work<'_, 't>) -> Result<Handle<'t>, NoMemory>
         ensures same { w.new ≡ w.old }
         ensures form { IfOk result (λ h. h.form ≡ self.now.form) }
+        ensures ty { IfOk result (λ h. h.ty ≡ self.now.ty) }
+        ensures weight { IfOk result (λ h. h.weight ≡ self.now.weight) }
+        ensures sides { IfOk result (λ h. h.sides ≡ self.now.sides) }
         ensures stands { (table : LeafTable) (t : Tree) → Stands table self.now t
             → IfOk result (λ h. Stands table h t) }
     {

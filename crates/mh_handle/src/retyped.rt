@@ -6,7 +6,7 @@ use mh_values::MethodTy;
 
 impl<'t> Handle<'t> {
     /// The same form and fields as a handle of another type and weight, for a combinator that adds
-    /// no key. The types differ in nothing that their shape shows.
+    /// no key. The parameters of both types are equal with types erased.
     pub fn retyped(self, ty: MethodTy, weight: u32) -> Handle<'t>
         requires light { weight ≤ 256 }
         requires shaped { HasShape (handle_body self) ty }
