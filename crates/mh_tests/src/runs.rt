@@ -91,6 +91,21 @@ fn sums_wrap_to_32_bits(rt: HostRuntime) -> Result<(), Fail> {
     Ok(())
 }
 
+// With memory this is the text of the run. Where an allocation fails, the run ends with status 3 and
+// nothing written, or the sink, which keeps its bytes in memory, has failed.
+#[test]
+fn a_run_is_whole_or_writes_nothing(rt: HostRuntime) -> Result<(), Fail> {
+    let alloc = rt.alloc();
+    let mut inputs = inputs(alloc, LEAVES, PLAN, &[])?;
+    let mut sink = sink(alloc, &[])?;
+    let answer = top(&rt, alloc, &WORDS, &mut inputs, &mut sink, &OpenGate);
+    let is_whole = answer.status == 0 && sink.bytes.as_slice() == TEXT.as_bytes();
+    let is_nothing = answer.status == 3 && sink.bytes.is_empty();
+    let has_failed = answer.status == 7 && sink.faults != 0;
+    assert!(rt; is_whole || is_nothing || has_failed);
+    Ok(())
+}
+
 #[test]
 fn each_read_that_fails_names_its_input(rt: HostRuntime) -> Result<(), Fail> {
     let alloc = rt.alloc();
