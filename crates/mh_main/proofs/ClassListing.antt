@@ -1,19 +1,16 @@
 -- Class files read one after the other: what is told of the first and of the rest is told of all.
-use Rattle.std.proofs.Common.{◌≡◌, refl, sym, subst, ap, ◌∙◌, inr, ℕ, ◌+◌, ◌-◌, ◌≤◌, Bool, false, List, [], ◌∷◌, ◌++◌, length, Result, Ok, Err, OnOk, IfErr, replicate, arith, append_assoc}
+use Rattle.std.proofs.Common.{◌≡◌, subst, ap, ◌∙◌, ℕ, ◌+◌, ◌-◌, ◌≤◌, false, List, ◌++◌, length, Result, Ok, Err, OnOk, IfErr, arith, append_assoc}
 use Rattle.std.specs.Prelude.{nat_lt}
 use Rattle.std.proofs.lemmas.Bool.Decides.{nat_tests}
 use Rattle.mh_outside.specs.Told.{Told, nothing, absent, file}
-use Rattle.mh_outside.specs.Causes.{Rose, AreSame}
-use Rattle.mh_classfile.specs.declared.constant.SiteView.{SiteView}
 use Rattle.mh_classfile.specs.Class.{Class}
 use Rattle.mh_classfile.specs.File.{class_or_fault}
 use Rattle.mh_listing.specs.Listing.{lines_from, listing_from}
-use Rattle.mh_main.specs.declared.program.Program.{Program}
 use Rattle.mh_main.specs.declared.stop.Stop.{Stop}
 use Rattle.mh_main.specs.declared.stop.Stop.TheVariants.{NoMemory, ReadFault, TooLong, Fault, Place}
-use Rattle.mh_main.specs.Input.{Input, usage, refused, program, listed, untold, IfListed, IfRefused, Means, within, class_meant, with_class, classes_input, class_limit}
+use Rattle.mh_main.specs.Input.{Input, usage, refused, program, listed, untold, IfListed, IfRefused, within, class_meant, with_class, classes_input, class_limit}
 use Rattle.mh_main.specs.Classes.{ListsClass}
-use Rattle.mh_main.specs.Stops.{Refuses, ReachesClass, StopsIn}
+use Rattle.mh_main.specs.Stops.{Refuses}
 
 -- the first file's class, and then the others
 abbrev pub first_and_others : ℕ → Told → List ℕ → List (List ℕ) → (List ℕ → Told) → Input

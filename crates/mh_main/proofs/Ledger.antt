@@ -1,5 +1,5 @@
 -- The ledger of a run that has no sites.
-use Rattle.std.proofs.Common.{◌≡◌, refl, sym, ℕ, Bool, false, List, [], ◌∷◌, arith}
+use Rattle.std.proofs.Common.{◌≡◌, refl, sym, ℕ, false, List, [], ◌∷◌, arith}
 use Rattle.std.specs.Prelude.{filter}
 use Rattle.mh_main.specs.Ledger.{Ledger, Naming, first_places}
 

@@ -1,3 +1,4 @@
+mod Stilled
 pub mod ClassListing
 pub mod Endings
 pub mod Ledger

@@ -1,5 +1,5 @@
 -- Class files that are reached behind the first.
-use Rattle.std.proofs.Common.{◌≡◌, sym, subst, ap, inr, ℕ, ◌+◌, ◌-◌, ◌≤◌, List, [], ◌∷◌, length, Result, Ok, Err, IfErr, replicate, arith}
+use Rattle.std.proofs.Common.{◌≡◌, sym, subst, inr, ℕ, ◌+◌, ◌-◌, List, [], ◌∷◌, length, Result, Ok, Err, IfErr, replicate, arith}
 use Rattle.std.proofs.lemmas.List.{length-replicate}
 use Rattle.mh_outside.specs.Told.{Told, nothing, absent, file}
 use Rattle.mh_outside.specs.Causes.{Rose, AreSame}

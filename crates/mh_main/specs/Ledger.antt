@@ -1,5 +1,5 @@
 -- By which attempt each site is linked.
-use Rattle.std.specs.Prelude.{◌≡◌, ◌≢◌, ℕ, ◌==◌, ◌↔◌, List, [], ◌∷◌, Bool, if◌then◌else◌, Option, Some, IsSome, length, map, filter, slice_get, Contains, AllPairs}
+use Rattle.std.specs.Prelude.{◌≡◌, ◌≢◌, ℕ, ◌==◌, ◌↔◌, List, [], ◌∷◌, if◌then◌else◌, Option, Some, IsSome, length, map, filter, slice_get, Contains, AllPairs}
 use Rattle.std.specs.List.{range_with_len, list_any}
 use Rattle.mh_main.specs.declared.answer.Attempt.{Attempt}
 

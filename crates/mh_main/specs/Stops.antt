@@ -1,5 +1,6 @@
 -- Why there is no program.
-use Rattle.std.specs.Prelude.{◌≡◌, ◌⊎◌, ℕ, ◌-◌, List, [], ◌∷◌, ◌++◌, codes, ◌<◌, ◌≤◌, length, Result, Err}
+use Rattle.std.specs.Prelude.{◌≡◌, ◌⊎◌, ℕ, ◌-◌, List, [], ◌∷◌, ◌++◌, codes, ◌<◌, ◌≤◌, length, Result, Err, ◌≢◌, Option, None, Some}
+use Rattle.std.specs.List.{Contains}
 use Rattle.mh_base.specs.declared.lines.LineFault.{LineFault}
 use Rattle.mh_outside.specs.Causes.{Rose, IsStill, AreSame}
 use Rattle.mh_outside.specs.Told.{Told, nothing, absent, file}
@@ -102,9 +103,19 @@ stop_status (TooLong at) = 1
 stop_status (Fault at line kind) = 1
 stop_status (Place at place kind) = 1
 
--- no count of a name rose
-abbrev pub AllStill : (List ℕ → ℕ) → (List ℕ → ℕ) → Type 0
-AllStill before now = (name : List ℕ) → IsStill (before name) (now name)
+-- the name is one of the command's inputs
+abbrev pub IsInput : Command → List ℕ → Type 0
+IsInput (run names) name = (name ≡ names.leaves) ⊎ ((name ≡ names.scripts) ⊎ (name ≡ names.plan))
+IsInput (sites names) name = Contains names name
+
+-- no count of an input of the command rose
+abbrev pub InputsStill : Option Command → (List ℕ → ℕ) → (List ℕ → ℕ) → Type 0
+InputsStill None before now = Unit {0}
+InputsStill (Some command) before now = (name : List ℕ) → IsInput command name → IsStill (before name) (now name)
+
+-- a status that a run ends with: 0 to 4, 6 or 7
+abbrev pub IsStatus : ℕ → Type 0
+IsStatus status = (status ≤ 7) × (status ≢ 5)
 
 -- the input is refused, or memory was wanting
 abbrev pub IsRefusedOrWant : ℕ → Type 0

@@ -9,7 +9,7 @@ ghost use Rattle.mh_main.specs.Words.{command_of, said};
 ghost use Rattle.mh_main.specs.Ledger.{Ledger, Naming};
 ghost use Rattle.mh_main.specs.Program.{text};
 ghost use Rattle.mh_main.specs.Input.{input, IsRefused, IsAccepted, FitsForms};
-ghost use Rattle.mh_main.specs.Stops.{stop_line, stop_status, AllStill, IsRefusedOrWant, IsDoneOrWant, IsDoneFullOrWant};
+ghost use Rattle.mh_main.specs.Stops.{stop_line, stop_status, InputsStill, IsStatus, IsRefusedOrWant, IsDoneOrWant, IsDoneFullOrWant};
 ghost use Rattle.mh_main.specs.Due.{AnswersCalls, AreAnswersOf, FailsToRead, FillsForms, IsDue, IsDueOf, IsFullOf, IsIdle, IsListingOf, IsReportOf, RefusesInput, RefusesWords, Reports, Writes, WritesPart};
 
 use crate::lines::{FULL, USAGE, write_pieces};
@@ -250,6 +250,8 @@ pub fn top<'a, R: Threads + Wait + Sync, I: Inputs, S: Sink, G: Gate + Sync>(
     sink: &mut S,
     _gate: &G,
 ) -> TopAnswer
+    ensures known { IsStatus result.status }
+
     // What was written, by the status: at 7 a front part of what was due at another one.
     ensures headline { result.status ≡ 0
         → Writes (Reports (said words.now) (I.told inputs.old) result) (S.taken sink.old) (S.taken sink.new) }
@@ -281,11 +283,11 @@ pub fn top<'a, R: Threads + Wait + Sync, I: Inputs, S: Sink, G: Gate + Sync>(
     ensures usage_wanted { command_of (said words.now) ≡ None
         → IsStill (S.faults sink.old) (S.faults sink.new) → result.status ≡ 2 }
     ensures refusal_wanted { IsRefused (input (said words.now) (I.told inputs.old))
-        → AllStill (I.faults inputs.old) (I.faults inputs.new)
+        → InputsStill (command_of (said words.now)) (I.faults inputs.old) (I.faults inputs.new)
         → IsStill (S.faults sink.old) (S.faults sink.new) → IsRefusedOrWant result.status }
     ensures complete { IsAccepted (input (said words.now) (I.told inputs.old))
         → FitsForms (input (said words.now) (I.told inputs.old))
-        → AllStill (I.faults inputs.old) (I.faults inputs.new)
+        → InputsStill (command_of (said words.now)) (I.faults inputs.old) (I.faults inputs.new)
         → IsStill (S.faults sink.old) (S.faults sink.new) → IsDoneOrWant result.status }
 {
     let Some(command) = read_words(words) else {

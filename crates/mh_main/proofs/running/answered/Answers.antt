@@ -1,4 +1,3 @@
-use Rattle.std.proofs.Common.{[]}
 use Rattle.mh_main.proofs.Ledger.{no_attempts}
 use Rattle.mh_main.proofs.running.answered.Goals as goal
 

@@ -1,6 +1,7 @@
-use Rattle.mh_main.specs.Words.{run, sites, held_names, said}
+use Rattle.mh_main.specs.Words.{command_of, run, sites, held_names, said}
 use Rattle.mh_main.specs.Stops.{stop_line}
 use Rattle.mh_main.proofs.Endings.{due-at-stop, due-of-program}
+use Rattle.mh_main.proofs.Stilled.{sites-done, sites-refused}
 use Rattle.mh_main.proofs.running.top.Goals as goal
 
 pub returns-in-Ok-clause-broken : goal.returns-in-Ok-clause-broken
@@ -29,3 +30,13 @@ returns-in-Err-list_sites-clause-broken g c = λ failed. (
       c.answer_stop-in-Err-list_sites.ensures.idle (c.answer_stop-in-Err-list_sites.ensures.spoken failed) c.in-Err-list_sites.ensures.stop c.in-Err-list_sites.ensures.refuses,
   c.answer_stop-in-Err-list_sites.ensures.broken failed,
 )
+
+pub returns-in-Err-list_sites-clause-refusal_wanted : goal.returns-in-Err-list_sites-clause-refusal_wanted
+returns-in-Err-list_sites-clause-refusal_wanted g c = λ wanted still quiet.
+    sites-refused (command_of (said c.args.words.now)) (said c.in-Sites.names.now) (g.I.Inputs.told c.args.inputs.now) (g.I.Inputs.faults c.args.inputs.now) (g.I.Inputs.faults c.list_sites.new.inputs) c.in-Err-list_sites.stop (g.S.Sink.faults c.args.sink.now) (g.S.Sink.faults c.answer_stop-in-Err-list_sites.new.sink) c.answer_stop-in-Err-list_sites.result.status (rw c.in-Sites.is at c.in-Some.ensures) c.in-Err-list_sites.ensures.stop
+    c.answer_stop-in-Err-list_sites.ensures.failed c.answer_stop-in-Err-list_sites.ensures.status still quiet
+
+pub returns-in-Err-list_sites-clause-complete : goal.returns-in-Err-list_sites-clause-complete
+returns-in-Err-list_sites-clause-complete g c = λ accepted fits still quiet.
+    sites-done (command_of (said c.args.words.now)) (said c.in-Sites.names.now) (g.I.Inputs.told c.args.inputs.now) (g.I.Inputs.faults c.args.inputs.now) (g.I.Inputs.faults c.list_sites.new.inputs) c.in-Err-list_sites.stop (g.S.Sink.faults c.args.sink.now) (g.S.Sink.faults c.answer_stop-in-Err-list_sites.new.sink) c.answer_stop-in-Err-list_sites.result.status (rw c.in-Sites.is at c.in-Some.ensures) c.in-Err-list_sites.ensures.stop
+    c.in-Err-list_sites.ensures.refuses c.answer_stop-in-Err-list_sites.ensures.failed c.answer_stop-in-Err-list_sites.ensures.status accepted still quiet
