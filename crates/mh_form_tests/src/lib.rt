@@ -7,3 +7,5 @@ mod arrays;
 mod bodies;
 #[cfg(test)]
 mod names;
+#[cfg(test)]
+mod parts;

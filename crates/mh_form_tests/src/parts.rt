@@ -1,0 +1,141 @@
+ghost use Rattle.std.specs.Prelude.{◌≡◌, ◌≢◌, ◌∷◌, [], IfOk};
+ghost use Rattle.mh_values.specs.Computation.{Stuck};
+ghost use Rattle.mh_form.specs.Run.{IsLeaf, IsPart, run_body as run_of, run_bound};
+ghost use Rattle.mh_form.specs.Slots.{called};
+ghost use Rattle.mh_form_tests.specs.Host.{host, naming, nested, two_links};
+
+use crate::bodies::{one, threw};
+use mh_base::{NoMemory, Seq};
+use mh_form::{Bound, Field, FormBody, Name, Operands, Ran, Slot, SlotOutcome, run};
+use mh_leaves::{Leaves, read_manifest};
+use mh_values::{ClassId, LeafId};
+use std::alloc::Global;
+use std::test::Fail;
+
+/// The leaves `tick`, which gives the count of leaf calls before it, and `div`.
+fn host(alloc: Global) -> Result<Leaves, NoMemory>
+    ensures { IfOk result (λ leaves. leaves ≡ host) }
+{
+    read_manifest(
+        alloc,
+        b"class demo/Host java/lang/Object\nstatic demo/Host tick (I)I tick\nstatic demo/Host div (II)I idiv\n",
+    )
+    .map_err(|_| NoMemory)
+}
+
+fn one_place(alloc: Global, place: u32) -> Result<Operands, NoMemory>
+    ensures { IfOk result (λ places. places ≡ place ∷ []) }
+{
+    let mut places = Seq::new(alloc);
+    places.push(place)?;
+    Ok(places)
+}
+
+fn two_places(alloc: Global, first: u32, second: u32) -> Result<Operands, NoMemory>
+    ensures { IfOk result (λ places. places ≡ first ∷ second ∷ []) }
+{
+    let mut places = Seq::new(alloc);
+    places.push(first)?;
+    places.push(second)?;
+    Ok(places)
+}
+
+/// A body of one name, with one field.
+fn naming(alloc: Global, name: Name, out: u32) -> Result<FormBody, NoMemory>
+    ensures { IfOk result (λ body. body ≡ naming name out) }
+{
+    let mut names = Seq::new(alloc);
+    names.push(name)?;
+    Ok(FormBody {
+        params: Seq::new(alloc),
+        fields: 1,
+        names,
+        out: Some(out),
+    })
+}
+
+/// A body that links its part twice, and gives what the second run gives.
+fn twice(alloc: Global) -> Result<FormBody, NoMemory>
+    ensures { IfOk result (λ body. body ≡ two_links) }
+{
+    let mut names = Seq::new(alloc);
+    names.push(Name::Link(0, one_place(alloc, 0)?))?;
+    names.push(Name::Link(0, one_place(alloc, 0)?))?;
+    Ok(FormBody {
+        params: Seq::new(alloc),
+        fields: 1,
+        names,
+        out: Some(2),
+    })
+}
+
+/// A body on a leaf.
+fn on_leaf<'t>(
+    alloc: Global,
+    leaves: &Leaves,
+    body: &'t FormBody,
+    leaf: LeafId,
+) -> Result<Bound<'t>, NoMemory>
+    ensures { IfOk result (λ bound. run_bound leaves.now bound
+        ≡ run_of body.now (IsLeaf (called leaves.now leaf) ∷ [])) }
+{
+    let mut fields = Vec::new(alloc);
+    fields.push(Field::Leaf(leaf))?;
+    Ok(Bound { body, fields })
+}
+
+/// A body on a part.
+fn on_part<'t>(
+    alloc: Global,
+    leaves: &Leaves,
+    body: &'t FormBody,
+    part: Bound<'t>,
+) -> Result<Bound<'t>, NoMemory>
+    ensures { IfOk result (λ bound. run_bound leaves.now bound
+        ≡ run_of body.now (IsPart (run_bound leaves.now part.entry) ∷ [])) }
+{
+    let mut fields = Vec::new(alloc);
+    fields.push(Field::Part(Box::new(alloc, part)?))?;
+    Ok(Bound { body, fields })
+}
+
+/// Runs a leaf twice, below two parts.
+fn nested(
+    alloc: Global,
+    leaves: &Leaves,
+    leaf: u32,
+    places: Operands,
+    arg: Slot,
+    n: u32,
+) -> Result<Ran, NoMemory>
+    requires { nested leaves.now leaf places arg n ≢ Stuck }
+{
+    let call = naming(alloc, Name::Call(0, places), 1)?;
+    let link = naming(alloc, Name::Link(0, one_place(alloc, 0)?), 1)?;
+    let twice = twice(alloc)?;
+    let inner = on_leaf(alloc, leaves, &call, LeafId(leaf))?;
+    let middle = on_part(alloc, leaves, &link, inner)?;
+    let outer = on_part(alloc, leaves, &twice, middle)?;
+    run(alloc, &outer, one(alloc, arg)?, n, leaves)
+}
+
+/// Whether a run gave an int, with so many leaf calls.
+fn gave(ran: &Ran, number: i32, calls: usize) -> bool {
+    match ran.outcome {
+        SlotOutcome::Return(Some(Slot::I(given))) => given == number && ran.calls.len() == calls,
+        _ => false,
+    }
+}
+
+#[test]
+fn parts_are_told_of_the_calls_before_them(rt: HostRuntime) -> Result<(), Fail> {
+    let alloc = rt.alloc();
+    let leaves = host(alloc)?;
+    for (n, want) in [(0, 1), (2147483647, -2147483648), (4294967295, 0)] {
+        let ran = nested(alloc, &leaves, 0, one_place(alloc, 0)?, Slot::I(7), n)?;
+        assert!(rt; gave(&ran, want, 2), "after {n} calls");
+    }
+    let ran = nested(alloc, &leaves, 1, two_places(alloc, 0, 0)?, Slot::I(0), 0)?;
+    assert!(rt; threw(&ran, ClassId::ARITHMETIC, "/ by zero") && ran.calls.len() == 1);
+    Ok(())
+}
