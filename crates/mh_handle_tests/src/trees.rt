@@ -180,10 +180,7 @@ fn adapted<'t, R: Wait>(
 {
     let classes = w.leaves.classes();
     match step {
-        Step::Bind(pos, text) => {
-            let v = value_of(alloc, text, classes)?;
-            bind(w, rt, alloc, h, pos, v)
-        }
+        Step::Bind(pos, text) => bind(w, rt, alloc, h, pos, value_of(alloc, text, classes)?),
         Step::Drop(pos, text) => {
             let ty = type_of(alloc, text, classes)?;
             drop_args(w, rt, alloc, h, pos, &ty.params)
@@ -192,14 +189,8 @@ fn adapted<'t, R: Wait>(
             let ty = type_of(alloc, text, classes)?;
             permute(w, rt, alloc, h, &ty, reorder)
         }
-        Step::Spread(text, count) => {
-            let ty = type_of(alloc, text, classes)?;
-            spread(w, rt, alloc, h, ty.ret, count)
-        }
-        Step::Gather(text, count) => {
-            let ty = type_of(alloc, text, classes)?;
-            gather(w, rt, alloc, h, ty.ret, count)
-        }
+        Step::Spread(text, n) => spread(w, rt, alloc, h, type_of(alloc, text, classes)?.ret, n),
+        Step::Gather(text, n) => gather(w, rt, alloc, h, type_of(alloc, text, classes)?.ret, n),
         Step::AsType(text) => {
             let ty = type_of(alloc, text, classes)?;
             as_type(w, rt, alloc, h, &ty)

@@ -83,7 +83,10 @@ const ADAPTERS: [Case; 12] = [
         "i:2 calls",
     ),
     (
-        (Root::Identity("()I"), &[Step::Drop(1, "(II)V")]),
+        (
+            Root::Identity("()I"),
+            &[Step::Drop(1, "(II)V"), Step::Permute("(III)I", &[0, 2, 1])],
+        ),
         &["i:1", "i:2", "i:3"],
         "i:1 calls",
     ),
