@@ -1,2 +1,3 @@
 mod Calling
+mod Rooms
 mod Spending

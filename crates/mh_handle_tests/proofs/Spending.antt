@@ -12,13 +12,13 @@ use Rattle.mh_handle.specs.Stands.{Stands}
 use Rattle.mh_handle.specs.Works.{GoesOn, IsReady, Makes}
 use Rattle.mh_handle_tests.specs.Making.{Spends, StandsForSome}
 
-same-room : (old new : SeatView) → new ≡ old → old.room ≤ new.room + 1
+pub same-room : (old new : SeatView) → new ≡ old → old.room ≤ new.room + 1
 same-room old new same = omega (arith, ap (λ (s : SeatView). s.room) same)
 
 drawn-room : (recipe : List Key) (old new : PassView) → DrawsAtMostOne recipe old new → old.seat.room ≤ new.seat.room + 1
 drawn-room recipe old new draws = ⊎_elim (λ same. same-room old.seat new.seat same) (λ drawn. omega (arith, drawn.1.room)) draws
 
-made-room : (recipe : List Key) (old new : PassView) (r : Result Handle HandleError) → Makes recipe old new r → old.seat.room ≤ new.seat.room + 1
+pub made-room : (recipe : List Key) (old new : PassView) (r : Result Handle HandleError) → Makes recipe old new r → old.seat.room ≤ new.seat.room + 1
 made-room recipe old new (Ok h) makes = drawn-room recipe old new makes.2
 made-room recipe old new (Err handle.NoMemory) makes = drawn-room recipe old new makes.1
 made-room recipe old new (Err (handle.FormsFull drawn)) makes = omega (arith, makes.1.room)

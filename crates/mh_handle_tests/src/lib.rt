@@ -5,3 +5,7 @@
 mod making;
 #[cfg(test)]
 mod parts_tests;
+#[cfg(test)]
+mod trees;
+#[cfg(test)]
+mod trees_tests;

@@ -1,0 +1,12 @@
+use Rattle.std.proofs.Common.{◌*◌, ◌≤◌}
+use Rattle.mh_handle_tests.specs.Making.{Spends, StandsForSome}
+use Rattle.mh_handle_tests.proofs.trees.made.Given as goal
+
+-- for each step that was made two numbers may have been drawn
+abbrev pub invariant-loop-step : goal.invariant-loop-step
+invariant-loop-step g l =
+    record {
+      few : l.step-index ≤ 100;
+      spends : Spends (2 * l.step-index) l.initial.w l.w;
+      stands : StandsForSome l.w.leaves.now l.h;
+    }
