@@ -7,6 +7,9 @@ use std::alloc::AllocError;
 use std::process::ExitCode;
 use std::{env, io};
 
+/// No memory was left, already for the words.
+const NO_MEMORY: u8 = 3;
+
 // The words after the program's name.
 fn words(rt: &HostRuntime) -> io::Result<Vec<String>> {
     let mut words = Vec::new(rt.alloc());
@@ -25,11 +28,20 @@ fn borrowed<'w>(rt: &HostRuntime, words: &'w [String]) -> Result<Vec<&'w str>, A
     Ok(texts)
 }
 
-fn main(rt: HostRuntime) -> io::Result<ExitCode> {
-    let words = words(&rt)?;
-    let texts = borrowed(&rt, &words)?;
+fn main(rt: HostRuntime) -> ExitCode {
+    let words = match words(&rt) {
+        Ok(words) => words,
+        Err(error) if error.kind() == io::ErrorKind::OutOfMemory => {
+            return ExitCode::from(NO_MEMORY);
+        }
+        // Words that are no text are refused as any other words are.
+        Err(_) => Vec::new(rt.alloc()),
+    };
+    let Ok(texts) = borrowed(&rt, &words) else {
+        return ExitCode::from(NO_MEMORY);
+    };
     let mut inputs = RealInputs::new(rt.alloc(), &rt);
     let mut sink = RealSink::new(&rt);
     let answer = top(&rt, rt.alloc(), &texts, &mut inputs, &mut sink, &OpenGate);
-    Ok(ExitCode::from(answer.status))
+    ExitCode::from(answer.status)
 }
