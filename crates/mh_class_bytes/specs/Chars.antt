@@ -1,4 +1,4 @@
--- The characters of a text: its UTF-16 units, joined in pairs (JVMS 4.4.7; Unicode 3.9, D91).
+-- The characters of a text: its UTF-16 units, a high half joined with the low half behind it (JVMS SE 17, 4.4.7; RFC 2781, 2.2).
 use Rattle.std.specs.Prelude.{◌≡◌, ℕ, zero, suc, ◌+◌, ◌-◌, ◌*◌, ◌/◌, ◌%◌, ◌≤◌, ◌<◌, List, [], ◌∷◌, ◌++◌, length, take, drop, nat_lt, nat_le, ◌==◌, slice_index, Bool, true, ◌&&◌, Option, Some, None, Result, Ok, Err, if◌then◌else◌}
 use Rattle.std.specs.List.{flat_map}
 use Rattle.mh_class_bytes.specs.Mutf8.{AreUnits, unit_bytes, unit_len}
