@@ -13,8 +13,6 @@ mod literal;
 mod meaning;
 mod registry;
 mod same;
-#[cfg(test)]
-mod tests;
 mod types;
 mod typing;
 mod value;

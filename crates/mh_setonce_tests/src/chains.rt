@@ -1,6 +1,6 @@
 ghost use Rattle.std.specs.Prelude.{◌≡◌};
 
-use crate::{Chain, Keyed, Put, PutRefused, Walk};
+use mh_setonce::{Chain, Keyed, Put, PutRefused, Walk};
 use std::alloc::Global;
 use std::sync::Wait;
 use std::test::Fail;

@@ -2,7 +2,7 @@ use Rattle.std.proofs.Common.{◌≡◌, ◌≤◌, ℕ, List, length, sym, ap, 
 use Rattle.mh_classfile.specs.Class.{Class}
 use Rattle.mh_classfile.specs.File.{IsClassFile}
 use Rattle.mh_made_class.proofs.Counting.{same_class, counted}
-use Rattle.mh_made_class.proofs.tests.count_read.Goals as goal
+use Rattle.mh_class_tests.proofs.made.count_read.Goals as goal
 
 pub returns-clause-same : goal.returns-clause-same
 returns-clause-same c =

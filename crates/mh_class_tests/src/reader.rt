@@ -1,8 +1,6 @@
-mod files;
-
-use super::*;
-use files::{all_tags, code_front, demo, made, made_site};
+use crate::files::{all_tags, code_front, demo, made, made_site};
 use mh_class_bytes::Text;
+use mh_classfile::{ClassError, ClassKind, ClassView, Constant, HandleRef, SiteView, read};
 use std::alloc::{AllocError, Global};
 use std::test::*;
 

@@ -4,9 +4,9 @@ ghost use Rattle.mh_made_class.specs.Sites.{IsMakeableArgument, argument_width, 
 ghost use Rattle.mh_class_pool.specs.declared.fault.ClassError.TheVariants as class_errors;
 ghost use Rattle.mh_made_class.specs.ReadBack.{IsReadable};
 
-use super::*;
 use mh_base::{NoMemory, Seq};
 use mh_classfile::{ClassError, Constant, read};
+use mh_made_class::{MadeArg, MadeArgs, MadeSite, MadeSites, make_class};
 use mh_values::Str;
 use std::alloc::Global;
 use std::test::*;

@@ -1,5 +1,5 @@
-use crate::{RetConv, conversion, convert, fit, misfit, ret_conversion};
 use mh_base::Seq;
+use mh_convert::{RetConv, conversion, convert, fit, misfit, ret_conversion};
 use mh_values::{ClassId, Classes, Comp, Exc, Num, Primitive, Ty, Value, has_type};
 use std::alloc::Global;
 use std::test::Fail;

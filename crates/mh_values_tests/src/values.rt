@@ -1,10 +1,10 @@
 ghost use Rattle.std.specs.Prelude.{◌<◌, length, OnOk};
 
-use crate::{
+use mh_base::{NoMemory, Seq};
+use mh_values::{
     ClassId, Classes, Comp, DeclareError, DescriptorError, Num, Primitive, Ty, Value,
     descriptor_text, has_type, read_descriptor, read_type, read_types, slots,
 };
-use mh_base::{NoMemory, Seq};
 use std::alloc::Global;
 use std::test::Fail;
 

@@ -1,5 +1,5 @@
-use crate::{Kind, Leaf, is_kind_type, kind_does, lacks_receiver, leaf_does, throws_exceptions};
 use mh_base::{NoMemory, Seq};
+use mh_leaf::{Kind, Leaf, is_kind_type, kind_does, lacks_receiver, leaf_does, throws_exceptions};
 use mh_values::{ClassId, Classes, Exc, Items, MethodTy, Num, Outcome, Primitive, Ty, Value};
 use std::alloc::Global;
 use std::test::Fail;

@@ -1,5 +1,5 @@
-use super::*;
 use mh_base::NoMemory;
+use mh_class_bytes::{CharsError, Cursor, Short, Text, mutf8_check};
 use std::alloc::Global;
 use std::test::*;
 

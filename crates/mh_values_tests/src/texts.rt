@@ -1,5 +1,5 @@
-use crate::{LiteralError, read_literal, show_exc, show_text, show_type, show_value};
 use mh_base::{NoMemory, Seq};
+use mh_texts::{LiteralError, read_literal, show_exc, show_text, show_type, show_value};
 use mh_values::{Cause, ClassId, Classes, Exc, Str, read_descriptor};
 use std::alloc::Global;
 use std::test::Fail;

@@ -1,4 +1,4 @@
-use crate::{
+use mh_outside::{
     Inputs, MemoryInputs, MemorySink, ReadWhole, RealInputs, RealSink, Sink, read_whole,
     write_whole,
 };

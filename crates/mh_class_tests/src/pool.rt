@@ -1,5 +1,7 @@
-use super::*;
 use mh_class_bytes::Cursor;
+use mh_class_pool::{
+    ClassError, ClassFault, ClassKind, Entry, Kind, check_name, check_pool, read_pool, u1,
+};
 use std::test::*;
 
 /// A byte that stands before the pool, and a pool of the count 9: the texts `C`, `f` and `()V`, class
