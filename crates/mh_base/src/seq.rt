@@ -54,7 +54,8 @@ impl<T> Seq<T> {
         Ok(())
     }
 
-    /// Puts the items of another list at the end.
+    /// Puts the items of another list at the end. A list without items takes the other's vector, which
+    /// is not copied.
     pub fn append(&mut self, other: Seq<T>) -> Result<(), NoMemory>
     where
         T: Drop,
@@ -62,6 +63,10 @@ impl<T> Seq<T> {
         ensures err { OnErr result (self.new ≡ self.old) }
     {
         let mut items = other.items;
+        if self.is_empty() {
+            self.items = items;
+            return Ok(());
+        }
         self.items.append(&mut items)?;
         Ok(())
     }
@@ -102,7 +107,7 @@ impl<T: Copied> Seq<T> {
         ensures { IfOk result (λ copy. copy ≡ self.now) }
     {
         let alloc = *self.items.allocator();
-        let mut copies = Seq::new(alloc);
+        let mut copies = Seq::from_vec(Vec::with_capacity(alloc, self.len())?);
         for item in self.as_slice() {
             copies.push(item.copy(alloc)?)?;
         }
