@@ -1,5 +1,6 @@
 -- A listing of a class, by computation.
 use Rattle.std.proofs.Common.{◌≡◌, [], ◌∷◌, codes, refl}
+use Rattle.std.specs.Fmt.{digits}
 use Rattle.mh_class_bytes.specs.Mutf8.{unit_len}
 use Rattle.mh_class_bytes.specs.Chars.{units_from, shown}
 use Rattle.mh_classfile.specs.declared.constant.SiteView.{SiteView}
@@ -18,10 +19,10 @@ a_class : Class
 a_class = record { constants = []; sites = a_site ∷ []; bootstraps = a_bootstrap ∷ [] }
 
 a_line : site_line 3 a_class a_site ≡ codes "site 3 run:()V 5 6 a/Boot.li\\snk:()V f (I)I\n"
-unfolding a_site a_bootstrap a_class units_from unit_len shown
+unfolding a_site a_bootstrap a_class units_from unit_len shown digits
 a_line = refl
 
 -- the sites of both are counted
 two_classes : listing (a_class ∷ a_class ∷ []) ≡ codes "site 0 run:()V 5 6 a/Boot.li\\snk:()V f (I)I\nsite 1 run:()V 5 6 a/Boot.li\\snk:()V f (I)I\nsites 2\n"
-unfolding a_site a_bootstrap a_class units_from unit_len shown
+unfolding a_site a_bootstrap a_class units_from unit_len shown digits
 two_classes = refl

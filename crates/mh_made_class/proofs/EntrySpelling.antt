@@ -59,23 +59,23 @@ entry_spelled is_last at (entries.Integer n) w last =
     behind_tag is_last at 3 (u4 n) (entries.Integer n) refl last (n, u4 n, [], refl, (refl, u4_is n w), (refl, refl))
 entry_spelled is_last at (entries.Long high low) w last =
     behind_tag is_last at 5 (u4 high ++ u4 low) (entries.Long high low) refl last
-        (high, u4 high, u4 low, refl, (refl, u4_is high w.0), (low, u4 low, [], refl, (refl, u4_is low w.1), (refl, refl)))
+    (high, u4 high, u4 low, refl, (refl, u4_is high w.0), (low, u4 low, [], refl, (refl, u4_is low w.1), (refl, refl)))
 entry_spelled is_last at (entries.Class name) w last =
     behind_tag is_last at 7 (u2 name) (entries.Class name) refl last (name, u2 name, [], refl, (refl, u2_is name w), (refl, refl))
 entry_spelled is_last at (entries.Str text) w last =
     behind_tag is_last at 8 (u2 text) (entries.Str text) refl last (text, u2 text, [], refl, (refl, u2_is text w), (refl, refl))
 entry_spelled is_last at (entries.Methodref class name) w last =
     behind_tag is_last at 10 (u2 class ++ u2 name) (entries.Methodref class name) refl last
-        (class, u2 class, u2 name, refl, (refl, u2_is class w.0), (name, u2 name, [], refl, (refl, u2_is name w.1), (refl, refl)))
+    (class, u2 class, u2 name, refl, (refl, u2_is class w.0), (name, u2 name, [], refl, (refl, u2_is name w.1), (refl, refl)))
 entry_spelled is_last at (entries.NameAndType name descriptor) w last =
     behind_tag is_last at 12 (u2 name ++ u2 descriptor) (entries.NameAndType name descriptor) refl last
-        (name, u2 name, u2 descriptor, refl, (refl, u2_is name w.0), (descriptor, u2 descriptor, [], refl, (refl, u2_is descriptor w.1), (refl, refl)))
+    (name, u2 name, u2 descriptor, refl, (refl, u2_is name w.0), (descriptor, u2 descriptor, [], refl, (refl, u2_is descriptor w.1), (refl, refl)))
 entry_spelled is_last at (entries.MethodHandle kind reference) w last =
     behind_tag is_last at 15 (kind ∷ u2 reference) (entries.MethodHandle kind reference) refl last
-        (kind, kind ∷ [], u2 reference, refl, (refl, rw (w.0) refl), (reference, u2 reference, [], refl, (refl, u2_is reference w.1), (refl, refl)))
+    (kind, kind ∷ [], u2 reference, refl, (refl, rw (w.0) refl), (reference, u2 reference, [], refl, (refl, u2_is reference w.1), (refl, refl)))
 entry_spelled is_last at (entries.InvokeDynamic bootstrap name) w last =
     behind_tag is_last at 18 (u2 bootstrap ++ u2 name) (entries.InvokeDynamic bootstrap name) refl last
-        (bootstrap, u2 bootstrap, u2 name, refl, (refl, u2_is bootstrap w.0), (name, u2 name, [], refl, (refl, u2_is name w.1), (refl, refl)))
+    (bootstrap, u2 bootstrap, u2 name, refl, (refl, u2_is bootstrap w.0), (name, u2 name, [], refl, (refl, u2_is name w.1), (refl, refl)))
 entry_spelled is_last at entries.Float w last = absurd w
 entry_spelled is_last at entries.Double w last = absurd w
 entry_spelled is_last at (entries.Fieldref class name) w last = absurd w
