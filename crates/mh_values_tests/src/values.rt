@@ -92,6 +92,55 @@ fn built_in_classes_stand_below_their_superclasses(rt: HostRuntime) -> Result<()
 }
 
 #[test]
+fn constants_name_their_classes(rt: HostRuntime) -> Result<(), Fail> {
+    let classes = Classes::builtin(rt.alloc())?;
+    for (class, name) in [
+        (ClassId::OBJECT, "java/lang/Object"),
+        (ClassId::INTEGER, "java/lang/Integer"),
+        (ClassId::LONG, "java/lang/Long"),
+        (ClassId::BOOLEAN, "java/lang/Boolean"),
+        (ClassId::STRING, "java/lang/String"),
+        (ClassId::THROWABLE, "java/lang/Throwable"),
+        (ClassId::EXCEPTION, "java/lang/Exception"),
+        (ClassId::RUNTIME_EXCEPTION, "java/lang/RuntimeException"),
+        (ClassId::ERROR, "java/lang/Error"),
+        (
+            ClassId::BOOTSTRAP_METHOD_ERROR,
+            "java/lang/BootstrapMethodError",
+        ),
+        (
+            ClassId::NO_CLASS_DEF_FOUND,
+            "java/lang/NoClassDefFoundError",
+        ),
+        (ClassId::NO_SUCH_METHOD, "java/lang/NoSuchMethodError"),
+        (ClassId::INTERNAL_ERROR, "java/lang/InternalError"),
+        (
+            ClassId::WRONG_METHOD_TYPE,
+            "java/lang/invoke/WrongMethodTypeException",
+        ),
+        (ClassId::CLASS_CAST, "java/lang/ClassCastException"),
+        (ClassId::NULL_POINTER, "java/lang/NullPointerException"),
+        (
+            ClassId::ILLEGAL_ARGUMENT,
+            "java/lang/IllegalArgumentException",
+        ),
+        (ClassId::ARITHMETIC, "java/lang/ArithmeticException"),
+        (
+            ClassId::UNSUPPORTED_OPERATION,
+            "java/lang/UnsupportedOperationException",
+        ),
+        (
+            ClassId::STRING_CONCAT,
+            "java/lang/invoke/StringConcatException",
+        ),
+        (ClassId::STACK_OVERFLOW, "java/lang/StackOverflowError"),
+    ] {
+        assert_eq!(rt; classes.name(class), name.as_bytes(), "{name}");
+    }
+    Ok(())
+}
+
+#[test]
 fn a_class_is_declared_once(rt: HostRuntime) -> Result<(), Fail> {
     let mut classes = Classes::builtin(rt.alloc())?;
     let host = ClassId(28);
