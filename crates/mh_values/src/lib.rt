@@ -9,7 +9,6 @@ mod descriptor;
 mod exception;
 mod grammar;
 mod known;
-mod literal;
 mod meaning;
 mod registry;
 mod same;
@@ -22,7 +21,6 @@ mod value;
 pub use class::{Class, ClassId};
 pub use classes::{Classes, DeclareError};
 pub use descriptor::{BadAt, DescriptorError, descriptor_text, type_text, types_text};
-pub use literal::{read_int, show_int};
 pub use meaning::{read_descriptor, read_type, read_types};
 pub use same::{
     are_same_types, begins_with_types, is_same_method_type, is_same_return, is_same_type,
