@@ -12,9 +12,8 @@ ghost use Rattle.mh_leaves.specs.declared.manifest.ManifestError.TheVariants.{No
 
 use crate::kinds::{is_kind_word, is_well_typed, kind_among};
 use crate::leaves::MOST_LEAVES;
-use crate::reference::cut_at;
 use crate::{Leaves, Reference, is_class_name, is_method_name};
-use mh_base::{LineFault, NoMemory, Seq, is_passed, is_plain, split_at_byte};
+use mh_base::{LineFault, NoMemory, Seq, is_passed, is_plain, split_at_byte, split_once};
 use mh_leaf::{Kind, Leaf};
 use mh_values::{
     ClassId, Classes, DescriptorError, MethodTy, Ty, descriptor_text, read_descriptor,
@@ -204,7 +203,7 @@ fn add_leaf(
 fn knows_name(classes: &Classes, piece: &[u8]) -> bool
     ensures { result ≡ knows_name classes.now piece.now }
 {
-    match cut_at(piece, b'L') {
+    match split_once(piece, b'L') {
         Some((_, name)) => classes.find(name).is_some(),
         None => true,
     }
