@@ -220,8 +220,8 @@ fn has_known_classes(alloc: Global, classes: &Classes, descriptor: &[u8]) -> Res
     knows_names(alloc, classes, descriptor)
 }
 
-// The type of a descriptor, if all its types are there.
-fn type_of(
+/// The type of a descriptor, if it is one and all its types are there.
+pub fn type_of(
     alloc: Global,
     classes: &Classes,
     descriptor: &[u8],
