@@ -42,7 +42,7 @@ fn a_second_walk_finds_what_was_put_through_the_first(rt: HostRuntime) -> Result
         _ => panic!(rt; "the chain was empty"),
     }
     let found = chain
-        .find(alloc, &mut second, &7)?
+        .find(&mut second, &7)?
         .ok_or("the first put is found")?;
     assert!(rt; found.by == 1);
     match chain.find_or_put(&rt, alloc, &mut second, Entry { key: 7, by: 2 }) {
