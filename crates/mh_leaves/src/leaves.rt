@@ -4,15 +4,12 @@ use crate::index::Index;
 use crate::{How, Missing, Reference};
 use mh_base::NoMemory;
 use mh_leaf::{Leaf, leaf_does};
-use mh_values::{ClassId, Classes, Items, LeafId, MethodTy, Outcome};
+use mh_values::{ClassId, Classes, Items, LeafId, MOST_CLASSES, MethodTy, Outcome};
 use std::alloc::Global;
 use std::marker::Model;
 
 /// How many leaves there may be.
 pub(crate) const MOST_LEAVES: u32 = 4096;
-
-/// How many classes there may be: the built-in ones, and 1,024 that are declared.
-const MOST_CLASSES: usize = 28 + 1024;
 
 /// The classes and the leaf methods of a run, as a manifest registers them.
 #[derive(Drop)]
