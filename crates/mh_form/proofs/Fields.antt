@@ -1,10 +1,10 @@
 -- What the fields of a bound body stand for.
-use Rattle.std.proofs.Common.{◌≡◌, refl, sym, ap, ◌∙◌, ℕ, ◌<◌, ◌≤◌, List, ◌∷◌, Option, Some, None, map, length}
+use Rattle.std.proofs.Common.{◌≡◌, refl, ap, ◌∙◌, ℕ, ◌<◌, List, ◌∷◌, Option, Some, map, length}
 use Rattle.std.specs.Prelude.{slice_get, slice_index_or}
 use Rattle.std.specs.Option.{option_map}
 use Rattle.std.specs.declared.boxed.Box.{Box}
 use Rattle.std.specs.declared.alloc.Global.{Global}
-use Rattle.std.proofs.lemmas.Option.{slice_get-map, slice_get_read, slice_get_past}
+use Rattle.std.proofs.lemmas.Option.{slice_get-map, slice_get_read}
 use Rattle.mh_values.specs.Computation.{Stuck, found}
 use Rattle.mh_leaf.specs.LeafTable.{LeafTable}
 use Rattle.mh_form.specs.declared.slot.Slot.{Slot}
@@ -47,14 +47,6 @@ pub field_of-at :
     field_of kind (map (sense table) fields) f ≡ kind (sense table e)
 field_of-at kind table fields f e low is =
     field_of-found kind table fields f e (slice_get_read fields (length fields) f e refl low is)
-
-pub field_of-past :
-    {A : Type 0} →
-    (kind : Sense → Option A) (table : LeafTable) (fields : List Field) (f : ℕ) →
-    length fields ≤ f →
-    field_of kind (map (sense table) fields) f ≡ None
-field_of-past kind table fields f high =
-    ap (of_kind kind) (slice_get-map (sense table) fields f ∙ ap (option_map (sense table)) (slice_get_past fields f high))
 
 pub run_field-part :
     (table : LeafTable) (fields : List Field) (f : ℕ) (e : Field) (b : Box Bound Global) (slots : List Slot) (n : ℕ) →
