@@ -31,7 +31,7 @@ fn basic_ret(ret: Option<Ty>) -> BasicRet
 pub fn shape(alloc: Global, ty: &MethodTy) -> Result<Shape, NoMemory>
     ensures { IfOk result (λ shape. shape ≡ shape_of ty.now) }
 {
-    let mut params = Seq::new(alloc);
+    let mut params = Seq::from_vec(Vec::with_capacity(alloc, ty.params.len())?);
     for param in ty.params.as_slice() {
         params.push(basic_of(*param))?;
     }
@@ -90,7 +90,7 @@ pub fn all_typed(
     ensures { IfOk result (λ values. all_typed classes.now types.now slots ≡ Some values) }
 {
     let mut slots = slots.into_vec();
-    let mut values = Seq::new(alloc);
+    let mut values = Seq::from_vec(Vec::with_capacity(alloc, types.len())?);
     for i in 0..types.len() {
         if i >= slots.len() {
             unreachable!()

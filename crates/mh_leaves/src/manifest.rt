@@ -1,4 +1,4 @@
-ghost use Rattle.std.specs.Prelude.{◌≡◌, ◌<◌, ◌^◌, false, length, map, None, IfOk};
+ghost use Rattle.std.specs.Prelude.{◌≡◌, ◌<◌, false, length, map, None, IfOk};
 ghost use Rattle.std.specs.List.{list_all, list_any};
 ghost use Rattle.mh_base.specs.Lines.{taken_or};
 ghost use Rattle.mh_values.specs.Classes.{class_named};
@@ -395,9 +395,9 @@ fn read_line(
     read_tokens(alloc, leaves, &tokens)
 }
 
-/// Reads a manifest, or gives its first faulty line.
+/// Reads a manifest, or gives its first faulty line. A line that no `u32` can number is want of
+/// memory.
 pub fn read_manifest(alloc: Global, bytes: &[u8]) -> Result<Leaves, ManifestError>
-    requires { length bytes.now < 2 ^ 31 }
     ensures { TellsManifest result (manifest bytes.now) }
 {
     let lines = split_at_byte(alloc, bytes, b'\n')?;
@@ -407,7 +407,7 @@ pub fn read_manifest(alloc: Global, bytes: &[u8]) -> Result<Leaves, ManifestErro
         if let Some(kind) = read_line(alloc, &mut leaves, line)? {
             return Err(ManifestError::Fault(LineFault { line: number, kind }));
         }
-        number += 1;
+        number = number.checked_add(1).ok_or(NoMemory)?;
     }
     Ok(leaves)
 }

@@ -7,9 +7,6 @@ use mh_values::LeafId;
 use std::alloc::{AllocError, Global};
 use std::test::Fail;
 
-/// The longest manifest of these tests, in bytes.
-const LONGEST: usize = 100_000;
-
 /// How a manifest is read.
 #[derive(Clone, Copy, Debug, PartialEq, Eq)]
 enum Told {
@@ -20,9 +17,6 @@ enum Told {
 }
 
 fn read(alloc: Global, manifest: &[u8]) -> Result<Told, NoMemory> {
-    if manifest.len() > LONGEST {
-        return Err(NoMemory);
-    }
     match read_manifest(alloc, manifest) {
         Ok(leaves) => Ok(Told::Leaves(leaves.count())),
         Err(ManifestError::Fault(fault)) => Ok(Told::Fault(fault.line, fault.kind)),

@@ -53,7 +53,6 @@ impl<V: Keyed> Chain<V> {
     /// has learnt is answered without memory.
     pub fn find<'t>(
         &'t self,
-        _alloc: Global,
         walk: &mut Walk<'t, V>,
         key: &V::Key,
     ) -> Result<Option<&'t V>, NoMemory>

@@ -12,8 +12,6 @@ mod known;
 mod meaning;
 mod registry;
 mod same;
-#[cfg(test)]
-mod tests;
 mod types;
 mod typing;
 mod value;
