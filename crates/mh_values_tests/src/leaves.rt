@@ -180,7 +180,7 @@ fn a_virtual_leaf_does_not_run_on_null(rt: HostRuntime) -> Result<(), Fail> {
             kind: Kind::Note,
         };
         let args = items(alloc, &[Null])?;
-        assert_eq!(rt; lacks_receiver(&leaf, &args), is_virtual);
+        assert_eq!(rt; lacks_receiver(is_virtual, &args), is_virtual);
         assert_eq!(rt; seen_of(&leaf_does(alloc, &leaf, &args, 0)?), want);
     }
     Ok(())
