@@ -27,12 +27,12 @@ typed-step :
     typed_on vs (all_typed classes (drop i tys) (drop i slots)) ≡ typed_on vs (value_and_more (typed classes t s) (all_typed classes (drop (i + 1) tys) (drop (i + 1) slots)))
 typed-step classes tys slots vs i t s h k = ap (typed_on vs) (ap₂ (all_typed classes) (drop-at tys i t h) (drop-at slots i s k))
 
-typed_on-more :
+pub typed_on-more :
     (vs : List Value) (v : Value) (rest : Option (List Value)) → typed_on vs (value_and_more (Some v) rest) ≡ typed_on (vs ++ v ∷ []) rest
 typed_on-more vs v None = refl
 typed_on-more vs v (Some ws) = ap Some (sym (append_assoc vs (v ∷ []) ws))
 
-first-left : (tys : List Ty) (i : ℕ) → i < length tys → (t : Ty) × (drop i tys ≡ t ∷ drop (suc i) tys)
+pub first-left : (tys : List Ty) (i : ℕ) → i < length tys → (t : Ty) × (drop i tys ≡ t ∷ drop (suc i) tys)
 first-left [] i low = absurd (omega arith)
 first-left (t ∷ tys) zero low = (t, refl)
 first-left (t ∷ tys) (suc i) low = first-left tys i (omega arith)

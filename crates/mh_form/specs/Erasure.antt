@@ -1,5 +1,5 @@
 -- Erasure: what types and values become where a form no longer tells them apart, and back.
-use Rattle.std.specs.Prelude.{Bool, true, false, zero, suc, List, [], ◌∷◌, map, Option, None, Some, ℤ, pos, if◌then◌else◌}
+use Rattle.std.specs.Prelude.{ℕ, true, false, zero, suc, List, [], ◌∷◌, map, slice_get, Option, None, Some, ℤ, pos, if◌then◌else◌}
 use Rattle.mh_values.specs.declared.class.Class.{Class}
 use Rattle.mh_values.specs.declared.types.MethodTy.{MethodTy}
 use Rattle.mh_values.specs.declared.types.Primitive.TheVariants as primitive
@@ -79,3 +79,14 @@ abbrev pub all_typed : List Class → List Ty → List Slot → Option (List Val
 all_typed classes [] [] = Some []
 all_typed classes (t ∷ ts) (s ∷ ss) = value_and_more (typed classes t s) (all_typed classes ts ss)
 all_typed classes _ _ = None
+
+-- the value of a type of which a slot is the erasure, where there is a slot
+abbrev pub typed_slot : List Class → Ty → Option Slot → Option Value
+typed_slot classes t None = None
+typed_slot classes t (Some s) = typed classes t s
+
+-- the values of these types of which the slots at these places are the erasures, one for each
+abbrev pub typed_at : List Class → List Slot → List Ty → List ℕ → Option (List Value)
+typed_at classes slots [] [] = Some []
+typed_at classes slots (t ∷ ts) (p ∷ ps) = value_and_more (typed_slot classes t (slice_get slots p)) (typed_at classes slots ts ps)
+typed_at classes slots _ _ = None

@@ -19,7 +19,7 @@ use Rattle.mh_leaf.specs.LeafTable.{LeafTable}
 use Rattle.mh_leaf.specs.Outcome.{leaf_mean}
 use Rattle.mh_form.specs.declared.slot.Slot.{Slot}
 use Rattle.mh_form.specs.declared.slot.Slot.TheVariants as slot
-use Rattle.mh_form.specs.Erasure.{erased, erased_ran, typed, all_typed}
+use Rattle.mh_form.specs.Erasure.{erased, erased_ran, typed, all_typed, typed_at}
 
 -- the number is 1
 abbrev pub is_one : ℤ → Bool
@@ -45,6 +45,12 @@ abbrev pub called : LeafTable → LeafId → List Slot → ℕ → Ran (Option S
 called table l slots n =
     found (slice_get table.leaves l.0) (λ leaf.
     found (all_typed table.classes leaf.ty.params slots) (λ args. erased_ran (leaf_mean table l args n)))
+
+-- the same on the slots at these places
+abbrev pub called_at : LeafTable → LeafId → List Slot → List ℕ → ℕ → Ran (Option Slot)
+called_at table l slots places n =
+    found (slice_get table.leaves l.0) (λ leaf.
+    found (typed_at table.classes slots leaf.ty.params places) (λ args. erased_ran (leaf_mean table l args n)))
 
 -- a value or an exception, without leaf calls
 abbrev pub slot_or_throw : Result Value Exc → Ran Slot

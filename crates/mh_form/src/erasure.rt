@@ -54,11 +54,15 @@ pub fn erase(value: Value) -> Slot
     }
 }
 
-/// Copies of values as slots.
+/// How many slots a run mostly puts behind its arguments, at most.
+const ROOM_FOR_NAMES: usize = 8;
+
+/// Copies of values as slots, with room for those of a few names.
 pub fn erase_all(alloc: Global, values: &Items) -> Result<Slots, NoMemory>
     ensures { IfOk result (λ slots. slots ≡ map erased values.now) }
 {
-    let mut slots = Seq::new(alloc);
+    let room = values.len().saturating_add(ROOM_FOR_NAMES);
+    let mut slots = Seq::from_vec(Vec::with_capacity(alloc, room)?);
     for value in values.as_slice() {
         slots.push(erase(value.copy(alloc)?))?;
     }

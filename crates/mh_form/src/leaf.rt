@@ -1,19 +1,19 @@
 //! Leaves on slots.
 
-ghost use Rattle.std.specs.Prelude.{◌≡◌, ◌≢◌, IfOk, List};
+ghost use Rattle.std.specs.Prelude.{◌≡◌, ◌≢◌, IfOk, List, None, Some};
 ghost use Rattle.mh_values.specs.Computation.{Stuck};
 ghost use Rattle.mh_values.specs.declared.value.LeafCall.{LeafCall};
 ghost use Rattle.mh_leaf.specs.declared.leaf.Leaf.{Leaf};
 ghost use Rattle.mh_leaf.specs.Outcome.{calls_of, ran_of};
-ghost use Rattle.mh_form.specs.Erasure.{erased_ran};
+ghost use Rattle.mh_form.specs.Erasure.{erased_ran, typed_at};
 ghost use Rattle.mh_form.specs.Run.{ran_of_outcome, ran_of_run};
-ghost use Rattle.mh_form.specs.Slots.{called};
+ghost use Rattle.mh_form.specs.Slots.{called_at};
 
-use crate::{Ran, SlotOutcome, Slots, all_typed, erase};
-use mh_base::{NoMemory, Seq};
+use crate::{Operands, Ran, SlotOutcome, Slots, erase, typed};
+use mh_base::{Copied, NoMemory, Seq};
 use mh_leaf::lacks_receiver;
 use mh_leaves::Leaves;
-use mh_values::{Calls, Items, LeafCall, LeafId, Outcome};
+use mh_values::{Calls, Classes, Items, LeafCall, LeafId, Outcome, Tys};
 use std::alloc::Global;
 
 fn erase_outcome(outcome: Outcome) -> SlotOutcome
@@ -39,21 +39,56 @@ fn calls_of(alloc: Global, id: LeafId, is_virtual: bool, args: Items) -> Result<
     Ok(calls)
 }
 
-/// Calls a leaf on slots that are the erasures of values of its types.
+/// The slots at these places as the values of types of which they are the erasures, one for each.
+fn typed_at(
+    alloc: Global,
+    types: &Tys,
+    slots: &Slots,
+    places: &Operands,
+    classes: &Classes,
+) -> Result<Items, NoMemory>
+    requires { typed_at classes.now slots.now types.now places.now ≢ None }
+    ensures { IfOk result
+        (λ values. typed_at classes.now slots.now types.now places.now ≡ Some values) }
+{
+    let mut values = Seq::from_vec(Vec::with_capacity(alloc, types.len())?);
+    for i in 0..types.len() {
+        if i >= places.len() {
+            unreachable!()
+        }
+        let at = *places.get(i) as usize;
+        if at >= slots.len() {
+            unreachable!()
+        }
+        let slot = slots.get(at).copy(alloc)?;
+        values.push(typed(*types.get(i), slot, classes))?;
+    }
+    Ok(values)
+}
+
+/// Calls a leaf on the slots at these places, which are the erasures of values of its types.
 pub(crate) fn call(
     alloc: Global,
     leaves: &Leaves,
     id: LeafId,
-    slots: Slots,
+    slots: &Slots,
+    places: &Operands,
     n: u32,
 ) -> Result<Ran, NoMemory>
-    requires { called leaves.now id slots n ≢ Stuck }
-    ensures { IfOk result (λ r. ran_of_run r ≡ called leaves.now id slots n) }
+    requires { called_at leaves.now id slots.now places.now n ≢ Stuck }
+    ensures { IfOk result
+        (λ r. ran_of_run r ≡ called_at leaves.now id slots.now places.now n) }
 {
     if id.0 >= leaves.count() {
         unreachable!()
     }
-    let args = all_typed(alloc, &leaves.ty(id).params, slots, leaves.classes())?;
+    let args = typed_at(
+        alloc,
+        &leaves.ty(id).params,
+        slots,
+        places,
+        leaves.classes(),
+    )?;
     let outcome = leaves.leaf_does(alloc, id, &args, n)?;
     let calls = calls_of(alloc, id, leaves.is_virtual(id), args)?;
     Ok(Ran {

@@ -45,11 +45,10 @@ pub(crate) fn call_leaf(
     ensures { IfOk result (λ r. ran_of_step r
         ≡ step (Call field args.now) (senses_in leaves.now bound.now) slots.now n) }
 {
-    let args = pick(alloc, slots, args)?;
     let Some(leaf) = leaf_in(bound, leaves, field) else {
         unreachable!()
     };
-    Ok(filled(call(alloc, leaves, leaf, args, n)?))
+    Ok(filled(call(alloc, leaves, leaf, slots, args, n)?))
 }
 
 pub(crate) fn convert(
