@@ -1,5 +1,5 @@
 -- A text as lines, a line as tokens, and what lines build one after the other.
-use Rattle.std.specs.Prelude.{ℕ, ◌+◌, ◌==◌, Bool, true, ◌&&◌, nat_le, List, [], ◌∷◌, Option, None, Some, Result, Ok, Err}
+use Rattle.std.specs.Prelude.{ℕ, ◌+◌, ◌==◌, Bool, true, ◌&&◌, nat_le, List, [], ◌∷◌, take, drop, position, Option, None, Some, option_map, Result, Ok, Err}
 use Rattle.std.specs.List.{slice_split, list_all}
 use Rattle.mh_base.specs.declared.lines.LineFault.{LineFault}
 
@@ -10,6 +10,10 @@ lines_of text = slice_split (λ b. b == 10) text
 -- the tokens of a line, between single spaces
 abbrev pub tokens_of : List ℕ → List (List ℕ)
 tokens_of line = slice_split (λ b. b == 32) line
+
+-- a text in front of the first place of a byte, and behind it
+abbrev pub cut_at : ℕ → List ℕ → Option (List ℕ × List ℕ)
+cut_at byte text = option_map (λ at. (take at text, drop (at + 1) text)) (position (λ b. b == byte) text)
 
 -- a line that is passed over: an empty one, or one that begins with `#`
 abbrev pub is_passed : List ℕ → Bool

@@ -11,4 +11,4 @@ pub use copied::Copied;
 pub use lines::{LineFault, is_passed, is_plain};
 pub use memory::NoMemory;
 pub use seq::Seq;
-pub use split::split_at_byte;
+pub use split::{split_at_byte, split_once};

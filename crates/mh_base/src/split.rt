@@ -1,5 +1,6 @@
-ghost use Rattle.std.specs.Prelude.{◌≡◌, ◌==◌, ◌≤◌, ◌+◌, length, IfOk, map};
-ghost use Rattle.std.specs.List.{slice_split};
+ghost use Rattle.std.specs.Prelude.{◌≡◌, ◌==◌, ◌≤◌, ◌<◌, ◌+◌, length, IfOk, IfSome, map, option_map};
+ghost use Rattle.std.specs.List.{position, slice_split};
+ghost use Rattle.mh_base.specs.Lines.{cut_at};
 
 use std::alloc::{AllocError, Global};
 
@@ -14,4 +15,20 @@ pub fn split_at_byte<'b>(
     ensures few { IfOk result (λ v. length v.items ≤ length bytes.now + 1) }
 {
     bytes.split(|byte| *byte == at).collect(alloc)
+}
+
+// The first place of a byte.
+fn place_of(text: &[u8], byte: u8) -> Option<usize>
+    ensures first { result ≡ position (λ b. b == byte) text.now }
+    ensures within { IfSome result (λ at. at < length text.now) }
+{
+    text.iter().position(|b| *b == byte)
+}
+
+/// A text in front of the first place of a byte, and behind it; `None` where the byte is nowhere.
+pub fn split_once(text: &[u8], byte: u8) -> Option<(&[u8], &[u8])>
+    ensures { option_map (λ parts. (parts.0.now, parts.1.now)) result ≡ cut_at byte text.now }
+{
+    let at = place_of(text, byte)?;
+    Some((&text[..at], &text[at + 1..]))
 }

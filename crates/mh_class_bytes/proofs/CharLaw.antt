@@ -40,6 +40,9 @@ char_bytes-small u h = ap (flat_map unit_bytes) (units_of-small u h) ∙ flat_ma
 char_bytes-joined : (u v : ℕ) → (is_high u && is_low v) ≡ true → char_bytes (joined u v) ≡ unit_bytes u ++ unit_bytes v
 char_bytes-joined u v h = ap (flat_map unit_bytes) (units_of-joined u v h) ∙ flat_map-cons unit_bytes u (v ∷ []) ∙ ap (λ (x : List ℕ). unit_bytes u ++ x) (flat_map-cons unit_bytes v [] ∙ append-nil (unit_bytes v))
 
+joined_char : (u v : ℕ) → (is_high u && is_low v) ≡ true → (joined u v < 0x110000) × (is_half (joined u v) ≡ false)
+joined_char u v h = (grind (arith, nat_tests), grind (arith, nat_tests))
+
 -- ---- what is found
 
 -- what a search from a place finds of the bytes of units
@@ -48,14 +51,15 @@ Finds at bytes (Ok cs) = bytes ≡ spelled cs
 Finds at bytes (Err place) = (k : ℕ) × (place ≡ at + k) × IsLoneAt bytes k
 
 -- behind a character
-after_char : (at n c : ℕ) (bytes : List ℕ) (r : Result (List ℕ) ℕ) → length (char_bytes c) ≡ n → Finds (at + n) bytes r → Finds at (char_bytes c ++ bytes) (behind (c ∷ []) r)
-after_char at n c bytes (Ok cs) len f = ap (λ (x : List ℕ). char_bytes c ++ x) f ∙ sym (flat_map-cons char_bytes c cs)
-after_char at n c bytes (Err place) len f =
+after_char : (at n c : ℕ) (bytes : List ℕ) (r : Result (List ℕ) ℕ) → (c < 0x110000) × (is_half c ≡ false) → length (char_bytes c) ≡ n → Finds (at + n) bytes r → Finds at (char_bytes c ++ bytes) (behind (c ∷ []) r)
+after_char at n c bytes (Ok cs) h len f = ap (λ (x : List ℕ). char_bytes c ++ x) f ∙ sym (flat_map-cons char_bytes c cs)
+after_char at n c bytes (Err place) h len f =
     let l = f.2 in (
       n + f.0,
       omega (arith, f.1),
       record {
         chars = c ∷ l.chars;
+        whole = (h, l.whole);
         before = take-both n (char_bytes c) bytes f.0 len ∙ ap (λ (x : List ℕ). char_bytes c ++ x) l.before ∙ sym (flat_map-cons char_bytes c l.chars);
         half = l.half;
         rest = l.rest;
@@ -76,7 +80,7 @@ half_range u h = (grind (arith, nat_tests), grind (arith, nat_tests))
 
 -- a half by itself
 lone : (at u : ℕ) (rest : List ℕ) → is_half u ≡ true → ((low : ℕ) (more : List ℕ) → is_high u ≡ true → is_low low ≡ true → ¬ (rest ≡ unit_bytes low ++ more)) → Finds at (unit_bytes u ++ rest) (Err at)
-lone at u rest h alone = (0, omega arith, record { chars = []; before = refl; half = u; rest = rest; is_half = half_range u h; here = refl; alone = alone })
+lone at u rest h alone = (0, omega arith, record { chars = []; whole = tt; before = refl; half = u; rest = rest; is_half = half_range u h; here = refl; alone = alone })
 
 low_small : (v : ℕ) → is_low v ≡ true → v < 2 ^ 16
 low_small v h = grind (arith, nat_tests)
@@ -102,7 +106,7 @@ found-apart : (at u v : ℕ) (units : List ℕ) → u < 2 ^ 16 → v < 2 ^ 16 �
 found-apart at u v units hu hv apart r f true e = lone at u (flat_map unit_bytes (v ∷ units)) e (λ low more high is_low same. not_a_pair u v low apart high is_low (same_unit v low (flat_map unit_bytes units) more hv (low_small low is_low) (sym (flat_map-cons unit_bytes v units) ∙ same)))
 found-apart at u v units hu hv apart r f false e =
     let b = char_bytes-small u hu in
-    subst (λ (x : List ℕ). Finds at (x ++ flat_map unit_bytes (v ∷ units)) (behind (u ∷ []) r)) b (after_char at (length (unit_bytes u)) u (flat_map unit_bytes (v ∷ units)) r (ap length b) f)
+    subst (λ (x : List ℕ). Finds at (x ++ flat_map unit_bytes (v ∷ units)) (behind (u ∷ []) r)) b (after_char at (length (unit_bytes u)) u (flat_map unit_bytes (v ∷ units)) r (omega arith, e) (ap length b) f)
 
 found-two : (at u v : ℕ) (units : List ℕ) → u < 2 ^ 16 → v < 2 ^ 16 → (r s : Result (List ℕ) ℕ) → Finds (at + 6) (flat_map unit_bytes units) s → Finds (at + length (unit_bytes u)) (flat_map unit_bytes (v ∷ units)) r
     → (t : Bool) → (is_high u && is_low v) ≡ t → Finds at (flat_map unit_bytes (u ∷ v ∷ units)) (cond t (behind (joined u v ∷ []) s) (cond (is_half u) (Err at) (behind (u ∷ []) r)))
@@ -113,7 +117,7 @@ found-two at u v units hu hv r s g f true e =
     let whole : char_bytes (joined u v) ++ flat_map unit_bytes units ≡ flat_map unit_bytes (u ∷ v ∷ units) =
     ap (λ (x : List ℕ). x ++ flat_map unit_bytes units) b ∙ append_assoc (unit_bytes u) (unit_bytes v) (flat_map unit_bytes units)
     ∙ ap (λ (x : List ℕ). unit_bytes u ++ x) (sym (flat_map-cons unit_bytes v units)) ∙ sym (flat_map-cons unit_bytes u (v ∷ units)) in
-    subst (λ (x : List ℕ). Finds at x (behind (joined u v ∷ []) s)) whole (after_char at 6 (joined u v) (flat_map unit_bytes units) s len g)
+    subst (λ (x : List ℕ). Finds at x (behind (joined u v ∷ []) s)) whole (after_char at 6 (joined u v) (flat_map unit_bytes units) s (joined_char u v e) len g)
 found-two at u v units hu hv r s g f false e = subst (λ (x : List ℕ). Finds at x (cond (is_half u) (Err at) (behind (u ∷ []) r))) (sym (flat_map-cons unit_bytes u (v ∷ units))) (found-apart at u v units hu hv e r f (is_half u) refl)
 
 pub found : (at : ℕ) (units : List ℕ) → AreUnits units → Finds at (flat_map unit_bytes units) (chars_from at units)

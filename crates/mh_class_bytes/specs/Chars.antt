@@ -1,6 +1,6 @@
 -- The characters of a text: its UTF-16 units, a high half joined with the low half behind it (JVMS SE 17, 4.4.7; RFC 2781, 2.2).
-use Rattle.std.specs.Prelude.{◌≡◌, ℕ, zero, suc, ◌+◌, ◌-◌, ◌*◌, ◌/◌, ◌%◌, ◌≤◌, ◌<◌, List, [], ◌∷◌, ◌++◌, length, take, drop, nat_lt, nat_le, ◌==◌, slice_index, Bool, true, ◌&&◌, Option, Some, None, Result, Ok, Err, if◌then◌else◌}
-use Rattle.std.specs.List.{flat_map}
+use Rattle.std.specs.Prelude.{◌≡◌, ℕ, zero, suc, ◌+◌, ◌-◌, ◌*◌, ◌/◌, ◌%◌, ◌≤◌, ◌<◌, List, [], ◌∷◌, ◌++◌, length, take, drop, nat_lt, nat_le, ◌==◌, slice_index, Bool, true, false, ◌&&◌, Option, Some, None, Result, Ok, Err, if◌then◌else◌}
+use Rattle.std.specs.List.{flat_map, AllByRecursion}
 use Rattle.mh_class_bytes.specs.Mutf8.{AreUnits, unit_bytes, unit_len}
 use Rattle.mh_class_bytes.specs.declared.chars.CharsError.{CharsError}
 use Rattle.mh_class_bytes.specs.declared.chars.CharsError.TheVariants.{NoMemory, LoneSurrogate}
@@ -25,6 +25,10 @@ joined high low = 0x10000 + 1024 * (high - 0xD800) + (low - 0xDC00)
 abbrev pub units_of : ℕ → List ℕ
 units_of c = if nat_lt c 0x10000 then c ∷ [] else (0xD800 + (c - 0x10000) / 1024) ∷ (0xDC00 + (c - 0x10000) % 1024) ∷ []
 
+-- characters: numbers below 0x110000, none of them a half of a pair
+abbrev pub AreChars : List ℕ → Type 0
+AreChars cs = AllByRecursion (λ c. (c < 0x110000) × (is_half c ≡ false)) cs
+
 -- characters, spelled one after the other
 abbrev pub spelled : List ℕ → List ℕ
 spelled cs = flat_map (λ c. flat_map unit_bytes (units_of c)) cs
@@ -32,6 +36,7 @@ spelled cs = flat_map (λ c. flat_map unit_bytes (units_of c)) cs
 -- the first half without a partner: characters stand before it, and it begins no pair
 pub record IsLoneAt (bytes : List ℕ) (at : ℕ) : Type 0 where
   pub chars : List ℕ
+  pub whole : AreChars chars
   pub before : take at bytes ≡ spelled chars
   pub half : ℕ
   pub rest : List ℕ

@@ -10,6 +10,3 @@ pub use chars::CharsError;
 pub use cursor::{Cursor, Short};
 pub use fault::Fault;
 pub use text::{BadText, Text, mutf8_check};
-
-#[cfg(test)]
-mod tests;

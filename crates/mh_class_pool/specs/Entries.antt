@@ -59,7 +59,7 @@ paired tag = do
       else (if tag == 17 then Dynamic first second
       else InvokeDynamic first second)))))
 
--- a kind of method handle, and what it refers to
+-- a kind of method handle, and what it refers to (4.4.8)
 unfoldable pub handle : Part Entry
 handle = do
   kind ← number Truncated 1
@@ -87,13 +87,13 @@ entry is_last = do
   fits ← check (not (is_last && is_wide_tag tag)) at BadIndex
   choose (tag == 1) utf8 (contents tag at)
 
--- a Long or a Double, which takes two indexes
+-- a Long or a Double, which takes two indexes (4.4.5)
 abbrev pub is_wide : Entry → Bool
 is_wide (Long high low) = true
 is_wide Double = true
 is_wide _ = false
 
--- what a bootstrap method may be given
+-- what a bootstrap method may be given: a loadable constant (4.4, 4.7.23)
 abbrev pub is_argument : Entry → Bool
 is_argument (Integer n) = true
 is_argument Float = true

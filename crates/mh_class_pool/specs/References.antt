@@ -45,13 +45,13 @@ referred kind =
     else (if kind == 9 then kinds.InterfaceMethodref
     else kinds.AnyMethodref))
 
--- the references of a member: its class, its name and type
+-- the references of a member: its class, its name and type (4.4.2)
 abbrev pub good_member : List Slot → ℕ → ℕ → ℕ → Verdict
 good_member pool at class name = do
   first ← names pool kinds.Class class at
   names pool kinds.NameAndType name at
 
--- the references of a name and type: two texts
+-- the references of a name and type: two texts (4.4.6)
 abbrev pub good_name : List Slot → ℕ → ℕ → ℕ → Verdict
 good_name pool at name descriptor = do
   first ← names pool kinds.Utf8 name at
@@ -91,7 +91,7 @@ good_method_name pool (Some (at, entries.NameAndType name descriptor)) = do
   is_descriptor (slot pool descriptor)
 good_method_name pool _ = Ok tt
 
--- the descriptor that an entry must have: of a method type, of a method, or of a call site
+-- the descriptor that an entry must have: of a method type (4.4.9), of a method (4.4.2), or of a call site (4.4.10)
 unfoldable pub good_descriptor : List Slot → Entry → Verdict
 good_descriptor pool (entries.MethodType name) = is_descriptor (slot pool name)
 good_descriptor pool (entries.Methodref class name) = good_method_name pool (slot pool name)

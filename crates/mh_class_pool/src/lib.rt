@@ -12,6 +12,3 @@ pub use fault::{ClassError, ClassFault, ClassKind};
 pub use numbers::{run, u1, u2, u4};
 pub use pool::{Pool, read_pool};
 pub use references::{check_name, check_name_or_none, check_pool};
-
-#[cfg(test)]
-mod tests;

@@ -1,14 +1,19 @@
 -- What the definitions of class files say of some bytes, by computation.
-use Rattle.std.proofs.Common.{◌≡◌, ℕ, ◌-◌, List, [], ◌∷◌, refl, Some, None, Ok, true, false}
+use Rattle.std.proofs.Common.{◌≡◌, ℕ, ◌-◌, List, [], ◌∷◌, ◌++◌, refl, Some, None, Ok, true, false}
+use Rattle.std.specs.Int.{cast_signed, w64}
 use Rattle.mh_class_bytes.specs.Position.{Position}
-use Rattle.mh_class_bytes.specs.Format.{reads, fault}
+use Rattle.mh_class_bytes.specs.Mutf8.{unit_len, sound_from}
+use Rattle.mh_class_bytes.specs.Format.{reads, fault, repeated}
 use Rattle.mh_class_pool.specs.declared.entry.Entry.TheVariants as entries
-use Rattle.mh_class_pool.specs.declared.fault.ClassKind.TheVariants.{Truncated, BadMagic, BadVersion, BadIndex, BadCode, WrongKind, TooManySites, BadBootstraps}
-use Rattle.mh_class_pool.specs.Entries.{Slot}
+use Rattle.mh_class_pool.specs.declared.fault.ClassKind.TheVariants.{Truncated, BadMagic, BadVersion, BadIndex, BadCode, WrongKind, TooManySites, BadBootstraps, Trailing}
+use Rattle.mh_class_pool.specs.Entries.{Slot, entry, utf8, utf8_bytes, contents, numeric, named}
+use Rattle.mh_class_pool.specs.References.{each, good_slot, own_references, good_descriptor}
+use Rattle.mh_classfile.specs.declared.constant.Constant.TheVariants as constants
 use Rattle.mh_classfile.specs.declared.site.Method.{Method}
 use Rattle.mh_classfile.specs.Code.{fixed_len, raised, padding, instruction, ordinary, wide, passed, call_site, operands}
-use Rattle.mh_classfile.specs.Members.{code_bytes}
-use Rattle.mh_classfile.specs.File.{header, has_bootstrap}
+use Rattle.mh_classfile.specs.Members.{code_bytes, named_index, interface, class_names, field, method, members}
+use Rattle.mh_classfile.specs.Bootstraps.{class_attribute, class_attributes}
+use Rattle.mh_classfile.specs.File.{header, has_bootstrap, class_file, class_or_fault}
 
 at_start : List ℕ → Position
 at_start bytes = record { bytes = bytes; at = 0 }
@@ -94,3 +99,16 @@ no_code = refl
 bootstrap_past_the_end : has_bootstrap 1 (Some (15, entries.InvokeDynamic 1 1)) ≡ fault 15 BadBootstraps
 unfolding has_bootstrap
 bootstrap_past_the_end = refl
+
+-- a class `A` without a superclass, with a Long beside its own name: 40 bytes
+small : List ℕ
+small = magic (0 ∷ 0 ∷ 0 ∷ 61 ∷ 0 ∷ 5 ∷ 1 ∷ 0 ∷ 1 ∷ 65 ∷ 7 ∷ 0 ∷ 1 ∷ 5 ∷ 0 ∷ 0 ∷ 0 ∷ 0 ∷ 0 ∷ 0 ∷ 0 ∷ 7 ∷ 0 ∷ 33 ∷ 0 ∷ 2 ∷ 0 ∷ 0 ∷ 0 ∷ 0 ∷ 0 ∷ 0 ∷ 0 ∷ 0 ∷ 0 ∷ 0 ∷ [])
+
+-- no constant at index 0 and at the second index of the Long
+small_class : class_or_fault 0 small ≡ Ok (record { constants = None ∷ Some constants.Other ∷ Some (constants.Class (65 ∷ [])) ∷ Some (constants.Long (cast_signed w64 7)) ∷ None ∷ []; sites = []; bootstraps = [] })
+unfolding small magic class_file header entry utf8 utf8_bytes contents numeric named sound_from unit_len repeated each good_slot own_references good_descriptor class_names named_index interface members field method class_attributes class_attribute has_bootstrap
+small_class = refl
+
+a_byte_more : class_or_fault 0 (small ++ 0 ∷ []) ≡ fault 40 Trailing
+unfolding small magic class_file header entry utf8 utf8_bytes contents numeric named sound_from unit_len repeated each good_slot own_references good_descriptor class_names named_index interface members field method class_attributes class_attribute has_bootstrap
+a_byte_more = refl

@@ -61,7 +61,7 @@ passed len = do
   bytes ← run BadCode len
   done tt
 
--- wide behind its opcode: iinc with its operands, or an instruction on a local variable with a longer index
+-- wide behind its opcode (6.5): iinc with its operands, or an instruction on a local variable with a longer index
 unfoldable pub wide : ℕ → Part (Unit {0})
 wide at = do
   opcode ← number BadCode 1

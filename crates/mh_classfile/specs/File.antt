@@ -27,7 +27,7 @@ header = do
   some ← check (nat_lt 0 count) at_count BadIndex
   done count
 
--- an entry that names a bootstrap method names one that is there; the fault stands at its tag
+-- an entry that names a bootstrap method names one that is there (4.4.10); the fault stands at its tag
 unfoldable pub has_bootstrap : ℕ → Slot → Verdict
 has_bootstrap count (Some (at, entries.InvokeDynamic bootstrap name)) = holds (nat_lt bootstrap count) at BadBootstraps
 has_bootstrap count (Some (at, entries.Dynamic bootstrap name)) = holds (nat_lt bootstrap count) at BadBootstraps

@@ -73,7 +73,7 @@ code_attribute pool method room so_far = do
   len ← number Truncated 4
   part Truncated len BadCode (code_contents pool method room so_far)
 
--- an attribute of a method: Code is read, the first time, and the others are passed over; with whether Code was there
+-- an attribute of a method: Code is read, the first time, and the others are passed over (4.7); with whether Code was there
 unfoldable pub method_attribute : List Slot → Method → ℕ → Bool × List Site → Part (Bool × List Site)
 method_attribute pool method room so_far = do
   at ← here

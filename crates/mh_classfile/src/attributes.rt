@@ -80,7 +80,7 @@ fn pass_handlers(count: u16, cursor: &mut Cursor<'_>) -> Result<(), ClassFault>
     Ok(())
 }
 
-/// That a part was read to its end.
+/// That the file, or a part of it, was read to its end.
 pub fn check_filled(at: usize, end: usize, kind: ClassKind) -> Result<(), ClassFault>
     ensures { Finds (λ x. x) result
         (if at == end then Ok tt else Err (record { at = at; kind = kind })) }

@@ -6,7 +6,7 @@ use std::alloc::Global;
 use std::marker::Model;
 
 /// A bootstrap method: the index of its handle, and where its arguments stand in the list of all.
-#[derive(Clone, Copy, Debug, PartialEq, Eq)]
+#[derive(Clone, Copy)]
 pub struct Span {
     pub handle: u16,
     pub start: usize,
@@ -14,7 +14,7 @@ pub struct Span {
 }
 
 /// The bootstrap methods of a class, with all their arguments in one list.
-#[derive(Debug, Drop)]
+#[derive(Drop)]
 pub struct Bootstraps {
     spans: Seq<Span>,
     arguments: Seq<u16>,

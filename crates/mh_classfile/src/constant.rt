@@ -12,7 +12,7 @@ pub struct HandleRef<'b> {
 }
 
 /// A name with the descriptor that goes with it (4.4.6).
-#[derive(Debug, Drop)]
+#[derive(Drop)]
 pub struct Named<'b> {
     pub name: Text<'b>,
     pub descriptor: Text<'b>,

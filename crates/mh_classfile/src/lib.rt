@@ -15,6 +15,3 @@ pub use constant::{Constant, HandleRef, SiteView};
 pub use mh_class_pool::{ClassError, ClassFault, ClassKind};
 pub use reader::read;
 pub use view::ClassView;
-
-#[cfg(test)]
-mod tests;

@@ -8,6 +8,7 @@ ghost use Rattle.mh_classfile.specs.Rows.{closed_of};
 ghost use Rattle.mh_classfile.specs.Class.{Class};
 ghost use Rattle.mh_classfile.specs.File.{header, has_bootstrap, rows_or_none, IsClassFile, class_or_fault, IsEither};
 
+use crate::attributes::check_filled;
 use crate::bootstraps::Bootstraps;
 use crate::class_attributes::read_class_attributes;
 use crate::members::{pass_class_names, read_members};
@@ -96,11 +97,7 @@ fn read_exact<'b>(alloc: Global, bytes: &'b [u8], room: u32) -> Result<ClassView
     read_members(&pool, &mut sites, &mut cursor)?;
     let found = read_class_attributes(alloc, &pool, &mut cursor)?;
     let bootstraps = methods_or_none(alloc, found);
-    let at = cursor.at();
-    if at != bytes.len() {
-        let kind = ClassKind::Trailing;
-        return Err(ClassError::Fault(ClassFault { at, kind }));
-    }
+    check_filled(cursor.at(), bytes.len(), ClassKind::Trailing)?;
     check_bootstraps(&pool, bootstraps.len())?;
     Ok(ClassView {
         pool,

@@ -5,14 +5,14 @@ use std::alloc::Global;
 use std::marker::Model;
 
 /// A method of the class: the indexes of its name and of its descriptor.
-#[derive(Clone, Copy, Debug, PartialEq, Eq)]
+#[derive(Clone, Copy)]
 pub struct Method {
     pub name: u16,
     pub descriptor: u16,
 }
 
 /// An `invokedynamic` instruction.
-#[derive(Clone, Copy, Debug, PartialEq, Eq)]
+#[derive(Clone, Copy)]
 pub struct Site {
     pub method: Method,
     /// Its place, counted from the first byte of the method's code.
@@ -22,7 +22,7 @@ pub struct Site {
 }
 
 /// The call sites that were found so far, and how many may be found.
-#[derive(Debug, Drop)]
+#[derive(Drop)]
 pub struct Sites {
     found: Seq<Site>,
     room: u32,

@@ -10,6 +10,3 @@ pub use allowed::{conversion, ret_conversion};
 pub use conv::{Conv, RetConv};
 pub use giving::{convert, fit};
 pub use misfits::misfit;
-
-#[cfg(test)]
-mod tests;

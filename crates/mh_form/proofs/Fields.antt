@@ -1,10 +1,10 @@
 -- What the fields of a bound body stand for.
-use Rattle.std.proofs.Common.{◌≡◌, refl, sym, ap, ◌∙◌, ℕ, ◌<◌, ◌≤◌, List, ◌∷◌, Option, Some, None, map, length}
-use Rattle.std.specs.Prelude.{slice_index_or}
+use Rattle.std.proofs.Common.{◌≡◌, refl, ap, ◌∙◌, ℕ, ◌<◌, List, ◌∷◌, Option, Some, map, length}
+use Rattle.std.specs.Prelude.{slice_get, slice_index_or}
 use Rattle.std.specs.Option.{option_map}
 use Rattle.std.specs.declared.boxed.Box.{Box}
 use Rattle.std.specs.declared.alloc.Global.{Global}
-use Rattle.std.proofs.lemmas.Option.{slice_get-map, slice_get_read, slice_get_past}
+use Rattle.std.proofs.lemmas.Option.{slice_get-map, slice_get_read}
 use Rattle.mh_values.specs.Computation.{Stuck, found}
 use Rattle.mh_leaf.specs.LeafTable.{LeafTable}
 use Rattle.mh_form.specs.declared.slot.Slot.{Slot}
@@ -29,6 +29,15 @@ sense-Part table b =
     ap (λ s. IsPart (run_body b.value.body.now s))
     (senses_of-items table (hidden-the_row-Field-0 b.value.fields) ∙ ap (map (sense table)) (items_hidden-the_row-Field-0 b.value.fields))
 
+-- the field that was found at a place
+pub field_of-found :
+    {A : Type 0} →
+    (kind : Sense → Option A) (table : LeafTable) (fields : List Field) (f : ℕ) (e : Field) →
+    slice_get fields f ≡ Some e →
+    field_of kind (map (sense table) fields) f ≡ kind (sense table e)
+field_of-found kind table fields f e is =
+    ap (of_kind kind) (slice_get-map (sense table) fields f ∙ ap (option_map (sense table)) is)
+
 -- the field at a place
 pub field_of-at :
     {A : Type 0} →
@@ -37,15 +46,7 @@ pub field_of-at :
     e ≡ slice_index_or fields f e →
     field_of kind (map (sense table) fields) f ≡ kind (sense table e)
 field_of-at kind table fields f e low is =
-    ap (of_kind kind) (slice_get-map (sense table) fields f ∙ ap (option_map (sense table)) (slice_get_read fields (length fields) f e refl low is))
-
-pub field_of-past :
-    {A : Type 0} →
-    (kind : Sense → Option A) (table : LeafTable) (fields : List Field) (f : ℕ) →
-    length fields ≤ f →
-    field_of kind (map (sense table) fields) f ≡ None
-field_of-past kind table fields f high =
-    ap (of_kind kind) (slice_get-map (sense table) fields f ∙ ap (option_map (sense table)) (slice_get_past fields f high))
+    field_of-found kind table fields f e (slice_get_read fields (length fields) f e refl low is)
 
 pub run_field-part :
     (table : LeafTable) (fields : List Field) (f : ℕ) (e : Field) (b : Box Bound Global) (slots : List Slot) (n : ℕ) →

@@ -4,8 +4,11 @@ use mh_base::Seq;
 /// references, the numbers of 32 bits and `boolean`, and the numbers of 64 bits.
 #[derive(Clone, Copy, Debug, PartialEq, Eq)]
 pub enum Basic {
+    /// A reference.
     L,
+    /// 32 bits: an `int`, or a `boolean` as 1 or 0.
     I,
+    /// 64 bits: a `long`.
     J,
 }
 
@@ -15,7 +18,9 @@ pub type Basics = Seq<Basic>;
 /// What a return type becomes: nothing where it is void.
 #[derive(Clone, Copy, Debug, PartialEq, Eq)]
 pub enum BasicRet {
+    /// Nothing, for `void`.
     V,
+    /// One value of a basic type.
     Is(Basic),
 }
 

@@ -47,7 +47,7 @@ pub fn copy_fields<'t>(alloc: Global, fields: &[Field<'t>]) -> Result<Fields<'t>
     ensures { (table : LeafTable) → IfOk result
         (λ copies. map (sense table) copies.items ≡ map (sense table) fields.now) }
 {
-    let mut copies = Vec::new(alloc);
+    let mut copies = Vec::with_capacity(alloc, fields.len())?;
     for field in fields {
         copies.push(copy_field(alloc, field)?)?;
     }

@@ -7,7 +7,8 @@ use mh_values::{Classes, Items, MethodTy, Num, Primitive, Ty, Tys, Value};
 use std::alloc::Global;
 use std::mem;
 
-fn basic(ty: Ty) -> Basic
+/// What a type becomes when it is erased.
+pub fn basic_of(ty: Ty) -> Basic
     ensures { result ≡ basic_of ty }
 {
     match ty {
@@ -22,7 +23,7 @@ fn basic_ret(ret: Option<Ty>) -> BasicRet
 {
     match ret {
         None => BasicRet::V,
-        Some(ty) => BasicRet::Is(basic(ty)),
+        Some(ty) => BasicRet::Is(basic_of(ty)),
     }
 }
 
@@ -30,9 +31,9 @@ fn basic_ret(ret: Option<Ty>) -> BasicRet
 pub fn shape(alloc: Global, ty: &MethodTy) -> Result<Shape, NoMemory>
     ensures { IfOk result (λ shape. shape ≡ shape_of ty.now) }
 {
-    let mut params = Seq::new(alloc);
+    let mut params = Seq::from_vec(Vec::with_capacity(alloc, ty.params.len())?);
     for param in ty.params.as_slice() {
-        params.push(basic(*param))?;
+        params.push(basic_of(*param))?;
     }
     Ok(Shape {
         params,
@@ -89,7 +90,7 @@ pub fn all_typed(
     ensures { IfOk result (λ values. all_typed classes.now types.now slots ≡ Some values) }
 {
     let mut slots = slots.into_vec();
-    let mut values = Seq::new(alloc);
+    let mut values = Seq::from_vec(Vec::with_capacity(alloc, types.len())?);
     for i in 0..types.len() {
         if i >= slots.len() {
             unreachable!()

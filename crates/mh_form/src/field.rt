@@ -6,12 +6,19 @@ use mh_values::{ClassId, Comp, LeafId};
 #[derive(Drop)]
 #[cycle(bound)]
 pub enum Field<'t> {
+    /// A slot: a bound or constant value.
     Val(Slot),
+    /// A leaf to call.
     Leaf(LeafId),
+    /// A body with fields of its own: that of a filter, a combiner, a test, a branch or a handler.
     Part(Box<Bound<'t>>),
+    /// The class of the exceptions that are handled.
     Class(ClassId),
+    /// The conversion of an argument.
     Conv(Conv),
+    /// The conversion of a result.
     Ret(RetConv),
+    /// The component type of an array.
     Comp(Comp),
 }
 

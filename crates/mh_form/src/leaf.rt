@@ -4,15 +4,16 @@ ghost use Rattle.std.specs.Prelude.{◌≡◌, ◌≢◌, IfOk, List};
 ghost use Rattle.mh_values.specs.Computation.{Stuck};
 ghost use Rattle.mh_values.specs.declared.value.LeafCall.{LeafCall};
 ghost use Rattle.mh_leaf.specs.declared.leaf.Leaf.{Leaf};
-ghost use Rattle.mh_leaf.specs.Outcome.{calls_of, lacks_receiver, ran_of};
+ghost use Rattle.mh_leaf.specs.Outcome.{calls_of, ran_of};
 ghost use Rattle.mh_form.specs.Erasure.{erased_ran};
 ghost use Rattle.mh_form.specs.Run.{ran_of_outcome, ran_of_run};
 ghost use Rattle.mh_form.specs.Slots.{called};
 
 use crate::{Ran, SlotOutcome, Slots, all_typed, erase};
 use mh_base::{NoMemory, Seq};
+use mh_leaf::lacks_receiver;
 use mh_leaves::Leaves;
-use mh_values::{Calls, Items, LeafCall, LeafId, Outcome, Value};
+use mh_values::{Calls, Items, LeafCall, LeafId, Outcome};
 use std::alloc::Global;
 
 fn erase_outcome(outcome: Outcome) -> SlotOutcome
@@ -23,17 +24,6 @@ fn erase_outcome(outcome: Outcome) -> SlotOutcome
         Outcome::Return(None) => SlotOutcome::Return(None),
         Outcome::Return(Some(value)) => SlotOutcome::Return(Some(erase(value))),
         Outcome::Throw(exc) => SlotOutcome::Throw(exc),
-    }
-}
-
-/// Whether a leaf is called on null as its receiver, so that it does not run.
-fn lacks_receiver(is_virtual: bool, args: &Items) -> bool
-    ensures { (leaf : Leaf) → leaf.is_virtual ≡ is_virtual →
-        result ≡ lacks_receiver leaf args.now }
-{
-    match args.as_slice() {
-        [Value::Null, ..] => is_virtual,
-        _ => false,
     }
 }
 

@@ -21,7 +21,7 @@ mod slots;
 pub use basic::{Basic, BasicRet, Basics, Shape};
 pub use body::FormBody;
 pub use duplicate::{copy_bound, copy_field, copy_fields};
-pub use erasure::{all_typed, erase, erase_all, shape, typed};
+pub use erasure::{all_typed, basic_of, erase, erase_all, shape, typed};
 pub use field::{Bound, Field, Fields};
 pub use interpreter::run;
 pub use name::{Name, Names, Operands};

@@ -1,6 +1,6 @@
 //! What stands in a field, where it is of the kind that is asked for.
 
-ghost use Rattle.std.specs.Prelude.{◌≡◌};
+ghost use Rattle.std.specs.Prelude.{◌≡◌, slice_get};
 ghost use Rattle.std.specs.Option.{option_copied, option_map};
 ghost use Rattle.mh_form.specs.Slots.{called, converted, is_caught, made_array, ret_converted};
 ghost use Rattle.mh_form.specs.Run.{class_of, comp_of, conv_of, field_of, leaf_of, ret_of, senses_in, slot_of};
@@ -10,15 +10,18 @@ use mh_convert::{Conv, RetConv};
 use mh_leaves::Leaves;
 use mh_values::{ClassId, Comp, LeafId};
 
+/// The field of a number, if there is one.
+fn field_at<'a, 't>(bound: &'a Bound<'t>, field: u32) -> Option<&'a Field<'t>>
+    ensures { option_copied result ≡ slice_get bound.now.fields.items field }
+{
+    bound.fields.as_slice().get(field as usize)
+}
+
 pub(crate) fn slot_in<'a>(bound: &'a Bound<'_>, leaves: &Leaves, field: u32) -> Option<&'a Slot>
     ensures { option_copied result
         ≡ field_of slot_of (senses_in leaves.now bound.now) field }
 {
-    let at = field as usize;
-    if at >= bound.fields.len() {
-        return None;
-    }
-    match &bound.fields[at] {
+    match field_at(bound, field)? {
         Field::Val(found) => Some(found),
         _ => None,
     }
@@ -28,11 +31,7 @@ pub(crate) fn leaf_in(bound: &Bound<'_>, leaves: &Leaves, field: u32) -> Option<
     ensures { option_map (called leaves.now) result
         ≡ field_of leaf_of (senses_in leaves.now bound.now) field }
 {
-    let at = field as usize;
-    if at >= bound.fields.len() {
-        return None;
-    }
-    match &bound.fields[at] {
+    match field_at(bound, field)? {
         Field::Leaf(found) => Some(*found),
         _ => None,
     }
@@ -42,11 +41,7 @@ pub(crate) fn class_in(bound: &Bound<'_>, leaves: &Leaves, field: u32) -> Option
     ensures { option_map (is_caught leaves.now.classes) result
         ≡ field_of class_of (senses_in leaves.now bound.now) field }
 {
-    let at = field as usize;
-    if at >= bound.fields.len() {
-        return None;
-    }
-    match &bound.fields[at] {
+    match field_at(bound, field)? {
         Field::Class(found) => Some(*found),
         _ => None,
     }
@@ -56,11 +51,7 @@ pub(crate) fn conv_in(bound: &Bound<'_>, leaves: &Leaves, field: u32) -> Option<
     ensures { option_map (converted leaves.now.classes) result
         ≡ field_of conv_of (senses_in leaves.now bound.now) field }
 {
-    let at = field as usize;
-    if at >= bound.fields.len() {
-        return None;
-    }
-    match &bound.fields[at] {
+    match field_at(bound, field)? {
         Field::Conv(found) => Some(*found),
         _ => None,
     }
@@ -70,11 +61,7 @@ pub(crate) fn ret_in(bound: &Bound<'_>, leaves: &Leaves, field: u32) -> Option<R
     ensures { option_map (ret_converted leaves.now.classes) result
         ≡ field_of ret_of (senses_in leaves.now bound.now) field }
 {
-    let at = field as usize;
-    if at >= bound.fields.len() {
-        return None;
-    }
-    match &bound.fields[at] {
+    match field_at(bound, field)? {
         Field::Ret(found) => Some(*found),
         _ => None,
     }
@@ -84,11 +71,7 @@ pub(crate) fn comp_in(bound: &Bound<'_>, leaves: &Leaves, field: u32) -> Option<
     ensures { option_map (made_array leaves.now.classes) result
         ≡ field_of comp_of (senses_in leaves.now bound.now) field }
 {
-    let at = field as usize;
-    if at >= bound.fields.len() {
-        return None;
-    }
-    match &bound.fields[at] {
+    match field_at(bound, field)? {
         Field::Comp(found) => Some(*found),
         _ => None,
     }

@@ -69,7 +69,6 @@ impl<'t> FormPass<'t> {
     /// The form of a recipe, if the chain shows it.
     pub(crate) fn find(
         &mut self,
-        alloc: Global,
         chain: &'t Chain<Form>,
         recipe: &Recipe,
     ) -> Result<Option<&'t Form>, NoMemory>
@@ -77,7 +76,7 @@ impl<'t> FormPass<'t> {
         ensures learns { Learns self.old self.new }
         ensures found { IfOk result (Finds recipe_of self.new.nodes recipe.now) }
     {
-        chain.find(alloc, &mut self.walk, recipe)
+        chain.find(&mut self.walk, recipe)
     }
 
     /// Asks for a form that was learnt, and was not asked for.

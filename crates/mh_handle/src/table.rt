@@ -86,7 +86,7 @@ impl FormTable {
             return Ok(seen);
         }
         let recipe = form.recipe().then(alloc, &key)?;
-        if let Some(found) = pass.find(alloc, &self.chain, &recipe)? {
+        if let Some(found) = pass.find(&self.chain, &recipe)? {
             pass.ask(found)?;
             return Ok(found);
         }

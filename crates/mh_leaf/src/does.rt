@@ -1,5 +1,6 @@
 ghost use Rattle.std.specs.Prelude.{◌≡◌, IfOk, IsSome, Some, option_map, option_copied};
 ghost use Rattle.std.specs.Int.{cast_signed, w32};
+ghost use Rattle.mh_leaf.specs.declared.leaf.Leaf.{Leaf as Called};
 ghost use Rattle.mh_leaf.specs.Outcome.{kind_on, leaf_outcome, lacks_receiver, divided, int, long, boolean, returned, is_same_int};
 
 use crate::arguments::{
@@ -184,12 +185,13 @@ pub fn kind_does(
     }
 }
 
-/// Whether a leaf is called on null as its receiver, on which a virtual leaf does not run.
-pub fn lacks_receiver(leaf: &Leaf, args: &Items) -> bool
-    ensures { result ≡ lacks_receiver leaf.now args.now }
+/// Whether a leaf, virtual or not, is called on null as its receiver, so that it does not run.
+pub fn lacks_receiver(is_virtual: bool, args: &Items) -> bool
+    ensures { (leaf : Called) → leaf.is_virtual ≡ is_virtual →
+        result ≡ lacks_receiver leaf args.now }
 {
     match args.as_slice() {
-        [Value::Null, ..] => leaf.is_virtual,
+        [Value::Null, ..] => is_virtual,
         _ => false,
     }
 }
@@ -200,7 +202,7 @@ pub fn leaf_does(alloc: Global, leaf: &Leaf, args: &Items, n: u32) -> Result<Out
     requires { IsSome (leaf_outcome leaf.now args.now n) }
     ensures { IfOk result (λ outcome. leaf_outcome leaf.now args.now n ≡ Some outcome) }
 {
-    if lacks_receiver(leaf, args) {
+    if lacks_receiver(leaf.is_virtual, args) {
         return Ok(Outcome::Throw(Exc::bare(alloc, ClassId::NULL_POINTER)));
     }
     let Some(outcome) = kind_does(alloc, leaf.kind, args, n)? else {

@@ -1,11 +1,9 @@
 -- A leaf of an owner that is there, whose kind allows its type, may be registered.
-use Rattle.std.proofs.Common.{◌≡◌, refl, sym, subst, ℕ, ◌<◌, true, List, length, get_or}
-use Rattle.std.specs.List.{All}
+use Rattle.std.proofs.Common.{◌≡◌, subst, ◌<◌, true, List, length}
 use Rattle.mh_values.specs.declared.class.Class.{Class}
 use Rattle.mh_values.specs.Class.{throwable_class}
-use Rattle.mh_values.specs.Classes.{AreClasses}
-use Rattle.mh_values.proofs.SameTypes.{both, both-true}
-use Rattle.mh_values.proofs.Subclasses.{reaches-sound, is_subclass-complete}
+use Rattle.mh_values.proofs.SameTypes.{both}
+use Rattle.mh_values.proofs.Subclasses.{reaches-sound}
 use Rattle.mh_leaf.specs.declared.leaf.Kind.{Kind}
 use Rattle.mh_leaf.specs.declared.leaf.Kind.TheVariants as kind
 use Rattle.mh_leaf.specs.declared.leaf.Leaf.{Leaf}
@@ -35,13 +33,3 @@ leaf-typed classes tested leaf owner same typed =
     let is : is_well_typed classes leaf ≡ true = subst (λ cs. is_well_typed cs leaf ≡ true) same typed in
     let q = both (is_kind_type leaf.kind leaf.ty) (throws_exceptions classes leaf.kind) is in
     record { owner = owner; typed = q.0; throws = throws classes leaf.kind q.1 }
-
-throws-back : (classes : List Class) → AreClasses classes → (k : Kind) → ThrowsException classes k → throws_exceptions classes k ≡ true
-throws-back classes are (kind.Throw class) h = is_subclass-complete classes are.ordered.ascending class throwable_class h
-throws-back classes are k h = refl
-
--- a registered leaf is well typed
-pub registered-typed : (classes : List Class) (leaves : List Leaf) (i : ℕ) (leaf : Leaf) → AreClasses classes → All (IsLeafOf classes) leaves → i < length leaves → leaf ≡ get_or leaves i leaf → is_well_typed classes leaf ≡ true
-registered-typed classes leaves i leaf are all within read =
-    let is : IsLeafOf classes leaf = subst (IsLeafOf classes) (sym read) (all i leaf within) in
-    both-true _ _ is.typed (throws-back classes are leaf.kind is.throws)

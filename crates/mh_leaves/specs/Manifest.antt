@@ -3,7 +3,7 @@ use Rattle.std.specs.Prelude.{ℕ, ◌==◌, List, [], ◌∷◌, codes, Bool, t
 use Rattle.std.specs.Option.{option_map_or}
 use Rattle.std.specs.List.{list_all, list_any, slice_split, starts_with}
 use Rattle.std.specs.Str.{bytes_eq}
-use Rattle.mh_base.specs.Lines.{lines_of, tokens_of, is_passed, is_plain, built_from}
+use Rattle.mh_base.specs.Lines.{lines_of, tokens_of, cut_at, is_passed, is_plain, built_from}
 use Rattle.mh_base.specs.declared.lines.LineFault.{LineFault}
 use Rattle.mh_values.specs.declared.class.Class.{Class}
 use Rattle.mh_values.specs.declared.class.ClassId.{ClassId}
@@ -22,7 +22,7 @@ use Rattle.mh_leaves.specs.declared.manifest.ManifestKind.{ManifestKind}
 use Rattle.mh_leaves.specs.declared.manifest.ManifestKind.TheVariants.{BadLine, Twice, UnknownClass, BadDescriptor, BadKind, TooMany}
 use Rattle.mh_leaves.specs.Find.{has_texts}
 use Rattle.mh_leaves.specs.Provided.{provided, provided_some}
-use Rattle.mh_leaves.specs.Reference.{Texts, is_class_name, is_method_name, cut_at}
+use Rattle.mh_leaves.specs.Reference.{Texts, is_class_name, is_method_name}
 use Rattle.mh_leaves.specs.Registered.{nothing_registered, with_class, with_leaf, most_leaves}
 
 -- the name of a kind of fault

@@ -1,6 +1,7 @@
 -- Names of classes and methods, and references to leaves.
-use Rattle.std.specs.Prelude.{ℕ, ◌==◌, ◌+◌, Bool, not, ◌&&◌, ◌||◌, List, length, take, drop, Option, None, Some, position, option_map, option_and_then, if◌then◌else◌}
+use Rattle.std.specs.Prelude.{ℕ, ◌==◌, Bool, not, ◌&&◌, ◌||◌, List, length, Option, None, Some, option_and_then, if◌then◌else◌}
 use Rattle.std.specs.List.{list_all}
+use Rattle.mh_base.specs.Lines.{cut_at}
 use Rattle.mh_leaves.specs.declared.reference.Reference.{Reference}
 
 -- a character that neither a class name nor a method name has: a space or one of `. ; [ : ,`
@@ -28,10 +29,6 @@ pub record Texts : Type 0 where
   pub owner : List ℕ
   pub name : List ℕ
   pub descriptor : List ℕ
-
--- a text in front of the first place of a byte, and behind it
-abbrev pub cut_at : ℕ → List ℕ → Option (List ℕ × List ℕ)
-cut_at b text = option_map (λ at. (take at text, drop (at + 1) text)) (position (λ x. x == b) text)
 
 -- these texts, if the first two are names
 abbrev pub if_named : Texts → Option Texts

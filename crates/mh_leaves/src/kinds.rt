@@ -1,20 +1,10 @@
 ghost use Rattle.std.specs.Prelude.{◌≡◌, option_copied};
-ghost use Rattle.mh_leaf.specs.Outcome.{is_type, returns_first, chooses, is_kind_type, throws_exceptions, is_well_typed};
+ghost use Rattle.mh_leaf.specs.Outcome.{is_well_typed};
 ghost use Rattle.mh_leaves.specs.Manifest.{number_kind, other_kind, thrown_name, is_kind_word, throw_kind, kind_among};
 
 use crate::reference::is_class_name;
-use mh_leaf::{Kind, Leaf};
-use mh_values::{
-    ClassId, Classes, MethodTy, Primitive, Ty, are_same_types, is_same_return, is_same_type,
-};
-
-const BOOLEAN: Ty = Ty::Prim(Primitive::Z);
-
-const INT: Ty = Ty::Prim(Primitive::I);
-
-const LONG: Ty = Ty::Prim(Primitive::J);
-
-const STRING: Ty = Ty::Class(ClassId(8));
+use mh_leaf::{Kind, Leaf, is_kind_type, throws_exceptions};
+use mh_values::Classes;
 
 /// A kind that computes with numbers or booleans, by its word.
 fn number_kind(word: &[u8]) -> Option<Kind>
@@ -103,64 +93,6 @@ pub(crate) fn kind_among(word: &[u8], classes: &Classes) -> Option<Kind>
         return Some(kind);
     }
     throw_kind(word, classes)
-}
-
-/// Whether a method type has these parameters and this return.
-fn is_type(t: &MethodTy, params: &[Ty], ret: Ty) -> bool
-    ensures { result ≡ is_type t.now params.now ret }
-{
-    are_same_types(t.params.as_slice(), params) && is_same_return(t.ret, Some(ret))
-}
-
-/// Whether the return type is that of the first parameter.
-fn returns_first(t: &MethodTy) -> bool
-    ensures { result ≡ returns_first t.now }
-{
-    is_same_return(t.params.as_slice().first().copied(), t.ret)
-}
-
-/// Whether the parameters are a boolean and two of one type, which is also returned.
-fn chooses(params: &[Ty], ret: Option<Ty>) -> bool
-    ensures { result ≡ chooses params.now ret }
-{
-    match params {
-        [test, first, second] => {
-            is_same_type(*test, BOOLEAN)
-                && is_same_type(*first, *second)
-                && is_same_return(Some(*second), ret)
-        }
-        _ => false,
-    }
-}
-
-/// Whether a leaf of a kind may have a type.
-fn is_kind_type(kind: Kind, t: &MethodTy) -> bool
-    ensures { result ≡ is_kind_type kind t.now }
-{
-    match kind {
-        Kind::Iadd | Kind::Isub | Kind::Imul | Kind::Idiv => is_type(t, &[INT, INT], INT),
-        Kind::Ladd => is_type(t, &[LONG, LONG], LONG),
-        Kind::Ieq | Kind::Ilt => is_type(t, &[INT, INT], BOOLEAN),
-        Kind::Not => is_type(t, &[BOOLEAN], BOOLEAN),
-        Kind::Concat => is_type(t, &[STRING, STRING], STRING),
-        Kind::Length => is_type(t, &[STRING], INT),
-        Kind::Same => t.params.len() == 1 && returns_first(t),
-        Kind::First => t.params.len() >= 2 && returns_first(t),
-        Kind::Pick => chooses(t.params.as_slice(), t.ret),
-        Kind::Tick => is_same_return(t.ret, Some(INT)),
-        Kind::Note => is_same_return(t.ret, None),
-        Kind::Throw(_) => true,
-    }
-}
-
-/// Whether what leaves of a kind throw by themselves is an exception.
-fn throws_exceptions(kind: Kind, classes: &Classes) -> bool
-    ensures { result ≡ throws_exceptions classes.now kind }
-{
-    match kind {
-        Kind::Throw(class) => classes.subclass(class, ClassId::THROWABLE),
-        _ => true,
-    }
 }
 
 /// Whether the kind of a leaf allows its type.

@@ -1,18 +1,15 @@
-ghost use Rattle.std.specs.Prelude.{◌≡◌, ◌≢◌, ◌<◌, length, false, IsTrue, IfOk, OnOk, OnErr, slice_get, Some, None, position, IfSome};
+ghost use Rattle.std.specs.Prelude.{◌≡◌, ◌≢◌, ◌<◌, length, false, IfOk, OnOk, OnErr, Some, None, position, IfSome};
 
 use crate::index::Index;
 use crate::{How, Missing, Reference};
 use mh_base::NoMemory;
 use mh_leaf::{Leaf, leaf_does};
-use mh_values::{ClassId, Classes, Items, LeafId, MethodTy, Outcome};
+use mh_values::{ClassId, Classes, Items, LeafId, MOST_CLASSES, MethodTy, Outcome};
 use std::alloc::Global;
 use std::marker::Model;
 
 /// How many leaves there may be.
 pub(crate) const MOST_LEAVES: u32 = 4096;
-
-/// How many classes there may be: the built-in ones, and 1,024 that are declared.
-const MOST_CLASSES: usize = 28 + 1024;
 
 /// The classes and the leaf methods of a run, as a manifest registers them.
 #[derive(Drop)]
@@ -36,8 +33,7 @@ impl Model for Leaves {
 impl Leaves {
     ghost use Rattle.mh_leaves.specs.Registered.{AreRegistered, IsLeafOf, nothing_registered, with_class, with_leaf, type_of_leaf, outcome_of, most_leaves};
     ghost use Rattle.mh_leaves.specs.Find.{find_leaf, is_virtual_leaf, has_texts, is_called};
-    ghost use Rattle.mh_values.specs.Classes.{AreClasses, class_named, most_classes};
-    ghost use Rattle.mh_leaf.specs.Outcome.{is_well_typed};
+    ghost use Rattle.mh_values.specs.Classes.{class_named, most_classes};
     ghost use Rattle.std.specs.List.{list_any};
     ghost use Rattle.std.specs.Prelude.{◌==◌};
 
@@ -169,17 +165,6 @@ impl Leaves {
             Some(at) => Ok(LeafId(at)),
             None => Err(Missing::NoMethod),
         }
-    }
-
-    /// A leaf, by its number.
-    pub fn get(&self, id: LeafId) -> &Leaf
-        requires { id.0 < length self.now.leaves }
-        ensures leaf { slice_get self.now.leaves id.0 ≡ Some result.now }
-        ensures typed { IsTrue (is_well_typed self.now.classes result.now) }
-        ensures classes { AreClasses self.now.classes }
-    {
-        prove!(self.classes.len() <= MOST_CLASSES);
-        &self.leaves[id.0 as usize]
     }
 
     /// The type of a leaf's method handle, a receiver in front.

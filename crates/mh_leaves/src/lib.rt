@@ -9,6 +9,6 @@ mod naming;
 mod reference;
 
 pub use leaves::Leaves;
-pub use manifest::{ManifestError, ManifestFault, ManifestKind, read_manifest};
+pub use manifest::{ManifestError, ManifestFault, ManifestKind, read_manifest, type_of};
 pub use naming::{How, Missing};
 pub use reference::{Reference, is_class_name, is_method_name, read_reference};

@@ -1,9 +1,8 @@
-ghost use Rattle.std.specs.Prelude.{◌≡◌, ◌<◌, ◌^◌, false, length, map, None, IfOk};
+ghost use Rattle.std.specs.Prelude.{◌≡◌, ◌<◌, false, length, map, None, IfOk};
 ghost use Rattle.std.specs.List.{list_all, list_any};
 ghost use Rattle.mh_base.specs.Lines.{taken_or};
 ghost use Rattle.mh_values.specs.Classes.{class_named};
 ghost use Rattle.mh_values.specs.Descriptor.{desc};
-ghost use Rattle.mh_values.specs.Slots.{slots_of_all};
 ghost use Rattle.mh_leaves.specs.Fault.{TellsManifest};
 ghost use Rattle.mh_leaves.specs.Find.{has_texts};
 ghost use Rattle.mh_leaves.specs.Reference.{texts_of};
@@ -12,19 +11,16 @@ ghost use Rattle.mh_leaves.specs.declared.manifest.ManifestError.TheVariants.{No
 
 use crate::kinds::{is_kind_word, is_well_typed, kind_among};
 use crate::leaves::MOST_LEAVES;
-use crate::reference::cut_at;
 use crate::{Leaves, Reference, is_class_name, is_method_name};
-use mh_base::{LineFault, NoMemory, Seq, is_passed, is_plain, split_at_byte};
+use mh_base::{LineFault, NoMemory, Seq, is_passed, is_plain, split_at_byte, split_once};
 use mh_leaf::{Kind, Leaf};
 use mh_values::{
-    ClassId, Classes, DescriptorError, MethodTy, Ty, descriptor_text, read_descriptor,
+    ClassId, Classes, DescriptorError, MOST_SLOTS, MethodTy, Ty, all_slots, descriptor_text,
+    read_descriptor,
 };
 use std::alloc::{AllocError, Global};
 use std::error::Error;
 use std::fmt;
-
-/// The most slots that the parameters of a method handle take.
-const MOST_SLOTS: u64 = 254;
 
 /// What is wrong with a line of a manifest. Where several kinds apply, the line has the first of them.
 #[derive(Clone, Copy, Debug, PartialEq, Eq)]
@@ -165,17 +161,6 @@ fn handle_type(
     })
 }
 
-// The slots of all these parameters.
-fn all_slots(types: &[Ty]) -> u64
-    ensures { result ≡ slots_of_all types.now }
-{
-    let mut all = 0u64;
-    for parameter in types {
-        all += u64::from(parameter.slots());
-    }
-    all
-}
-
 // Registers a leaf, and says what is wrong with it.
 fn add_leaf(
     alloc: Global,
@@ -204,7 +189,7 @@ fn add_leaf(
 fn knows_name(classes: &Classes, piece: &[u8]) -> bool
     ensures { result ≡ knows_name classes.now piece.now }
 {
-    match cut_at(piece, b'L') {
+    match split_once(piece, b'L') {
         Some((_, name)) => classes.find(name).is_some(),
         None => true,
     }
@@ -235,8 +220,8 @@ fn has_known_classes(alloc: Global, classes: &Classes, descriptor: &[u8]) -> Res
     knows_names(alloc, classes, descriptor)
 }
 
-// The type of a descriptor, if all its types are there.
-fn type_of(
+/// The type of a descriptor, if it is one and all its types are there.
+pub fn type_of(
     alloc: Global,
     classes: &Classes,
     descriptor: &[u8],
@@ -410,9 +395,9 @@ fn read_line(
     read_tokens(alloc, leaves, &tokens)
 }
 
-/// Reads a manifest, or gives its first faulty line.
+/// Reads a manifest, or gives its first faulty line. A line that no `u32` can number is want of
+/// memory.
 pub fn read_manifest(alloc: Global, bytes: &[u8]) -> Result<Leaves, ManifestError>
-    requires { length bytes.now < 2 ^ 31 }
     ensures { TellsManifest result (manifest bytes.now) }
 {
     let lines = split_at_byte(alloc, bytes, b'\n')?;
@@ -422,7 +407,7 @@ pub fn read_manifest(alloc: Global, bytes: &[u8]) -> Result<Leaves, ManifestErro
         if let Some(kind) = read_line(alloc, &mut leaves, line)? {
             return Err(ManifestError::Fault(LineFault { line: number, kind }));
         }
-        number += 1;
+        number = number.checked_add(1).ok_or(NoMemory)?;
     }
     Ok(leaves)
 }

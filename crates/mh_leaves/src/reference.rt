@@ -1,6 +1,8 @@
-ghost use Rattle.std.specs.Prelude.{◌≡◌, ◌==◌, ◌<◌, length, option_map, position, IfSome};
+ghost use Rattle.std.specs.Prelude.{◌≡◌, option_map};
 ghost use Rattle.std.specs.List.{list_all};
-ghost use Rattle.mh_leaves.specs.Reference.{ends_names, is_of_class_name, is_of_method_name, is_class_name, is_method_name, cut_at, texts_of, reference_of};
+ghost use Rattle.mh_leaves.specs.Reference.{ends_names, is_of_class_name, is_of_method_name, is_class_name, is_method_name, texts_of, reference_of};
+
+use mh_base::split_once;
 
 /// The texts by which a leaf is named: those of its owner and its name, and its descriptor as the
 /// manifest writes it.
@@ -73,31 +75,13 @@ pub fn is_method_name(name: &[u8]) -> bool
     !name.is_empty() && are_of_method_name(name)
 }
 
-// The first place of a byte.
-fn place_of(text: &[u8], byte: u8) -> Option<usize>
-    ensures first { result ≡ position (λ x. x == byte) text.now }
-    ensures within { IfSome result (λ at. at < length text.now) }
-{
-    text.iter().position(|x| *x == byte)
-}
-
-/// A text in front of the first place of a byte, and behind it.
-pub(crate) fn cut_at<'b>(text: &'b [u8], byte: u8) -> Option<(&'b [u8], &'b [u8])>
-    ensures { option_map (λ p. (p.0.now, p.1.now)) result ≡ cut_at byte text.now }
-{
-    match place_of(text, byte) {
-        Some(at) => Some((&text[..at], &text[at + 1..])),
-        None => None,
-    }
-}
-
 /// The texts of a reference `OWNER.NAME:DESC`: the owner ends at the first `.`, the name at the next
 /// `:`, and the rest is the descriptor, whatever it is. `None` where the owner or the name is none.
 pub fn read_reference(text: &[u8]) -> Option<Reference<'_>>
     ensures { option_map texts_of result ≡ reference_of text.now }
 {
-    let (owner, rest) = cut_at(text, b'.')?;
-    let (name, descriptor) = cut_at(rest, b':')?;
+    let (owner, rest) = split_once(text, b'.')?;
+    let (name, descriptor) = split_once(rest, b':')?;
     Reference {
         owner,
         name,

@@ -7,9 +7,6 @@ use mh_values::LeafId;
 use std::alloc::{AllocError, Global};
 use std::test::Fail;
 
-/// The longest manifest of these tests, in bytes.
-const LONGEST: usize = 100_000;
-
 /// How a manifest is read.
 #[derive(Clone, Copy, Debug, PartialEq, Eq)]
 enum Told {
@@ -20,9 +17,6 @@ enum Told {
 }
 
 fn read(alloc: Global, manifest: &[u8]) -> Result<Told, NoMemory> {
-    if manifest.len() > LONGEST {
-        return Err(NoMemory);
-    }
     match read_manifest(alloc, manifest) {
         Ok(leaves) => Ok(Told::Leaves(leaves.count())),
         Err(ManifestError::Fault(fault)) => Ok(Told::Fault(fault.line, fault.kind)),
@@ -30,64 +24,67 @@ fn read(alloc: Global, manifest: &[u8]) -> Result<Told, NoMemory> {
     }
 }
 
+/// Manifests, and how each is read.
+const MANIFESTS: [(&str, Told); 20] = [
+    ("", Told::Leaves(0)),
+    ("# none\n\nclass a java/lang/Object\n", Told::Leaves(0)),
+    (
+        "class a java/lang/Object\nstatic a f (II)I iadd\nvirtual a f (I)La; tick\n",
+        Told::Fault(3, BadKind),
+    ),
+    (
+        "class a java/lang/Object\nstatic a f (II)I iadd\nvirtual a f (I)I tick\n",
+        Told::Leaves(2),
+    ),
+    ("class a  b\n", Told::Fault(1, BadLine)),
+    ("Class a java/lang/Object\n", Told::Fault(1, BadLine)),
+    ("class a. java/lang/Object\n", Told::Fault(1, BadLine)),
+    (
+        "static java/lang/Object f ()I tock\n",
+        Told::Fault(1, BadLine),
+    ),
+    ("class java/lang/Object no/Such\n", Told::Fault(1, Twice)),
+    (
+        "static java/lang/Object f ()I tick\nvirtual java/lang/Object f ()I tick\n",
+        Told::Fault(2, Twice),
+    ),
+    ("class a b\n", Told::Fault(1, UnknownClass)),
+    ("static a f ()I tick\n", Told::Fault(1, UnknownClass)),
+    (
+        "static java/lang/Object f ()I throw:no/Such\n",
+        Told::Fault(1, UnknownClass),
+    ),
+    (
+        "static java/lang/Object f (Lno/Such;[[I)I iadd\n",
+        Told::Fault(1, UnknownClass),
+    ),
+    (
+        "static java/lang/Object f (I iadd\n",
+        Told::Fault(1, BadDescriptor),
+    ),
+    (
+        "static java/lang/Object f (D)I iadd\n",
+        Told::Fault(1, BadDescriptor),
+    ),
+    (
+        "static java/lang/Object f (I)I iadd\n",
+        Told::Fault(1, BadKind),
+    ),
+    (
+        "static java/lang/Object f ()V throw:java/lang/String\n",
+        Told::Fault(1, BadKind),
+    ),
+    (
+        "static java/lang/Object f ()V throw:java/lang/Error\n",
+        Told::Leaves(1),
+    ),
+    ("class a b\nclass a.\n", Told::Fault(1, UnknownClass)),
+];
+
 #[test]
 fn the_first_faulty_line_has_the_lowest_kind(rt: HostRuntime) -> Result<(), Fail> {
     let alloc = rt.alloc();
-    for (manifest, want) in [
-        ("", Told::Leaves(0)),
-        ("# none\n\nclass a java/lang/Object\n", Told::Leaves(0)),
-        (
-            "class a java/lang/Object\nstatic a f (II)I iadd\nvirtual a f (I)La; tick\n",
-            Told::Fault(3, BadKind),
-        ),
-        (
-            "class a java/lang/Object\nstatic a f (II)I iadd\nvirtual a f (I)I tick\n",
-            Told::Leaves(2),
-        ),
-        ("class a  b\n", Told::Fault(1, BadLine)),
-        ("Class a java/lang/Object\n", Told::Fault(1, BadLine)),
-        ("class a. java/lang/Object\n", Told::Fault(1, BadLine)),
-        (
-            "static java/lang/Object f ()I tock\n",
-            Told::Fault(1, BadLine),
-        ),
-        ("class java/lang/Object no/Such\n", Told::Fault(1, Twice)),
-        (
-            "static java/lang/Object f ()I tick\nvirtual java/lang/Object f ()I tick\n",
-            Told::Fault(2, Twice),
-        ),
-        ("class a b\n", Told::Fault(1, UnknownClass)),
-        ("static a f ()I tick\n", Told::Fault(1, UnknownClass)),
-        (
-            "static java/lang/Object f ()I throw:no/Such\n",
-            Told::Fault(1, UnknownClass),
-        ),
-        (
-            "static java/lang/Object f (Lno/Such;[[I)I iadd\n",
-            Told::Fault(1, UnknownClass),
-        ),
-        (
-            "static java/lang/Object f (I iadd\n",
-            Told::Fault(1, BadDescriptor),
-        ),
-        (
-            "static java/lang/Object f (D)I iadd\n",
-            Told::Fault(1, BadDescriptor),
-        ),
-        (
-            "static java/lang/Object f (I)I iadd\n",
-            Told::Fault(1, BadKind),
-        ),
-        (
-            "static java/lang/Object f ()V throw:java/lang/String\n",
-            Told::Fault(1, BadKind),
-        ),
-        (
-            "static java/lang/Object f ()V throw:java/lang/Error\n",
-            Told::Leaves(1),
-        ),
-        ("class a b\nclass a.\n", Told::Fault(1, UnknownClass)),
-    ] {
+    for (manifest, want) in MANIFESTS {
         assert_eq!(rt; read(alloc, manifest.as_bytes())?, want, "of {manifest}");
     }
     Ok(())

@@ -9,7 +9,7 @@ use Rattle.mh_made_class.specs.declared.site.MadeSite.{MadeSite}
 use Rattle.mh_made_class.specs.Layout.{PlacedSite, IsPlaced}
 use Rattle.mh_made_class.specs.Constants.{common_entries, site_entries}
 use Rattle.mh_made_class.specs.ReadBack.{IsReadable}
-use Rattle.mh_made_class.proofs.SingleEntries.{IsWritable}
+use Rattle.mh_made_class.proofs.EntrySpelling.{IsWritable}
 use Rattle.mh_made_class.proofs.Lookups.{each_slot}
 use Rattle.mh_made_class.proofs.Standing.{HasSite}
 use Rattle.mh_made_class.proofs.Good.{IsGood}

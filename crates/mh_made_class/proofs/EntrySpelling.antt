@@ -1,24 +1,81 @@
 -- An entry of the pool is spelled by the bytes that are written of it.
-use Rattle.std.proofs.Common.{◌≡◌, ℕ, Bool, false, ◌&&◌}
-use Rattle.mh_class_bytes.specs.Format.{Spells}
+use Rattle.std.proofs.Common.{◌≡◌, ℕ, ◌+◌, ◌<◌, ◌^◌, Bool, false, not, ◌&&◌, ◌==◌, List, [], ◌∷◌, ◌++◌, length, refl, sym, ap}
+use Rattle.std.proofs.lemmas.Bool.{eq-eqb}
+use Rattle.std.proofs.lemmas.List.{append-nil}
+use Rattle.byteorder.specs.Endian.{big_number}
+use Rattle.mh_class_bytes.specs.Mutf8.{sound_len}
+use Rattle.mh_class_bytes.specs.Format.{Spells, choose}
 use Rattle.mh_class_pool.specs.declared.entry.Entry.{Entry}
 use Rattle.mh_class_pool.specs.declared.entry.Entry.TheVariants as entries
-use Rattle.mh_class_pool.specs.Entries.{entry, is_wide}
-use Rattle.mh_made_class.specs.Constants.{entry_bytes}
-use Rattle.mh_made_class.proofs.SingleEntries.{IsWritable, text_spelled, integer_spelled, long_spelled, class_spelled}
-use Rattle.mh_made_class.proofs.PairedEntries.{string_spelled, method_spelled, name_and_type_spelled, handle_spelled, dynamic_spelled}
+use Rattle.mh_class_pool.specs.Entries.{entry, utf8, utf8_bytes, contents, numeric, named, paired, handle, is_wide, is_wide_tag}
+use Rattle.mh_made_class.specs.Constants.{u2, u4, entry_bytes}
+use Rattle.mh_made_class.proofs.Spelling.{u2_is, u4_is}
+
+-- an entry whose numbers fit, and whose text is one
+abbrev pub IsWritable : Entry → Type 0
+IsWritable (entries.Utf8 text) = (sound_len text ≡ length text) × (length text < 2 ^ 16)
+IsWritable (entries.Integer n) = n < 2 ^ 32
+IsWritable (entries.Long high low) = (high < 2 ^ 32) × (low < 2 ^ 32)
+IsWritable (entries.Class name) = name < 2 ^ 16
+IsWritable (entries.Str text) = text < 2 ^ 16
+IsWritable (entries.Methodref class name) = (class < 2 ^ 16) × (name < 2 ^ 16)
+IsWritable (entries.NameAndType name descriptor) = (name < 2 ^ 16) × (descriptor < 2 ^ 16)
+IsWritable (entries.MethodHandle kind reference) = (kind ≡ 6) × (reference < 2 ^ 16)
+IsWritable (entries.InvokeDynamic bootstrap name) = (bootstrap < 2 ^ 16) × (name < 2 ^ 16)
+IsWritable _ = ⊥
+
+-- What is spelled behind a tag is an entry, at any index but the last for one that takes two.
+behind_tag : (is_last : Bool) (at tag : ℕ) (rest : List ℕ) (e : Entry) → tag ≡ big_number 1 (tag ∷ []) → (is_last && is_wide_tag tag) ≡ false → Spells (choose (tag == 1) utf8 (contents tag at)) (at + 0 + 1 + 0) rest e
+    → Spells (entry is_last) at (tag ∷ rest) e
+unfolding entry
+behind_tag is_last at tag rest e is last inside =
+    (at, [], tag ∷ rest, refl, (refl, refl), (tag, tag ∷ [], rest, refl, (refl, is), (tt, [], rest, refl, (refl, ap not last), inside)))
+
+text_spelled : (at : ℕ) (text : List ℕ) → IsWritable (entries.Utf8 text) → Spells utf8 at (u2 (length text) ++ text) (entries.Utf8 text)
+unfolding utf8 utf8_bytes
+text_spelled at text w =
+    let all = u2 (length text) ++ text in (
+      at,
+      [],
+      all,
+      refl,
+      (refl, refl),
+      (
+        text,
+        all,
+        [],
+        sym (append-nil all),
+        (length text, u2 (length text), text, refl, (refl, u2_is (length text) w.1), (refl, refl)),
+        (tt, [], [], refl, (refl, eq-eqb _ _ w.0), (refl, refl)),
+      ),
+    )
 
 -- An entry is spelled by its bytes, at any index but the last for one that takes two.
 pub entry_spelled : (is_last : Bool) (at : ℕ) (e : Entry) → IsWritable e → (is_last && is_wide e) ≡ false → Spells (entry is_last) at (entry_bytes e) e
-entry_spelled is_last at (entries.Utf8 text) w last = text_spelled is_last at text w last
-entry_spelled is_last at (entries.Integer n) w last = integer_spelled is_last at n w last
-entry_spelled is_last at (entries.Long high low) w last = long_spelled is_last at high low w last
-entry_spelled is_last at (entries.Class name) w last = class_spelled is_last at name w last
-entry_spelled is_last at (entries.Str text) w last = string_spelled is_last at text w last
-entry_spelled is_last at (entries.Methodref class name) w last = method_spelled is_last at class name w last
-entry_spelled is_last at (entries.NameAndType name descriptor) w last = name_and_type_spelled is_last at name descriptor w last
-entry_spelled is_last at (entries.MethodHandle kind reference) w last = handle_spelled is_last at kind reference w last
-entry_spelled is_last at (entries.InvokeDynamic bootstrap name) w last = dynamic_spelled is_last at bootstrap name w last
+unfolding entry_bytes contents numeric named paired handle
+entry_spelled is_last at (entries.Utf8 text) w last =
+    behind_tag is_last at 1 (u2 (length text) ++ text) (entries.Utf8 text) refl last (text_spelled (at + 0 + 1 + 0) text w)
+entry_spelled is_last at (entries.Integer n) w last =
+    behind_tag is_last at 3 (u4 n) (entries.Integer n) refl last (n, u4 n, [], refl, (refl, u4_is n w), (refl, refl))
+entry_spelled is_last at (entries.Long high low) w last =
+    behind_tag is_last at 5 (u4 high ++ u4 low) (entries.Long high low) refl last
+    (high, u4 high, u4 low, refl, (refl, u4_is high w.0), (low, u4 low, [], refl, (refl, u4_is low w.1), (refl, refl)))
+entry_spelled is_last at (entries.Class name) w last =
+    behind_tag is_last at 7 (u2 name) (entries.Class name) refl last (name, u2 name, [], refl, (refl, u2_is name w), (refl, refl))
+entry_spelled is_last at (entries.Str text) w last =
+    behind_tag is_last at 8 (u2 text) (entries.Str text) refl last (text, u2 text, [], refl, (refl, u2_is text w), (refl, refl))
+entry_spelled is_last at (entries.Methodref class name) w last =
+    behind_tag is_last at 10 (u2 class ++ u2 name) (entries.Methodref class name) refl last
+    (class, u2 class, u2 name, refl, (refl, u2_is class w.0), (name, u2 name, [], refl, (refl, u2_is name w.1), (refl, refl)))
+entry_spelled is_last at (entries.NameAndType name descriptor) w last =
+    behind_tag is_last at 12 (u2 name ++ u2 descriptor) (entries.NameAndType name descriptor) refl last
+    (name, u2 name, u2 descriptor, refl, (refl, u2_is name w.0), (descriptor, u2 descriptor, [], refl, (refl, u2_is descriptor w.1), (refl, refl)))
+entry_spelled is_last at (entries.MethodHandle kind reference) w last =
+    behind_tag is_last at 15 (kind ∷ u2 reference) (entries.MethodHandle kind reference) refl last
+    (kind, kind ∷ [], u2 reference, refl, (refl, rw (w.0) refl), (reference, u2 reference, [], refl, (refl, u2_is reference w.1), (refl, refl)))
+entry_spelled is_last at (entries.InvokeDynamic bootstrap name) w last =
+    behind_tag is_last at 18 (u2 bootstrap ++ u2 name) (entries.InvokeDynamic bootstrap name) refl last
+    (bootstrap, u2 bootstrap, u2 name, refl, (refl, u2_is bootstrap w.0), (name, u2 name, [], refl, (refl, u2_is name w.1), (refl, refl)))
 entry_spelled is_last at entries.Float w last = absurd w
 entry_spelled is_last at entries.Double w last = absurd w
 entry_spelled is_last at (entries.Fieldref class name) w last = absurd w

@@ -9,7 +9,7 @@ use Rattle.mh_made_class.specs.declared.site.MadeSite.{MadeSite}
 use Rattle.mh_made_class.specs.Sites.{IsMakeableArgument, IsMakeableSite, argument_width, site_width}
 use Rattle.mh_made_class.specs.Layout.{IsPlacedArgument, arguments_from, IsPlaced, sites_from}
 use Rattle.mh_made_class.specs.Constants.{common_entries}
-use Rattle.mh_made_class.proofs.SingleEntries.{IsWritable}
+use Rattle.mh_made_class.proofs.EntrySpelling.{IsWritable}
 
 pub all_append : {X : Type 0} (P : X → Type 0) (xs ys : List X) → AllByRecursion P xs → AllByRecursion P ys → AllByRecursion P (xs ++ ys)
 all_append P [] ys h k = k

@@ -1,8 +1,6 @@
 pub mod Placing
 pub mod Runs
 pub mod Spelling
-pub mod SingleEntries
-pub mod PairedEntries
 pub mod EntrySpelling
 pub mod PoolSpelling
 pub mod Lookups
@@ -23,3 +21,4 @@ pub mod WholeClass
 pub mod Checks
 pub mod HeaderSpelling
 pub mod MadeFile
+pub mod Examples

@@ -8,8 +8,7 @@ use Rattle.mh_class_pool.specs.declared.entry.Entry.{Entry}
 use Rattle.mh_class_pool.specs.Entries.{Part, Slot, entry, is_wide, indexes_of, next_slots}
 use Rattle.mh_made_class.specs.Constants.{entry_bytes}
 use Rattle.mh_made_class.proofs.Spelling.{otherwise, where_true}
-use Rattle.mh_made_class.proofs.SingleEntries.{IsWritable}
-use Rattle.mh_made_class.proofs.EntrySpelling.{entry_spelled}
+use Rattle.mh_made_class.proofs.EntrySpelling.{IsWritable, entry_spelled}
 
 -- how many indexes an entry takes
 abbrev pub entry_width : Entry → ℕ

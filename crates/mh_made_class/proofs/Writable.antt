@@ -12,7 +12,7 @@ use Rattle.mh_made_class.specs.Sites.{IsShortAscii, IsMakeableArgument, argument
 use Rattle.mh_made_class.specs.Layout.{PlacedSite, IsPlaced, arguments_from}
 use Rattle.mh_made_class.specs.Constants.{entries_at, argument_entries, site_entries}
 use Rattle.mh_made_class.specs.ReadBack.{IsNumber}
-use Rattle.mh_made_class.proofs.SingleEntries.{IsWritable}
+use Rattle.mh_made_class.proofs.EntrySpelling.{IsWritable}
 use Rattle.mh_made_class.proofs.Fitting.{all_append, ascii_sound}
 
 text_writable : (text : List ℕ) → IsShortAscii text → IsWritable (entries.Utf8 text)

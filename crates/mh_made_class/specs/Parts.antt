@@ -22,9 +22,13 @@ code ps = flat_map instruction ps ++ 0xB1 ∷ []
 unfoldable pub code_contents : List PlacedSite → List ℕ
 code_contents ps = u2 2 ++ u2 0 ++ u4 (length (code ps)) ++ code ps ++ u2 0 ++ u2 0
 
--- one method: public and static, its name and its descriptor, and its code alone
+-- the front of the methods: there is one, public and static; its name and its descriptor, and one attribute
+abbrev pub method_front : List ℕ
+method_front = u2 1 ++ u2 0x0009 ++ u2 5 ++ u2 6 ++ u2 1
+
+-- the methods: one, with its code alone
 unfoldable pub methods : List PlacedSite → List ℕ
-methods ps = u2 1 ++ u2 0x0009 ++ u2 5 ++ u2 6 ++ u2 1 ++ attribute 7 (code_contents ps)
+methods ps = method_front ++ attribute 7 (code_contents ps)
 
 -- the index of a static argument: for a text that of its String
 abbrev pub index_at : ℕ → MadeArg → ℕ

@@ -10,6 +10,3 @@ mod site;
 
 pub use making::make_class;
 pub use site::{MadeArg, MadeArgs, MadeSite, MadeSites};
-
-#[cfg(test)]
-mod tests;

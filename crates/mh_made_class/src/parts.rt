@@ -2,7 +2,7 @@ ghost use Rattle.std.specs.Prelude.{◌≡◌, ◌<◌, ◌≤◌, ◌+◌, ◌*
 ghost use Rattle.std.specs.List.{flat_map};
 ghost use Rattle.mh_made_class.specs.Layout.{placed_arguments};
 ghost use Rattle.mh_made_class.specs.Constants.{u2};
-ghost use Rattle.mh_made_class.specs.Parts.{attribute, code, code_contents, methods, argument_index, bootstrap, bootstraps, class_attributes};
+ghost use Rattle.mh_made_class.specs.Parts.{attribute, instruction, code, code_contents, method_front, methods, argument_index, bootstrap, bootstraps, class_attributes};
 
 use crate::layout::{Placed, PlacedArg, place_arguments};
 use crate::numbers::{push_u2, push_u4};
@@ -34,6 +34,16 @@ fn push_attribute(file: &mut Vec<u8>, name: usize, contents: &[u8]) -> Result<()
     Ok(())
 }
 
+/// The instruction of a call site.
+fn push_instruction(bytes: &mut Vec<u8>, placed: &Placed<'_>) -> Result<(), NoMemory>
+    ensures is { OnOk result (bytes.new.items ≡ bytes.old.items ++ instruction placed.now) }
+    ensures len { OnOk result (length bytes.new.items ≡ length bytes.old.items + 5) }
+{
+    bytes.push(INVOKEDYNAMIC)?;
+    push_u2(bytes, placed.first + 6)?;
+    push_u2(bytes, 0)
+}
+
 /// The code: the instruction of each call site, and return.
 #[tactic(auto, unfolding(crate::specs::Parts::code))]
 fn write_code(alloc: Global, sites: &[Placed<'_>]) -> Result<Vec<u8>, NoMemory>
@@ -42,9 +52,7 @@ fn write_code(alloc: Global, sites: &[Placed<'_>]) -> Result<Vec<u8>, NoMemory>
 {
     let mut bytes = Vec::new(alloc);
     for placed in sites {
-        bytes.push(INVOKEDYNAMIC)?;
-        push_u2(&mut bytes, placed.first + 6)?;
-        push_u2(&mut bytes, 0)?;
+        push_instruction(&mut bytes, placed)?;
     }
     bytes.push(RETURN)?;
     Ok(bytes)
@@ -68,6 +76,17 @@ fn write_code_contents(alloc: Global, sites: &[Placed<'_>]) -> Result<Vec<u8>, N
     Ok(bytes)
 }
 
+/// That there is one method, its flags, its name and its descriptor, and one attribute.
+fn push_method_front(file: &mut Vec<u8>) -> Result<(), NoMemory>
+    ensures { OnOk result (file.new.items ≡ file.old.items ++ method_front) }
+{
+    push_u2(file, 1)?;
+    push_u2(file, METHOD_FLAGS)?;
+    push_u2(file, 5)?;
+    push_u2(file, 6)?;
+    push_u2(file, 1)
+}
+
 /// The one method, with its code.
 #[tactic(auto, unfolding(crate::specs::Parts::methods))]
 pub(crate) fn push_methods(
@@ -78,11 +97,7 @@ pub(crate) fn push_methods(
     requires { 7 * length sites.now < 2 ^ 16 }
     ensures { OnOk result (file.new.items ≡ file.old.items ++ methods sites.now) }
 {
-    push_u2(file, 1)?;
-    push_u2(file, METHOD_FLAGS)?;
-    push_u2(file, 5)?;
-    push_u2(file, 6)?;
-    push_u2(file, 1)?;
+    push_method_front(file)?;
     let contents = write_code_contents(alloc, sites)?;
     push_attribute(file, 7, &contents)
 }

@@ -8,8 +8,6 @@ mod inputs;
 mod memory;
 mod real;
 mod sink;
-#[cfg(test)]
-mod tests;
 mod whole;
 
 pub use gate::{Gate, OpenGate};

@@ -1,7 +1,5 @@
 ghost use Rattle.std.specs.Prelude.{◌≡◌, ◌≤◌, ◌^◌, [], length, map, IfOk, OnOk};
 ghost use Rattle.mh_base.specs.Lines.{taken_or, built_from};
-ghost use Rattle.mh_values.specs.Descriptor.{desc};
-ghost use Rattle.mh_leaves.specs.Manifest.{type_if_read};
 ghost use Rattle.mh_plan.specs.Plan.{leaf_named, call_by, leaf_call, with_call, call_put, call_line, tokens_meaning, line_meaning};
 ghost use Rattle.mh_plan.specs.Fault.{Tells};
 
@@ -9,8 +7,8 @@ use crate::arguments::read_arguments;
 use crate::counting::leaf_texts;
 use crate::{Call, PlanError, PlanKind, ThreadCalls};
 use mh_base::{LineFault, NoMemory, Seq, is_passed, split_at_byte};
-use mh_leaves::{How, Leaves};
-use mh_values::{Classes, DescriptorError, Items, LeafId, MethodTy, read_descriptor};
+use mh_leaves::{How, Leaves, type_of};
+use mh_values::{Items, LeafId, MethodTy};
 use std::alloc::Global;
 
 // The leaf of a reference.
@@ -21,21 +19,6 @@ fn leaf_named(leaves: &Leaves, token: &[u8]) -> Option<LeafId>
     leaves
         .find(texts.owner, texts.name, texts.descriptor, How::Any)
         .ok()
-}
-
-// The type of a descriptor, if all its types are there.
-fn type_of(
-    alloc: Global,
-    classes: &Classes,
-    descriptor: &[u8],
-) -> Result<Option<MethodTy>, NoMemory>
-    ensures { IfOk result (λ t. t ≡ type_if_read (desc classes.now descriptor.now)) }
-{
-    match read_descriptor(alloc, descriptor, classes) {
-        Ok(ty) => Ok(Some(ty)),
-        Err(DescriptorError::NoMemory) => Err(NoMemory),
-        Err(_) => Ok(None),
-    }
 }
 
 // The call that a word begins.

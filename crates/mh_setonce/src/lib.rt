@@ -7,8 +7,6 @@ mod learnt;
 mod mark;
 mod put;
 mod scan;
-#[cfg(test)]
-mod tests;
 mod twice;
 mod walk;
 

@@ -1,6 +1,8 @@
-//! Whole runs over inputs and a sink in memory.
+//! Whole runs over inputs and a sink in memory, and reading and writing whole.
 #![tactic(auto)]
 
+#[cfg(test)]
+mod outside;
 #[cfg(test)]
 mod runs;
 #[cfg(test)]

@@ -3,10 +3,10 @@ use Rattle.std.proofs.Common.{◌≡◌, refl, ap, ◌∙◌, suc, ℕ, ◌+◌,
 use Rattle.std.proofs.lemmas.Bool.{and_parts, eq-eqb, or_parts, not-true, ne_eqb, leb-true, lt-ltb}
 use Rattle.std.proofs.lemmas.List.Concat.{flat_map-cons}
 use Rattle.std.specs.List.{list_all, position_or_len}
+use Rattle.mh_base.specs.Lines.{cut_at}
 use Rattle.mh_values.specs.declared.class.Class.{Class}
 use Rattle.mh_values.specs.declared.class.ClassId.{ClassId}
 use Rattle.mh_values.specs.Classes.{AreClasses, class_named, name_of}
-use Rattle.mh_texts.specs.Literal.{cut_at}
 use Rattle.mh_texts.specs.Printed.{name_text}
 use Rattle.mh_texts.specs.Text.{is_graphic, escaped_char, escaped}
 use Rattle.mh_texts.specs.Writable.{is_plain, IsPlainClass}

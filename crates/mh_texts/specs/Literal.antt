@@ -1,7 +1,8 @@
 -- Literals of values: what they are read as.
 use Rattle.std.specs.Prelude.{◌≡◌, ℕ, ◌+◌, ◌-◌, ◌==◌, nat_le, Bool, true, false, ◌&&◌, ◌||◌, if◌then◌else◌, List, [], ◌∷◌, codes, length, take, drop, Option, None, Some, Result, Ok, Err, option_map, option_and_then}
-use Rattle.std.specs.List.{position, slice_split}
+use Rattle.std.specs.List.{slice_split}
 use Rattle.std.specs.Str.{bytes_eq}
+use Rattle.mh_base.specs.Lines.{cut_at}
 use Rattle.mh_values.specs.declared.class.Class.{Class}
 use Rattle.mh_values.specs.declared.class.ClassId.{ClassId}
 use Rattle.mh_values.specs.declared.descriptor.DescriptorError.{DescriptorError}
@@ -40,10 +41,6 @@ number_of letter text =
     else (if letter == 106 then option_map num.J (long_of text) else None))
 
 -- ---- objects and exceptions
-
--- what stands in front of the first such byte, and what stands behind it
-abbrev pub cut_at : ℕ → List ℕ → Option (List ℕ × List ℕ)
-cut_at byte text = option_map (λ n. (take n text, drop (n + 1) text)) (position (λ b. b == byte) text)
 
 -- a class whose values have literals of their own: String and the six wrappers, which are built in with the numbers 2 to 8, and the exceptions
 abbrev pub has_own_literal : List Class → ClassId → Bool

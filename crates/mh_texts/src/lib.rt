@@ -6,8 +6,6 @@ mod literal;
 mod number;
 mod printed;
 mod shown;
-#[cfg(test)]
-mod tests;
 
 pub use literal::{LiteralError, read_literal};
 pub use shown::{show_exc, show_name, show_text, show_type, show_value};

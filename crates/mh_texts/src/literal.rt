@@ -1,13 +1,12 @@
-ghost use Rattle.std.specs.Prelude.{◌≡◌, ◌==◌, map, option_map};
+ghost use Rattle.std.specs.Prelude.{◌≡◌, map};
 ghost use Rattle.std.specs.Option.{option_copied};
 ghost use Rattle.mh_values.specs.Array.{value_of_item};
 ghost use Rattle.mh_values.specs.Descriptor.{type_desc};
-ghost use Rattle.std.specs.List.{position};
-ghost use Rattle.mh_texts.specs.Literal.{bool_of, number_of, cut_at, has_own_literal, object_of, exception_of, tagged, item_of, component_of, items_of, listed, unclosed, array_of_literal, literal_of, Reads};
+ghost use Rattle.mh_texts.specs.Literal.{bool_of, number_of, has_own_literal, object_of, exception_of, tagged, item_of, component_of, items_of, listed, unclosed, array_of_literal, literal_of, Reads};
 
 use crate::escape::read_text;
 use crate::number::{read_int, read_long, read_unsigned};
-use mh_base::{NoMemory, Seq, split_at_byte};
+use mh_base::{NoMemory, Seq, split_at_byte, split_once};
 use mh_values::{Cell, Cells, ClassId, Classes, Comp, Exc, Num, Ty, Value, is_item_of, read_type};
 use std::alloc::{AllocError, Global};
 use std::error::Error;
@@ -77,23 +76,6 @@ fn read_number(letter: u8, text: &[u8]) -> Option<Num>
         b'i' => Some(Num::I(read_int(text)?)),
         b'j' => Some(Num::J(read_long(text)?)),
         _ => None,
-    }
-}
-
-/// The first place of a byte.
-fn place_of(text: &[u8], byte: u8) -> Option<usize>
-    ensures { result ≡ position (λ other. other == byte) text.now }
-{
-    text.iter().position(|other| *other == byte)
-}
-
-/// What stands in front of the first such byte, and what stands behind it.
-fn split_once(text: &[u8], byte: u8) -> Option<(&[u8], &[u8])>
-    ensures { option_map (λ parts. (parts.0.now, parts.1.now)) result ≡ cut_at byte text.now }
-{
-    match place_of(text, byte) {
-        Some(at) => Some((&text[..at], &text[at + 1..])),
-        None => None,
     }
 }
 

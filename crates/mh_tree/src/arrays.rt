@@ -1,7 +1,6 @@
 ghost use Rattle.std.specs.Prelude.{◌≡◌, replicate, IfOk};
 ghost use Rattle.std.specs.List.{list_all};
 ghost use Rattle.mh_values.specs.Same.{is_same_type};
-ghost use Rattle.mh_values.specs.Array.{item_type};
 ghost use Rattle.mh_tree.specs.Check.{Tells};
 ghost use Rattle.mh_tree.specs.Rows.{component_of, ends_with, takes_array, spread_row, gather_row};
 
@@ -19,16 +18,6 @@ fn component_of(ty: Option<Ty>) -> Option<Comp>
     match ty {
         Some(Ty::Array(component)) => Some(component),
         _ => None,
-    }
-}
-
-/// The type of an array's items.
-fn item_type(component: Comp) -> Ty
-    ensures { result ≡ item_type component }
-{
-    match component {
-        Comp::Prim(primitive) => Ty::Prim(primitive),
-        Comp::Class(class) => Ty::Class(class),
     }
 }
 
@@ -64,7 +53,7 @@ pub fn check_spread(
         return Err(refused(alloc, b"spread"));
     };
     let params = t.params.as_slice();
-    if !ends_with(params, count, item_type(component)) {
+    if !ends_with(params, count, component.item_type()) {
         return Err(refused(alloc, b"spread"));
     }
     let params = spliced(
@@ -119,7 +108,7 @@ pub fn check_gather(
     if params.is_empty() || n == 255 || !takes_array(component, params.last().copied(), classes) {
         return Err(refused(alloc, b"gather"));
     }
-    let items = repeated(alloc, item_type(component), usize::from(n))?;
+    let items = repeated(alloc, component.item_type(), usize::from(n))?;
     let params = spliced(alloc, params, params.len() - 1, 1, items.as_slice())?;
     limited(
         alloc,

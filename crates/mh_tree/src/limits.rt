@@ -1,31 +1,16 @@
 ghost use Rattle.std.specs.Prelude.{◌≡◌, ◌+◌, ◌≤◌, nat_le, length, IfOk};
 ghost use Rattle.mh_values.specs.Computation.{spliced};
-ghost use Rattle.mh_values.specs.Slots.{slots_of_all};
 ghost use Rattle.mh_tree.specs.Check.{Tells};
 ghost use Rattle.mh_tree.specs.Rows.{limited};
 
 use crate::CheckError;
 use crate::error::refused;
 use mh_base::{NoMemory, Seq};
-use mh_values::{ClassId, Exc, MethodTy, Ty, Tys};
+use mh_values::{ClassId, Exc, MOST_SLOTS, MethodTy, Ty, Tys, all_slots};
 use std::alloc::Global;
-
-/// The most slots that the parameters of a method handle take.
-const MOST_SLOTS: u64 = 254;
 
 /// The most that a tree weighs.
 const MOST_WEIGHT: u64 = 256;
-
-/// The slots of all these parameters.
-fn all_slots(types: &[Ty]) -> u64
-    ensures { result ≡ slots_of_all types.now }
-{
-    let mut all = 0u64;
-    for parameter in types {
-        all += u64::from(parameter.slots());
-    }
-    all
-}
 
 /// A type within the limits: at most 254 slots, refused under the combinator's word, and a weight
 /// of at most 256.

@@ -62,7 +62,7 @@ fn value(given: Given) -> Value {
 }
 
 /// The method type of a descriptor.
-pub fn method_type(alloc: Global, text: &str, classes: &Classes) -> Result<MethodTy, NoMemory> {
+pub(crate) fn method_type(alloc: Global, text: &str, classes: &Classes) -> Result<MethodTy, NoMemory> {
     read_descriptor(alloc, text.as_bytes(), classes).map_err(|_| NoMemory)
 }
 
@@ -153,7 +153,7 @@ fn checked_guard(
 }
 
 /// The type of a node, each part of which has this weight, or its refusal.
-pub fn checked(
+pub(crate) fn checked(
     alloc: Global,
     leaves: &Leaves,
     node: Node,

@@ -8,7 +8,6 @@ pub mod Descriptor
 pub mod Exception
 pub mod Grammar
 pub mod HasType
-pub mod Literal
 pub mod Returns
 pub mod Same
 pub mod Slots

@@ -12,7 +12,7 @@ use std::fmt;
 use std::marker::Model;
 
 /// How many classes there may be: the built-in ones, and 1,024 that are declared.
-const MOST_CLASSES: usize = 28 + 1024;
+pub const MOST_CLASSES: usize = 28 + 1024;
 
 /// Why a class was not declared.
 #[derive(Clone, Copy, Debug, PartialEq, Eq)]

@@ -9,26 +9,25 @@ mod descriptor;
 mod exception;
 mod grammar;
 mod known;
-mod literal;
 mod meaning;
 mod registry;
 mod same;
-#[cfg(test)]
-mod tests;
 mod types;
 mod typing;
 mod value;
 
 pub use class::{Class, ClassId};
-pub use classes::{Classes, DeclareError};
+pub use classes::{Classes, DeclareError, MOST_CLASSES};
 pub use descriptor::{BadAt, DescriptorError, descriptor_text, type_text, types_text};
-pub use literal::{read_int, show_int};
 pub use meaning::{read_descriptor, read_type, read_types};
 pub use same::{
     are_same_types, begins_with_types, is_same_method_type, is_same_return, is_same_type,
 };
 pub use types::{Comp, MethodTy, Primitive, Ty, Tys};
-pub use typing::{are_items_of, has_type, is_component_below, is_item_of, is_type_below, slots};
+pub use typing::{
+    MOST_SLOTS, all_slots, are_items_of, has_type, is_component_below, is_item_of, is_type_below,
+    slots,
+};
 pub use value::{
     Calls, Cause, Cell, Cells, Exc, Items, LeafCall, LeafId, Num, Outcome, Str, Value,
 };

@@ -4,6 +4,10 @@ ghost use Rattle.mh_values.specs.Slots.{slots_of, slots_of_all};
 
 use crate::{Cell, ClassId, Classes, Comp, MethodTy, Num, Primitive, Ty, Value};
 
+/// The most slots that the parameters of a method handle take: one of the 255 of a method (JVMS
+/// SE 17, 4.3.3) is the handle's own.
+pub const MOST_SLOTS: u64 = 254;
+
 impl Num {
     /// The primitive type of the number.
     pub fn primitive(self) -> Primitive
@@ -42,7 +46,18 @@ impl Ty {
     }
 }
 
-/// The slots of all parameters (JVMS SE 17, 4.3.3), as far as 32 bits count them.
+/// The slots of all these parameters (JVMS SE 17, 4.3.3).
+pub fn all_slots(types: &[Ty]) -> u64
+    ensures { result ≡ slots_of_all types.now }
+{
+    let mut all = 0u64;
+    for parameter in types {
+        all += u64::from(parameter.slots());
+    }
+    all
+}
+
+/// The slots of a method type's parameters, as far as 32 bits count them.
 pub fn slots(ty: &MethodTy) -> u32
     ensures { result ≡ min (slots_of_all ty.now.params) (2 ^ 32 - 1) }
 {

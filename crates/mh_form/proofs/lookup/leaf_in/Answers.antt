@@ -1,11 +1,10 @@
-use Rattle.std.proofs.Common.{sym, ◌∙◌, arith}
+use Rattle.std.proofs.Common.{sym, ◌∙◌}
 use Rattle.mh_form.specs.Run.{leaf_of}
-use Rattle.mh_form.proofs.Fields.{field_of-at}
+use Rattle.mh_form.proofs.Fields.{field_of-found}
 use Rattle.mh_form.proofs.OtherKinds.{no_leaf}
 use Rattle.mh_form.proofs.lookup.leaf_in.Goals as goal
 
 pub returns-in_default : goal.returns-in_default
 returns-in_default c =
-    let fields = c.args.bound.now.fields in
-    sym (field_of-at leaf_of c.args.leaves.now fields.items c.args.field c.index.result.now (omega (arith, fields.ok.0)) c.index.ensures
-    ∙ no_leaf c.args.leaves.now c.index.result.now c.in_default.not-Leaf)
+    sym (field_of-found leaf_of c.args.leaves.now c.args.bound.now.fields.items c.args.field c.in_ok-found.field-0.now (sym c.in_ok-found.ensures)
+    ∙ no_leaf c.args.leaves.now c.in_ok-found.field-0.now c.in_default.not-Leaf)

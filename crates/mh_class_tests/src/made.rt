@@ -1,0 +1,88 @@
+ghost use Rattle.std.specs.Prelude.{◌≡◌, ◌<◌, ◌^◌, length, sum_by, IfOk, IfErr};
+ghost use Rattle.std.specs.List.{AllByRecursion};
+ghost use Rattle.mh_made_class.specs.Sites.{IsMakeableArgument, argument_width, AreMakeable};
+ghost use Rattle.mh_class_pool.specs.declared.fault.ClassError.TheVariants as class_errors;
+ghost use Rattle.mh_made_class.specs.ReadBack.{IsReadable};
+
+use mh_base::{NoMemory, Seq};
+use mh_classfile::{ClassError, Constant, read};
+use mh_made_class::{MadeArg, MadeArgs, MadeSite, MadeSites, make_class};
+use mh_values::Str;
+use std::alloc::Global;
+use std::test::*;
+
+fn text(alloc: Global, word: &[u8]) -> Result<Str, NoMemory>
+    ensures { IfOk result (λ text. text ≡ word.now) }
+{
+    let mut text = Seq::new(alloc);
+    for byte in word {
+        text.push(char::from(*byte))?;
+    }
+    Ok(text)
+}
+
+/// An argument of each kind.
+fn each_kind(alloc: Global) -> Result<MadeArgs, NoMemory>
+    ensures makeable { IfOk result (λ args. AllByRecursion IsMakeableArgument args) }
+    ensures few { IfOk result (λ args. sum_by argument_width args < 9) }
+{
+    let mut args = Seq::new(alloc);
+    args.push(MadeArg::Integer(-2))?;
+    args.push(MadeArg::Long(-3))?;
+    args.push(MadeArg::Str(text(alloc, b"x")?))?;
+    Ok(args)
+}
+
+/// One call site of the script `link` and the type `(II)I`.
+fn one_site(alloc: Global, args: MadeArgs) -> Result<MadeSites, NoMemory>
+    requires makeable { AllByRecursion IsMakeableArgument args }
+    requires few { sum_by argument_width args < 9 }
+    ensures { IfOk result (λ sites. AreMakeable sites) }
+{
+    let mut sites = Seq::new(alloc);
+    sites.push(MadeSite {
+        script: text(alloc, b"link")?,
+        ty: text(alloc, b"(II)I")?,
+        args,
+    })?;
+    Ok(sites)
+}
+
+/// How many call sites a made class is read with: as many as it was made for, unless memory runs out.
+fn count_read(alloc: Global, sites: &MadeSites) -> Result<u32, ClassError>
+    requires makeable { AreMakeable sites.now }
+    requires readable { AllByRecursion IsReadable sites.now }
+    requires few { length sites.now < 2 ^ 32 }
+    ensures same { IfOk result (λ count. count ≡ length sites.now) }
+    ensures no_fault { IfErr result (λ e. e ≡ class_errors.NoMemory) }
+{
+    let file = make_class(alloc, sites)?;
+    let view = read(alloc, &file, sites.len() as u32)?;
+    Ok(view.sites())
+}
+
+#[test]
+fn lengths(rt: HostRuntime) -> Result<(), Fail> {
+    let alloc = rt.alloc();
+    let none = make_class(alloc, &Seq::new(alloc))?;
+    assert_eq!(rt; none.len(), 271);
+    let one = make_class(alloc, &one_site(alloc, Seq::new(alloc))?)?;
+    assert_eq!(rt; one.len(), 319);
+    Ok(())
+}
+
+#[test]
+fn a_call_site_is_read_back(rt: HostRuntime) -> Result<(), Fail> {
+    let alloc = rt.alloc();
+    let file = make_class(alloc, &one_site(alloc, each_kind(alloc)?)?)?;
+    let view = read(alloc, &file, 1).ok().ok_or("a class file")?;
+    if view.sites() != 1 || view.bootstraps() != 1 || view.arguments(0) != 3 {
+        return Err(Fail::from("one site of three arguments"));
+    }
+    assert_eq!(rt; view.site(0).descriptor.bytes(), b"(II)I".as_slice());
+    assert_eq!(rt; view.bootstrap(0).name.bytes(), b"link".as_slice());
+    assert!(rt; matches!(view.argument(0, 0), Constant::Integer(-2)));
+    assert!(rt; matches!(view.argument(0, 1), Constant::Long(-3)));
+    assert!(rt; matches!(view.argument(0, 2), Constant::Str(t) if t.bytes() == b"x".as_slice()));
+    Ok(())
+}

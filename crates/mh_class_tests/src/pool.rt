@@ -1,0 +1,48 @@
+use mh_class_bytes::Cursor;
+use mh_class_pool::{
+    ClassError, ClassFault, ClassKind, Entry, Kind, check_name, check_pool, read_pool, u1,
+};
+use std::test::*;
+
+/// A byte that stands before the pool, and a pool of the count 9: the texts `C`, `f` and `()V`, class
+/// `C`, a name and type, a method, and a Long.
+const POOL: &[u8] = b"\0\
+    \x01\0\x01C\x01\0\x01f\x01\0\x03()V\x07\0\x01\x0C\0\x02\0\x03\x0A\0\x04\0\x05\
+    \x05\0\0\0\0\0\0\0\x07";
+
+#[test]
+fn a_pool(rt: HostRuntime) -> Result<(), Fail> {
+    let mut cursor = Cursor::new(POOL);
+    let _before = u1(&mut cursor, ClassKind::Truncated).ok().ok_or("a byte")?;
+    let pool = read_pool(rt.alloc(), 9, &mut cursor).ok().ok_or("a pool")?;
+    assert_eq!(rt; pool.len(), 9);
+    assert!(rt; check_pool(rt.alloc(), &pool).is_ok());
+    assert!(rt; matches!(pool.get(6), Some((23, Entry::Methodref(4, 5)))));
+    assert!(rt; matches!(pool.get(7), Some((28, Entry::Long(0, 7)))));
+    assert!(rt; pool.get(8).is_none());
+    assert!(rt; pool.is_text(3, b"()V"));
+    assert!(rt; check_name(&pool, Kind::Class, 4, 0).is_ok());
+    let wrong = check_name(&pool, Kind::Class, 1, 5);
+    assert!(rt;
+        matches!(
+            wrong,
+            Err(ClassFault {
+                at: 5,
+                kind: ClassKind::WrongKind
+            })
+        )
+    );
+    Ok(())
+}
+
+#[test]
+fn pools_cut_short(rt: HostRuntime) {
+    for len in 1..POOL.len() {
+        if let Some(bytes) = POOL.get(..len) {
+            let mut cursor = Cursor::new(bytes);
+            let before = u1(&mut cursor, ClassKind::Truncated);
+            let pool = read_pool(rt.alloc(), 9, &mut cursor);
+            assert!(rt; before.is_ok() && matches!(pool, Err(ClassError::Fault(_))));
+        }
+    }
+}

@@ -1,0 +1,135 @@
+use mh_base::NoMemory;
+use mh_class_bytes::{CharsError, Cursor, Short, Text, mutf8_check};
+use std::alloc::Global;
+use std::test::*;
+
+/// Whether the bytes are refused at the place.
+fn is_bad_at(bytes: &[u8], at: usize) -> bool {
+    match mutf8_check(bytes) {
+        Ok(_) => false,
+        Err(bad) => bad.at == at,
+    }
+}
+
+/// Whether the characters of the bytes are these, and they are shown so too.
+fn has_chars(alloc: Global, bytes: &[u8], expected: &[char]) -> Result<bool, CharsError> {
+    let Ok(text) = mutf8_check(bytes) else {
+        return Ok(false);
+    };
+    let chars = text.chars(alloc)?;
+    let Ok(shown) = text.shown(alloc) else {
+        return Ok(false);
+    };
+    Ok(chars.as_slice() == expected && shown.as_slice() == expected)
+}
+
+/// Where a text has a half of a pair without a partner, and what is shown of it.
+fn is_lone_at(alloc: Global, bytes: &[u8], at: usize, shown: &[char]) -> Result<bool, NoMemory> {
+    let Ok(text) = mutf8_check(bytes) else {
+        return Ok(false);
+    };
+    let is_lone = match text.chars(alloc) {
+        Err(CharsError::LoneSurrogate { at: place }) => place == at,
+        _ => false,
+    };
+    let chars = text.shown(alloc)?;
+    Ok(is_lone && chars.as_slice() == shown)
+}
+
+#[test]
+fn bytes_that_are_no_text(rt: HostRuntime) {
+    let cases: [(&[u8], usize); 16] = [
+        (&[0], 0),
+        (&[b'a', 0, b'b'], 1),
+        (&[0xE0, 0x80, 0x80], 0),
+        (&[b'a', 0xE0, 0x9F, 0xBF], 1),
+        (&[0xC1, 0x80], 0),
+        (&[0xC0, 0x81], 0),
+        (&[0x80], 0),
+        (&[b'a', b'b', 0xBF], 2),
+        (&[0xC3], 0),
+        (&[0xC3, b'a'], 0),
+        (&[0xED], 0),
+        (&[0xED, 0xA0], 0),
+        (&[0xED, 0xA0, b'a'], 0),
+        (&[b'a', 0xE2, 0x82], 1),
+        (&[0xC0, 0x80, 0xC0], 2),
+        (&[0xFF, b'a'], 0),
+    ];
+    for (bytes, at) in cases {
+        assert!(rt; is_bad_at(bytes, at));
+    }
+    for first in 0xF0..=0xFE_u8 {
+        assert!(rt; is_bad_at(&[b'a', first, 0x9F, 0x98, 0x80], 1));
+    }
+}
+
+#[test]
+fn characters_of_texts(rt: HostRuntime) {
+    let cases: [(&[u8], &[char]); 8] = [
+        (&[], &[]),
+        (b"java/lang", &['j', 'a', 'v', 'a', '/', 'l', 'a', 'n', 'g']),
+        (&[0xC0, 0x80], &['\0']),
+        (&[0xC2, 0x80, 0xDF, 0xBF], &['\u{80}', '\u{7FF}']),
+        (
+            &[0xE0, 0xA0, 0x80, 0xEF, 0xBF, 0xBF],
+            &['\u{800}', '\u{FFFF}'],
+        ),
+        (&[0xED, 0xA0, 0xBD, 0xED, 0xB8, 0x80], &['\u{1F600}']),
+        (
+            &[0xED, 0xAF, 0xBF, 0xED, 0xBF, 0xBF, b'.'],
+            &['\u{10FFFF}', '.'],
+        ),
+        (
+            &[0xED, 0x9F, 0xBF, 0xEE, 0x80, 0x80],
+            &['\u{D7FF}', '\u{E000}'],
+        ),
+    ];
+    for (bytes, chars) in cases {
+        assert!(rt; matches!(has_chars(rt.alloc(), bytes, chars), Ok(true)));
+    }
+}
+
+/// Below U+10000, and but for U+0000, the spelling of a character is its UTF-8.
+#[test]
+fn characters_spelled_as_in_utf8(rt: HostRuntime) {
+    for step in 0..400_u32 {
+        if let Some(char) = char::from_u32(1 + 163 * step) {
+            let mut buffer = [0; 4];
+            let spelling = char.encode_utf8(&mut buffer).as_bytes();
+            assert!(rt; matches!(has_chars(rt.alloc(), spelling, &[char]), Ok(true)));
+        }
+    }
+}
+
+#[test]
+fn halves_without_a_partner(rt: HostRuntime) {
+    let cases: [(&[u8], usize, &[char]); 4] = [
+        (&[0xED, 0xA0, 0x80], 0, &['\u{FFFD}']),
+        (&[b'a', 0xED, 0xB8, 0x80], 1, &['a', '\u{FFFD}']),
+        (&[0xED, 0xA0, 0xBD, b'a'], 0, &['\u{FFFD}', 'a']),
+        (
+            &[0xED, 0xA0, 0xBD, 0xED, 0xB8, 0x80, 0xED, 0xB8, 0x80],
+            6,
+            &['\u{1F600}', '\u{FFFD}'],
+        ),
+    ];
+    for (bytes, at, shown) in cases {
+        assert!(rt; matches!(is_lone_at(rt.alloc(), bytes, at, shown), Ok(true)));
+    }
+}
+
+#[test]
+fn numbers_and_runs(rt: HostRuntime) {
+    let mut cursor = Cursor::new(&[1, 0, 2, 0, 0, 1, 0, 7, 8, 9]);
+    assert!(rt; matches!(cursor.u1(), Ok(1)));
+    assert!(rt; matches!(cursor.u2(), Ok(2)));
+    assert!(rt; matches!(cursor.u4(), Ok(256)));
+    assert!(rt; matches!(cursor.u4(), Err(Short { at: 7 })));
+    assert!(rt; matches!(cursor.take(2), Ok([7, 8])));
+    assert!(rt; matches!(cursor.u2(), Err(Short { at: 9 })));
+    assert!(rt; matches!(cursor.u1(), Ok(9)));
+    assert!(rt; matches!(cursor.take(1), Err(Short { at: 10 })));
+    assert!(rt; matches!(cursor.take(0), Ok([])));
+    assert_eq!(rt; cursor.at(), 10);
+}

@@ -1,0 +1,269 @@
+ghost use Rattle.std.specs.Prelude.{◌<◌, length, OnOk};
+
+use mh_base::{NoMemory, Seq};
+use mh_values::{
+    ClassId, Classes, Comp, DeclareError, DescriptorError, Num, Primitive, Ty, Value,
+    descriptor_text, has_type, read_descriptor, read_type, read_types, slots,
+};
+use std::alloc::Global;
+use std::test::Fail;
+
+/// The built-in classes by their numbers, each with the name of its superclass.
+const PARENTS: [(&str, &str); 28] = [
+    ("java/lang/Object", ""),
+    ("java/lang/Number", "java/lang/Object"),
+    ("java/lang/Integer", "java/lang/Number"),
+    ("java/lang/Long", "java/lang/Number"),
+    ("java/lang/Byte", "java/lang/Number"),
+    ("java/lang/Short", "java/lang/Number"),
+    ("java/lang/Boolean", "java/lang/Object"),
+    ("java/lang/Character", "java/lang/Object"),
+    ("java/lang/String", "java/lang/Object"),
+    ("java/lang/Throwable", "java/lang/Object"),
+    ("java/lang/Exception", "java/lang/Throwable"),
+    ("java/lang/RuntimeException", "java/lang/Exception"),
+    ("java/lang/Error", "java/lang/Throwable"),
+    ("java/lang/LinkageError", "java/lang/Error"),
+    ("java/lang/BootstrapMethodError", "java/lang/LinkageError"),
+    ("java/lang/NoClassDefFoundError", "java/lang/LinkageError"),
+    (
+        "java/lang/IncompatibleClassChangeError",
+        "java/lang/LinkageError",
+    ),
+    (
+        "java/lang/NoSuchMethodError",
+        "java/lang/IncompatibleClassChangeError",
+    ),
+    ("java/lang/VirtualMachineError", "java/lang/Error"),
+    ("java/lang/InternalError", "java/lang/VirtualMachineError"),
+    (
+        "java/lang/invoke/WrongMethodTypeException",
+        "java/lang/RuntimeException",
+    ),
+    ("java/lang/ClassCastException", "java/lang/RuntimeException"),
+    (
+        "java/lang/NullPointerException",
+        "java/lang/RuntimeException",
+    ),
+    (
+        "java/lang/IllegalArgumentException",
+        "java/lang/RuntimeException",
+    ),
+    (
+        "java/lang/ArithmeticException",
+        "java/lang/RuntimeException",
+    ),
+    (
+        "java/lang/UnsupportedOperationException",
+        "java/lang/RuntimeException",
+    ),
+    (
+        "java/lang/invoke/StringConcatException",
+        "java/lang/Exception",
+    ),
+    (
+        "java/lang/StackOverflowError",
+        "java/lang/VirtualMachineError",
+    ),
+];
+
+/// The first row that does not name the class of its number and its superclass.
+fn first_wrong(classes: &Classes, rows: &[(&str, &str)]) -> Option<usize> {
+    for (number, (name, parent)) in rows.iter().enumerate() {
+        let Some(class) = classes.find(name.as_bytes()) else {
+            return Some(number);
+        };
+        if class.0 as usize != number
+            || classes.name(class) != name.as_bytes()
+            || classes.superclass(class) != classes.find(parent.as_bytes())
+        {
+            return Some(number);
+        }
+    }
+    None
+}
+
+#[test]
+fn built_in_classes_stand_below_their_superclasses(rt: HostRuntime) -> Result<(), Fail> {
+    let classes = Classes::builtin(rt.alloc())?;
+    assert_eq!(rt; first_wrong(&classes, &PARENTS), None);
+    assert_eq!(rt; classes.len(), 28);
+    Ok(())
+}
+
+#[test]
+fn constants_name_their_classes(rt: HostRuntime) -> Result<(), Fail> {
+    let classes = Classes::builtin(rt.alloc())?;
+    for (class, name) in [
+        (ClassId::OBJECT, "java/lang/Object"),
+        (ClassId::INTEGER, "java/lang/Integer"),
+        (ClassId::LONG, "java/lang/Long"),
+        (ClassId::BOOLEAN, "java/lang/Boolean"),
+        (ClassId::STRING, "java/lang/String"),
+        (ClassId::THROWABLE, "java/lang/Throwable"),
+        (ClassId::EXCEPTION, "java/lang/Exception"),
+        (ClassId::RUNTIME_EXCEPTION, "java/lang/RuntimeException"),
+        (ClassId::ERROR, "java/lang/Error"),
+        (
+            ClassId::BOOTSTRAP_METHOD_ERROR,
+            "java/lang/BootstrapMethodError",
+        ),
+        (
+            ClassId::NO_CLASS_DEF_FOUND,
+            "java/lang/NoClassDefFoundError",
+        ),
+        (ClassId::NO_SUCH_METHOD, "java/lang/NoSuchMethodError"),
+        (ClassId::INTERNAL_ERROR, "java/lang/InternalError"),
+        (
+            ClassId::WRONG_METHOD_TYPE,
+            "java/lang/invoke/WrongMethodTypeException",
+        ),
+        (ClassId::CLASS_CAST, "java/lang/ClassCastException"),
+        (ClassId::NULL_POINTER, "java/lang/NullPointerException"),
+        (
+            ClassId::ILLEGAL_ARGUMENT,
+            "java/lang/IllegalArgumentException",
+        ),
+        (ClassId::ARITHMETIC, "java/lang/ArithmeticException"),
+        (
+            ClassId::UNSUPPORTED_OPERATION,
+            "java/lang/UnsupportedOperationException",
+        ),
+        (
+            ClassId::STRING_CONCAT,
+            "java/lang/invoke/StringConcatException",
+        ),
+        (ClassId::STACK_OVERFLOW, "java/lang/StackOverflowError"),
+    ] {
+        assert_eq!(rt; classes.name(class), name.as_bytes(), "{name}");
+    }
+    Ok(())
+}
+
+#[test]
+fn a_class_is_declared_once(rt: HostRuntime) -> Result<(), Fail> {
+    let mut classes = Classes::builtin(rt.alloc())?;
+    let host = ClassId(28);
+    assert_eq!(rt; classes.declare(b"demo/Host", ClassId::EXCEPTION), Ok(host));
+    assert_eq!(rt;
+        classes.declare(b"demo/Host", ClassId::OBJECT),
+        Err(DeclareError::Twice)
+    );
+    assert_eq!(rt;
+        classes.declare(b"java/lang/Long", host),
+        Err(DeclareError::Twice)
+    );
+    assert_eq!(rt; classes.find(b"demo/Host"), Some(host));
+    assert!(rt; classes.subclass(host, ClassId::THROWABLE));
+    assert!(rt; !classes.subclass(ClassId::THROWABLE, host));
+    Ok(())
+}
+
+/// Declares so many classes with names of two bytes.
+fn declare_many(classes: &mut Classes, count: u16) -> Result<(), DeclareError>
+    requires { 0 < length classes.old }
+    ensures { OnOk result (0 < length classes.new) }
+{
+    for number in 0..count {
+        classes.declare(&number.to_be_bytes(), ClassId::OBJECT)?;
+    }
+    Ok(())
+}
+
+#[test]
+fn at_most_1024_classes_are_declared(rt: HostRuntime) -> Result<(), Fail> {
+    let mut classes = Classes::builtin(rt.alloc())?;
+    assert_eq!(rt; declare_many(&mut classes, 1024), Ok(()));
+    assert_eq!(rt;
+        classes.declare(b"one more", ClassId::OBJECT),
+        Err(DeclareError::TooMany)
+    );
+    assert_eq!(rt;
+        classes.declare(&[3, 255], ClassId::OBJECT),
+        Err(DeclareError::Twice)
+    );
+    assert_eq!(rt; classes.len(), 1052);
+    Ok(())
+}
+
+/// What is wrong with a method descriptor, among the built-in classes.
+fn refusal(alloc: Global, text: &str) -> Result<Option<DescriptorError>, NoMemory> {
+    let classes = Classes::builtin(alloc)?;
+    Ok(read_descriptor(alloc, text.as_bytes(), &classes).err())
+}
+
+#[test]
+fn descriptors_are_refused_at_their_places(rt: HostRuntime) -> Result<(), Fail> {
+    let alloc = rt.alloc();
+    for (text, want) in [
+        ("(I[[J)V", Some(DescriptorError::Unsupported { at: 2 })),
+        (
+            "(Lno/Such;)V",
+            Some(DescriptorError::NoClass { at: 2, len: 7 }),
+        ),
+        ("(I", Some(DescriptorError::Bad { at: 2 })),
+        ("(V)V", Some(DescriptorError::Bad { at: 1 })),
+        ("(S)V", Some(DescriptorError::Unsupported { at: 1 })),
+        ("(Z[Ljava/lang/String;)J", None),
+    ] {
+        assert_eq!(rt; refusal(alloc, text)?, want, "{text}");
+    }
+    Ok(())
+}
+
+/// The slots of a method type with so many parameters of type `long`, and an `int` behind them.
+fn slots_of_longs(alloc: Global, count: usize, more: &[u8]) -> Result<u32, DescriptorError> {
+    let mut text = Vec::new(alloc);
+    text.push(b'(').map_err(NoMemory::from)?;
+    for _ in 0..count {
+        text.push(b'J').map_err(NoMemory::from)?;
+    }
+    text.extend_from_slice(more).map_err(NoMemory::from)?;
+    let classes = Classes::builtin(alloc)?;
+    Ok(slots(&read_descriptor(alloc, &text, &classes)?))
+}
+
+#[test]
+fn slots_above_255_are_refused(rt: HostRuntime) -> Result<(), Fail> {
+    let alloc = rt.alloc();
+    let bad = DescriptorError::Bad { at: 128 };
+    assert_eq!(rt; slots_of_longs(alloc, 127, b"I)V"), Ok(255));
+    assert_eq!(rt; slots_of_longs(alloc, 128, b")V"), Err(bad));
+    Ok(())
+}
+
+#[test]
+fn types_are_read_one_by_one(rt: HostRuntime) -> Result<(), Fail> {
+    let alloc = rt.alloc();
+    let classes = Classes::builtin(alloc)?;
+    let object = Ty::Class(ClassId::OBJECT);
+    let unknown = DescriptorError::NoClass { at: 3, len: 1 };
+    assert_eq!(rt; read_type(b"Ljava/lang/Object;", &classes), Ok(object));
+    assert_eq!(rt;
+        read_type(b"V", &classes),
+        Err(DescriptorError::Bad { at: 0 })
+    );
+    assert_eq!(rt;
+        read_types(alloc, b"I[ZJ", &classes).map(|types| types.len()),
+        Ok(3)
+    );
+    assert_eq!(rt; read_types(alloc, b"J[Lx;", &classes).err(), Some(unknown));
+    Ok(())
+}
+
+#[test]
+fn values_have_the_types_above_their_own(rt: HostRuntime) -> Result<(), Fail> {
+    let alloc = rt.alloc();
+    let classes = Classes::builtin(alloc)?;
+    let object = Ty::Class(ClassId::OBJECT);
+    let ints = Value::Array(Comp::Prim(Primitive::I), Seq::new(alloc));
+    let errors = Value::Array(Comp::Class(ClassId::ERROR), Seq::new(alloc));
+    let throwables = Ty::Array(Comp::Class(ClassId::THROWABLE));
+    assert!(rt; has_type(&ints, object, &classes));
+    assert!(rt; has_type(&errors, throwables, &classes));
+    assert!(rt; !has_type(&ints, throwables, &classes));
+    assert!(rt; has_type(&Value::Null, throwables, &classes));
+    assert!(rt; !has_type(&Value::Boxed(Num::I(1)), Ty::Class(ClassId::LONG), &classes));
+    assert!(rt; !has_type(&Value::Null, Ty::Prim(Primitive::J), &classes));
+    Ok(())
+}
