@@ -40,9 +40,6 @@ char_bytes-small u h = ap (flat_map unit_bytes) (units_of-small u h) ∙ flat_ma
 char_bytes-joined : (u v : ℕ) → (is_high u && is_low v) ≡ true → char_bytes (joined u v) ≡ unit_bytes u ++ unit_bytes v
 char_bytes-joined u v h = ap (flat_map unit_bytes) (units_of-joined u v h) ∙ flat_map-cons unit_bytes u (v ∷ []) ∙ ap (λ (x : List ℕ). unit_bytes u ++ x) (flat_map-cons unit_bytes v [] ∙ append-nil (unit_bytes v))
 
-joined_char : (u v : ℕ) → (is_high u && is_low v) ≡ true → (joined u v < 0x110000) × (is_half (joined u v) ≡ false)
-joined_char u v h = (grind (arith, nat_tests), grind (arith, nat_tests))
-
 -- ---- what is found
 
 -- what a search from a place finds of the bytes of units
@@ -117,7 +114,7 @@ found-two at u v units hu hv r s g f true e =
     let whole : char_bytes (joined u v) ++ flat_map unit_bytes units ≡ flat_map unit_bytes (u ∷ v ∷ units) =
     ap (λ (x : List ℕ). x ++ flat_map unit_bytes units) b ∙ append_assoc (unit_bytes u) (unit_bytes v) (flat_map unit_bytes units)
     ∙ ap (λ (x : List ℕ). unit_bytes u ++ x) (sym (flat_map-cons unit_bytes v units)) ∙ sym (flat_map-cons unit_bytes u (v ∷ units)) in
-    subst (λ (x : List ℕ). Finds at x (behind (joined u v ∷ []) s)) whole (after_char at 6 (joined u v) (flat_map unit_bytes units) s (joined_char u v e) len g)
+    subst (λ (x : List ℕ). Finds at x (behind (joined u v ∷ []) s)) whole (after_char at 6 (joined u v) (flat_map unit_bytes units) s (grind (arith, nat_tests), grind (arith, nat_tests)) len g)
 found-two at u v units hu hv r s g f false e = subst (λ (x : List ℕ). Finds at x (cond (is_half u) (Err at) (behind (u ∷ []) r))) (sym (flat_map-cons unit_bytes u (v ∷ units))) (found-apart at u v units hu hv e r f (is_half u) refl)
 
 pub found : (at : ℕ) (units : List ℕ) → AreUnits units → Finds at (flat_map unit_bytes units) (chars_from at units)

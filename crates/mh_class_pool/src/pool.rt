@@ -106,7 +106,8 @@ fn resume(bytes: &[u8], at: usize) -> Cursor<'_>
     Cursor::resume(bytes, at)
 }
 
-/// Reads the pool behind its count.
+/// Reads the pool behind its count. The cursor has passed some bytes, since 0 is no place of an
+/// entry.
 pub fn read_pool<'b>(
     alloc: Global,
     count: u16,

@@ -5,7 +5,7 @@ use Rattle.mh_class_bytes.specs.Mutf8.{unit_len}
 use Rattle.mh_class_bytes.specs.Chars.{units_from, shown}
 use Rattle.mh_classfile.specs.declared.constant.SiteView.{SiteView}
 use Rattle.mh_classfile.specs.Class.{Class, Bootstrap}
-use Rattle.mh_listing.specs.Listing.{site_line, listing}
+use Rattle.mh_listing.specs.Listing.{printed, site_line, listing}
 
 -- a call site at 5 of the method `run()V`
 a_site : SiteView
@@ -26,3 +26,7 @@ a_line = refl
 two_classes : listing (a_class ∷ a_class ∷ []) ≡ codes "site 0 run:()V 5 6 a/Boot.li\\snk:()V f (I)I\nsite 1 run:()V 5 6 a/Boot.li\\snk:()V f (I)I\nsites 2\n"
 unfolding a_site a_bootstrap a_class units_from unit_len shown digits
 two_classes = refl
+
+half_printed : printed (0x41 ∷ 0xED ∷ 0xA0 ∷ 0xBD ∷ []) ≡ codes "A\\u{fffd}"
+unfolding units_from unit_len shown digits
+half_printed = refl
