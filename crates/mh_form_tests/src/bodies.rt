@@ -1,27 +1,32 @@
 //! Bodies, arguments and runs, for the tests.
 
-ghost use Rattle.std.specs.Prelude.{◌≡◌, ◌≢◌, ◌∷◌, [], IfOk, Some};
+ghost use Rattle.std.specs.Prelude.{◌≡◌, ◌≢◌, ◌∷◌, [], IfOk};
 ghost use Rattle.mh_values.specs.Computation.{Stuck};
 ghost use Rattle.mh_leaves.specs.Registered.{nothing_registered};
 ghost use Rattle.mh_form.specs.Run.{ran_of_run, run_on};
+ghost use Rattle.mh_form_tests.specs.Host.{naming};
 
 use mh_base::{NoMemory, Seq};
-use mh_form::{Bound, Field, FormBody, Name, Ran, Slot, SlotOutcome, Slots, run};
+use mh_form::{Bound, Field, FormBody, Name, Operands, Ran, Slot, SlotOutcome, Slots, run};
 use mh_leaves::{Leaves, read_manifest};
-use mh_values::{ClassId, Str};
+use mh_texts::{show_exc, show_value};
+use mh_values::{Classes, Num, Value};
 use std::alloc::Global;
 
+pub const NULL_POINTER: &str = "java/lang/NullPointerException s:";
+
+pub const CLASS_CAST: &str = "java/lang/ClassCastException s:";
+
 /// The built-in classes, and no leaf.
-pub fn no_leaves(alloc: Global) -> Result<Leaves, NoMemory>
+fn no_leaves(alloc: Global) -> Result<Leaves, NoMemory>
     ensures { IfOk result (λ leaves. leaves ≡ nothing_registered) }
 {
     read_manifest(alloc, b"").map_err(|_| NoMemory)
 }
 
-/// A body of one name with one argument, whose result is what the name gives.
-pub fn body_of(alloc: Global, name: Name) -> Result<FormBody, NoMemory>
-    ensures { IfOk result (λ body. body
-        ≡ record { params = []; fields = 1; names = name ∷ []; out = Some 1 }) }
+/// A body of one name, with one field.
+pub fn naming(alloc: Global, name: Name, out: u32) -> Result<FormBody, NoMemory>
+    ensures { IfOk result (λ body. body ≡ naming name out) }
 {
     let mut names = Seq::new(alloc);
     names.push(name)?;
@@ -29,12 +34,28 @@ pub fn body_of(alloc: Global, name: Name) -> Result<FormBody, NoMemory>
         params: Seq::new(alloc),
         fields: 1,
         names,
-        out: Some(1),
+        out: Some(out),
     })
 }
 
+pub fn one(alloc: Global, slot: Slot) -> Result<Slots, NoMemory>
+    ensures { IfOk result (λ slots. slots ≡ slot ∷ []) }
+{
+    let mut slots = Seq::new(alloc);
+    slots.push(slot)?;
+    Ok(slots)
+}
+
+pub fn one_place(alloc: Global, place: u32) -> Result<Operands, NoMemory>
+    ensures { IfOk result (λ places. places ≡ place ∷ []) }
+{
+    let mut places = Seq::new(alloc);
+    places.push(place)?;
+    Ok(places)
+}
+
 /// Runs a body on one field.
-pub fn run_body<'t>(
+fn run_body<'t>(
     alloc: Global,
     leaves: &Leaves,
     body: &'t FormBody,
@@ -50,28 +71,42 @@ pub fn run_body<'t>(
     run(alloc, &Bound { body, fields }, args, 0, leaves)
 }
 
-pub fn one(alloc: Global, slot: Slot) -> Result<Slots, NoMemory>
-    ensures { IfOk result (λ slots. slots ≡ slot ∷ []) }
+/// A slot as the literal of a value.
+fn show_slot(alloc: Global, slot: &Slot, classes: &Classes) -> Result<Vec<u8>, NoMemory> {
+    match slot {
+        Slot::I(number) => show_value(alloc, &Value::Prim(Num::I(*number)), classes),
+        Slot::J(number) => show_value(alloc, &Value::Prim(Num::J(*number)), classes),
+        Slot::L(value) => show_value(alloc, value, classes),
+    }
+}
+
+/// Whether a run gave this: a slot as a literal, or an exception's class and message.
+pub fn gave(
+    alloc: Global,
+    outcome: &SlotOutcome,
+    classes: &Classes,
+    wanted: &str,
+) -> Result<bool, NoMemory> {
+    let text = match outcome {
+        SlotOutcome::Return(None) => Vec::new(alloc),
+        SlotOutcome::Return(Some(slot)) => show_slot(alloc, slot, classes)?,
+        SlotOutcome::Throw(exc) => show_exc(alloc, exc, classes)?,
+    };
+    Ok(text.as_slice() == wanted.as_bytes())
+}
+
+/// Whether a body gives this on one field and one argument.
+pub fn gives<'t>(
+    alloc: Global,
+    body: &'t FormBody,
+    field: Field<'t>,
+    slot: Slot,
+    wanted: &str,
+) -> Result<bool, NoMemory>
+    requires { run_on nothing_registered body.now (field ∷ []) (slot ∷ []) 0 ≢ Stuck }
 {
-    let mut slots = Seq::new(alloc);
-    slots.push(slot)?;
-    Ok(slots)
-}
-
-pub fn text(alloc: Global, characters: &str) -> Result<Str, NoMemory> {
-    let mut text = Seq::new(alloc);
-    for character in characters.chars() {
-        text.push(character)?;
-    }
-    Ok(text)
-}
-
-/// Whether a run threw an exception of the class, with the message.
-pub fn threw(ran: &Ran, class: ClassId, message: &str) -> bool {
-    match &ran.outcome {
-        SlotOutcome::Throw(exc) => {
-            exc.class == class && exc.message.as_slice().iter().copied().eq(message.chars())
-        }
-        _ => false,
-    }
+    let leaves = no_leaves(alloc)?;
+    let args = one(alloc, slot)?;
+    let ran = run_body(alloc, &leaves, body, field, args)?;
+    gave(alloc, &ran.outcome, leaves.classes(), wanted)
 }

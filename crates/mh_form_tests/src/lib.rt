@@ -1,4 +1,4 @@
-//! Runs of forms: each name, and bodies that edits make.
+//! Runs of forms: what each name gives, and parts in parts.
 #![tactic(auto)]
 
 #[cfg(test)]

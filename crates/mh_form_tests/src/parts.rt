@@ -2,13 +2,13 @@ ghost use Rattle.std.specs.Prelude.{◌≡◌, ◌≢◌, ◌∷◌, [], IfOk};
 ghost use Rattle.mh_values.specs.Computation.{Stuck};
 ghost use Rattle.mh_form.specs.Run.{IsLeaf, IsPart, run_body as run_of, run_bound};
 ghost use Rattle.mh_form.specs.Slots.{called};
-ghost use Rattle.mh_form_tests.specs.Host.{host, naming, nested, two_links};
+ghost use Rattle.mh_form_tests.specs.Host.{host, nested, two_links};
 
-use crate::bodies::{one, threw};
+use crate::bodies::{gave, naming, one, one_place};
 use mh_base::{NoMemory, Seq};
-use mh_form::{Bound, Field, FormBody, Name, Operands, Ran, Slot, SlotOutcome, run};
+use mh_form::{Bound, Field, FormBody, Name, Operands, Ran, Slot, run};
 use mh_leaves::{Leaves, read_manifest};
-use mh_values::{ClassId, LeafId};
+use mh_values::LeafId;
 use std::alloc::Global;
 use std::test::Fail;
 
@@ -23,14 +23,6 @@ fn host(alloc: Global) -> Result<Leaves, NoMemory>
     .map_err(|_| NoMemory)
 }
 
-fn one_place(alloc: Global, place: u32) -> Result<Operands, NoMemory>
-    ensures { IfOk result (λ places. places ≡ place ∷ []) }
-{
-    let mut places = Seq::new(alloc);
-    places.push(place)?;
-    Ok(places)
-}
-
 fn two_places(alloc: Global, first: u32, second: u32) -> Result<Operands, NoMemory>
     ensures { IfOk result (λ places. places ≡ first ∷ second ∷ []) }
 {
@@ -38,20 +30,6 @@ fn two_places(alloc: Global, first: u32, second: u32) -> Result<Operands, NoMemo
     places.push(first)?;
     places.push(second)?;
     Ok(places)
-}
-
-/// A body of one name, with one field.
-fn naming(alloc: Global, name: Name, out: u32) -> Result<FormBody, NoMemory>
-    ensures { IfOk result (λ body. body ≡ naming name out) }
-{
-    let mut names = Seq::new(alloc);
-    names.push(name)?;
-    Ok(FormBody {
-        params: Seq::new(alloc),
-        fields: 1,
-        names,
-        out: Some(out),
-    })
 }
 
 /// A body that links its part twice, and gives what the second run gives.
@@ -119,23 +97,25 @@ fn nested(
     run(alloc, &outer, one(alloc, arg)?, n, leaves)
 }
 
-/// Whether a run gave an int, with so many leaf calls.
-fn gave(ran: &Ran, number: i32, calls: usize) -> bool {
-    match ran.outcome {
-        SlotOutcome::Return(Some(Slot::I(given))) => given == number && ran.calls.len() == calls,
-        _ => false,
-    }
-}
-
 #[test]
 fn parts_are_told_of_the_calls_before_them(rt: HostRuntime) -> Result<(), Fail> {
     let alloc = rt.alloc();
     let leaves = host(alloc)?;
-    for (n, want) in [(0, 1), (2147483647, -2147483648), (4294967295, 0)] {
+    for (n, want) in [
+        (0, "i:1"),
+        (2147483647, "i:-2147483648"),
+        (4294967295, "i:0"),
+    ] {
         let ran = nested(alloc, &leaves, 0, one_place(alloc, 0)?, Slot::I(7), n)?;
-        assert!(rt; gave(&ran, want, 2), "after {n} calls");
+        assert!(rt;
+            gave(alloc, &ran.outcome, leaves.classes(), want)?,
+            "after {n} calls"
+        );
+        assert!(rt; ran.calls.len() == 2);
     }
     let ran = nested(alloc, &leaves, 1, two_places(alloc, 0, 0)?, Slot::I(0), 0)?;
-    assert!(rt; threw(&ran, ClassId::ARITHMETIC, "/ by zero") && ran.calls.len() == 1);
+    let want = "java/lang/ArithmeticException s:/\\sby\\szero";
+    assert!(rt; gave(alloc, &ran.outcome, leaves.classes(), want)?);
+    assert!(rt; ran.calls.len() == 1);
     Ok(())
 }
