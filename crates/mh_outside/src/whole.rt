@@ -60,6 +60,8 @@ fn read_piece<I: Inputs>(
         → EndsAt (I.told inputs.old name.now) bytes.old.items bytes.new.items) }
     ensures fault { IsErrOf result ReadWhole.ReadFault
         → Rose (I.faults inputs.old name.now) (I.faults inputs.new name.now) }
+    ensures memory { IsErrOf result ReadWhole.NoMemory
+        → AreSame (I.faults inputs.old) (I.faults inputs.new) }
     ensures short { IsErrOf result ReadWhole.TooLong → ⊥ }
 {
     let mut piece = [0u8; PIECE];
@@ -90,6 +92,10 @@ pub fn read_whole<I: Inputs>(
 
     ensures fault { IsErrOf result ReadWhole.ReadFault
         → Rose (I.faults inputs.old name.now) (I.faults inputs.new name.now) }
+
+    // A read that failed is never told as want of memory.
+    ensures memory { IsErrOf result ReadWhole.NoMemory
+        → AreSame (I.faults inputs.old) (I.faults inputs.new) }
 
     // Where a file is within the limit, `file` excludes that it is longer; so TooLong is exact.
     ensures too_long { IsErrOf result ReadWhole.TooLong

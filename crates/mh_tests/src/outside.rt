@@ -1,6 +1,6 @@
 use mh_outside::{
-    Inputs, MemoryInputs, MemorySink, ReadWhole, RealInputs, RealSink, Sink, read_whole,
-    write_whole,
+    HonestInputs, HonestSink, Inputs, MemoryInputs, MemorySink, ReadWhole, RealInputs, RealSink,
+    Sink, read_whole, write_whole,
 };
 use std::collections::BTreeMap;
 use std::test::Fail;
@@ -43,6 +43,18 @@ fn a_failed_write_leaves_a_front_part(rt: HostRuntime) -> Result<(), Fail> {
     assert!(rt; write_whole(&mut sink, b"second").is_err());
     assert_eq!(rt; sink.bytes.as_slice(), b"first".as_slice());
     assert_eq!(rt; sink.faults, 1);
+    Ok(())
+}
+
+#[test]
+fn honest_files_that_are_not_listed_have_no_bytes(rt: HostRuntime) -> Result<(), Fail> {
+    let alloc = rt.alloc();
+    let mut inputs = HonestInputs {
+        files: BTreeMap::new(alloc),
+    };
+    let got = read_whole(alloc, &mut inputs, "none", 4).map(|v| v.len());
+    assert_eq!(rt; got, Ok(0));
+    assert!(rt; write_whole(&mut HonestSink, b"taken").is_ok());
     Ok(())
 }
 

@@ -62,7 +62,11 @@ fn value(given: Given) -> Value {
 }
 
 /// The method type of a descriptor.
-pub(crate) fn method_type(alloc: Global, text: &str, classes: &Classes) -> Result<MethodTy, NoMemory> {
+pub(crate) fn method_type(
+    alloc: Global,
+    text: &str,
+    classes: &Classes,
+) -> Result<MethodTy, NoMemory> {
     read_descriptor(alloc, text.as_bytes(), classes).map_err(|_| NoMemory)
 }
 
