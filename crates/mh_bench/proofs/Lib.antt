@@ -1,0 +1,3 @@
+mod Calling
+mod Rooms
+mod Spending

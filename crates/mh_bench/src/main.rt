@@ -1,0 +1,47 @@
+//! The program `mh_bench`: it does the work of one row so many times, to be timed from outside, and
+//! prints the row, the number and a sum over all answers.
+#![tactic(auto)]
+
+mod making;
+mod rows;
+
+use rows::{measured, row_named};
+use std::process::ExitCode;
+use std::{env, io};
+
+/// The words are not a row and a number of turns.
+const USAGE: u8 = 1;
+
+/// The row was not done to its end.
+const FAILED: u8 = 2;
+
+// The words after the program's name.
+fn words(rt: &HostRuntime) -> io::Result<Vec<String>> {
+    let mut words = Vec::new(rt.alloc());
+    for word in env::args(rt)?.skip(1) {
+        words.push(word)?;
+    }
+    Ok(words)
+}
+
+fn main(rt: HostRuntime) -> ExitCode {
+    let Ok(words) = words(&rt) else {
+        return ExitCode::from(FAILED);
+    };
+    let [name, turns] = words.as_slice() else {
+        return ExitCode::from(USAGE);
+    };
+    let Some(row) = row_named(name.as_str()) else {
+        return ExitCode::from(USAGE);
+    };
+    let Ok(turns) = turns.as_str().parse::<u32>() else {
+        return ExitCode::from(USAGE);
+    };
+    let Ok(sum) = measured(&rt, rt.alloc(), row, turns) else {
+        return ExitCode::from(FAILED);
+    };
+    match println!(rt; "{} {turns} {sum}", name.as_str()) {
+        Ok(()) => ExitCode::SUCCESS,
+        Err(_) => ExitCode::from(FAILED),
+    }
+}
