@@ -8,10 +8,10 @@ ghost use Rattle.mh_handle.specs.Stands.{Stands};
 ghost use Rattle.mh_handle.specs.Works.{IsReady, GoesOn, Makes};
 ghost use Rattle.mh_branch.specs.Growths.{gather_keys, spread_keys};
 
-use crate::known::{are_classes, basic_of};
+use crate::known::are_classes;
 use mh_base::Seq;
 use mh_edit::Key;
-use mh_form::Field;
+use mh_form::{Field, basic_of};
 use mh_handle::{Growth, Handle, HandleError, Work, one_field};
 use mh_tree::{check_gather, check_spread};
 use mh_values::{Comp, Ty};

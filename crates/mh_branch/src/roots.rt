@@ -7,11 +7,11 @@ ghost use Rattle.mh_handle.specs.Recipe.{recipe};
 ghost use Rattle.mh_handle.specs.Stands.{Stands};
 ghost use Rattle.mh_handle.specs.Works.{IsReady, GoesOn, Makes};
 
-use crate::known::{are_classes, basic_of};
+use crate::known::are_classes;
 use mh_base::Seq;
 use mh_convert::fit;
 use mh_edit::Key;
-use mh_form::{Field, erase, shape};
+use mh_form::{Field, basic_of, erase, shape};
 use mh_handle::{Growth, Handle, HandleError, Work, one_field};
 use mh_tree::{check_constant, check_identity, check_throw};
 use mh_values::{ClassId, Classes, Ty, Value};

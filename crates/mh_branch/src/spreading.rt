@@ -7,10 +7,10 @@ ghost use Rattle.mh_handle.specs.Works.{IsReady, GoesOn};
 ghost use Rattle.mh_branch.specs.Growths.{spread_keys};
 ghost use Rattle.mh_branch.specs.Spreading.{TellsUse, TellsSpreading, MakesBoth, item_keys, items_used_as, spread_use_row, taking_items};
 
-use crate::known::basic_of;
 use mh_astype::as_type;
 use mh_base::{NoMemory, Seq};
 use mh_edit::Key;
+use mh_form::basic_of;
 use mh_handle::{Growth, Handle, HandleError, Work};
 use mh_tree::{CheckError, check_astype, check_spread};
 use mh_values::{ClassId, Classes, Comp, Exc, MethodTy, Ty, is_same_method_type};
