@@ -1,9 +1,7 @@
 ghost use Rattle.std.specs.Prelude.{◌≡◌};
-ghost use Rattle.mh_values.specs.Classes.{AreClasses};
 ghost use Rattle.mh_form.specs.Erasure.{basic_of};
 
 use mh_form::Basic;
-use mh_leaves::Leaves;
 use mh_values::{Primitive, Ty};
 
 /// The basic type of a type.
@@ -15,11 +13,4 @@ pub(crate) fn basic_of(ty: Ty) -> Basic
         Ty::Prim(_) => Basic::I,
         _ => Basic::L,
     }
-}
-
-// What the classes of a manifest are. It does nothing when it runs.
-pub(crate) fn are_classes(leaves: &Leaves)
-    ensures { AreClasses leaves.now.classes }
-{
-    let _count = leaves.classes().len();
 }
