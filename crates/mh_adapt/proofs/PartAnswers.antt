@@ -10,7 +10,7 @@ use Rattle.mh_edit.specs.Applied.{applied}
 use Rattle.mh_edit.specs.Fit.{fits}
 use Rattle.mh_handle.specs.declared.error.HandleError.{HandleError}
 use Rattle.mh_handle.specs.declared.grow.Growth.{Growth}
-use Rattle.mh_handle.specs.Grows.{Grows}
+use Rattle.mh_handle.specs.Grows.{GainsPart, Grows}
 use Rattle.mh_handle.specs.Stands.{HandleView, Stands, handle_body}
 use Rattle.mh_adapt.specs.Parts.{AddsPart}
 
@@ -34,6 +34,10 @@ module _ (u : MethodTy) (t : HandleView) (k : Key) (f : HandleView) (by : Growth
     made = grows.made ∙ ap (λ j. t.form.recipe ++ j ∷ []) adds.key;
     fielded = grows.fielded ∙ ap (λ x. t.fields ++ x) adds.fields.1;
   }
+
+  pub adds-gains : (r : Result HandleView HandleError) → IfOk r (λ h. Grows t h by.ty by.weight by.sides by.key by.fields.items) → IfOk r (GainsPart f t)
+  adds-gains (Ok h) grows = let g = adds-grows h grows in record { weighed = g.weighed; holds = g.holds; fielded = (adds.fields.0, g.fielded, adds.fields.2) }
+  adds-gains (Err e) grows = grows
 
   pub adds-stands :
       (table : LeafTable) (tree : Tree) (r : Result HandleView HandleError) →

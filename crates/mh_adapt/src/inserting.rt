@@ -5,6 +5,7 @@ ghost use Rattle.mh_tree.specs.Rows.{bind_row, drop_row, permute_row};
 ghost use Rattle.mh_tree.specs.Tree.{Tree};
 ghost use Rattle.mh_tree.specs.Tree as tree;
 ghost use Rattle.mh_edit.specs.declared.key.Key.TheVariants as key;
+ghost use Rattle.mh_handle.specs.Grows.{GainsNode};
 ghost use Rattle.mh_handle.specs.Obeys.{Obeys};
 ghost use Rattle.mh_handle.specs.Stands.{Stands};
 ghost use Rattle.mh_handle.specs.Works.{IsReady, GoesOn, Makes};
@@ -65,6 +66,7 @@ pub fn bind<'t, R: Wait>(
         result }
     ensures makes { Makes (t.entry.form.recipe ++ key.Bind pos ∷ [])
         w.old.pass.now w.new.pass.now result }
+    ensures gains { IfOk result (GainsNode t.entry) }
     ensures stands { (a : Tree) → Stands w.old.leaves.now t.entry a
         → IfOk result (λ h. Stands w.old.leaves.now h (tree.Bind a pos v)) }
 {
@@ -97,6 +99,7 @@ pub fn drop_args<'t, R: Wait>(
     ensures obeys { Obeys (drop_row t.entry.ty t.entry.weight pos tys.now) result }
     ensures makes { Makes (t.entry.form.recipe ++ key.Add pos (map basic_of tys.now) ∷ [])
         w.old.pass.now w.new.pass.now result }
+    ensures gains { IfOk result (GainsNode t.entry) }
     ensures stands { (a : Tree) → Stands w.old.leaves.now t.entry a
         → IfOk result (λ h. Stands w.old.leaves.now h (tree.Drop a pos tys.now)) }
 {
@@ -131,6 +134,7 @@ pub fn permute<'t, R: Wait>(
     ensures makes { Makes (t.entry.form.recipe ++ key.Permute
         (map basic_of ty.now.params) reorder.now ∷ [])
         w.old.pass.now w.new.pass.now result }
+    ensures gains { IfOk result (GainsNode t.entry) }
     ensures stands { (a : Tree) → Stands w.old.leaves.now t.entry a
         → IfOk result (λ h. Stands w.old.leaves.now h (tree.Permute a ty.now reorder.now)) }
 {

@@ -2,6 +2,7 @@ ghost use Rattle.std.specs.Prelude.{◌++◌, ◌∷◌, [], IfOk};
 ghost use Rattle.mh_tree.specs.Rows.{collect_row, filter_row, filterret_row, fold_row};
 ghost use Rattle.mh_tree.specs.Tree.{Tree};
 ghost use Rattle.mh_tree.specs.Tree as tree;
+ghost use Rattle.mh_handle.specs.Grows.{GainsPart};
 ghost use Rattle.mh_handle.specs.Obeys.{Obeys};
 ghost use Rattle.mh_handle.specs.Stands.{Stands};
 ghost use Rattle.mh_handle.specs.Works.{IsReady, GoesOn, Makes};
@@ -30,6 +31,7 @@ pub fn filter<'t, R: Wait>(
         (filter_row t.entry.ty t.entry.weight pos f.entry.ty f.entry.weight) result }
     ensures makes { Makes (t.entry.form.recipe ++ collect_key pos f.entry.ty ∷ [])
         w.old.pass.now w.new.pass.now result }
+    ensures gains { IfOk result (GainsPart f.entry t.entry) }
     ensures stands { (a b : Tree) → Stands w.old.leaves.now t.entry a
         → Stands w.old.leaves.now f.entry b
         → IfOk result (λ h. Stands w.old.leaves.now h (tree.FilterArg a pos b)) }
@@ -56,6 +58,7 @@ pub fn filterret<'t, R: Wait>(
         (filterret_row t.entry.ty t.entry.weight f.entry.ty f.entry.weight) result }
     ensures makes { Makes (t.entry.form.recipe ++ filterret_key f.entry.ty ∷ [])
         w.old.pass.now w.new.pass.now result }
+    ensures gains { IfOk result (GainsPart f.entry t.entry) }
     ensures stands { (a b : Tree) → Stands w.old.leaves.now t.entry a
         → Stands w.old.leaves.now f.entry b
         → IfOk result (λ h. Stands w.old.leaves.now h (tree.FilterRet a b)) }
@@ -84,6 +87,7 @@ pub fn fold<'t, R: Wait>(
         (fold_row t.entry.ty t.entry.weight pos c.entry.ty c.entry.weight) result }
     ensures makes { Makes (t.entry.form.recipe ++ fold_key pos c.entry.ty ∷ [])
         w.old.pass.now w.new.pass.now result }
+    ensures gains { IfOk result (GainsPart c.entry t.entry) }
     ensures stands { (a b : Tree) → Stands w.old.leaves.now t.entry a
         → Stands w.old.leaves.now c.entry b
         → IfOk result (λ h. Stands w.old.leaves.now h (tree.Fold a pos b)) }
@@ -112,6 +116,7 @@ pub fn collect<'t, R: Wait>(
         (collect_row t.entry.ty t.entry.weight pos f.entry.ty f.entry.weight) result }
     ensures makes { Makes (t.entry.form.recipe ++ collect_key pos f.entry.ty ∷ [])
         w.old.pass.now w.new.pass.now result }
+    ensures gains { IfOk result (GainsPart f.entry t.entry) }
     ensures stands { (a b : Tree) → Stands w.old.leaves.now t.entry a
         → Stands w.old.leaves.now f.entry b
         → IfOk result (λ h. Stands w.old.leaves.now h (tree.Collect a pos b)) }

@@ -16,7 +16,7 @@ use Rattle.mh_edit.specs.declared.key.Key.{Key}
 use Rattle.mh_handle.specs.declared.error.HandleError.{HandleError}
 use Rattle.mh_handle.specs.declared.error.HandleError.TheVariants.{NoMemory, FormsFull, Refused}
 use Rattle.mh_handle.specs.declared.handle.Handle.{Handle}
-use Rattle.mh_handle.specs.Converting.{IsUsedAs}
+use Rattle.mh_handle.specs.Converting.{IsUsedAs, convert_fields}
 use Rattle.mh_handle.specs.Errors.{of_check}
 use Rattle.mh_handle.specs.Obeys.{Obeys}
 use Rattle.mh_handle.specs.Passes.{PassView}
@@ -51,7 +51,9 @@ used-obeys row classes asked old (Err (Refused e)) is accepted used = absurd acc
 pub use-same : (classes : List Class) (asked : MethodTy) (h : HandleView) → is_same_method_type h.ty asked ≡ true → IsUse classes asked h h
 use-same classes asked h same = record {
   weight = sym (ap (λ b. cond b h.weight (1 + h.weight)) same);
+  sides = refl;
   recipe = sym (ap (λ b. h.form.recipe ++ cond b [] (convert_keys classes asked h.ty)) same ∙ append-nil h.form.recipe);
+  fields = sym (ap (λ b. h.fields ++ cond b [] (convert_fields classes asked h.ty)) same ∙ append-nil h.fields);
 }
 
 -- and one that is converted, where it has another
@@ -60,8 +62,11 @@ pub use-other :
     is_same_method_type h.ty asked ≡ false → astype_row classes h.ty h.weight asked ≡ Ok u → IfOk r (IsUsedAs classes u h) → IfOk r (IsUse classes asked h)
 use-other classes own asked u h (Ok new) other row used = record {
   weight = used.weight ∙ sym (ap (λ b. cond b h.weight (1 + h.weight)) other);
+  sides = used.sides;
   recipe = used.recipe ∙ (ap (λ a. h.form.recipe ++ convert_keys classes a h.ty) (astype_row-parts classes h.ty h.weight asked u row).2
       ∙ sym (ap (λ b. h.form.recipe ++ cond b [] (convert_keys classes asked h.ty)) other));
+  fields = used.fields ∙ (ap (λ a. h.fields ++ convert_fields classes a h.ty) (astype_row-parts classes h.ty h.weight asked u row).2
+      ∙ sym (ap (λ b. h.fields ++ cond b [] (convert_fields classes asked h.ty)) other));
 }
 use-other classes own asked u h (Err e) other row used = used
 

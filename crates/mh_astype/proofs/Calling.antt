@@ -1,23 +1,19 @@
 -- What exact and generic calls of a handle answer that stands for a tree.
-use Rattle.std.proofs.Common.{◌≡◌, ◌≢◌, refl, sym, ap, ap₂, ◌∙◌, subst, ℕ, ◌+◌, ◌<◌, ◌^◌, Bool, true, false, cond, List, [], ◌∷◌, ◌++◌, length, map, Option, Some, Result, Ok, Err, IfOk}
+use Rattle.std.proofs.Common.{◌≡◌, ◌≢◌, refl, sym, ap, ap₂, ◌∙◌, subst, ℕ, ◌+◌, ◌<◌, ◌^◌, Bool, true, false, List, [], ◌∷◌, ◌++◌, length, map, Option, Some, Ok, Err}
 use Rattle.std.proofs.lemmas.List.{append-nil}
 use Rattle.mh_values.specs.declared.class.Class.{Class}
 use Rattle.mh_values.specs.declared.types.MethodTy.{MethodTy}
 use Rattle.mh_values.specs.declared.value.Exc.{Exc}
-use Rattle.mh_values.specs.declared.value.Outcome.TheVariants.{Throw}
 use Rattle.mh_values.specs.declared.value.Value.{Value}
 use Rattle.mh_values.specs.Classes.{AreClasses}
-use Rattle.mh_values.specs.Computation.{Threw, Stuck, and_then}
+use Rattle.mh_values.specs.Computation.{Stuck, and_then}
 use Rattle.mh_values.specs.HasType.{HaveTypes}
-use Rattle.mh_values.specs.Same.{is_same_method_type}
-use Rattle.mh_values.proofs.SameTypes.{both, same_method_type-is}
+use Rattle.mh_values.proofs.SameTypes.{both}
 use Rattle.mh_convert.specs.Conversion.{is_trivial_ret}
 use Rattle.mh_leaf.specs.LeafTable.{LeafTable}
-use Rattle.mh_tree.specs.Tree.{Tree, AsType, weight}
-use Rattle.mh_tree.specs.Rows.{Checked, astype_row, mismatch}
-use Rattle.mh_tree.specs.Typing.{with_type, type_of}
-use Rattle.mh_tree.specs.Meaning.{Done, known, mean, or_throw, conv_all, conv_result, exact, exact_at, generic, generic_at}
-use Rattle.mh_tree.specs.Meaning as meaning
+use Rattle.mh_tree.specs.Tree.{Tree, AsType}
+use Rattle.mh_tree.specs.Rows.{Checked, astype_row}
+use Rattle.mh_tree.specs.Meaning.{Done, known, mean, or_throw, conv_all, conv_result}
 use Rattle.mh_tree.proofs.RowParts.{astype_row-parts}
 use Rattle.mh_tree.proofs.SoundConversions.{conv_all-converts}
 use Rattle.mh_form.specs.declared.field.Field.{Field}
@@ -33,7 +29,7 @@ use Rattle.mh_handle.specs.Converting.{IsUsedAs, convert_fields}
 use Rattle.mh_handle.proofs.Answering.{typed_run-stands, typed_run-well_formed}
 use Rattle.mh_handle.proofs.AsTypeStands.{astype-stands}
 use Rattle.mh_handle.proofs.TrivialConversions.{all-kept, converts-ok, or_throw-ok, run-kept}
-use Rattle.mh_astype.specs.Calls.{IsRefusal, at_type, exact_keys, generic_keys}
+use Rattle.mh_astype.specs.Calls.{IsRefusal}
 use Rattle.mh_astype.proofs.Using.{trivial, convert_key, keys-changed, keys-kept}
 pub use Rattle.mh_astype.proofs.OwnCalls.{answers, exact-differs, exact-same, exact_keys-differs, exact_keys-same, generic-refused, generic-same, generic-used, generic_keys-refused, generic_keys-same, generic_keys-used, own-typed, thrown-answer, types-are}
 

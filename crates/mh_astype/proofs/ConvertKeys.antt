@@ -1,19 +1,15 @@
 -- The key and the fields of a use as another type: that the key fits, and keeps to the types.
-use Rattle.std.proofs.Common.{◌≡◌, refl, sym, ap, ap₂, ◌∙◌, subst, ℕ, ◌+◌, ◌≤◌, Bool, true, false, not, cond, ◌&&◌, List, [], ◌∷◌, ◌++◌, length, map, codes, Result, Ok, Err, IfOk, inl}
-use Rattle.std.specs.Prelude.{nat_le, option_to_list, IsErrAnd}
+use Rattle.std.proofs.Common.{◌≡◌, sym, ap, ap₂, ◌∙◌, ℕ, ◌+◌, ◌≤◌, Bool, true, false, not, cond, ◌&&◌, List, [], ◌∷◌, ◌++◌, length, map, codes, Ok}
+use Rattle.std.specs.Prelude.{nat_le, option_to_list}
 use Rattle.std.proofs.lemmas.Bool.{eq-eqb, leb-true}
-use Rattle.std.proofs.lemmas.List.{append-nil, length-map}
+use Rattle.std.proofs.lemmas.List.{length-map}
 use Rattle.mh_values.specs.declared.class.Class.{Class}
 use Rattle.mh_values.specs.declared.types.MethodTy.{MethodTy}
 use Rattle.mh_values.specs.Class.{internal_error_class}
-use Rattle.mh_values.specs.Classes.{AreClasses}
 use Rattle.mh_values.specs.Exception.{saying}
-use Rattle.mh_values.specs.Same.{is_same_method_type}
 use Rattle.mh_values.specs.Slots.{slots_of_all}
 use Rattle.mh_values.proofs.SameTypes.{both, both-true}
 use Rattle.mh_convert.specs.Conversion.{is_trivial_ret, ret_conversion_of}
-use Rattle.mh_leaf.specs.LeafTable.{LeafTable}
-use Rattle.mh_tree.specs.Tree.{Tree, AsType}
 use Rattle.mh_tree.specs.Rows.{illegal, provided, limited, can_be_used_as, mismatch, astype_row}
 use Rattle.mh_tree.proofs.RowParts.{provided-parts, astype_row-parts}
 use Rattle.mh_form.specs.declared.field.Field.{Field}
@@ -24,21 +20,11 @@ use Rattle.mh_edit.specs.declared.key.Key.TheVariants.{Convert}
 use Rattle.mh_edit.specs.declared.key.RetEntry.{RetEntry}
 use Rattle.mh_edit.specs.Applied.{applied, conv_params, converting}
 use Rattle.mh_edit.specs.Fit.{fits}
-use Rattle.mh_handle.specs.declared.error.HandleError.{HandleError}
-use Rattle.mh_handle.specs.declared.error.HandleError.TheVariants.{NoMemory}
-use Rattle.mh_handle.specs.declared.handle.Handle.{Handle}
-use Rattle.mh_handle.specs.declared.work.Work.{Work}
-use Rattle.mh_handle.specs.Converting.{IsUsedAs, convert_fields}
-use Rattle.mh_handle.specs.Grows.{Grows}
-use Rattle.mh_handle.specs.Passes.{PassView}
+use Rattle.mh_handle.specs.Converting.{convert_fields}
 use Rattle.mh_handle.specs.Recipe.{are_trivial, convert_keys, entries_of, ret_entry_of}
-use Rattle.mh_handle.specs.Stands.{HandleView, HasShape, IsShaped, Stands, handle_body}
-use Rattle.mh_handle.specs.Works.{GoesOn, Makes}
-use Rattle.mh_handle.proofs.AsTypeStands.{astype-stands}
+use Rattle.mh_handle.specs.Stands.{HandleView, HasShape, IsShaped, handle_body}
 use Rattle.mh_handle.proofs.ConvertedParameters.{length-entries, params-converted, params-kept, returning-params}
-use Rattle.mh_handle.proofs.Passing.{starts-refl}
 use Rattle.mh_handle.proofs.TrivialConversions.{none-converted}
-use Rattle.mh_astype.specs.Use.{MakesBy, used_as}
 
 -- ---- the row
 

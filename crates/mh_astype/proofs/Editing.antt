@@ -21,10 +21,10 @@ module _ (classes : List Class) (asked own : MethodTy) (recipe : List Key) (key 
       subst P (sym (keys-changed classes asked own is)) (subst P (ap (λ (x : Key). x ∷ []) k) h)
 
   pub asks-edited : (f : Bor FormView) (a : Answer) → Edits (recipe ++ key ∷ []) old new (Ok f) → AsksBy recipe (convert_keys classes asked own) old new (Ok a)
-  asks-edited f a e = at-key (Ok a) ((f.now, e.0, e.1), e.2)
+  asks-edited f a e = at-key (Ok a) ((f.now, e.0, e.1, e.3), e.2)
 
   pub asks-without-memory : (f : Bor FormView) → Edits (recipe ++ key ∷ []) old new (Ok f) → AsksBy recipe (convert_keys classes asked own) old new (Err NoMemory)
-  asks-without-memory f e = at-key (Err NoMemory) (inr (f.now, e.0, e.1), e.2)
+  asks-without-memory f e = at-key (Err NoMemory) (inr (f.now, e.0, e.1, e.3), e.2)
 
   pub asks-refused : (e : EditError) → Edits (recipe ++ key ∷ []) old new (Err e) → AsksBy recipe (convert_keys classes asked own) old new (Err e)
   asks-refused NoMemory h = at-key (Err NoMemory) (inl h.0.1, h.1)

@@ -8,12 +8,14 @@ use Rattle.mh_leaf.specs.LeafTable.{LeafTable}
 use Rattle.mh_tree.specs.Tree.{Tree, AsType}
 use Rattle.mh_tree.specs.Rows.{Checked, astype_row}
 use Rattle.mh_tree.specs.Typing.{type_of}
+use Rattle.mh_setonce.specs.Walks.{Lacks}
 use Rattle.mh_edit.specs.declared.key.Key.{Key}
 use Rattle.mh_handle.specs.declared.answer.Answer.{Answer}
 use Rattle.mh_handle.specs.declared.error.EditError.{EditError}
 use Rattle.mh_handle.specs.declared.error.EditError.TheVariants.{NoMemory, FormsFull}
 use Rattle.mh_handle.specs.Form.{FormView}
-use Rattle.mh_handle.specs.Passes.{PassView, AsksFor, NotAsked, Draws, DrawsAtMostOne}
+use Rattle.mh_handle.specs.Index.{recipe_of}
+use Rattle.mh_handle.specs.Passes.{PassView, AsksFor, NotAsked, Draws, DrawsAtMostOne, IsFormOf}
 use Rattle.mh_handle.specs.Recipe.{convert_keys, recipe}
 
 -- a number that depends on a type, 0 where there is none
@@ -42,9 +44,9 @@ abbrev pub call_keys : List Class → MethodTy → ℕ → MethodTy → List Key
 call_keys classes own weight asked =
     if is_same_method_type own asked then [] else unless_refused (astype_row classes own weight asked) (convert_keys classes asked own)
 
--- the form of a recipe is asked for
+-- the form of a recipe is asked for, the one that the pass has learnt by then
 abbrev pub Asks : List Key → PassView → PassView → Type 0
-Asks keys old new = (f : FormView) × (f.recipe ≡ keys) × AsksFor f old new
+Asks keys old new = (f : FormView) × (f.recipe ≡ keys) × AsksFor f old new × IsFormOf keys new.nodes f
 
 -- what a generic call leaves of the pass that adds these keys to a recipe: nothing is asked for where there is none
 abbrev pub AsksBy : List Key → List Key → PassView → PassView → Result Answer EditError → Type 0
@@ -53,7 +55,8 @@ AsksBy recipe [] old new answer = new ≡ old
 AsksBy recipe (k ∷ keys) old new (Ok a) = Asks (recipe ++ k ∷ keys) old new × DrawsAtMostOne (recipe ++ k ∷ keys) old new
 AsksBy recipe (k ∷ keys) old new (Err NoMemory) =
     ((new.asked ≡ old.asked) ⊎ Asks (recipe ++ k ∷ keys) old new) × DrawsAtMostOne (recipe ++ k ∷ keys) old new
-AsksBy recipe (k ∷ keys) old new (Err (FormsFull drawn)) = NotAsked (recipe ++ k ∷ keys) old new × Draws drawn old.seat new.seat × (16384 < drawn)
+AsksBy recipe (k ∷ keys) old new (Err (FormsFull drawn)) =
+    NotAsked (recipe ++ k ∷ keys) old new × Draws drawn old.seat new.seat × (16384 < drawn) × Lacks recipe_of new.nodes (recipe ++ k ∷ keys)
 
 -- the refusal of a use as a type, if it is refused
 abbrev pub IsRefusal : Checked → MethodTy → Option Exc → Type 0

@@ -3,21 +3,18 @@ use Rattle.std.specs.Prelude.{◌+◌, ◌≡◌, ℕ, List, [], ◌∷◌, ◌+
 use Rattle.mh_values.specs.declared.class.Class.{Class}
 use Rattle.mh_values.specs.declared.types.MethodTy.{MethodTy}
 use Rattle.mh_values.specs.Same.{is_same_method_type}
-use Rattle.mh_leaf.specs.LeafTable.{LeafTable}
 use Rattle.mh_tree.specs.Tree.{Tree, AsType}
 use Rattle.mh_tree.specs.Rows.{Checked, astype_row}
+use Rattle.mh_form.specs.declared.field.Field.{Field}
 use Rattle.mh_edit.specs.declared.key.Key.{Key}
 use Rattle.mh_handle.specs.declared.error.HandleError.{HandleError}
 use Rattle.mh_handle.specs.declared.error.HandleError.TheVariants.{FormsFull}
 use Rattle.mh_handle.specs.declared.handle.Handle.{Handle}
+use Rattle.mh_handle.specs.Converting.{convert_fields}
 use Rattle.mh_handle.specs.Passes.{PassView}
 use Rattle.mh_handle.specs.Recipe.{convert_keys}
-use Rattle.mh_handle.specs.Stands.{HandleView, Stands}
+use Rattle.mh_handle.specs.Stands.{HandleView}
 use Rattle.mh_handle.specs.Works.{Makes}
-
--- the handle stands for some tree
-abbrev pub StandsForSome : LeafTable → HandleView → Type 0
-StandsForSome table h = (t : Tree) × Stands table h t
 
 -- a tree that is used as a type: itself, where it has that type
 abbrev pub used_as : MethodTy → MethodTy → Tree → Tree
@@ -35,10 +32,16 @@ use_keys classes own asked = if is_same_method_type own asked then [] else conve
 abbrev pub use_weight : MethodTy → ℕ → MethodTy → ℕ
 use_weight own weight asked = if is_same_method_type own asked then weight else 1 + weight
 
--- the handle that a use as a type makes: its weight, and the recipe of its form
+-- the fields of the conversions, none where the handle has that type
+abbrev pub use_fields : List Class → MethodTy → MethodTy → List Field
+use_fields classes own asked = if is_same_method_type own asked then [] else convert_fields classes asked own
+
+-- the handle that a use as a type makes: its weight, the types of its side parts, the recipe of its form, and its fields
 pub record IsUse (classes : List Class) (asked : MethodTy) (old new : HandleView) : Type 0 where
   pub weight : new.weight ≡ use_weight old.ty old.weight asked
+  pub sides : new.sides ≡ old.sides
   pub recipe : new.form.recipe ≡ old.form.recipe ++ use_keys classes old.ty asked
+  pub fields : new.fields ≡ old.fields ++ use_fields classes old.ty asked
 
 -- what a call leaves of the pass that adds these keys to a recipe: nothing is asked for where there is none
 abbrev pub MakesBy : List Key → List Key → PassView → PassView → Result Handle HandleError → Type 0

@@ -7,13 +7,11 @@ ghost use Rattle.mh_tree.specs.Tree.{Tree, AsType};
 ghost use Rattle.mh_handle.specs.Answers.{IsAnswer};
 ghost use Rattle.mh_convert.specs.Conversion.{is_trivial_ret};
 ghost use Rattle.mh_handle.specs.Recipe.{are_trivial, convert_keys, recipe};
-ghost use Rattle.mh_handle.specs.Stands.{Stands};
+ghost use Rattle.mh_handle.specs.Stands.{Stands, StandsForSome};
 ghost use Rattle.mh_handle.specs.Works.{IsReady, GoesOn};
 ghost use Rattle.mh_astype.specs.Calls.{AsksBy, IsRefusal, call_keys, exact_keys, generic_keys};
-ghost use Rattle.mh_astype.specs.Use.{StandsForSome};
 
 use crate::conversions::{convert_fields, convert_key, is_trivial};
-use crate::use_as::are_classes;
 use mh_base::NoMemory;
 use mh_handle::{Answer, EditError, Handle, Work};
 use mh_leaves::Leaves;
@@ -70,8 +68,7 @@ fn invoke_converted<'t, R: Wait>(
         → IfOk result (IsAnswer (mean w.old.leaves.now (AsType t call.now) args.now n)
         (length (recipe w.old.leaves.now (AsType t call.now)))) }
 {
-    are_classes(w.leaves);
-    let classes = w.leaves.classes();
+    let classes = w.classes();
     let key = convert_key(alloc, call, h.ty(), classes)?;
     let more = convert_fields(alloc, call, h.ty(), classes)?;
     let form = w.forms.edit(rt, alloc, w.pass, h.form(), key)?;
@@ -100,8 +97,7 @@ fn invoke_used<'t, R: Wait>(
         → IfOk result (IsAnswer (mean w.old.leaves.now (AsType t call.now) args.now n)
         (length (recipe w.old.leaves.now (AsType t call.now)))) }
 {
-    are_classes(w.leaves);
-    if is_trivial(call, h.ty(), w.leaves.classes()) {
+    if is_trivial(call, h.ty(), w.classes()) {
         Ok(h.invoke(alloc, w.leaves, args, n)?)
     } else {
         invoke_converted(w, rt, alloc, h, call, args, n)

@@ -1,5 +1,4 @@
 ghost use Rattle.std.specs.Prelude.{◌≡◌, ◌&&◌, IfOk, IsTrue, Ok, false};
-ghost use Rattle.mh_values.specs.Classes.{AreClasses};
 ghost use Rattle.mh_values.specs.Same.{is_same_method_type};
 ghost use Rattle.mh_convert.specs.Conversion.{is_trivial_ret};
 ghost use Rattle.mh_tree.specs.Rows.{astype_row};
@@ -14,7 +13,6 @@ ghost use Rattle.mh_astype.specs.Use.{IsUse, MakesBy, used_as, use_row, use_keys
 use crate::conversions::{convert_fields, convert_key, is_trivial};
 use mh_base::Seq;
 use mh_handle::{Growth, Handle, HandleError, Work};
-use mh_leaves::Leaves;
 use mh_tree::check_astype;
 use mh_values::{MethodTy, is_same_method_type};
 use std::alloc::Global;
@@ -75,13 +73,6 @@ fn used<'t, R: Wait>(
     }
 }
 
-// What the classes of a manifest are. It does nothing when it runs.
-pub(crate) fn are_classes(leaves: &Leaves)
-    ensures { AreClasses leaves.now.classes }
-{
-    let _count = leaves.classes().len();
-}
-
 /// A handle of the type `ty` that converts its arguments to what `h` takes, from left to right, and
 /// then the result (`MethodHandle.asType`, SE 17): `h` itself where it has that type. One edit is
 /// made where a conversion changes something, and none where each one changes nothing. Refused by
@@ -107,7 +98,6 @@ pub fn as_type<'t, R: Wait>(
     if is_same_method_type(h.ty(), ty) {
         return Ok(h);
     }
-    are_classes(w.leaves);
-    let asked = check_astype(alloc, h.ty(), h.weight(), ty, w.leaves.classes())?;
+    let asked = check_astype(alloc, h.ty(), h.weight(), ty, w.classes())?;
     used(w, rt, alloc, h, asked)
 }

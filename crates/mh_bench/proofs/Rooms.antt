@@ -10,7 +10,8 @@ use Rattle.mh_handle.specs.declared.work.Work.{Work}
 use Rattle.mh_handle.specs.Passes.{PassView, SeatView, pass_at, seat_at}
 use Rattle.mh_handle.specs.Stands.{HandleView, Stands}
 use Rattle.mh_handle.specs.Works.{GoesOn, IsReady, Makes}
-use Rattle.mh_astype.specs.Use.{MakesBy, StandsForSome}
+use Rattle.mh_astype.specs.Use.{MakesBy}
+use Rattle.mh_handle.specs.Stands.{StandsForSome}
 use Rattle.mh_bench.specs.Spending.{Spends}
 use Rattle.mh_bench.proofs.Spending.{made-room, same-room, ready-less, some-tree}
 

@@ -10,7 +10,7 @@ use Rattle.mh_handle.specs.declared.work.Work.{Work}
 use Rattle.mh_handle.specs.Passes.{DrawsAtMostOne, PassView, SeatView}
 use Rattle.mh_handle.specs.Stands.{Stands}
 use Rattle.mh_handle.specs.Works.{GoesOn, IsReady, Makes}
-use Rattle.mh_astype.specs.Use.{StandsForSome}
+use Rattle.mh_handle.specs.Stands.{StandsForSome}
 use Rattle.mh_bench.specs.Spending.{Spends}
 
 pub same-room : (old new : SeatView) → new ≡ old → old.room ≤ new.room + 1

@@ -2,7 +2,7 @@
 
 ghost use Rattle.std.specs.Prelude.{◌≤◌, ◌*◌, ◌+◌, length, IfOk};
 ghost use Rattle.mh_handle.specs.Works.{IsReady};
-ghost use Rattle.mh_astype.specs.Use.{StandsForSome};
+ghost use Rattle.mh_handle.specs.Stands.{StandsForSome};
 ghost use Rattle.mh_bench.specs.Spending.{Spends};
 
 use mh_adapt::{bind, drop_args, filter, filterret};

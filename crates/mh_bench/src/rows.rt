@@ -3,7 +3,7 @@
 ghost use Rattle.std.specs.Prelude.{◌≡◌, ◌≤◌, ◌+◌, length, IfOk};
 ghost use Rattle.mh_values.specs.HasType.{HaveTypes};
 ghost use Rattle.mh_handle.specs.Works.{IsReady};
-ghost use Rattle.mh_astype.specs.Use.{StandsForSome};
+ghost use Rattle.mh_handle.specs.Stands.{StandsForSome};
 
 use crate::making::{ADD, INT, LONG, SAME, Step, demo_leaves, made};
 use mh_adapt::bind;

@@ -5,6 +5,7 @@ mod BranchAnswers
 mod Branching
 mod CatchStands
 mod Computing
+mod Gained
 mod GatherStands
 mod Growing
 mod GuardStands

@@ -1,5 +1,5 @@
 -- What the call of a spread does, from what its check found and what its use of the handle made.
-use Rattle.std.proofs.Common.{◌≡◌, sym, subst, ap, ◌∙◌, ℕ, ◌+◌, ◌-◌, ◌≤◌, List, [], ◌∷◌, ◌++◌, length, Option, Result, Ok, Err, IfOk, codes}
+use Rattle.std.proofs.Common.{◌≡◌, sym, subst, ap, ◌∙◌, ℕ, ◌+◌, ◌-◌, ◌≤◌, List, [], ◌∷◌, ◌++◌, append-nil, length, Option, Result, Ok, Err, IfOk, codes}
 use Rattle.std.specs.Prelude.{IsTrue}
 use Rattle.std.specs.Option.{option_map_or}
 use Rattle.mh_values.specs.declared.class.Class.{Class}
@@ -78,6 +78,12 @@ module _
         IsAccepted r → IfOk r (λ h. Grows used h s.own weight sides k fields) → Obeys (spread_use_row classes t.ty t.weight array count) r
     call-obeys weight sides k fields r accepted grows =
         grown-obeys (spread_use_row classes t.ty t.weight array count) used s.own weight sides k fields r (spreading-row classes t.ty t.weight array count s found) accepted grows
+
+    pub call-sides :
+        (weight : ℕ) (sides : List MethodTy) (k : Key) (fields : List Field) (r : Result Handle HandleError) →
+        sides ≡ [] → IfOk r (λ h. Grows used h s.own weight sides k fields) → IfOk r (λ (h : HandleView). h.sides ≡ t.sides)
+    call-sides weight sides k fields (Ok h) none g = g.holds ∙ (ap (λ x. used.sides ++ x) none ∙ (append-nil used.sides ∙ made_by.sides))
+    call-sides weight sides k fields (Err e) none g = g
 
     pub call-makes :
         (b : Basic) (old mid new : PassView) (r : Result Handle HandleError) →

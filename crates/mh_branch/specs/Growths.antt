@@ -54,3 +54,15 @@ pub record IsCatch (t : MethodTy) (body : HandleView) (class : ClassId) (handler
   pub sides : by.sides ≡ held_by body ++ held_by handler
   pub key : by.key ≡ catch_key t handler.ty
   pub fields : (b h : Field) × (by.fields.items ≡ b ∷ field.Class class ∷ h ∷ []) × IsPartOf body b × IsPartOf handler h
+
+-- a handle with a test and two branches: what they weigh and one more, the types that they hold, and a field for each
+pub record HasBranches (test body other new : HandleView) : Type 0 where
+  pub weighed : new.weight ≡ 1 + test.weight + body.weight + other.weight
+  pub holds : new.sides ≡ held_by test ++ held_by body ++ held_by other
+  pub fielded : (c b o : Field) × (new.fields ≡ c ∷ b ∷ o ∷ []) × IsPartOf test c × IsPartOf body b × IsPartOf other o
+
+-- a handle with a target and a handler: what they weigh and one more, the types that they hold, and a field for each, with the class of exceptions between
+pub record HasHandler (body : HandleView) (class : ClassId) (handler new : HandleView) : Type 0 where
+  pub weighed : new.weight ≡ 1 + body.weight + handler.weight
+  pub holds : new.sides ≡ held_by body ++ held_by handler
+  pub fielded : (b h : Field) × (new.fields ≡ b ∷ field.Class class ∷ h ∷ []) × IsPartOf body b × IsPartOf handler h

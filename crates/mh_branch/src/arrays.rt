@@ -3,12 +3,12 @@ ghost use Rattle.mh_form.specs.declared.field.Field.TheVariants as field;
 ghost use Rattle.mh_tree.specs.Rows.{component_of, gather_row, spread_row};
 ghost use Rattle.mh_tree.specs.Tree.{Tree};
 ghost use Rattle.mh_tree.specs.Tree as tree;
+ghost use Rattle.mh_handle.specs.Grows.{GainsNode};
 ghost use Rattle.mh_handle.specs.Obeys.{Obeys};
 ghost use Rattle.mh_handle.specs.Stands.{Stands};
 ghost use Rattle.mh_handle.specs.Works.{IsReady, GoesOn, Makes};
 ghost use Rattle.mh_branch.specs.Growths.{gather_keys, spread_keys};
 
-use crate::known::are_classes;
 use mh_base::Seq;
 use mh_edit::Key;
 use mh_form::{Field, basic_of};
@@ -46,11 +46,11 @@ pub fn gather<'t, R: Wait>(
         result }
     ensures makes { Makes (t.entry.form.recipe ++ gather_keys arr n) w.old.pass.now w.new.pass.now
         result }
+    ensures gains { IfOk result (GainsNode t.entry) }
     ensures stands { (a : Tree) → Stands w.old.leaves.now t.entry a
         → IfOk result (λ h. Stands w.old.leaves.now h (tree.Gather a arr n)) }
 {
-    are_classes(w.leaves);
-    let own = check_gather(alloc, t.ty(), t.weight(), arr, n, w.leaves.classes())?;
+    let own = check_gather(alloc, t.ty(), t.weight(), arr, n, w.classes())?;
     let component = component_of(arr);
     let by = Growth {
         ty: own,

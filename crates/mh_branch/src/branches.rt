@@ -5,10 +5,9 @@ ghost use Rattle.mh_tree.specs.Tree as tree;
 ghost use Rattle.mh_handle.specs.Obeys.{Obeys};
 ghost use Rattle.mh_handle.specs.Stands.{Stands};
 ghost use Rattle.mh_handle.specs.Works.{IsReady, GoesOn, Makes};
-ghost use Rattle.mh_branch.specs.Growths.{guard_key, catch_key};
+ghost use Rattle.mh_branch.specs.Growths.{HasBranches, HasHandler, guard_key, catch_key};
 
 use crate::growths::{catching, guarding};
-use crate::known::are_classes;
 use mh_handle::{Handle, HandleError, Work};
 use mh_tree::{check_catch, check_guard};
 use mh_values::ClassId;
@@ -32,6 +31,7 @@ pub fn guard<'t, R: Wait>(
         e.entry.weight) result }
     ensures makes { Makes (guard_key t.entry.ty c.entry.ty ∷ []) w.old.pass.now w.new.pass.now
         result }
+    ensures gains { IfOk result (HasBranches c.entry t.entry e.entry) }
     ensures stands { (a b d : Tree) → Stands w.old.leaves.now c.entry a
         → Stands w.old.leaves.now t.entry b → Stands w.old.leaves.now e.entry d
         → IfOk result (λ h. Stands w.old.leaves.now h (tree.Guard a b d)) }
@@ -68,12 +68,12 @@ pub fn catch<'t, R: Wait>(
         h.entry.ty h.entry.weight) result }
     ensures makes { Makes (catch_key t.entry.ty h.entry.ty ∷ []) w.old.pass.now w.new.pass.now
         result }
+    ensures gains { IfOk result (HasHandler t.entry class h.entry) }
     ensures stands { (a b : Tree) → Stands w.old.leaves.now t.entry a
         → Stands w.old.leaves.now h.entry b → IfOk result
         (λ x. Stands w.old.leaves.now x (tree.Catch a class b)) }
 {
-    are_classes(w.leaves);
-    let classes = w.leaves.classes();
+    let classes = w.classes();
     let own = check_catch(
         alloc,
         t.ty(),

@@ -4,7 +4,6 @@
 mod arrays;
 mod branches;
 mod growths;
-mod known;
 mod roots;
 mod spreading;
 

@@ -7,7 +7,6 @@ ghost use Rattle.mh_handle.specs.Recipe.{recipe};
 ghost use Rattle.mh_handle.specs.Stands.{Stands};
 ghost use Rattle.mh_handle.specs.Works.{IsReady, GoesOn, Makes};
 
-use crate::known::are_classes;
 use mh_base::Seq;
 use mh_convert::fit;
 use mh_edit::Key;
@@ -106,8 +105,7 @@ pub fn throw<'t, R: Wait>(
         w.new.pass.now result }
     ensures stands { IfOk result (λ h. Stands w.old.leaves.now h (tree.Throw ret class)) }
 {
-    are_classes(w.leaves);
-    let own = check_throw(alloc, ret, class, w.leaves.classes())?;
+    let own = check_throw(alloc, ret, class, w.classes())?;
     let shape = shape(alloc, &own)?;
     let by = Growth {
         ty: own,

@@ -112,6 +112,7 @@ pub fn spread<'t, R: Wait>(
     ensures makes { MakesBoth t.entry.form.recipe
         (item_keys w.old.leaves.now.classes t.entry.ty arr n)
         (spread_keys arr n) w.old.pass.now w.new.pass.now result }
+    ensures sides { IfOk result (λ h. h.sides ≡ t.entry.sides) }
     ensures stands { (a : Tree) → Stands w.old.leaves.now t.entry a
         → IfOk result (λ h. Stands w.old.leaves.now h
         (tree.Spread (items_used_as t.entry.ty arr n a) arr n)) }

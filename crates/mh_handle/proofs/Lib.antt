@@ -7,6 +7,7 @@ pub mod ConvertedSlots
 pub mod Copying
 pub mod Edits
 pub mod Erasing
+pub mod Gaining
 pub mod Indexes
 pub mod LeafStands
 pub mod Limits

@@ -1,15 +1,16 @@
 -- What a pass keeps while it learns, and while it draws a number.
-use Rattle.std.proofs.Common.{◌≡◌, ℕ, zero, suc, ◌+◌, ◌-◌, ◌^◌, ◌<◌, ◌≤◌, List, [], ◌∷◌, ◌++◌, length, length-append, sym, refl, ap, ◌∙◌, subst, arith, add-one, append-nil, append_assoc, Some, ◌⊎◌, ⊎_elim, Result, Ok, Err, OnOk, OnErr}
-use Rattle.std.specs.Prelude.{slice_get, slice_index_or}
+use Rattle.std.proofs.Common.{◌≡◌, ℕ, zero, suc, ◌+◌, ◌-◌, ◌^◌, ◌<◌, ◌≤◌, List, [], ◌∷◌, ◌++◌, length, length-append, sym, refl, ap, ◌∙◌, subst, arith, add-one, append-nil, append_assoc, Some, ⊎_elim, Result, Ok, Err, OnOk, OnErr}
+use Rattle.std.specs.Prelude.{slice_get, slice_index_or, Option, None, IfOk, IfSome}
+use denote.Ref.{Bor}
 use Rattle.std.specs.List.{All}
 use Rattle.std.proofs.lemmas.List.Elements.{All-append}
-use Rattle.mh_setonce.specs.Walks.{StartsWith, Lacks}
+use Rattle.mh_setonce.specs.Walks.{StartsWith, Lacks, Has, Distinct, Finds}
 use Rattle.mh_edit.specs.declared.key.Key.{Key}
 use Rattle.mh_edit.proofs.Renaming.{slice_get-append_left}
 use Rattle.mh_setonce.proofs.Nodes.{at_push}
 use Rattle.mh_handle.specs.Form.{FormView}
 use Rattle.mh_handle.specs.Index.{recipe_of}
-use Rattle.mh_handle.specs.Passes.{AreLearnt, Draws, numbers_to, seat_at}
+use Rattle.mh_handle.specs.Passes.{AreLearnt, Draws, IsFormOf, numbers_to, seat_at}
 
 numbers-low : (last n : ℕ) → last < n → All (λ k. k < n) (numbers_to last)
 numbers-low zero n low = λ k d past. absurd (omega arith)
@@ -54,3 +55,30 @@ learnt-added nodes asked asked' form i (Err e) l here ok err = subst (AreLearnt 
 
 pub lacks-same : (asked asked' : List FormView) (recipe recipe' : List Key) → Lacks recipe_of asked recipe → asked' ≡ asked → recipe' ≡ recipe → Lacks recipe_of asked' recipe'
 lacks-same asked asked' recipe recipe' new a r = subst (λ v. Lacks recipe_of v recipe') (sym a) (subst (Lacks recipe_of asked) (sym r) new)
+
+-- of nodes with recipes of their own, one with a recipe is the only one
+pub form-of : (recipe : List Key) (nodes : List FormView) (form : FormView) → Distinct recipe_of nodes → Has recipe_of nodes recipe form → IsFormOf recipe nodes form
+form-of recipe nodes form once has = (
+  has,
+  λ other h.
+      let e : h.0 ≡ has.0 = once h.0 has.0 other form h.1 has.1 (h.2 ∙ sym has.2) in
+      let w : Some other ≡ Some form = sym h.1 ∙ (ap (slice_get nodes) e ∙ has.1) in
+      cc,
+)
+
+-- a form that was found is the one of its recipe
+pub found-form :
+    {E : Type 0} (recipe : List Key) (nodes : List FormView) (r : Result (Option (Bor FormView)) E) →
+    Distinct recipe_of nodes → IfOk r (Finds recipe_of nodes recipe) → IfOk r (λ found. IfSome found (λ form. IsFormOf recipe nodes form.now))
+found-form recipe nodes (Ok None) once finds = tt
+found-form recipe nodes (Ok (Some form)) once finds = form-of recipe nodes form.now once finds
+found-form recipe nodes (Err e) once finds = tt
+
+-- and so is one that was asked for
+pub seen-form :
+    (recipe : List Key) (nodes asked : List FormView) (r : Option (Bor FormView)) →
+    AreLearnt nodes asked → Distinct recipe_of nodes → Finds recipe_of asked recipe r → IfSome r (λ form. IsFormOf recipe nodes form.now)
+seen-form recipe nodes asked None learnt once finds = tt
+seen-form recipe nodes asked (Some form) learnt once finds =
+    let at = learnt finds.0 form.now finds.1 in
+    form-of recipe nodes form.now once (at.0, at.1, finds.2)

@@ -1,5 +1,5 @@
 -- How a handle grows by an edit of its form, and what it is as a part of another handle.
-use Rattle.std.specs.Prelude.{◌≡◌, ℕ, List, [], ◌∷◌, ◌++◌, None, Result, IfOk}
+use Rattle.std.specs.Prelude.{◌≡◌, ℕ, ◌+◌, List, [], ◌∷◌, ◌++◌, None, Result, IfOk}
 use Rattle.std.specs.declared.boxed.Box.{Box}
 use Rattle.std.specs.declared.alloc.Global.{Global}
 use Rattle.mh_values.specs.declared.types.MethodTy.{MethodTy}
@@ -36,3 +36,14 @@ GrowsBy old by made = IfOk made (λ new. Grows old new by.ty by.weight by.sides 
 -- the field holds the handle's form, bound to the handle's fields
 abbrev pub IsPartOf : HandleView → Field → Type 0
 IsPartOf h f = (part : Box Bound Global) × (f ≡ field.Part part) × (part.value.body.now ≡ handle_body h) × (part.value.fields.items ≡ h.fields)
+
+-- the new handle weighs one more, and has no side part more
+pub record GainsNode (old new : HandleView) : Type 0 where
+  pub weighed : new.weight ≡ 1 + old.weight
+  pub holds : new.sides ≡ old.sides
+
+-- the new handle weighs one more and what the part weighs, holds the part's type and those that the part holds, and has one field more, which holds the part
+pub record GainsPart (part old new : HandleView) : Type 0 where
+  pub weighed : new.weight ≡ 1 + old.weight + part.weight
+  pub holds : new.sides ≡ old.sides ++ part.ty ∷ part.sides
+  pub fielded : (f : Field) × (new.fields ≡ old.fields ++ f ∷ []) × IsPartOf part f

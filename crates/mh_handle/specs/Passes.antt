@@ -45,6 +45,10 @@ pub record Draws (number : ℕ) (old new : SeatView) : Type 0 where
 abbrev pub AreLearnt : List FormView → List FormView → Type 0
 AreLearnt nodes asked = (i : ℕ) (f : FormView) → slice_get asked i ≡ Some f → (j : ℕ) × (slice_get nodes j ≡ Some f)
 
+-- this is the form of the recipe among those that were learnt: it is one of them, and no other one has the recipe
+abbrev pub IsFormOf : List Key → List FormView → FormView → Type 0
+IsFormOf recipe nodes form = Has recipe_of nodes recipe form × ((other : FormView) → Has recipe_of nodes recipe other → other ≡ form)
+
 -- more was learnt of the chain, and nothing else changed
 pub record Learns (old new : PassView) : Type 0 where
   pub cells : new.cells ≡ old.cells
@@ -67,14 +71,14 @@ AsksFor form old new =
 abbrev pub NotAsked : List Key → PassView → PassView → Type 0
 NotAsked recipe old new = Lacks recipe_of old.asked recipe × (new.asked ≡ old.asked)
 
--- what an edit answers that asks for the form of a recipe
+-- what an edit answers that asks for the form of a recipe: the one that the pass has learnt by then; where no number is left, it has learnt none
 abbrev pub Edits : List Key → PassView → PassView → Result (Bor FormView) EditError → Type 0
-Edits recipe old new (Ok form) = (form.now.recipe ≡ recipe) × AsksFor form.now old new × DrawsAtMostOne recipe old new
+Edits recipe old new (Ok form) = (form.now.recipe ≡ recipe) × AsksFor form.now old new × DrawsAtMostOne recipe old new × IsFormOf recipe new.nodes form.now
 Edits recipe old new (Err NoMemory) = NotAsked recipe old new × DrawsAtMostOne recipe old new
-Edits recipe old new (Err (FormsFull drawn)) = NotAsked recipe old new × Draws drawn old.seat new.seat × (16384 < drawn)
+Edits recipe old new (Err (FormsFull drawn)) = NotAsked recipe old new × Draws drawn old.seat new.seat × (16384 < drawn) × Lacks recipe_of new.nodes recipe
 
 -- what the making of a form answers that was neither asked for nor learnt
 abbrev pub Makes : List Key → PassView → PassView → Result (Bor FormView) EditError → Type 0
 Makes recipe old new (Ok form) = (form.now.recipe ≡ recipe) × (new.asked ≡ old.asked ++ form.now ∷ []) × ((number : ℕ) × Draws number old.seat new.seat)
 Makes recipe old new (Err NoMemory) = (new.asked ≡ old.asked) × ((new.seat ≡ old.seat) ⊎ ((number : ℕ) × Draws number old.seat new.seat))
-Makes recipe old new (Err (FormsFull drawn)) = (new.asked ≡ old.asked) × Draws drawn old.seat new.seat × (16384 < drawn)
+Makes recipe old new (Err (FormsFull drawn)) = (new.asked ≡ old.asked) × Draws drawn old.seat new.seat × (16384 < drawn) × (new.nodes ≡ old.nodes)

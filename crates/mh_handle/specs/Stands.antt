@@ -62,3 +62,7 @@ pub record Stands (table : LeafTable) (h : HandleView) (t : Tree) : Type 0 where
       (args : List Value) (n : ℕ) → HaveTypes table.classes args h.ty.params → n < 2 ^ 32 →
       handle_run table h (map erased args) n ≢ Stuck
   pub returns : IsSound table.classes (mean table t) h.ty
+
+-- the handle stands for some tree
+abbrev pub StandsForSome : LeafTable → HandleView → Type 0
+StandsForSome table h = (t : Tree) × Stands table h t

@@ -1,12 +1,13 @@
 -- What the calls that make handles need of a thread's work, and what they leave of it.
 use Rattle.std.specs.Prelude.{◌≡◌, ℕ, ◌≤◌, ◌<◌, List, Result, Ok, Err}
-use Rattle.mh_setonce.specs.Walks.{StartsWith}
+use Rattle.mh_setonce.specs.Walks.{StartsWith, Lacks}
 use Rattle.mh_edit.specs.declared.key.Key.{Key}
 use Rattle.mh_handle.specs.declared.error.HandleError.{HandleError}
 use Rattle.mh_handle.specs.declared.error.HandleError.TheVariants.{NoMemory, FormsFull, Refused}
 use Rattle.mh_handle.specs.declared.handle.Handle.{Handle}
 use Rattle.mh_handle.specs.declared.work.Work.{Work}
-use Rattle.mh_handle.specs.Passes.{PassView, AsksFor, NotAsked, Draws, DrawsAtMostOne}
+use Rattle.mh_handle.specs.Index.{recipe_of}
+use Rattle.mh_handle.specs.Passes.{PassView, AsksFor, NotAsked, Draws, DrawsAtMostOne, IsFormOf}
 
 -- the pass is one of the table, and may draw so many numbers
 pub record IsReady (w : Work) (numbers : ℕ) : Type 0 where
@@ -20,11 +21,11 @@ pub record GoesOn (old new : Work) : Type 0 where
   pub cells : new.pass.now.cells ≡ old.pass.now.cells
   pub learnt : StartsWith new.pass.now.nodes old.pass.now.nodes
 
--- what a call leaves of the pass that makes a handle by one edit, whose form has this recipe; one that is refused by its rule leaves it as it was
+-- what a call leaves of the pass that makes a handle by one edit, whose form is the one that the pass has learnt for this recipe; where no number is left it has learnt none, and a refusal by the rule leaves all as it was
 abbrev pub Makes : List Key → PassView → PassView → Result Handle HandleError → Type 0
-Makes recipe old new (Ok h) = (h.form.recipe ≡ recipe) × AsksFor h.form old new × DrawsAtMostOne recipe old new
+Makes recipe old new (Ok h) = (h.form.recipe ≡ recipe) × AsksFor h.form old new × DrawsAtMostOne recipe old new × IsFormOf recipe new.nodes h.form
 Makes recipe old new (Err NoMemory) = (new.asked ≡ old.asked) × DrawsAtMostOne recipe old new
-Makes recipe old new (Err (FormsFull drawn)) = NotAsked recipe old new × Draws drawn old.seat new.seat × (16384 < drawn)
+Makes recipe old new (Err (FormsFull drawn)) = NotAsked recipe old new × Draws drawn old.seat new.seat × (16384 < drawn) × Lacks recipe_of new.nodes recipe
 Makes recipe old new (Err (Refused e)) = new ≡ old
 
 -- the call is not refused by a rule

@@ -1,6 +1,7 @@
 ghost use Rattle.std.specs.Prelude.{◌≡◌, IfOk, map};
 ghost use Rattle.mh_leaf.specs.LeafTable.{LeafTable};
 ghost use Rattle.mh_tree.specs.Tree.{Tree};
+ghost use Rattle.mh_form.specs.Run.{sense};
 ghost use Rattle.mh_handle.specs.Stands.{Stands};
 ghost use Rattle.mh_handle.specs.Works.{GoesOn};
 
@@ -18,6 +19,8 @@ impl<'t> Handle<'t> {
         ensures ty { IfOk result (λ h. h.ty ≡ self.now.ty) }
         ensures weight { IfOk result (λ h. h.weight ≡ self.now.weight) }
         ensures sides { IfOk result (λ h. h.sides ≡ self.now.sides) }
+        ensures fields { (table : LeafTable) → IfOk result
+            (λ h. map (sense table) h.fields ≡ map (sense table) self.now.fields) }
         ensures stands { (table : LeafTable) (t : Tree) → Stands table self.now t
             → IfOk result (λ h. Stands table h t) }
     {

@@ -1,8 +1,8 @@
-ghost use Rattle.std.specs.Prelude.{◌≡◌, ◌≤◌, ◌++◌, ◌∷◌, [], length, OnOk, OnErr, IfOk};
+ghost use Rattle.std.specs.Prelude.{◌≡◌, ◌≤◌, ◌++◌, ◌∷◌, [], length, OnOk, OnErr, IfOk, IfSome};
 ghost use Rattle.mh_setonce.specs.Walks.{Distinct, Finds, Has, Lacks, StartsWith};
 ghost use Rattle.mh_handle.specs.Form.{body_of};
 ghost use Rattle.mh_handle.specs.Index.{recipe_of};
-ghost use Rattle.mh_handle.specs.Passes.{Learns, Makes, pass_at};
+ghost use Rattle.mh_handle.specs.Passes.{IsFormOf, Learns, Makes, pass_at};
 
 use crate::error::EditError;
 use crate::form::Form;
@@ -27,13 +27,15 @@ pub struct FormPass<'t> {
 }
 
 impl<'t> Model for FormPass<'t> {
+    ghost use Rattle.mh_setonce.specs.Walks.{Distinct};
+    ghost use Rattle.mh_handle.specs.Index.{recipe_of};
     ghost use Rattle.mh_handle.specs.Passes.{PassView, AreLearnt};
 
     ghost Value = { PassView };
 
     ghost view = { λ p. record { cells = p.walk.cells; nodes = p.walk.nodes; asked = p.seen; seat = p.seat } };
 
-    ghost invariant = { λ p. AreLearnt p.walk.nodes p.seen };
+    ghost invariant = { λ p. AreLearnt p.walk.nodes p.seen × Distinct recipe_of p.walk.nodes };
 }
 
 impl<'t> FormPass<'t> {
@@ -61,7 +63,9 @@ impl<'t> FormPass<'t> {
 
     /// The form of a recipe and one more key, if it was asked for. It takes no memory.
     pub(crate) fn seen(&self, recipe: &Recipe, key: &Key) -> Option<&'t Form>
-        ensures { Finds recipe_of self.now.asked (recipe.now ++ key.now ∷ []) result }
+        ensures seen { Finds recipe_of self.now.asked (recipe.now ++ key.now ∷ []) result }
+        ensures form { IfSome result (λ form. IsFormOf (recipe.now ++ key.now ∷ [])
+            self.now.nodes form.now) }
     {
         self.seen.find(recipe, key)
     }
@@ -75,6 +79,8 @@ impl<'t> FormPass<'t> {
         requires { self.old.cells ≡ chain.now }
         ensures learns { Learns self.old self.new }
         ensures found { IfOk result (Finds recipe_of self.new.nodes recipe.now) }
+        ensures form { IfOk result (λ found. IfSome found
+            (λ form. IsFormOf recipe.now self.new.nodes form.now)) }
     {
         chain.find(&mut self.walk, recipe)
     }
@@ -107,6 +113,7 @@ impl<'t> FormPass<'t> {
         ensures cells { self.new.cells ≡ self.old.cells }
         ensures learnt { StartsWith self.new.nodes self.old.nodes }
         ensures makes { Makes recipe self.old self.new result }
+        ensures form { IfOk result (λ form. IsFormOf recipe self.new.nodes form.now) }
     {
         self.seen.reserve()?;
         let number = self.seat.draw();
@@ -131,6 +138,7 @@ fn put_form<'t, R: Wait>(
     requires { walk.old.cells ≡ chain.now }
     ensures cells { walk.new.cells ≡ walk.old.cells }
     ensures nodes { StartsWith walk.new.nodes walk.old.nodes }
+    ensures once { Distinct recipe_of walk.new.nodes }
     ensures put { IfOk result (λ r. Has recipe_of walk.new.nodes form.recipe r.now) }
 {
     for _ in rt.forever() {

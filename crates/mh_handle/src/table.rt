@@ -1,4 +1,4 @@
-ghost use Rattle.std.specs.Prelude.{◌≡◌, ◌≤◌, ◌++◌, ◌∷◌, [], IfOk, IsTrue};
+ghost use Rattle.std.specs.Prelude.{◌≡◌, ◌≤◌, ◌++◌, ◌∷◌, [], length, IfOk, IsTrue};
 ghost use Rattle.mh_setonce.specs.Walks.{StartsWith};
 ghost use Rattle.mh_edit.specs.Fit.{fits};
 ghost use Rattle.mh_handle.specs.Form.{base_form, body_of};
@@ -37,7 +37,8 @@ impl Model for FormTable {
 impl FormTable {
     /// A table without forms but the base, and the seat through which all numbers are drawn.
     pub fn new(alloc: Global) -> Result<(FormTable, FormSeat), NoMemory>
-        ensures { IfOk result (λ made. made.1 ≡ seat_at 0) }
+        ensures cells { IfOk result (λ made. length made.0 ≡ 16384) }
+        ensures seat { IfOk result (λ made. made.1 ≡ seat_at 0) }
     {
         let table = FormTable {
             base: Form::base(alloc),

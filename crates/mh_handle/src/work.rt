@@ -27,7 +27,7 @@ impl<'w, 't> Work<'w, 't> {
     /// The classes of the leaves.
     pub fn classes(&self) -> &'t Classes
         ensures classes { result.now ≡ self.now.leaves.now.classes }
-        ensures are { AreClasses result.now }
+        ensures are { AreClasses self.now.leaves.now.classes }
     {
         let classes = self.leaves.classes();
         let _count = classes.len();

@@ -8,11 +8,11 @@ use Rattle.mh_handle.specs.declared.error.HandleError.TheVariants as handle
 use Rattle.mh_handle.specs.declared.handle.Handle.{Handle}
 use Rattle.mh_handle.specs.declared.work.Work.{Work}
 use Rattle.mh_handle.specs.Passes.{PassView, SeatView, pass_at, seat_at}
-use Rattle.mh_handle.specs.Stands.{HandleView, Stands}
+use Rattle.mh_handle.specs.Stands.{HandleView, Stands, StandsForSome}
 use Rattle.mh_handle.specs.Works.{GoesOn, IsReady, Makes}
 use Rattle.mh_astype.specs.Use.{MakesBy}
 use Rattle.mh_branch.specs.Spreading.{MakesBoth}
-use Rattle.mh_handle_tests.specs.Making.{Spends, StandsForSome}
+use Rattle.mh_handle_tests.specs.Making.{Spends}
 use Rattle.mh_handle_tests.proofs.Spending.{made-room, same-room, ready-less, some-tree}
 
 unchanged-room : (old new : PassView) → new ≡ old → old.seat.room ≤ new.seat.room + 1

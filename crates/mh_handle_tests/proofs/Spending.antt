@@ -8,9 +8,9 @@ use Rattle.mh_handle.specs.declared.error.HandleError.TheVariants as handle
 use Rattle.mh_handle.specs.declared.handle.Handle.{Handle}
 use Rattle.mh_handle.specs.declared.work.Work.{Work}
 use Rattle.mh_handle.specs.Passes.{DrawsAtMostOne, PassView, SeatView}
-use Rattle.mh_handle.specs.Stands.{Stands}
+use Rattle.mh_handle.specs.Stands.{Stands, StandsForSome}
 use Rattle.mh_handle.specs.Works.{GoesOn, IsReady, Makes}
-use Rattle.mh_handle_tests.specs.Making.{Spends, StandsForSome}
+use Rattle.mh_handle_tests.specs.Making.{Spends}
 
 pub same-room : (old new : SeatView) → new ≡ old → old.room ≤ new.room + 1
 same-room old new same = omega (arith, ap (λ (s : SeatView). s.room) same)

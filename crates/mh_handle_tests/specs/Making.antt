@@ -1,14 +1,7 @@
 -- What the making of a handle takes from a thread's work, and what it leaves of it.
 use Rattle.std.specs.Prelude.{◌≡◌, ℕ, ◌+◌}
-use Rattle.mh_leaf.specs.LeafTable.{LeafTable}
-use Rattle.mh_tree.specs.Tree.{Tree}
 use Rattle.mh_handle.specs.declared.work.Work.{Work}
-use Rattle.mh_handle.specs.Stands.{HandleView, Stands}
 use Rattle.mh_handle.specs.Works.{IsReady}
-
--- the handle stands for some tree
-abbrev pub StandsForSome : LeafTable → HandleView → Type 0
-StandsForSome table h = (t : Tree) × Stands table h t
 
 -- the leaves are the same, and a pass that could draw so many numbers more still can draw the rest
 pub record Spends (numbers : ℕ) (old new : Work) : Type 0 where

@@ -1,8 +1,9 @@
 //! Handles made by steps from the leaves of one manifest, and called with ints.
 
 ghost use Rattle.std.specs.Prelude.{◌≤◌, ◌+◌, ◌*◌, length, IfOk};
+ghost use Rattle.mh_handle.specs.Stands.{StandsForSome};
 ghost use Rattle.mh_handle.specs.Works.{IsReady};
-ghost use Rattle.mh_handle_tests.specs.Making.{Spends, StandsForSome};
+ghost use Rattle.mh_handle_tests.specs.Making.{Spends};
 
 use mh_adapt::{collect, drop_args, filter, filterret, fold};
 use mh_astype::invoke_exact;

@@ -3,8 +3,9 @@
 
 ghost use Rattle.std.specs.Prelude.{◌≤◌, length, IfOk, IsTrue};
 ghost use Rattle.mh_values.specs.HasType.{HaveTypes};
+ghost use Rattle.mh_handle.specs.Stands.{StandsForSome};
 ghost use Rattle.mh_handle.specs.Works.{IsReady};
-ghost use Rattle.mh_handle_tests.specs.Making.{Spends, StandsForSome};
+ghost use Rattle.mh_handle_tests.specs.Making.{Spends};
 
 use mh_adapt::{bind, drop_args, permute};
 use mh_astype::{as_type, invoke_exact};
@@ -287,14 +288,14 @@ pub fn answer_of<R: Wait>(
     Ok(call(alloc, &h?, leaves, texts)?)
 }
 
-/// Whether two handles that are made on one table, each by up to 100 steps, have one form.
-pub fn share_form<R: Wait>(
+/// The numbers of the forms of two handles that are made on one table, each by up to 100 steps.
+pub fn form_numbers<R: Wait>(
     rt: &R,
     alloc: Global,
     leaves: &Leaves,
     first: &Making,
     second: &Making,
-) -> Result<bool, HandleError> {
+) -> Result<(u64, u64), HandleError> {
     if !has_few_steps(first) || !has_few_steps(second) {
         return Err(HandleError::NoMemory);
     }
@@ -312,5 +313,5 @@ pub fn share_form<R: Wait>(
         pass: _,
         leaves: _,
     } = w;
-    Ok(one?.form().number() == other?.form().number())
+    Ok((one?.form().number(), other?.form().number()))
 }

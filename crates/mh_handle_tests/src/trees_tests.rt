@@ -1,6 +1,6 @@
 use crate::trees::{
     ADD, ARR, DIV, FAIL, LESS, Making, NOTHING, Root, SAME, SAW, SUB, Step, ZIN, answer_of,
-    share_form, tree_leaves,
+    form_numbers, tree_leaves,
 };
 use mh_base::NoMemory;
 use mh_handle::{Answer, HandleError};
@@ -219,27 +219,28 @@ fn answers_as_its_tree(rt: HostRuntime) -> Result<(), Fail> {
     Ok(())
 }
 
-/// Two handles, and whether they share a form.
-const PAIRS: [(Making, Making, bool); 4] = [
+/// Two handles, and the numbers of their forms, which are drawn from 1 on.
+const PAIRS: [(Making, Making, (u64, u64)); 5] = [
+    ((Root::Leaf(ADD), &[]), (Root::Leaf(SUB), &[]), (1, 1)),
     (
         (Root::Leaf(ADD), &[Step::Bind(1, "I:10")]),
         (Root::Leaf(SUB), &[Step::Bind(1, "I:3")]),
-        true,
+        (2, 2),
     ),
     (
         (Root::Leaf(ADD), &[Step::Bind(1, "I:10")]),
         (Root::Leaf(SAME), &[]),
-        false,
+        (2, 3),
     ),
     (
         (Root::Leaf(ADD), &[Step::Drop(0, "(I)V")]),
         (Root::Leaf(ZIN), &[Step::Drop(0, "(I)V")]),
-        true,
+        (2, 2),
     ),
     (
         (Root::Leaf(ADD), &[Step::Drop(0, "(I)V")]),
         (Root::Leaf(ADD), &[Step::Drop(1, "(I)V")]),
-        false,
+        (2, 3),
     ),
 ];
 
@@ -248,8 +249,8 @@ fn shares_forms_of_equal_recipes(rt: HostRuntime) -> Result<(), Fail> {
     let alloc = rt.alloc();
     let leaves = tree_leaves(alloc)?;
     for (first, second, wanted) in &PAIRS {
-        let shared = share_form(&rt, alloc, &leaves, first, second);
-        assert!(rt; matches!(shared, Ok(same) if same == *wanted));
+        let numbers = form_numbers(&rt, alloc, &leaves, first, second);
+        assert!(rt; matches!(numbers, Ok(found) if found == *wanted));
     }
     Ok(())
 }

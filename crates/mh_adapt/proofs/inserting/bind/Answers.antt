@@ -8,6 +8,7 @@ use Rattle.mh_edit.specs.declared.key.Key.TheVariants as key
 use Rattle.mh_handle.specs.Grows.{Grows}
 use Rattle.mh_handle.specs.Stands.{Stands}
 use Rattle.mh_tree.specs.Tree as tree
+use Rattle.mh_handle.proofs.Gaining.{grown-gains}
 use Rattle.mh_adapt.proofs.Answered.{grows-as, if-ok}
 use Rattle.mh_adapt.proofs.BindStands.{bind-stands}
 use Rattle.mh_adapt.proofs.InsertingFits.{bind-fits, bind-fitting, bind-shaped}
@@ -33,6 +34,9 @@ grown-requires-clause-shaped g c =
     let same : bind_row c.classes-classes.result.now c.ty.result.now c.weight.result c.args.pos c.args.v ≡ bind_row c.args.w.now.leaves.now.classes c.args.t.ty c.args.t.weight c.args.pos c.args.v =
     λ i. bind_row (c.classes-classes.ensures.classes i) (c.ty.ensures.ty i) (c.weight.ensures.weight i) c.args.pos c.args.v in
     bind-shaped c.args.w.now.leaves.now.classes c.args.t c.args.pos c.args.v c.in_ok-own.own (sym same ∙ c.in_ok-own.ensures) c.ty.ensures.shaped
+
+pub returns-clause-gains : goal.returns-clause-gains
+returns-clause-gains g c = grown-gains c.args.t c.in_ok-own.own c.weight-2.result c.new.result (key.Bind c.args.pos) c.in_ok-one_field.field-0.items c.grown.result c.weight-2.ensures.weight c.new.ensures c.grown.ensures.grows
 
 pub returns-clause-stands : goal.returns-clause-stands
 returns-clause-stands g c a st =

@@ -7,6 +7,7 @@ use Rattle.mh_edit.specs.Applied.{applied}
 use Rattle.std.proofs.Common.{map}
 use Rattle.mh_handle.specs.Grows.{Grows}
 use Rattle.mh_handle.specs.Stands.{HasShape, Stands, handle_body}
+use Rattle.mh_handle.proofs.Gaining.{grown-gains}
 use Rattle.mh_adapt.proofs.Answered.{grows-as, if-ok}
 use Rattle.mh_adapt.proofs.DropStands.{drop-stands}
 use Rattle.mh_adapt.proofs.InsertingFits.{drop-fits, drop-shaped}
@@ -18,6 +19,9 @@ grown-requires-clause-shaped g c =
     λ i. drop_row (c.ty.ensures.ty i) (c.weight.ensures.weight i) c.args.pos c.args.tys.now in
     subst (λ bs. HasShape (applied (key.Add c.args.pos bs) (handle_body c.args.t)) c.in_ok-own.own) (sym c.in_ok-basics_of.ensures)
     (drop-shaped c.args.t c.args.pos c.args.tys.now c.in_ok-own.own (sym same ∙ c.in_ok-own.ensures) c.ty.ensures.shaped)
+
+pub returns-clause-gains : goal.returns-clause-gains
+returns-clause-gains g c = grown-gains c.args.t c.in_ok-own.own c.weight-2.result c.new.result (key.Add c.args.pos c.in_ok-basics_of.field-0) c.new-2.result.items c.grown.result c.weight-2.ensures.weight c.new.ensures c.grown.ensures.grows
 
 pub returns-clause-stands : goal.returns-clause-stands
 returns-clause-stands g c a st =

@@ -8,6 +8,7 @@ use Rattle.mh_edit.specs.Fit.{fits}
 use Rattle.std.specs.Prelude.{IsTrue}
 use Rattle.mh_handle.specs.Grows.{Grows}
 use Rattle.mh_handle.specs.Stands.{Stands, handle_body}
+use Rattle.mh_handle.proofs.Gaining.{grown-gains}
 use Rattle.mh_adapt.proofs.Answered.{grows-as, if-ok}
 use Rattle.mh_adapt.proofs.PermuteStands.{permute-stands}
 use Rattle.mh_adapt.proofs.InsertingFits.{permute-fits}
@@ -21,6 +22,9 @@ grown-requires-clause-fits g c =
     ap₂ (λ (bs : List Basic) (r : List ℕ). key.Permute bs r) c.in_ok-basics_of.ensures c.in_ok-places_of.ensures in
     subst (λ k. IsTrue (fits k (handle_body c.args.t))) (sym is)
     (permute-fits c.args.t c.args.ty.now c.args.reorder.now c.in_ok-own.own (sym same ∙ c.in_ok-own.ensures) c.ty.ensures.shaped)
+
+pub returns-clause-gains : goal.returns-clause-gains
+returns-clause-gains g c = grown-gains c.args.t c.in_ok-own.own c.weight-2.result c.new.result (key.Permute c.in_ok-basics_of.field-0 c.in_ok-places_of.field-0) c.new-2.result.items c.grown.result c.weight-2.ensures.weight c.new.ensures c.grown.ensures.grows
 
 pub returns-clause-stands : goal.returns-clause-stands
 returns-clause-stands g c a st =

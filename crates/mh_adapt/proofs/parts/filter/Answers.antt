@@ -3,7 +3,7 @@ use Rattle.mh_tree.specs.Rows.{filter_row}
 use Rattle.mh_tree.specs.Tree as tree
 use Rattle.mh_adapt.specs.Parts.{collect_key}
 use Rattle.mh_adapt.proofs.FilterStands.{filter-stands}
-use Rattle.mh_adapt.proofs.PartAnswers.{adds-fits, adds-shaped, adds-stands}
+use Rattle.mh_adapt.proofs.PartAnswers.{adds-fits, adds-gains, adds-shaped, adds-stands}
 use Rattle.mh_adapt.proofs.PartSuits.{filter-suited}
 use Rattle.mh_adapt.proofs.parts.filter.Goals as goal
 
@@ -20,6 +20,9 @@ grown-requires-clause-shaped g c =
     λ i. filter_row (c.ty.ensures.ty i) (c.weight.ensures.weight i) c.args.pos (c.ty-2.ensures.ty i) (c.weight-2.ensures.weight i) in
     adds-shaped c.in_ok-own.own c.args.t (collect_key c.args.pos c.args.f.ty) c.args.f c.in_ok-by.by c.in_ok-by.ensures
     (filter-suited c.args.t c.args.f c.ty.ensures.shaped c.args.pos c.in_ok-own.own (sym same ∙ c.in_ok-own.ensures))
+
+pub returns-clause-gains : goal.returns-clause-gains
+returns-clause-gains g c = adds-gains c.in_ok-own.own c.args.t (collect_key c.args.pos c.args.f.ty) c.args.f c.in_ok-by.by c.in_ok-by.ensures c.grown.result c.grown.ensures.grows
 
 pub returns-clause-stands : goal.returns-clause-stands
 returns-clause-stands g c a b st sp =

@@ -3,8 +3,11 @@ use Rattle.mh_tree.specs.Rows.{filterret_row}
 use Rattle.mh_tree.specs.Tree as tree
 use Rattle.mh_adapt.specs.Parts.{filterret_key}
 use Rattle.mh_adapt.proofs.FilterReturnStands.{filterret-stands}
-use Rattle.mh_adapt.proofs.PartAnswers.{adds-stands}
+use Rattle.mh_adapt.proofs.PartAnswers.{adds-gains, adds-stands}
 use Rattle.mh_adapt.proofs.parts.filterret.Goals as goal
+
+pub returns-clause-gains : goal.returns-clause-gains
+returns-clause-gains g c = adds-gains c.in_ok-own.own c.args.t (filterret_key c.args.f.ty) c.args.f c.in_ok-by.by c.in_ok-by.ensures c.grown.result c.grown.ensures.grows
 
 pub returns-clause-stands : goal.returns-clause-stands
 returns-clause-stands g c a b st sp =

@@ -3,7 +3,7 @@ use Rattle.mh_tree.specs.Rows.{fold_row}
 use Rattle.mh_tree.specs.Tree as tree
 use Rattle.mh_adapt.specs.Parts.{fold_key}
 use Rattle.mh_adapt.proofs.FoldStands.{fold-stands}
-use Rattle.mh_adapt.proofs.PartAnswers.{adds-fits, adds-shaped, adds-stands}
+use Rattle.mh_adapt.proofs.PartAnswers.{adds-fits, adds-gains, adds-shaped, adds-stands}
 use Rattle.mh_adapt.proofs.PartSuits.{fold-few, fold-suited}
 use Rattle.mh_adapt.proofs.parts.fold.Goals as goal
 
@@ -26,6 +26,9 @@ grown-requires-clause-shaped g c =
     λ i. fold_row (c.ty.ensures.ty i) (c.weight.ensures.weight i) c.args.pos (c.ty-2.ensures.ty i) (c.weight-2.ensures.weight i) in
     adds-shaped c.in_ok-own.own c.args.t (fold_key c.args.pos c.args.c.ty) c.args.c c.in_ok-by.by c.in_ok-by.ensures
     (fold-suited c.args.t c.args.c c.ty.ensures.shaped c.args.pos c.in_ok-own.own (sym same ∙ c.in_ok-own.ensures))
+
+pub returns-clause-gains : goal.returns-clause-gains
+returns-clause-gains g c = adds-gains c.in_ok-own.own c.args.t (fold_key c.args.pos c.args.c.ty) c.args.c c.in_ok-by.by c.in_ok-by.ensures c.grown.result c.grown.ensures.grows
 
 pub returns-clause-stands : goal.returns-clause-stands
 returns-clause-stands g c a b st sp =

@@ -1,5 +1,5 @@
 use Rattle.std.proofs.Common.{◌*◌, ◌≤◌}
-use Rattle.mh_astype.specs.Use.{StandsForSome}
+use Rattle.mh_handle.specs.Stands.{StandsForSome}
 use Rattle.mh_bench.specs.Spending.{Spends}
 use Rattle.mh_bench.proofs.making.made.Given as goal
 

@@ -1,6 +1,7 @@
 use Rattle.std.proofs.Common.{◌≡◌, sym, ◌∙◌}
 use Rattle.mh_tree.specs.Rows.{guard_row}
 use Rattle.mh_branch.proofs.BranchAnswers.{guard-answers, guard-few, guard-fits-by, guard-light, guard-makes}
+use Rattle.mh_branch.proofs.Gained.{guard-gains}
 use Rattle.mh_branch.proofs.branches.guard.Goals as goal
 
 pub guarding-requires : goal.guarding-requires
@@ -27,6 +28,9 @@ returns-clause-makes g c =
     λ i. guard_row (c.ty.ensures.ty i) (c.weight.ensures.weight i) (c.ty-2.ensures.ty i) (c.weight-2.ensures.weight i) (c.ty-3.ensures.ty i) (c.weight-3.ensures.weight i) in
     guard-makes c.args.c c.args.t c.args.e c.in_ok-own.own (sym same ∙ c.in_ok-own.ensures) c.in_ok-by.by c.in_ok-by.ensures
     c.args.w.now.pass.now c.rooted.new.w.pass.now c.rooted.result c.rooted.ensures.makes
+
+pub returns-clause-gains : goal.returns-clause-gains
+returns-clause-gains g c = guard-gains c.in_ok-own.own c.args.c c.args.t c.args.e c.in_ok-by.by c.rooted.result c.in_ok-by.ensures c.rooted.ensures.grows
 
 pub returns-clause-stands : goal.returns-clause-stands
 returns-clause-stands g c a b d tests stands others =

@@ -2,12 +2,11 @@ use Rattle.std.proofs.Common.{◌≡◌, refl, sym, subst, ap, ◌∙◌, ℕ, �
 use Rattle.mh_values.specs.declared.class.Class.{Class}
 use Rattle.mh_values.specs.declared.types.MethodTy.{MethodTy}
 use Rattle.mh_values.specs.Array.{item_type}
-use Rattle.mh_values.specs.Classes.{AreClasses}
 use Rattle.mh_form.specs.Erasure.{basic_of}
 use Rattle.mh_edit.specs.declared.key.Key.TheVariants as key
 use Rattle.mh_astype.specs.Use.{use_keys, use_row}
 use Rattle.mh_branch.specs.Spreading.{IsSpreading, item_keys}
-use Rattle.mh_branch.proofs.SpreadCall.{call-fits, call-light, call-makes, call-obeys, call-shaped, call-stands}
+use Rattle.mh_branch.proofs.SpreadCall.{call-fits, call-light, call-makes, call-obeys, call-shaped, call-sides, call-stands}
 use Rattle.mh_branch.proofs.SpreadRules.{keys-are, makes-first, room-left, spreading-row, used-error}
 use Rattle.mh_branch.proofs.spreading.spread.Goals as goal
 
@@ -81,6 +80,14 @@ returns-clause-makes g c =
     let basic : c.basic_of.result ≡ basic_of (item_type c.in_ok-spreading.spreading.component) = c.basic_of.ensures ∙ ap basic_of c.item_type.ensures in
     call-makes c.args.w.now.leaves.now.classes c.args.t c.in_ok-used.used c.args.arr c.args.n c.in_ok-spreading.spreading found c.in_ok-used.ensures.obeys c.in_ok-used.ensures.used c.basic_of.result c.args.w.now.pass.now c.as_type.new.w.pass.now c.grown.new.w.pass.now c.grown.result basic c.in_ok-used.ensures.makes c.grown.ensures.makes c.grown.ensures.accepted
 
+pub returns-clause-sides : goal.returns-clause-sides
+returns-clause-sides g c =
+    let found : IsSpreading c.args.w.now.leaves.now.classes c.args.t.ty c.args.t.weight c.args.arr c.args.n c.in_ok-spreading.spreading =
+    subst (λ (n : ℕ). IsSpreading c.args.w.now.leaves.now.classes c.args.t.ty n c.args.arr c.args.n c.in_ok-spreading.spreading) c.weight.ensures.weight
+    (subst (λ (m : MethodTy). IsSpreading c.args.w.now.leaves.now.classes m c.weight.result c.args.arr c.args.n c.in_ok-spreading.spreading) c.ty.ensures.ty
+    (subst (λ (cs : List Class). IsSpreading cs c.ty.result.now c.weight.result c.args.arr c.args.n c.in_ok-spreading.spreading) c.classes.ensures.classes c.in_ok-spreading.ensures)) in
+    call-sides c.args.w.now.leaves.now.classes c.args.t c.in_ok-used.used c.args.arr c.args.n c.in_ok-spreading.spreading found c.in_ok-used.ensures.obeys c.in_ok-used.ensures.used (1 + c.weight-2.result) c.new.result (key.Spread c.args.n c.basic_of.result) c.new-2.result.items c.grown.result c.new.ensures c.grown.ensures.grows
+
 pub returns-clause-stands : goal.returns-clause-stands
 returns-clause-stands g c a st =
     let found : IsSpreading c.args.w.now.leaves.now.classes c.args.t.ty c.args.t.weight c.args.arr c.args.n c.in_ok-spreading.spreading =
@@ -89,4 +96,4 @@ returns-clause-stands g c a st =
     (subst (λ (cs : List Class). IsSpreading cs c.ty.result.now c.weight.result c.args.arr c.args.n c.in_ok-spreading.spreading) c.classes.ensures.classes c.in_ok-spreading.ensures)) in
     let basic : c.basic_of.result ≡ basic_of (item_type c.in_ok-spreading.spreading.component) = c.basic_of.ensures ∙ ap basic_of c.item_type.ensures in
     call-stands c.args.w.now.leaves.now.classes c.args.t c.in_ok-used.used c.args.arr c.args.n c.in_ok-spreading.spreading found c.in_ok-used.ensures.obeys c.in_ok-used.ensures.used c.args.w.now.leaves.now c.basic_of.result c.weight-2.result c.new.result c.new-2.result.items c.grown.result a refl
-    (subst AreClasses c.classes.ensures.classes c.classes.ensures.are) basic c.weight-2.ensures.weight c.new.ensures c.new-2.ensures.items c.grown.ensures.grows (c.in_ok-used.ensures.stands a st)
+    c.classes.ensures.are basic c.weight-2.ensures.weight c.new.ensures c.new-2.ensures.items c.grown.ensures.grows (c.in_ok-used.ensures.stands a st)

@@ -1,5 +1,5 @@
 use Rattle.std.proofs.Common.{sym, subst, ◌∙◌, ◌+◌, ◌*◌, ◌-◌, length, arith}
-use Rattle.mh_handle_tests.specs.Making.{StandsForSome}
+use Rattle.mh_handle.specs.Stands.{StandsForSome}
 use Rattle.mh_handle_tests.proofs.Spending.{ready-less}
 use Rattle.mh_handle_tests.proofs.making.made.Goals as goal
 

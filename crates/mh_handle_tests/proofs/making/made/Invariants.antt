@@ -1,6 +1,6 @@
 use Rattle.std.proofs.Common.{◌≡◌, ◌*◌, ◌-◌, length}
 use Rattle.mh_handle.specs.Works.{IsReady}
-use Rattle.mh_handle_tests.specs.Making.{StandsForSome}
+use Rattle.mh_handle.specs.Stands.{StandsForSome}
 use Rattle.mh_handle_tests.proofs.making.made.Given as goal
 
 -- for each step that is left two numbers may be drawn

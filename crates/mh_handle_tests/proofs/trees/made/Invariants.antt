@@ -1,5 +1,6 @@
 use Rattle.std.proofs.Common.{◌*◌, ◌≤◌}
-use Rattle.mh_handle_tests.specs.Making.{Spends, StandsForSome}
+use Rattle.mh_handle.specs.Stands.{StandsForSome}
+use Rattle.mh_handle_tests.specs.Making.{Spends}
 use Rattle.mh_handle_tests.proofs.trees.made.Given as goal
 
 -- for each step that was made two numbers may have been drawn
