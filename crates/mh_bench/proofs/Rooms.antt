@@ -8,10 +8,9 @@ use Rattle.mh_handle.specs.declared.error.HandleError.TheVariants as handle
 use Rattle.mh_handle.specs.declared.handle.Handle.{Handle}
 use Rattle.mh_handle.specs.declared.work.Work.{Work}
 use Rattle.mh_handle.specs.Passes.{PassView, SeatView, pass_at, seat_at}
-use Rattle.mh_handle.specs.Stands.{HandleView, Stands}
+use Rattle.mh_handle.specs.Stands.{HandleView, Stands, StandsForSome}
 use Rattle.mh_handle.specs.Works.{GoesOn, IsReady, Makes}
 use Rattle.mh_astype.specs.Use.{MakesBy}
-use Rattle.mh_handle.specs.Stands.{StandsForSome}
 use Rattle.mh_bench.specs.Spending.{Spends}
 use Rattle.mh_bench.proofs.Spending.{made-room, same-room, ready-less, some-tree}
 

@@ -8,7 +8,7 @@ use Rattle.mh_classfile.specs.File.{class_or_fault}
 use Rattle.mh_listing.specs.Listing.{lines_from, listing_from}
 use Rattle.mh_main.specs.declared.stop.Stop.{Stop}
 use Rattle.mh_main.specs.declared.stop.Stop.TheVariants.{NoMemory, ReadFault, TooLong, Fault, Place}
-use Rattle.mh_main.specs.Input.{Input, usage, refused, program, listed, untold, IfListed, IfRefused, within, class_meant, with_class, classes_input, class_limit}
+use Rattle.mh_main.specs.Input.{Input, usage, refused, program, listed, missing, untold, IfListed, IfRefused, within, class_meant, with_class, classes_input, class_limit}
 use Rattle.mh_main.specs.Classes.{ListsClass}
 use Rattle.mh_main.specs.Stops.{Refuses}
 
@@ -32,6 +32,7 @@ listed-with (program p) c first next old mid new counted put h = h
 listed-with (listed cs) c first next old mid new counted put h =
     h ∙ ap (λ m. m ++ listing_from next cs) put ∙ append_assoc old (lines_from first c c.sites) (listing_from next cs)
     ∙ ap (λ n. old ++ (lines_from first c c.sites ++ listing_from n cs)) counted
+listed-with missing c first next old mid new counted put h = h
 listed-with untold c first next old mid new counted put h = tt
 
 listed-first : (t : Told) (room first next : ℕ) (name : List ℕ) (names : List (List ℕ)) (files : List ℕ → Told) (old mid new : List ℕ) → ListsClass room t first next old mid → IfListed (classes_input (room - (next - first)) names files) (λ cs. new ≡ mid ++ listing_from next cs) → IfListed (first_and_others room t name names files) (λ cs. new ≡ old ++ listing_from first cs)
@@ -57,6 +58,7 @@ refused-with usage c P h = h
 refused-with (refused line) c P h = h
 refused-with (program p) c P h = h
 refused-with (listed cs) c P h = h
+refused-with missing c P h = h
 refused-with untold c P h = tt
 
 refuses-with : (rest : Input) (c : Class) (stop : Stop) → Refuses rest stop → Refuses (with_class c rest) stop

@@ -1,5 +1,6 @@
 -- What is due where the reading stopped.
 use Rattle.std.proofs.Common.{◌≡◌, ◌≢◌, ◌<◌, refl, sym, subst, inl, inr, ℕ, List, Option, Some}
+use Rattle.mh_outside.specs.Causes.{AreSame}
 use Rattle.mh_outside.specs.Told.{Told}
 use Rattle.mh_main.specs.declared.answer.TopAnswer.{TopAnswer}
 use Rattle.mh_main.specs.declared.stop.Stop.{Stop}
@@ -8,7 +9,7 @@ use Rattle.mh_main.specs.declared.program.Program.{Program}
 use Rattle.mh_classfile.specs.Class.{Class}
 use Rattle.mh_plan.specs.Forms.{forms}
 use Rattle.mh_main.specs.Words.{Command, Named, command_of, run}
-use Rattle.mh_main.specs.Input.{IfAccepted, IfProgram, IfRefused, Input, command_input, fault_line, input_of, listed, named_input, place_line, program, refused, too_long_line, untold, usage}
+use Rattle.mh_main.specs.Input.{IfAccepted, IfProgram, IfRefused, Input, command_input, fault_line, input_of, listed, missing, named_input, place_line, program, refused, too_long_line, untold, usage}
 use Rattle.mh_main.specs.Stops.{Refuses, StopsIn, IsReached, stop_line, stop_status, unread_line}
 use Rattle.mh_main.specs.Due.{FailsToRead, IsDue, IsDueOf, IsIdle, IsListingOf, IsReportOf}
 
@@ -41,6 +42,7 @@ accepted usage p P Q is holds = is
 accepted (refused line) p P Q is holds = is
 accepted (program q) p P Q is holds = subst P (sym is) holds
 accepted (listed classes) p P Q is holds = absurd is
+accepted missing p P Q is holds = is
 accepted untold p P Q is holds = tt
 
 -- what is due of a program is due of the words and files that give it
@@ -48,17 +50,17 @@ pub due-of-program :
     (words : List (List ℕ)) (files : List ℕ → Told) (before now : List ℕ → ℕ) (answer : TopAnswer) (names : Named) (p : Program) (bytes : List ℕ) →
     Some (run names) ≡ command_of words →
     IfProgram (named_input names files) (λ q. q ≡ p) →
+    AreSame before now →
     IsDueOf p answer bytes →
     IsDue words files before now answer bytes
-due-of-program words files before now answer names p bytes asked is (inl report) =
-    inl (subst (λ o. IfAccepted (input_of o files) (λ q. IsReportOf q answer bytes) (λ classes. IsListingOf classes answer bytes)) asked
-    (accepted (named_input names files) p (λ q. IsReportOf q answer bytes) (λ classes. IsListingOf classes answer bytes) is report))
-due-of-program words files before now answer names p bytes asked is (inr full) =
-    inr (
-      full.0,
-      inr (inr (inr (
-        subst (λ o. IfAccepted (input_of o files) (λ q. 16384 < forms q.leaves q.plan) (λ classes. ⊥)) asked
-            (accepted (named_input names files) p (λ q. 16384 < forms q.leaves q.plan) (λ classes. ⊥) is full.1.0),
-        full.1.1,
-      ))),
+due-of-program words files before now answer names p bytes asked is same (inl report) =
+    inl (
+      same,
+      subst (λ o. IfAccepted (input_of o files) (λ q. IsReportOf q answer bytes) (λ classes. IsListingOf classes answer bytes)) asked
+          (accepted (named_input names files) p (λ q. IsReportOf q answer bytes) (λ classes. IsListingOf classes answer bytes) is report),
     )
+due-of-program words files before now answer names p bytes asked is same (inr full) =
+    let fills : IfAccepted (input_of (command_of words) files) (λ q. 16384 < forms q.leaves q.plan) (λ classes. ⊥) =
+    subst (λ o. IfAccepted (input_of o files) (λ q. 16384 < forms q.leaves q.plan) (λ classes. ⊥)) asked
+    (accepted (named_input names files) p (λ q. 16384 < forms q.leaves q.plan) (λ classes. ⊥) is full.1.0) in
+    inr (full.0, inr (inr (inr (same, (fills, full.1.1)))))

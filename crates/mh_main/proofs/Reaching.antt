@@ -32,7 +32,7 @@ reached-behind room first next name names files old mid at l h =
     inr (c.0, c.1, subst (λ n. ReachesClass (room - n) names files at) c.2 h)
 
 stops-behind : (room first next : ℕ) (name : List ℕ) (names : List (List ℕ)) (files : List ℕ → Told) (before before' now : List ℕ → ℕ) (old mid : List ℕ) (stop : Stop) → AreSame before before' → ListsClass room (files name) first next old mid → StopsIn (ReachesClass (room - (next - first)) names files) before' now stop → StopsIn (ReachesClass room (name ∷ names) files) before now stop
-stops-behind room first next name names files before before' now old mid NoMemory same l h = tt
+stops-behind room first next name names files before before' now old mid NoMemory same l h = subst (λ (b : List ℕ → ℕ). AreSame b now) (λ i n. same n i) h
 stops-behind room first next name names files before before' now old mid (ReadFault at) same l h =
     (reached-behind room first next name names files old mid at.now l h.0, subst (λ n. Rose n (now at.now)) (same at.now) h.1)
 stops-behind room first next name names files before before' now old mid (TooLong at) same l h = subst (λ (b : List ℕ → ℕ). AreSame b now) (λ i n. same n i) h

@@ -6,7 +6,7 @@ use Rattle.mh_outside.specs.Causes.{IsStill, Rose}
 use Rattle.mh_main.specs.declared.stop.Stop.{Stop}
 use Rattle.mh_main.specs.declared.stop.Stop.TheVariants.{NoMemory, ReadFault, TooLong, Fault, Place}
 use Rattle.mh_main.specs.Words.{Command, sites}
-use Rattle.mh_main.specs.Input.{IfRefused, Input, IsAccepted, command_input, input_of, listed, program, refused, untold, usage}
+use Rattle.mh_main.specs.Input.{IfRefused, Input, IsAccepted, command_input, input_of, listed, missing, program, refused, untold, usage}
 use Rattle.mh_main.specs.Stops.{InputsStill, IsDoneOrWant, IsReached, IsRefusedOrWant, ReachesClass, Refuses, StopsIn, stop_status}
 
 never-both : (before now : ℕ) → IsStill before now → Rose before now → ⊥
@@ -42,6 +42,7 @@ never-refused usage P accepted is = accepted
 never-refused (refused line) P accepted is = accepted
 never-refused (program p) P accepted is = is
 never-refused (listed classes) P accepted is = is
+never-refused missing P accepted is = is
 never-refused untold P accepted is = accepted
 
 done-status :

@@ -29,17 +29,17 @@ full_line = codes "forms full\n"
 abbrev pub IsIdle : TopAnswer → Type 0
 IsIdle answer = (answer.table ≡ []) × (answer.attempts ≡ []) × (answer.threads ≡ [])
 
--- the report on a program: the answer's table and attempts are a ledger of it, its answers are the results of the
--- calls, and the bytes are the text of both
-abbrev pub IsReportOf : Program → TopAnswer → List ℕ → Type 0
-IsReportOf p answer bytes =
-    Ledger (naming_of p.plan) 0 answer.table answer.attempts
-    × (results_said answer.threads ≡ results_of p.leaves p.plan)
-    × (bytes ≡ text p answer.attempts)
-
 -- the answers of a program's calls: the result of each, and how many keys the form has that it ran
 abbrev pub AreAnswersOf : Program → List (List Answer) → Type 0
 AreAnswersOf p threads = (results_said threads ≡ results_of p.leaves p.plan) × (keys_said threads ≡ plan_keys p.leaves p.plan)
+
+-- the report on a program: the answer's table and attempts are a ledger of it, its answers are those of the calls, and
+-- the bytes are the text of both
+abbrev pub IsReportOf : Program → TopAnswer → List ℕ → Type 0
+IsReportOf p answer bytes =
+    Ledger (naming_of p.plan) 0 answer.table answer.attempts
+    × AreAnswersOf p answer.threads
+    × (bytes ≡ text p answer.attempts)
 
 -- the listing of classes; nothing ran
 abbrev pub IsListingOf : List Class → TopAnswer → List ℕ → Type 0
@@ -89,11 +89,11 @@ Writes IsDue old new = (bytes : List ℕ) × IsDue bytes × Appends old new byte
 abbrev pub WritesPart : (List ℕ → Type 0) → Option (List ℕ) → Option (List ℕ) → Type 0
 WritesPart IsDue old new = (bytes : List ℕ) × IsDue bytes × AppendsPart old new bytes
 
--- what is due at one of the statuses that write
+-- what is due at one of the statuses that write: no read failed, but where that is what is told
 abbrev pub IsDue : List (List ℕ) → (List ℕ → Told) → (List ℕ → ℕ) → (List ℕ → ℕ) → TopAnswer → List ℕ → Type 0
 IsDue words files before now answer bytes =
-    Reports words files answer bytes
-    ⊎ (IsIdle answer × (RefusesWords words bytes
+    (AreSame before now × Reports words files answer bytes)
+    ⊎ (IsIdle answer × ((AreSame before now × RefusesWords words bytes)
     ⊎ RefusesInput words files before now bytes
     ⊎ FailsToRead (command_of words) files before now bytes
-    ⊎ FillsForms words files bytes))
+    ⊎ (AreSame before now × FillsForms words files bytes)))

@@ -16,13 +16,14 @@ use Rattle.mh_main.specs.declared.stop.ScriptsKind.TheVariants.{NotBuilt}
 use Rattle.mh_main.specs.Kinds.{class_word}
 use Rattle.mh_main.specs.Words.{Named, Command, run, sites, command_of}
 
--- the words are refused, an input is refused with its line, there is a program to run, there are classes to list, or some
--- input is not told
+-- the words are refused, an input is refused with its line, there is a program to run, there are classes to list, or the
+-- first input that stops the reading is told not to be there, or it is not told
 pub data Input : Type 0 where
   usage : Input
   refused : List ℕ → Input
   program : Program → Input
   listed : List Class → Input
+  missing : Input
   untold : Input
 
 -- the line for an input over its limit
@@ -41,7 +42,7 @@ place_line name at word = codes "refused " ++ name ++ codes " at " ++ decimal at
 abbrev pub within : List ℕ → ℕ → Told → (List ℕ → Input) → Input
 within name limit (file bytes) next = if nat_lt limit (length bytes) then refused (too_long_line name) else next bytes
 within name limit nothing next = untold
-within name limit absent next = untold
+within name limit absent next = missing
 
 -- goes on with an input that has a meaning
 abbrev pub meant : {T K : Type 0} → List ℕ → (K → List ℕ) → Result T (LineFault K) → (T → Input) → Input
@@ -96,6 +97,7 @@ with_class c (listed classes) = listed (c ∷ classes)
 with_class c usage = usage
 with_class c (refused line) = refused line
 with_class c (program p) = program p
+with_class c missing = missing
 with_class c untold = untold
 
 -- the classes of files in order, which have at most so many call sites together
@@ -125,6 +127,7 @@ IfProgram usage P = ⊥
 IfProgram (refused line) P = ⊥
 IfProgram (program p) P = P p
 IfProgram (listed classes) P = ⊥
+IfProgram missing P = ⊥
 IfProgram untold P = Unit {0}
 
 -- where all inputs are told, they are class files, and P holds of their classes
@@ -133,6 +136,7 @@ IfListed usage P = ⊥
 IfListed (refused line) P = ⊥
 IfListed (program p) P = ⊥
 IfListed (listed classes) P = P classes
+IfListed missing P = ⊥
 IfListed untold P = Unit {0}
 
 -- where all inputs are told, P holds of the program, or Q of the classes
@@ -141,6 +145,7 @@ IfAccepted usage P Q = ⊥
 IfAccepted (refused line) P Q = ⊥
 IfAccepted (program p) P Q = P p
 IfAccepted (listed classes) P Q = Q classes
+IfAccepted missing P Q = ⊥
 IfAccepted untold P Q = Unit {0}
 
 -- where the inputs are told as far as the first that is refused, there is one, and P holds of its line
@@ -149,6 +154,7 @@ IfRefused usage P = ⊥
 IfRefused (refused line) P = P line
 IfRefused (program p) P = ⊥
 IfRefused (listed classes) P = ⊥
+IfRefused missing P = ⊥
 IfRefused untold P = Unit {0}
 
 -- an input is refused
@@ -157,6 +163,7 @@ IsRefused usage = ⊥
 IsRefused (refused line) = Unit {0}
 IsRefused (program p) = ⊥
 IsRefused (listed classes) = ⊥
+IsRefused missing = ⊥
 IsRefused untold = ⊥
 
 -- the inputs are accepted
@@ -165,7 +172,17 @@ IsAccepted usage = ⊥
 IsAccepted (refused line) = ⊥
 IsAccepted (program p) = Unit {0}
 IsAccepted (listed classes) = Unit {0}
+IsAccepted missing = ⊥
 IsAccepted untold = ⊥
+
+-- the first input that stops the reading is told not to be there
+abbrev pub IsMissing : Input → Type 0
+IsMissing usage = ⊥
+IsMissing (refused line) = ⊥
+IsMissing (program p) = ⊥
+IsMissing (listed classes) = ⊥
+IsMissing missing = Unit {0}
+IsMissing untold = ⊥
 
 -- the calls of a program need at most as many forms as there are numbers
 abbrev pub FitsForms : Input → Type 0
@@ -173,6 +190,7 @@ FitsForms usage = Unit {0}
 FitsForms (refused line) = Unit {0}
 FitsForms (program p) = forms p.leaves p.plan ≤ 16384
 FitsForms (listed classes) = Unit {0}
+FitsForms missing = Unit {0}
 FitsForms untold = Unit {0}
 
 -- where it is told, a file within its limit has this meaning

@@ -28,15 +28,15 @@ stop_line (TooLong at) = too_long_line at.now
 stop_line (Fault at line kind) = fault_line at.now line kind.now
 stop_line (Place at place kind) = place_line at.now place kind.now
 
--- the reading stopped at this input: at a read fault the count of its name rose, at a refusal none did
+-- the reading stopped at this input: at a read fault the count of its name rose, and else none did
 abbrev pub StopsAt : List ℕ → (List ℕ → ℕ) → (List ℕ → ℕ) → Stop → Type 0
-StopsAt name before now NoMemory = Unit {0}
+StopsAt name before now NoMemory = AreSame before now
 StopsAt name before now (ReadFault at) = (at.now ≡ name) × Rose (before name) (now name)
 StopsAt name before now (TooLong at) = (at.now ≡ name) × AreSame before now
 StopsAt name before now (Fault at line kind) = (at.now ≡ name) × AreSame before now
 StopsAt name before now (Place at place kind) = (at.now ≡ name) × AreSame before now
 
--- what is wrong with a file of a grammar whose faults have these words, where it is told
+-- what is wrong with a file of a grammar whose faults have these words, where it is told; one that is not there cannot be read
 abbrev pub StopIn : {T K : Type 0} → ℕ → (K → List ℕ) → (List ℕ → Result T (LineFault K)) → Told → Stop → Type 0
 StopIn limit word meaning (file bytes) NoMemory = Unit {0}
 StopIn limit word meaning (file bytes) (ReadFault at) = Unit {0}
@@ -45,9 +45,11 @@ StopIn {K = K} limit word meaning (file bytes) (Fault at line kind) =
     (length bytes ≤ limit) × ((fault : LineFault K) × (meaning bytes ≡ Err fault) × (line ≡ fault.line) × (kind.now ≡ word fault.kind))
 StopIn limit word meaning (file bytes) (Place at place kind) = ⊥
 StopIn limit word meaning nothing stop = Unit {0}
-StopIn limit word meaning absent stop = Unit {0}
+StopIn limit word meaning absent NoMemory = Unit {0}
+StopIn limit word meaning absent (ReadFault at) = Unit {0}
+StopIn limit word meaning absent stop = ⊥
 
--- what is wrong with a class file that may have so many call sites, where it is told
+-- what is wrong with a class file that may have so many call sites, where it is told; one that is not there cannot be read
 abbrev pub ClassStopIn : ℕ → Told → Stop → Type 0
 ClassStopIn room (file bytes) NoMemory = Unit {0}
 ClassStopIn room (file bytes) (ReadFault at) = Unit {0}
@@ -57,7 +59,9 @@ ClassStopIn room (file bytes) (Place at place kind) =
     (length bytes ≤ class_limit)
     × ((fault : Fault' ClassKind) × (class_or_fault room bytes ≡ Err fault) × (place ≡ fault.at) × (kind.now ≡ class_word fault.kind))
 ClassStopIn room nothing stop = Unit {0}
-ClassStopIn room absent stop = Unit {0}
+ClassStopIn room absent NoMemory = Unit {0}
+ClassStopIn room absent (ReadFault at) = Unit {0}
+ClassStopIn room absent stop = ⊥
 
 -- the input is one of a run's, and each before it was accepted, as far as it is told
 abbrev pub ReachesInput : Named → (List ℕ → Told) → List ℕ → Type 0
@@ -79,9 +83,9 @@ abbrev pub IsReached : Command → (List ℕ → Told) → List ℕ → Type 0
 IsReached (run names) files name = ReachesInput names files name
 IsReached (sites names) files name = ReachesClass most_sites names files name
 
--- the reading stopped at an input: at a read fault it was reached and its count rose, at a refusal no count did
+-- the reading stopped at an input: at a read fault it was reached and its count rose, and else no count did
 abbrev pub StopsIn : (List ℕ → Type 0) → (List ℕ → ℕ) → (List ℕ → ℕ) → Stop → Type 0
-StopsIn Reaches before now NoMemory = Unit {0}
+StopsIn Reaches before now NoMemory = AreSame before now
 StopsIn Reaches before now (ReadFault at) = Reaches at.now × Rose (before at.now) (now at.now)
 StopsIn Reaches before now (TooLong at) = AreSame before now
 StopsIn Reaches before now (Fault at line kind) = AreSame before now
@@ -120,6 +124,10 @@ IsStatus status = (status ≤ 7) × (status ≢ 5)
 -- the input is refused, or memory was wanting
 abbrev pub IsRefusedOrWant : ℕ → Type 0
 IsRefusedOrWant status = (status ≡ 1) ⊎ (status ≡ 3)
+
+-- an input could not be read, or memory was wanting
+abbrev pub IsUnreadOrWant : ℕ → Type 0
+IsUnreadOrWant status = (status ≡ 6) ⊎ (status ≡ 3)
 
 -- the run is complete, or memory was wanting
 abbrev pub IsDoneOrWant : ℕ → Type 0

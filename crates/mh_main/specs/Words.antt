@@ -48,6 +48,12 @@ abbrev pub command_of : List (List ℕ) → Option Command
 command_of (word ∷ mode ∷ rest) = if bytes_eq word (codes "--mode") then mode_words mode rest else None
 command_of _ = None
 
+-- the command lists class files
+abbrev pub IsListing : Option Command → Type 0
+IsListing None = ⊥
+IsListing (Some (run names)) = ⊥
+IsListing (Some (sites names)) = Unit {0}
+
 -- the names that a value of the program holds
 abbrev pub held_names : Names → Named
 held_names names = record { leaves = names.leaves.now; scripts = names.scripts.now; plan = names.plan.now }

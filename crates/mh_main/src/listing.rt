@@ -69,7 +69,8 @@ fn list_class<'a, I: Inputs>(
     ensures refuses { IfErr result
         (λ stop. ClassStopIn room (I.told inputs.old name.now) stop) }
     ensures ok { IfOk result
-        (λ next. ListsClass room (I.told inputs.old name.now) first next text.old.items text.new.items) }
+        (λ next. ListsClass room (I.told inputs.old name.now) first next
+        text.old.items text.new.items) }
 {
     let bytes = match read_whole(alloc, inputs, name, CLASS_LIMIT) {
         Ok(bytes) => bytes,
@@ -102,6 +103,7 @@ fn list_classes<'a, I: Inputs>(
     text: &mut Vec<u8>,
 ) -> Result<(), Stop<'a>>
     ensures told { (n : List ℕ) → I.told inputs.new n ≡ I.told inputs.old n }
+    ensures later { (n : List ℕ) → I.faults inputs.old n ≤ I.faults inputs.new n }
     ensures no_fault { OnOk result (AreSame (I.faults inputs.old) (I.faults inputs.new)) }
     ensures stop { IfErr result
         (λ stop. StopsIn (ReachesClass room (said names.now) (I.told inputs.old))
@@ -126,6 +128,8 @@ pub fn list_sites<'a, I: Inputs>(
     inputs: &mut I,
     names: &'a [&'a str],
 ) -> Result<Vec<u8>, Stop<'a>>
+    ensures told { (n : List ℕ) → I.told inputs.new n ≡ I.told inputs.old n }
+    ensures later { (n : List ℕ) → I.faults inputs.old n ≤ I.faults inputs.new n }
     ensures no_fault { OnOk result (AreSame (I.faults inputs.old) (I.faults inputs.new)) }
     ensures stop { IfErr result
         (λ stop. StopsIn (ReachesClass most_sites (said names.now) (I.told inputs.old))

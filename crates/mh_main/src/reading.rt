@@ -86,7 +86,8 @@ fn read_calls<'a, I: Inputs>(
         (λ stop. StopIn plan_limit plan_word (λ bytes. plan bytes leaves.now)
         (I.told inputs.old name.now) stop) }
     ensures ok { IfOk result
-        (λ calls. Means plan_limit (λ bytes. plan bytes leaves.now) (I.told inputs.old name.now) calls) }
+        (λ calls. Means plan_limit (λ bytes. plan bytes leaves.now)
+        (I.told inputs.old name.now) calls) }
     ensures calls { IfOk result (AreCallsOf leaves.now) }
 {
     let bytes = match read_whole(alloc, inputs, name, PLAN_LIMIT) {
@@ -109,14 +110,16 @@ pub fn read_program<'a, I: Inputs>(
     names: Names<'a>,
 ) -> Result<Program, Stop<'a>>
     ensures told { (n : List ℕ) → I.told inputs.new n ≡ I.told inputs.old n }
+    ensures later { (n : List ℕ) → I.faults inputs.old n ≤ I.faults inputs.new n }
     ensures no_fault { OnOk result (AreSame (I.faults inputs.old) (I.faults inputs.new)) }
     ensures stop { IfErr result
-        (λ stop. StopsIn (ReachesInput (held_names names.entry) (I.told inputs.old)) (I.faults inputs.old)
-        (I.faults inputs.new) stop) }
+        (λ stop. StopsIn (ReachesInput (held_names names.entry) (I.told inputs.old))
+        (I.faults inputs.old) (I.faults inputs.new) stop) }
     ensures refuses { IfErr result
         (λ stop. Refuses (named_input (held_names names.entry) (I.told inputs.old)) stop) }
     ensures ok { IfOk result
-        (λ p. IfProgram (named_input (held_names names.entry) (I.told inputs.old)) (λ q. q ≡ p)) }
+        (λ p. IfProgram (named_input (held_names names.entry) (I.told inputs.old))
+        (λ q. q ≡ p)) }
     ensures calls { IfOk result (λ p. AreCallsOf p.leaves p.plan) }
 {
     let leaves = read_leaves(alloc, inputs, names.leaves)?;

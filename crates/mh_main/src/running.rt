@@ -1,15 +1,15 @@
-ghost use Rattle.std.specs.Prelude.{◌≡◌, ◌≢◌, ◌<◌, [], List, ℕ, None, IfOk};
+ghost use Rattle.std.specs.Prelude.{◌≡◌, ◌≢◌, ◌<◌, ◌≤◌, [], List, ℕ, None, IfOk};
 ghost use Rattle.std.specs.List.{flat_map};
 ghost use Rattle.std.specs.Io.KnownBytes.{Appends, Keeps};
-ghost use Rattle.mh_outside.specs.Causes.{Rose, IsStill, AppendsPart};
+ghost use Rattle.mh_outside.specs.Causes.{Rose, IsStill, AreSame, AppendsPart};
 ghost use Rattle.mh_plan.specs.Forms.{forms};
 ghost use Rattle.mh_plan.specs.Results.{AreCallsOf};
 ghost use Rattle.mh_runtime.specs.Asking.{IfFull};
-ghost use Rattle.mh_main.specs.Words.{command_of, said};
+ghost use Rattle.mh_main.specs.Words.{command_of, said, IsListing};
 ghost use Rattle.mh_main.specs.Ledger.{Ledger, Naming};
 ghost use Rattle.mh_main.specs.Program.{text};
-ghost use Rattle.mh_main.specs.Input.{input, IsRefused, IsAccepted, FitsForms};
-ghost use Rattle.mh_main.specs.Stops.{stop_line, stop_status, InputsStill, IsStatus, IsRefusedOrWant, IsDoneOrWant, IsDoneFullOrWant};
+ghost use Rattle.mh_main.specs.Input.{input, IsRefused, IsAccepted, IsMissing, FitsForms};
+ghost use Rattle.mh_main.specs.Stops.{stop_line, stop_status, InputsStill, IsStatus, IsRefusedOrWant, IsUnreadOrWant, IsDoneOrWant, IsDoneFullOrWant};
 ghost use Rattle.mh_main.specs.Due.{AnswersCalls, AreAnswersOf, FailsToRead, FillsForms, IsDue, IsDueOf, IsFullOf, IsIdle, IsListingOf, IsReportOf, RefusesInput, RefusesWords, Reports, Writes, WritesPart};
 
 use crate::lines::{FULL, USAGE, write_pieces};
@@ -254,29 +254,38 @@ pub fn top<'a, R: Threads + Wait + Sync, I: Inputs, S: Sink, G: Gate + Sync>(
 
     // What was written, by the status: at 7 a front part of what was due at another one.
     ensures headline { result.status ≡ 0
-        → Writes (Reports (said words.now) (I.told inputs.old) result) (S.taken sink.old) (S.taken sink.new) }
+        → Writes (Reports (said words.now) (I.told inputs.old) result)
+        (S.taken sink.old) (S.taken sink.new) }
     ensures answers { result.status ≡ 0
         → AnswersCalls (said words.now) (I.told inputs.old) result.threads }
     ensures refused { result.status ≡ 1
-        → Writes (RefusesInput (said words.now) (I.told inputs.old) (I.faults inputs.old) (I.faults inputs.new))
-        (S.taken sink.old) (S.taken sink.new) }
+        → Writes (RefusesInput (said words.now) (I.told inputs.old)
+        (I.faults inputs.old) (I.faults inputs.new)) (S.taken sink.old) (S.taken sink.new) }
     ensures usage { result.status ≡ 2
         → Writes (RefusesWords (said words.now)) (S.taken sink.old) (S.taken sink.new) }
     ensures nothing { result.status ≡ 3 → Keeps (S.taken sink.old) (S.taken sink.new) }
     ensures full { result.status ≡ 4
-        → Writes (FillsForms (said words.now) (I.told inputs.old)) (S.taken sink.old) (S.taken sink.new) }
+        → Writes (FillsForms (said words.now) (I.told inputs.old))
+        (S.taken sink.old) (S.taken sink.new) }
     ensures unread { result.status ≡ 6
-        → Writes (FailsToRead (command_of (said words.now)) (I.told inputs.old) (I.faults inputs.old) (I.faults inputs.new))
-        (S.taken sink.old) (S.taken sink.new) }
+        → Writes (FailsToRead (command_of (said words.now)) (I.told inputs.old)
+        (I.faults inputs.old) (I.faults inputs.new)) (S.taken sink.old) (S.taken sink.new) }
     ensures broken { result.status ≡ 7
-        → WritesPart (IsDue (said words.now) (I.told inputs.old) (I.faults inputs.old) (I.faults inputs.new) result)
-        (S.taken sink.old) (S.taken sink.new) }
+        → WritesPart (IsDue (said words.now) (I.told inputs.old)
+        (I.faults inputs.old) (I.faults inputs.new) result) (S.taken sink.old) (S.taken sink.new) }
     ensures idle { result.status ≢ 0 → result.status ≢ 7 → IsIdle result }
+    ensures listed { IsListing (command_of (said words.now)) → IsIdle result }
 
     // 7 comes exactly where the sink failed.
     ensures failed { result.status ≡ 7 → Rose (S.faults sink.old) (S.faults sink.new) }
     ensures fault { S.faults sink.old < S.faults sink.new → result.status ≡ 7 }
     ensures still { result.status ≢ 7 → S.faults sink.new ≡ S.faults sink.old }
+
+    // A read that failed is never passed over, and never told as want of memory.
+    ensures told { (n : List ℕ) → I.told inputs.new n ≡ I.told inputs.old n }
+    ensures later { (n : List ℕ) → I.faults inputs.old n ≤ I.faults inputs.new n }
+    ensures no_fault { result.status ≢ 6 → result.status ≢ 7
+        → AreSame (I.faults inputs.old) (I.faults inputs.new) }
 
     // Where nothing failed, the words and the inputs decide the status, but for want of memory; a
     // program is run to its end if its calls need no more forms than there are.
@@ -289,6 +298,10 @@ pub fn top<'a, R: Threads + Wait + Sync, I: Inputs, S: Sink, G: Gate + Sync>(
         → FitsForms (input (said words.now) (I.told inputs.old))
         → InputsStill (command_of (said words.now)) (I.faults inputs.old) (I.faults inputs.new)
         → IsStill (S.faults sink.old) (S.faults sink.new) → IsDoneOrWant result.status }
+
+    // An input that is told not to be there cannot be read.
+    ensures unread_wanted { IsMissing (input (said words.now) (I.told inputs.old))
+        → IsStill (S.faults sink.old) (S.faults sink.new) → IsUnreadOrWant result.status }
 {
     let Some(command) = read_words(words) else {
         return answer_line(alloc, sink, USAGE_WANTED, &[USAGE.as_bytes()]);

@@ -1,5 +1,5 @@
 -- What the calls of a leaf leave of a pass.
-use Rattle.std.proofs.Common.{◌≡◌, refl, sym, ◌∙◌, ap, ap₂, subst, ℕ, Bool, true, false, ◌||◌, if◌then◌else◌, List, [], ◌∷◌, ◌++◌, append-nil, append_assoc, Result, Ok, Err, OnOk, ◌⊎◌, inl, inr, ⊎_elim}
+use Rattle.std.proofs.Common.{◌≡◌, refl, sym, ◌∙◌, ap, ap₂, subst, ℕ, Bool, true, false, ◌||◌, if◌then◌else◌, List, [], ◌∷◌, ◌++◌, append-nil, append_assoc, Result, Ok, Err, ◌⊎◌, inl, inr, ⊎_elim}
 use Rattle.std.specs.Prelude.{IsErrAnd}
 use Rattle.mh_values.specs.declared.types.MethodTy.{MethodTy}
 use Rattle.mh_values.specs.Same.{is_same_method_type}
@@ -14,15 +14,14 @@ use Rattle.mh_handle.specs.declared.error.EditError.TheVariants.{NoMemory, Forms
 use Rattle.mh_handle.specs.declared.error.HandleError.{HandleError}
 use Rattle.mh_handle.specs.declared.error.HandleError.TheVariants as handle
 use Rattle.mh_handle.specs.declared.handle.Handle.{Handle}
-use Rattle.mh_handle.specs.declared.work.Work.{Work}
 use Rattle.mh_handle.specs.Passes.{PassView}
 use Rattle.mh_handle.specs.Recipe.{at_type as keys_at, convert_keys, recipe}
 use Rattle.mh_handle.specs.Stands.{HandleView, Stands}
-use Rattle.mh_handle.specs.Works.{GoesOn, Makes}
+use Rattle.mh_handle.specs.Works.{Makes}
 use Rattle.mh_astype.specs.Calls.{AsksBy, call_keys, unless_refused}
 use Rattle.mh_plan.specs.Forms.{at_type, used_edits}
-use Rattle.mh_runtime.specs.Asking.{Asks, AreTooMany, DrawsInOrder, HasAsked, IsWork, Stopped}
-use Rattle.mh_runtime.proofs.Asking.{asked-again, asked-full, asked-more, drawn-more}
+use Rattle.mh_runtime.specs.Asking.{Asks, AreTooMany, DrawsInOrder, HasAsked, Stopped}
+use Rattle.mh_runtime.proofs.Asking.{asked-again, asked-full, asked-more}
 use Rattle.mh_runtime.proofs.Counting.{is_one, one-more, too_many-more}
 use Rattle.mh_plan.proofs.Recipes.{same_recipe-equivalence}
 
@@ -70,24 +69,24 @@ asks-none r old mid new (Ok a) first same = λ before has. subst (HasAsked (befo
 asks-none r old mid new (Err NoMemory) first same = tt
 asks-none r old mid new (Err (FormsFull drawn)) first same = absurd same
 
-asks-keys : (r keys : List Key) (old mid new : PassView) (answer : Result Answer EditError) → DrawsInOrder mid → ((before : List (List Key)) → HasAsked before old → HasAsked (before ++ r ∷ []) mid) → AsksBy r keys mid new answer → Asks (r ∷ (r ++ keys) ∷ []) old new answer
-asks-keys r [] old mid new (Ok a) in_order first same = λ before has.
+asks-keys : (r keys : List Key) (old mid new : PassView) (answer : Result Answer EditError) → (DrawsInOrder old → DrawsInOrder mid) → ((before : List (List Key)) → HasAsked before old → HasAsked (before ++ r ∷ []) mid) → AsksBy r keys mid new answer → Asks (r ∷ (r ++ keys) ∷ []) old new answer
+asks-keys r [] old mid new (Ok a) kept first same = λ before has.
     subst (λ rs. HasAsked rs new) (two before r (r ++ []))
     (subst (λ s. HasAsked ((before ++ r ∷ []) ++ s ∷ []) new) (sym (append-nil r))
     (subst (HasAsked ((before ++ r ∷ []) ++ r ∷ [])) (sym same) (asked-again (before ++ r ∷ []) mid r (first before has) (first-asked before r))))
-asks-keys r [] old mid new (Err NoMemory) in_order first same = tt
-asks-keys r [] old mid new (Err (FormsFull drawn)) in_order first same = absurd same
-asks-keys r (k ∷ keys) old mid new (Ok a) in_order first asks = λ before has.
+asks-keys r [] old mid new (Err NoMemory) kept first same = tt
+asks-keys r [] old mid new (Err (FormsFull drawn)) kept first same = absurd same
+asks-keys r (k ∷ keys) old mid new (Ok a) kept first asks = λ before has.
     subst (λ rs. HasAsked rs new) (two before r (r ++ k ∷ keys))
     (asked-more (before ++ r ∷ []) mid new asks.0.0 (r ++ k ∷ keys) (first before has) asks.0.1 asks.0.2)
-asks-keys r (k ∷ keys) old mid new (Err NoMemory) in_order first asks = tt
-asks-keys r (k ∷ keys) old mid new (Err (FormsFull drawn)) in_order first asks = λ before has.
+asks-keys r (k ∷ keys) old mid new (Err NoMemory) kept first asks = tt
+asks-keys r (k ∷ keys) old mid new (Err (FormsFull drawn)) kept first asks = λ in_order before has.
     subst AreTooMany (two before r (r ++ k ∷ keys))
-    (asked-full (before ++ r ∷ []) mid new.seat (r ++ k ∷ keys) drawn (first before has) in_order asks.0.0 asks.1 asks.2)
+    (asked-full (before ++ r ∷ []) mid new.seat (r ++ k ∷ keys) drawn (first before has) (kept in_order) asks.0.0 asks.1 asks.2)
 
 -- a generic call of what stands for a tree, and the handle given back
-pub asks-generic : (table table' : LeafTable) (t : Tree) (h : HandleView) (asked : MethodTy) (old mid new new' : PassView) (answer : Result Answer EditError) → table' ≡ table → new' ≡ new → Stands table h t → DrawsInOrder mid → ((before : List (List Key)) → HasAsked before old → HasAsked (before ++ recipe table t ∷ []) mid) → AsksBy h.form.recipe (call_keys table'.classes h.ty h.weight asked) mid new answer → Asks (recipe table t ∷ used_edits table t asked) old new' answer
-asks-generic table table' t h asked old mid new new' answer same back st in_order first asks =
+pub asks-generic : (table table' : LeafTable) (t : Tree) (h : HandleView) (asked : MethodTy) (old mid new new' : PassView) (answer : Result Answer EditError) → table' ≡ table → new' ≡ new → Stands table h t → (DrawsInOrder old → DrawsInOrder mid) → ((before : List (List Key)) → HasAsked before old → HasAsked (before ++ recipe table t ∷ []) mid) → AsksBy h.form.recipe (call_keys table'.classes h.ty h.weight asked) mid new answer → Asks (recipe table t ∷ used_edits table t asked) old new' answer
+asks-generic table table' t h asked old mid new new' answer same back st kept first asks =
     let keys : List Key = call_keys table.classes h.ty h.weight asked in
     let asks' : AsksBy h.form.recipe keys mid new answer =
     subst (λ (x : LeafTable). AsksBy h.form.recipe (call_keys x.classes h.ty h.weight asked) mid new answer) same asks in
@@ -101,34 +100,21 @@ asks-generic table table' t h asked old mid new new' answer same back st in_orde
     (asks-none h.form.recipe old mid new answer first' (subst (λ ks. AsksBy h.form.recipe ks mid new answer) none.0 asks')))
     (λ (some : used_edits table t asked ≡ (h.form.recipe ++ keys) ∷ []).
     subst (λ rs. Asks (h.form.recipe ∷ rs) old new answer) (sym some)
-    (asks-keys h.form.recipe keys old mid new answer in_order first' asks'))
+    (asks-keys h.form.recipe keys old mid new answer kept first' asks'))
     (uses table t h asked st)))
 
 -- a call that stopped at its leaf
 pub stopped-early : (r : List Key) (more : List (List Key)) (old : PassView) (e : EditError) → Stopped (r ∷ []) old e → Stopped (r ∷ more) old e
 stopped-early r more old NoMemory first = tt
-stopped-early r more old (FormsFull drawn) first = λ before has.
-    subst AreTooMany (append_assoc before (r ∷ []) more) (too_many-more (before ++ r ∷ []) more (first before has))
+stopped-early r more old (FormsFull drawn) first = λ in_order before has.
+    subst AreTooMany (append_assoc before (r ∷ []) more) (too_many-more (before ++ r ∷ []) more (first in_order before has))
 
 -- an error that is handed on
 pub stops : {A : Type 0} (recipes : List (List Key)) (old new : PassView) (e : EditError) (r : Result A EditError) → IsErrAnd r (λ x. x ≡ e) → Stopped recipes old e → Asks recipes old new r
 stops recipes old new e (Ok a) is stopped = absurd is
 stops recipes old new e (Err x) is stopped = subst (Stopped recipes old) (sym is) stopped
 
--- ---- numbers, and leaves that stay
-
-drawn-by : (r keys : List Key) (old new : PassView) (a : Answer) → DrawsInOrder old → AsksBy r keys old new (Ok a) → DrawsInOrder new
-drawn-by r [] old new a in_order same = subst DrawsInOrder (sym same) in_order
-drawn-by r (k ∷ keys) old new a in_order asks = drawn-more old new asks.0.0 (r ++ k ∷ keys) in_order asks.0.2 asks.1
-
-pub works-on : (r keys : List Key) (old new new' : Work) (answer : Result Answer EditError) → IsWork old → GoesOn old new → new' ≡ new → AsksBy r keys old.pass.now new.pass.now answer → OnOk answer (IsWork new')
-works-on r keys old new new' (Ok a) work on back asks =
-    subst IsWork (sym back)
-    (record {
-      of_table = on.cells ∙ (work.of_table ∙ ap (λ forms. forms.now) (sym on.forms));
-      in_order = drawn-by r keys old.pass.now new.pass.now a work.in_order asks;
-    })
-works-on r keys old new new' (Err e) work on back asks = tt
+-- ---- leaves that stay
 
 -- what holds of whatever a handle stands for, over leaves that stayed
 pub moved : (P : LeafTable → Tree → Type 0) (table table' : LeafTable) (h : HandleView) (t : Tree) → table' ≡ table → Stands table h t → ((u : Tree) → Stands table' h u → P table' u) → P table t
@@ -139,7 +125,7 @@ moved P table table' h t same st holds = subst (λ x. P x t) same (holds t (subs
 pub asks-leaf : (r : List Key) (old new : PassView) (h : Handle) → Makes r old new (Ok h) → (before : List (List Key)) → HasAsked before old → HasAsked (before ++ r ∷ []) new
 asks-leaf r old new h makes before has = asked-more before old new h.form r has makes.0 makes.1
 
-pub full-leaf : (r : List Key) (old new : PassView) (e : HandleError) (drawn : ℕ) → e ≡ handle.FormsFull drawn → DrawsInOrder old → Makes r old new (Err e) → (before : List (List Key)) → HasAsked before old → AreTooMany (before ++ r ∷ [])
-full-leaf r old new e drawn is in_order makes before has =
+pub full-leaf : (r : List Key) (old new : PassView) (e : HandleError) (drawn : ℕ) → e ≡ handle.FormsFull drawn → Makes r old new (Err e) → Stopped (r ∷ []) old (FormsFull drawn)
+full-leaf r old new e drawn is makes = λ in_order before has.
     let m : Makes r old new (Err (handle.FormsFull drawn)) = subst (λ x. Makes r old new (Err x)) is makes in
     asked-full before old new.seat r drawn has in_order m.0.0 m.1 m.2

@@ -1,4 +1,5 @@
 pub mod Asking
 pub mod Calling
 pub mod Counting
+pub mod Drawing
 pub mod Repeating

@@ -1,5 +1,5 @@
 -- What calls one after the other leave of a pass.
-use Rattle.std.proofs.Common.{◌≡◌, refl, sym, ◌∙◌, ap, ap₂, subst, map, ℕ, ◌+◌, ◌<◌, ◌≤◌, List, [], ◌∷◌, ◌++◌, length, take, drop, get_or, append-nil, append_assoc, Result, Ok, Err}
+use Rattle.std.proofs.Common.{◌≡◌, refl, sym, ◌∙◌, ap, ap₂, subst, map, ℕ, ◌+◌, ◌<◌, ◌≤◌, List, [], ◌∷◌, ◌++◌, length, take, drop, get_or, append-nil, append_assoc, Result, Ok, Err, arith}
 use Rattle.std.specs.List.{flat_map, IsDistinct}
 use Rattle.std.specs.Prelude.{IsErrAnd}
 use Rattle.std.specs.Set.{distinct_count}
@@ -10,10 +10,10 @@ use Rattle.mh_edit.specs.declared.key.Key.{Key}
 use Rattle.mh_handle.specs.declared.error.EditError.{EditError}
 use Rattle.mh_handle.specs.declared.error.EditError.TheVariants.{NoMemory, FormsFull}
 use Rattle.mh_handle.specs.Index.{recipe_of}
-use Rattle.mh_handle.specs.Passes.{PassView, SeatView, pass_at}
+use Rattle.mh_handle.specs.Passes.{PassView, SeatView, pass_at, seat_at}
 use Rattle.mh_plan.specs.SameRecipes.{same_recipe}
 use Rattle.mh_plan.proofs.Recipes.{same_recipe-equivalence}
-use Rattle.mh_runtime.specs.Asking.{AreTooMany, HasAsked, IfFull, Stopped, asked_recipes}
+use Rattle.mh_runtime.specs.Asking.{AreTooMany, DrawsInOrder, HasAsked, IfFull, Stopped, asked_recipes}
 use Rattle.mh_runtime.proofs.Counting.{too_many-more}
 
 module _ {X : Type 0} (f : X → List (List Key)) where
@@ -32,13 +32,13 @@ module _ {X : Type 0} (f : X → List (List Key)) where
       subst (λ rs. HasAsked rs new) (append_assoc before (flat_map f (take i xs)) (f x) ∙ ap (λ rs. before ++ rs) (sym (up-to xs i x within is)))
       (asks (before ++ flat_map f (take i xs)) (so_far before has))
 
-  pub stopped-at : (xs : List X) (i : ℕ) (x : X) (old mid : PassView) (e : EditError) → i < length xs → x ≡ get_or xs i x → AsksUpTo xs i old mid → Stopped (f x) mid e → Stopped (flat_map f xs) old e
-  stopped-at xs i x old mid NoMemory within is so_far stopped = tt
-  stopped-at xs i x old mid (FormsFull drawn) within is so_far stopped = λ before has.
+  pub stopped-at : (xs : List X) (i : ℕ) (x : X) (old mid : PassView) (e : EditError) → i < length xs → x ≡ get_or xs i x → AsksUpTo xs i old mid → DrawsInOrder mid → Stopped (f x) mid e → Stopped (flat_map f xs) old e
+  stopped-at xs i x old mid NoMemory within is so_far in_order stopped = tt
+  stopped-at xs i x old mid (FormsFull drawn) within is so_far in_order stopped = λ _ before has.
       let front : List (List Key) = flat_map f (take (i + 1) xs) in
       let here : AreTooMany (before ++ front) =
       subst AreTooMany (append_assoc before (flat_map f (take i xs)) (f x) ∙ ap (λ rs. before ++ rs) (sym (up-to xs i x within is)))
-      (stopped (before ++ flat_map f (take i xs)) (so_far before has)) in
+      (stopped in_order (before ++ flat_map f (take i xs)) (so_far before has)) in
       let whole : front ++ flat_map f (drop (i + 1) xs) ≡ flat_map f xs =
       sym (flat_map-append f (take (i + 1) xs) (drop (i + 1) xs)) ∙ ap (flat_map f) (take-append-drop (i + 1) xs) in
       subst AreTooMany (append_assoc before front (flat_map f (drop (i + 1) xs)) ∙ ap (λ rs. before ++ rs) whole)
@@ -60,11 +60,15 @@ pub none-asked : (pass : PassView) (cells : List ℕ) (seat : SeatView) → pass
 unfolding IsDistinct
 none-asked pass cells seat new = subst (HasAsked []) (sym new) (record { once = tt; same = λ recipe. refl })
 
+pub first-in_order : (pass : PassView) (cells : List ℕ) (seat : SeatView) → pass ≡ pass_at cells seat → seat ≡ seat_at 0 → DrawsInOrder pass
+first-in_order pass cells seat new first =
+    subst DrawsInOrder (sym new) (subst (λ (s : SeatView). DrawsInOrder (pass_at cells s)) (sym first) (record { few = omega arith; room = refl }))
+
 pub asked-count : (recipes : List (List Key)) (pass : PassView) → HasAsked recipes pass → length pass.asked ≡ distinct_count same_recipe recipes
 asked-count recipes pass has =
     sym (length-map pass.asked recipe_of) ∙ length-from_keys same_recipe-equivalence (asked_recipes pass) recipes has.once has.same
 
-pub full-run : {A : Type 0} (recipes : List (List Key)) (pass : PassView) (e : EditError) (r : Result A EditError) → IsErrAnd r (λ x. x ≡ e) → HasAsked [] pass → Stopped recipes pass e → IfFull r (AreTooMany recipes)
-full-run {A = A} recipes pass e (Ok a) is none stopped = tt
-full-run {A = A} recipes pass NoMemory (Err x) is none stopped = subst (λ y. IfFull {A = A} (Err y) (AreTooMany recipes)) (sym is) tt
-full-run {A = A} recipes pass (FormsFull drawn) (Err x) is none stopped = subst (λ y. IfFull {A = A} (Err y) (AreTooMany recipes)) (sym is) (stopped [] none)
+pub full-run : {A : Type 0} (recipes : List (List Key)) (pass : PassView) (e : EditError) (r : Result A EditError) → IsErrAnd r (λ x. x ≡ e) → HasAsked [] pass → DrawsInOrder pass → Stopped recipes pass e → IfFull r (AreTooMany recipes)
+full-run {A = A} recipes pass e (Ok a) is none in_order stopped = tt
+full-run {A = A} recipes pass NoMemory (Err x) is none in_order stopped = subst (λ y. IfFull {A = A} (Err y) (AreTooMany recipes)) (sym is) tt
+full-run {A = A} recipes pass (FormsFull drawn) (Err x) is none in_order stopped = subst (λ y. IfFull {A = A} (Err y) (AreTooMany recipes)) (sym is) (stopped in_order [] none)

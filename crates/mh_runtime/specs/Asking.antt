@@ -1,5 +1,5 @@
 -- What calls leave of a pass, by the recipes that they make.
-use Rattle.std.specs.Prelude.{◌≡◌, ◌+◌, ◌^◌, ◌<◌, ◌≤◌, List, ◌++◌, length, map, Result, Ok, Err}
+use Rattle.std.specs.Prelude.{◌≡◌, ◌+◌, ◌^◌, ◌<◌, ◌≤◌, ℕ, List, ◌++◌, length, map, Result, Ok, Err, OnOk}
 use Rattle.std.specs.List.{list_any, IsDistinct}
 use Rattle.std.specs.Set.{distinct_count}
 use Rattle.mh_edit.specs.declared.key.Key.{Key}
@@ -24,6 +24,14 @@ pub record IsWork (w : Work) : Type 0 where
   pub of_table : w.pass.now.cells ≡ w.forms.now
   pub in_order : DrawsInOrder w.pass.now
 
+-- a pass that draws its numbers in order still does, where the call was not refused
+abbrev pub KeepsOrder : {A E : Type 0} → PassView → PassView → Result A E → Type 0
+KeepsOrder old new result = DrawsInOrder old → OnOk result (DrawsInOrder new)
+
+-- at most so many numbers were drawn
+abbrev pub DrawsAtMost : ℕ → PassView → PassView → Type 0
+DrawsAtMost count old new = old.seat.room ≤ new.seat.room + count
+
 -- the pass has asked for forms of these recipes and of no others, and for none twice
 pub record HasAsked (recipes : List (List Key)) (pass : PassView) : Type 0 where
   pub once : IsDistinct same_recipe (asked_recipes pass)
@@ -33,9 +41,10 @@ pub record HasAsked (recipes : List (List Key)) (pass : PassView) : Type 0 where
 abbrev pub AreTooMany : List (List Key) → Type 0
 AreTooMany recipes = 16384 < distinct_count same_recipe recipes
 
--- what is known of a call that stopped, and that makes these recipes: for want of forms only where they are too many with those before
+-- what is known of a call that stopped, and that makes these recipes: for want of forms, where numbers are drawn in order, only if the
+-- recipes are too many with those before
 abbrev pub Stopped : List (List Key) → PassView → EditError → Type 0
-Stopped recipes old (FormsFull drawn) = (before : List (List Key)) → HasAsked before old → AreTooMany (before ++ recipes)
+Stopped recipes old (FormsFull drawn) = DrawsInOrder old → (before : List (List Key)) → HasAsked before old → AreTooMany (before ++ recipes)
 Stopped recipes old NoMemory = Unit {0}
 
 -- what a call leaves of a pass that makes these recipes: a form of each was asked for, whichever were made before

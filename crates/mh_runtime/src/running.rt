@@ -1,4 +1,4 @@
-ghost use Rattle.std.specs.Prelude.{◌≡◌, ◌<◌, [], All, IfOk, OnOk};
+ghost use Rattle.std.specs.Prelude.{◌≡◌, ◌<◌, ◌^◌, [], length, All, IfOk, OnOk};
 ghost use Rattle.mh_handle.specs.Passes.{pass_at, seat_at};
 ghost use Rattle.mh_plan.specs.Forms.{thread_edits, plan_edits, forms};
 ghost use Rattle.mh_plan.specs.Results.{IsCallOf, AreCallsOf, thread_results, results_of, thread_said, results_said, thread_keys_said, keys_said};
@@ -22,6 +22,13 @@ pub struct RunReport {
     pub forms: u32,
 }
 
+// How many forms a pass can have asked for. It does nothing when it runs.
+fn has_few_forms(pass: &FormPass<'_>)
+    ensures { length pass.now.asked < 2 ^ 32 }
+{
+    let _forms = pass.len();
+}
+
 // Makes the calls of a thread, in order.
 fn run_thread<'t, R: Wait>(
     w: &mut Work<'_, 't>,
@@ -42,6 +49,7 @@ fn run_thread<'t, R: Wait>(
 {
     let mut answers = Seq::new(alloc);
     for next in calls.as_slice() {
+        has_few_forms(w.pass);
         answers.push(call(w, rt, alloc, next)?)?;
     }
     Ok(answers)

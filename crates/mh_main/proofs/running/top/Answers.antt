@@ -9,7 +9,7 @@ returns-in-Ok-clause-broken g c = λ failed.
     let due = c.run_program.ensures.broken failed in (
       due.0,
       due-of-program (said c.args.words.now) (g.I.Inputs.told c.args.inputs.now) (g.I.Inputs.faults c.args.inputs.now) (g.I.Inputs.faults c.read_program.new.inputs)
-          c.run_program.result (held_names c.in-Run.names) c.in-Ok.program due.0 (rw c.in-Run.is at c.in-Some.ensures) c.in-Ok.ensures.ok due.1,
+          c.run_program.result (held_names c.in-Run.names) c.in-Ok.program due.0 (rw c.in-Run.is at c.in-Some.ensures) c.in-Ok.ensures.ok c.in-Ok.ensures.no_fault due.1,
       due.2,
     )
 

@@ -15,7 +15,7 @@ pub returns-clause-answer : goal.returns-clause-answer
 returns-clause-answer g c =
     moved (λ (table : LeafTable) (t : Tree). IsAnswer (exact table t c.args.ty.now c.args.args.now 0) (exact_keys table t c.args.ty.now) c.in_ok-answer.field-0)
     c.args.w.now.leaves.now c.leaf_handle.new.w.leaves.now c.in_ok-handle.handle (tree.Leaf c.args.id)
-    (ap (λ leaves. leaves.now) c.in_ok-handle.ensures.leaves) c.in_ok-handle.ensures.stands c.in_ok-answer.ensures
+    (ap (λ leaves. leaves.now) c.in_ok-handle.ensures.goes_on.leaves) c.in_ok-handle.ensures.stands c.in_ok-answer.ensures
 
 pub returns-clause-asks : goal.returns-clause-asks
 returns-clause-asks g c = λ before has.

@@ -1,4 +1,4 @@
-use Rattle.std.proofs.Common.{◌≡◌, ◌∙◌, ap, subst, List, Ok}
+use Rattle.std.proofs.Common.{◌≡◌, ◌∙◌, sym, ap, subst, List, Ok}
 use Rattle.mh_leaf.specs.LeafTable.{LeafTable}
 use Rattle.mh_handle.specs.Answers.{AnswerView, IsAnswer}
 use Rattle.mh_plan.specs.declared.call.Call.{Call}
@@ -16,7 +16,7 @@ returns-in_err-call-clause-asks g c =
     stops _ c.args.w.now.pass.now c.call.new.w.pass.now c.in_err-call.field-0.0 c.from_residual.result c.from_residual.ensures.1
     (subst (λ (calls : List Call). Stopped (thread_edits c.args.w.now.leaves.now calls) c.args.w.now.pass.now c.in_err-call.field-0.0) c.as_slice-next-items.ensures
     (stopped-at (call_edits c.args.w.now.leaves.now) c.as_slice-next-items.result.now c.loop-next.next-index c.next-item.result c.args.w.now.pass.now c.loop-next.w.pass.now c.in_err-call.field-0.0
-    c.loop-next-test.true c.next-item.is c.loop-next.invariant.asks
+    c.loop-next-test.true c.next-item.is c.loop-next.invariant.asks c.loop-next.invariant.work.in_order
     (subst (λ (table : LeafTable). Stopped (call_edits table c.next-item.result) c.loop-next.w.pass.now c.in_err-call.field-0.0) same c.in_err-call.ensures.asks)))
 
 pub loop-next-preserved : goal.loop-next-preserved
@@ -25,8 +25,11 @@ loop-next-preserved g c =
     let answer : IsAnswer (result_of c.args.w.now.leaves.now c.next-item.result) (keys_of c.args.w.now.leaves.now c.next-item.result) c.in_ok-call.field-0 =
     subst (λ (table : LeafTable). IsAnswer (result_of table c.next-item.result) (keys_of table c.next-item.result) c.in_ok-call.field-0) same c.in_ok-call.ensures.answer in
     record {
-      leaves = c.call.ensures.leaves ∙ c.loop-next.invariant.leaves;
-      work = c.in_ok-call.ensures.work;
+      leaves = c.call.ensures.goes_on.leaves ∙ c.loop-next.invariant.leaves;
+      work = record {
+        of_table = c.call.ensures.goes_on.cells ∙ (c.loop-next.invariant.work.of_table ∙ ap (λ forms. forms.now) (sym c.call.ensures.goes_on.forms));
+        in_order = c.in_ok-call.ensures.in_order c.loop-next.invariant.work.in_order;
+      };
       results = told-next (result_of c.args.w.now.leaves.now) result_said c.as_slice-next-items.result.now c.loop-next.next-index c.next-item.result c.loop-next.answers c.push.new.self c.in_ok-call.field-0
           c.loop-next-test.true c.next-item.is c.in_ok-push.ensures.ok c.loop-next.invariant.results answer.ran_is;
       keys = told-next (keys_of c.args.w.now.leaves.now) (λ (a : AnswerView). a.keys) c.as_slice-next-items.result.now c.loop-next.next-index c.next-item.result c.loop-next.answers c.push.new.self c.in_ok-call.field-0

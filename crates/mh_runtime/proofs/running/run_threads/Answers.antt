@@ -15,7 +15,7 @@ returns-in_err-run_thread-clause-asks g c =
     stops _ c.args.w.now.pass.now c.run_thread.new.w.pass.now c.in_err-run_thread.field-0.0 c.from_residual.result c.from_residual.ensures.1
     (subst (λ (plan : List (List Call)). Stopped (plan_edits c.args.w.now.leaves.now plan) c.args.w.now.pass.now c.in_err-run_thread.field-0.0) c.as_slice-calls-items.ensures
     (stopped-at (thread_edits c.args.w.now.leaves.now) c.as_slice-calls-items.result.now c.loop-calls.calls-index c.calls-item.result c.args.w.now.pass.now c.loop-calls.w.pass.now c.in_err-run_thread.field-0.0
-    c.loop-calls-test.true c.calls-item.is c.loop-calls.invariant.asks
+    c.loop-calls-test.true c.calls-item.is c.loop-calls.invariant.asks c.loop-calls.invariant.work.in_order
     (subst (λ (table : LeafTable). Stopped (thread_edits table c.calls-item.result) c.loop-calls.w.pass.now c.in_err-run_thread.field-0.0) same c.in_err-run_thread.ensures.asks)))
 
 pub loop-calls-preserved : goal.loop-calls-preserved
