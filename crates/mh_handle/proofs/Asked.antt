@@ -9,8 +9,8 @@ use Rattle.mh_setonce.specs.Walks.{Distinct, Lacks}
 use Rattle.mh_setonce.proofs.Nodes.{at_push}
 use Rattle.mh_edit.specs.declared.key.Key.{Key}
 use Rattle.mh_handle.specs.Form.{FormView}
-use Rattle.mh_handle.specs.Marks.{mark_of}
-use Rattle.mh_handle.specs.Index.{IsIndex, AreIndexed, marks_of, recipe_of}
+use Rattle.mh_handle.specs.Hashes.{hash_of}
+use Rattle.mh_handle.specs.Index.{IsIndex, AreIndexed, hashes_of, recipe_of}
 use Rattle.std.proofs.lemmas.Grind.{get_or_default_zero}
 use Rattle.mh_handle.proofs.Indexes.{is_index-empty, is_index-more}
 
@@ -44,35 +44,35 @@ indexed-empty forms newest before f n b =
     subst (λ v. AreIndexed v newest before) (sym f) (subst (λ v. AreIndexed [] newest v) (sym b) (record { index = index; once = none }))
 
 pub indexed-more : (forms : List FormView) (newest before : List ℕ) (form : FormView) (place : ℕ) → AreIndexed forms newest before
-    → mark_of form.recipe < 4096 → place ≡ slice_index newest (mark_of form.recipe) → Lacks recipe_of forms form.recipe
-    → AreIndexed (forms ++ form ∷ []) (set newest (mark_of form.recipe) (length forms + 1)) (before ++ place ∷ [])
+    → hash_of form.recipe < 4096 → place ≡ slice_index newest (hash_of form.recipe) → Lacks recipe_of forms form.recipe
+    → AreIndexed (forms ++ form ∷ []) (set newest (hash_of form.recipe) (length forms + 1)) (before ++ place ∷ [])
 indexed-more forms newest before form place old small is new =
-    let m : ℕ = mark_of form.recipe in
-    let more = is_index-more (marks_of forms) newest before m place old.index small is in
-    let marks : marks_of (forms ++ form ∷ []) ≡ marks_of forms ++ m ∷ [] = map-append (λ f. mark_of f.recipe) forms (form ∷ []) in
-    let count : length (marks_of forms) + 1 ≡ length forms + 1 = ap (λ k. k + 1) (length-map forms (λ f. mark_of f.recipe)) in
+    let m : ℕ = hash_of form.recipe in
+    let more = is_index-more (hashes_of forms) newest before m place old.index small is in
+    let hashes : hashes_of (forms ++ form ∷ []) ≡ hashes_of forms ++ m ∷ [] = map-append (λ f. hash_of f.recipe) forms (form ∷ []) in
+    let count : length (hashes_of forms) + 1 ≡ length forms + 1 = ap (λ k. k + 1) (length-map forms (λ f. hash_of f.recipe)) in
     record {
-      index = subst (λ v. IsIndex v (set newest m (length forms + 1)) (before ++ place ∷ [])) (sym marks)
-          (subst (λ k. IsIndex (marks_of forms ++ m ∷ []) (set newest m k) (before ++ place ∷ [])) count more);
+      index = subst (λ v. IsIndex v (set newest m (length forms + 1)) (before ++ place ∷ [])) (sym hashes)
+          (subst (λ k. IsIndex (hashes_of forms ++ m ∷ []) (set newest m k) (before ++ place ∷ [])) count more);
       once = distinct-snoc recipe_of forms form old.once new;
     }
 
-pub indexed-add : (forms forms' : List FormView) (newest before before' : List ℕ) (form : FormView) (recipe : List Key) (mark place count : ℕ)
-    → AreIndexed forms newest before → recipe ≡ form.recipe → mark ≡ mark_of recipe → mark < 4096 → place ≡ slice_index newest mark
+pub indexed-add : (forms forms' : List FormView) (newest before before' : List ℕ) (form : FormView) (recipe : List Key) (hash place count : ℕ)
+    → AreIndexed forms newest before → recipe ≡ form.recipe → hash ≡ hash_of recipe → hash < 4096 → place ≡ slice_index newest hash
     → Lacks recipe_of forms form.recipe → forms' ≡ forms ++ form ∷ [] → count ≡ length forms + 1 → before' ≡ before ++ place ∷ []
-    → AreIndexed forms' (set newest mark count) before'
-indexed-add forms forms' newest before before' form recipe mark place count old r m small is new f c b =
-    let e : mark ≡ mark_of form.recipe = m ∙ ap mark_of r in
+    → AreIndexed forms' (set newest hash count) before'
+indexed-add forms forms' newest before before' form recipe hash place count old r m small is new f c b =
+    let e : hash ≡ hash_of form.recipe = m ∙ ap hash_of r in
     let more = indexed-more forms newest before form place old (subst (λ k. k < 4096) e small) (is ∙ ap (slice_index newest) e) new in
-    subst (λ v. AreIndexed v (set newest mark count) before') (sym f)
-    (subst (λ v. AreIndexed (forms ++ form ∷ []) (set newest mark count) v) (sym b)
-    (subst (λ k. AreIndexed (forms ++ form ∷ []) (set newest mark k) (before ++ place ∷ [])) (sym c)
+    subst (λ v. AreIndexed v (set newest hash count) before') (sym f)
+    (subst (λ v. AreIndexed (forms ++ form ∷ []) (set newest hash count) v) (sym b)
+    (subst (λ k. AreIndexed (forms ++ form ∷ []) (set newest hash k) (before ++ place ∷ [])) (sym c)
     (subst (λ k. AreIndexed (forms ++ form ∷ []) (set newest k (length forms + 1)) (before ++ place ∷ [])) (sym e) more)))
 
--- the mark of a form at its place
-pub mark-at : (forms : List FormView) (i : ℕ) (f : FormView) → slice_get forms i ≡ Some f → slice_index (marks_of forms) i ≡ mark_of f.recipe
-mark-at forms i f at =
-    get_or_from_slice_get (marks_of forms) i (mark_of f.recipe) 0 (slice_get-map (λ g. mark_of g.recipe) forms i ∙ ap (option_map (λ g. mark_of g.recipe)) at)
+-- the hash of a form at its place
+pub hash-at : (forms : List FormView) (i : ℕ) (f : FormView) → slice_get forms i ≡ Some f → slice_index (hashes_of forms) i ≡ hash_of f.recipe
+hash-at forms i f at =
+    get_or_from_slice_get (hashes_of forms) i (hash_of f.recipe) 0 (slice_get-map (λ g. hash_of g.recipe) forms i ∙ ap (option_map (λ g. hash_of g.recipe)) at)
 
 -- no form from a place on has the recipe
 abbrev pub LacksFrom : List FormView → List Key → ℕ → Type 0
@@ -80,42 +80,42 @@ LacksFrom forms recipe place = (i : ℕ) (f : FormView) → slice_get forms i �
 
 -- what the search for a recipe knows at a place
 pub record Sought (forms : List FormView) (recipe : List Key) (place : ℕ) : Type 0 where
-  pub low : place ≤ length (marks_of forms)
-  pub mark : (k : ℕ) → place ≡ suc k → slice_index (marks_of forms) k ≡ mark_of recipe
+  pub low : place ≤ length (hashes_of forms)
+  pub hash : (k : ℕ) → place ≡ suc k → slice_index (hashes_of forms) k ≡ hash_of recipe
   pub lacks : LacksFrom forms recipe place
 
-pub sought-first : (forms : List FormView) (newest before : List ℕ) (recipe : List Key) (mark place : ℕ) → AreIndexed forms newest before
-    → mark ≡ mark_of recipe → place ≡ slice_index newest mark → Sought forms recipe place
-sought-first forms newest before recipe mark place all m is = record {
+pub sought-first : (forms : List FormView) (newest before : List ℕ) (recipe : List Key) (hash place : ℕ) → AreIndexed forms newest before
+    → hash ≡ hash_of recipe → place ≡ slice_index newest hash → Sought forms recipe place
+sought-first forms newest before recipe hash place all m is = record {
   low = low place is;
-  mark = λ k e. (all.index.newest_is mark k (sym is ∙ e)).1 ∙ m;
+  hash = λ k e. (all.index.newest_is hash k (sym is ∙ e)).1 ∙ m;
   lacks = λ i f at past same.
       let within = slice_get_within forms i f at in
-      let here : slice_index (marks_of forms) i ≡ mark = mark-at forms i f at ∙ (ap mark_of same ∙ sym m) in
-      let n = all.index.newer i (omega (arith, within, length-map forms (λ g. mark_of g.recipe))) in
+      let here : slice_index (hashes_of forms) i ≡ hash = hash-at forms i f at ∙ (ap hash_of same ∙ sym m) in
+      let n = all.index.newer i (omega (arith, within, length-map forms (λ g. hash_of g.recipe))) in
       absurd (omega (arith, past, subst (λ k. i < slice_index newest k) here n, is));
 }
   where
-    low : (k : ℕ) → k ≡ slice_index newest mark → k ≤ length (marks_of forms)
+    low : (k : ℕ) → k ≡ slice_index newest hash → k ≤ length (hashes_of forms)
     low zero e = omega arith
-    low (suc k) e = omega (arith, (all.index.newest_is mark k (sym e)).0)
+    low (suc k) e = omega (arith, (all.index.newest_is hash k (sym e)).0)
 
 pub sought-next : (forms : List FormView) (newest before : List ℕ) (recipe : List Key) (k place : ℕ) (form : FormView) → AreIndexed forms newest before
     → Sought forms recipe (suc k) → slice_get forms k ≡ Some form → form.recipe ≢ recipe → place ≡ slice_index before k → Sought forms recipe place
 sought-next forms newest before recipe k place form all so at_k other is = record {
   low = low place is;
-  mark = λ j e. (all.index.before_is k j (omega (arith, so.low)) (sym is ∙ e)).1 ∙ so.mark k refl;
+  hash = λ j e. (all.index.before_is k j (omega (arith, so.low)) (sym is ∙ e)).1 ∙ so.hash k refl;
   lacks = λ i f at past same. cases i f at past same (dec_lt k i) (dec_lt i k);
 }
   where
-    low : (p : ℕ) → p ≡ slice_index before k → p ≤ length (marks_of forms)
+    low : (p : ℕ) → p ≡ slice_index before k → p ≤ length (hashes_of forms)
     low zero e = omega arith
     low (suc j) e = omega (arith, so.low, (all.index.before_is k j (omega (arith, so.low)) (sym e)).0)
 
     cases : (i : ℕ) (f : FormView) → slice_get forms i ≡ Some f → place ≤ i → f.recipe ≡ recipe → Dec (k < i) → Dec (i < k) → ⊥
     cases i f at past same (yes above) _ = so.lacks i f at (omega arith) same
     cases i f at past same (no not) (yes below) =
-        let here : slice_index (marks_of forms) i ≡ slice_index (marks_of forms) k = mark-at forms i f at ∙ (ap mark_of same ∙ sym (so.mark k refl)) in
+        let here : slice_index (hashes_of forms) i ≡ slice_index (hashes_of forms) k = hash-at forms i f at ∙ (ap hash_of same ∙ sym (so.hash k refl)) in
         let n = all.index.later k i (omega (arith, so.low)) below here in
         omega (arith, n, past, is)
     cases i f at past same (no not) (no not') =

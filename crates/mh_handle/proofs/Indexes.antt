@@ -1,4 +1,4 @@
--- The index of forms by their marks, with one more form.
+-- The index of forms by their hashes, with one more form.
 use Rattle.std.proofs.Common.{◌≡◌, ◌≢◌, ℕ, suc, ◌+◌, ◌<◌, List, [], ◌∷◌, ◌++◌, length, set, sym, refl, ap, ◌∙◌, subst, arith, length-append}
 use Rattle.std.specs.Prelude.{slice_index}
 use native.Mathlib.Decide.{ℕ_discrete, dec_lt}
@@ -25,81 +25,81 @@ is_index-empty xs len none = record {
   before_is = λ i k low. absurd (omega arith);
 }
 
-module _ (marks newest before : List ℕ) (m place : ℕ) (old : IsIndex marks newest before) (small : m < 4096) (is : place ≡ slice_index newest m) where
-  there : slice_index (set newest m (length marks + 1)) m ≡ length marks + 1
-  there = get_or-set_same newest m (length marks + 1) 0 (omega (arith, old.sized))
+module _ (hashes newest before : List ℕ) (m place : ℕ) (old : IsIndex hashes newest before) (small : m < 4096) (is : place ≡ slice_index newest m) where
+  there : slice_index (set newest m (length hashes + 1)) m ≡ length hashes + 1
+  there = get_or-set_same newest m (length hashes + 1) 0 (omega (arith, old.sized))
 
-  other : (k : ℕ) → k ≢ m → slice_index (set newest m (length marks + 1)) k ≡ slice_index newest k
-  other k ne = get_or-set_other newest m k (length marks + 1) 0 ne
+  other : (k : ℕ) → k ≢ m → slice_index (set newest m (length hashes + 1)) k ≡ slice_index newest k
+  other k ne = get_or-set_other newest m k (length hashes + 1) 0 ne
 
-  same_place : (i : ℕ) → i < length marks → slice_index (marks ++ m ∷ []) i ≡ slice_index marks i
-  same_place i low = at-old marks m i low
+  same_place : (i : ℕ) → i < length hashes → slice_index (hashes ++ m ∷ []) i ≡ slice_index hashes i
+  same_place i low = at-old hashes m i low
 
-  at_mark : (i k : ℕ) → i < length marks + 1 → Dec (k ≡ m) → (k ≢ m → i < slice_index newest k) → i < slice_index (set newest m (length marks + 1)) k
-  at_mark i k low (yes e) h = subst (λ v. i < slice_index (set newest m (length marks + 1)) v) (sym e) (subst (λ v. i < v) (sym there) low)
-  at_mark i k low (no ne) h = subst (λ v. i < v) (sym (other k ne)) (h ne)
+  at_hash : (i k : ℕ) → i < length hashes + 1 → Dec (k ≡ m) → (k ≢ m → i < slice_index newest k) → i < slice_index (set newest m (length hashes + 1)) k
+  at_hash i k low (yes e) h = subst (λ v. i < slice_index (set newest m (length hashes + 1)) v) (sym e) (subst (λ v. i < v) (sym there) low)
+  at_hash i k low (no ne) h = subst (λ v. i < v) (sym (other k ne)) (h ne)
 
-  pub newer-more : (i : ℕ) → i < length (marks ++ m ∷ []) → i < slice_index (set newest m (length marks + 1)) (slice_index (marks ++ m ∷ []) i)
-  newer-more i low = cases (dec_lt i (length marks))
+  pub newer-more : (i : ℕ) → i < length (hashes ++ m ∷ []) → i < slice_index (set newest m (length hashes + 1)) (slice_index (hashes ++ m ∷ []) i)
+  newer-more i low = cases (dec_lt i (length hashes))
     where
       P : ℕ → Type 0
-      P k = i < slice_index (set newest m (length marks + 1)) k
+      P k = i < slice_index (set newest m (length hashes + 1)) k
 
-      up : i < length marks + 1
-      up = omega (arith, low, longer marks m)
+      up : i < length hashes + 1
+      up = omega (arith, low, longer hashes m)
 
-      cases : Dec (i < length marks) → P (slice_index (marks ++ m ∷ []) i)
-      cases (yes lt) = at_mark i (slice_index (marks ++ m ∷ []) i) up (ℕ_discrete _ _) (λ ne. subst (λ k. i < slice_index newest k) (sym (same_place i lt)) (old.newer i lt))
-      cases (no not) = at_mark i (slice_index (marks ++ m ∷ []) i) up (ℕ_discrete _ _) (λ ne. absurd (ne (at-new marks m i (omega (arith, longer marks m)))))
+      cases : Dec (i < length hashes) → P (slice_index (hashes ++ m ∷ []) i)
+      cases (yes lt) = at_hash i (slice_index (hashes ++ m ∷ []) i) up (ℕ_discrete _ _) (λ ne. subst (λ k. i < slice_index newest k) (sym (same_place i lt)) (old.newer i lt))
+      cases (no not) = at_hash i (slice_index (hashes ++ m ∷ []) i) up (ℕ_discrete _ _) (λ ne. absurd (ne (at-new hashes m i (omega (arith, longer hashes m)))))
 
-  pub newest_is-more : (k j : ℕ) → slice_index (set newest m (length marks + 1)) k ≡ suc j → (j < length (marks ++ m ∷ [])) × (slice_index (marks ++ m ∷ []) j ≡ k)
+  pub newest_is-more : (k j : ℕ) → slice_index (set newest m (length hashes + 1)) k ≡ suc j → (j < length (hashes ++ m ∷ [])) × (slice_index (hashes ++ m ∷ []) j ≡ k)
   newest_is-more k j e = cases (ℕ_discrete k m)
     where
-      cases : Dec (k ≡ m) → (j < length (marks ++ m ∷ [])) × (slice_index (marks ++ m ∷ []) j ≡ k)
+      cases : Dec (k ≡ m) → (j < length (hashes ++ m ∷ [])) × (slice_index (hashes ++ m ∷ []) j ≡ k)
       cases (yes same) =
-          let f : length marks + 1 ≡ suc j = sym there ∙ (ap (slice_index (set newest m (length marks + 1))) (sym same) ∙ e) in
-          let last : j ≡ length marks = omega (arith, f) in
-          (omega (arith, longer marks m), at-new marks m j last ∙ sym same)
+          let f : length hashes + 1 ≡ suc j = sym there ∙ (ap (slice_index (set newest m (length hashes + 1))) (sym same) ∙ e) in
+          let last : j ≡ length hashes = omega (arith, f) in
+          (omega (arith, longer hashes m), at-new hashes m j last ∙ sym same)
       cases (no ne) =
           let h = old.newest_is k j (sym (other k ne) ∙ e) in
-          (omega (arith, longer marks m, h.0), same_place j h.0 ∙ h.1)
+          (omega (arith, longer hashes m, h.0), same_place j h.0 ∙ h.1)
 
-  pub later-more : (i j : ℕ) → i < length (marks ++ m ∷ []) → j < i → slice_index (marks ++ m ∷ []) j ≡ slice_index (marks ++ m ∷ []) i → j < slice_index (before ++ place ∷ []) i
-  later-more i j low lower e = cases (dec_lt i (length marks))
+  pub later-more : (i j : ℕ) → i < length (hashes ++ m ∷ []) → j < i → slice_index (hashes ++ m ∷ []) j ≡ slice_index (hashes ++ m ∷ []) i → j < slice_index (before ++ place ∷ []) i
+  later-more i j low lower e = cases (dec_lt i (length hashes))
     where
-      cases : Dec (i < length marks) → j < slice_index (before ++ place ∷ []) i
+      cases : Dec (i < length hashes) → j < slice_index (before ++ place ∷ []) i
       cases (yes lt) =
           let h = old.later i j lt lower (sym (same_place j (omega (arith, lt, lower))) ∙ (e ∙ same_place i lt)) in
           subst (λ v. j < v) (sym (at-old before place i (omega (arith, old.paired)))) h
       cases (no not) =
-          let last : i ≡ length marks = omega (arith, longer marks m) in
-          let low_j : j < length marks = omega arith in
-          let f : slice_index marks j ≡ m = sym (same_place j low_j) ∙ (e ∙ at-new marks m i last) in
+          let last : i ≡ length hashes = omega (arith, longer hashes m) in
+          let low_j : j < length hashes = omega arith in
+          let f : slice_index hashes j ≡ m = sym (same_place j low_j) ∙ (e ∙ at-new hashes m i last) in
           let h : j < slice_index newest m = subst (λ k. j < slice_index newest k) f (old.newer j low_j) in
           subst (λ v. j < v) (is' last) h
         where
-          is' : i ≡ length marks → slice_index newest m ≡ slice_index (before ++ place ∷ []) i
+          is' : i ≡ length hashes → slice_index newest m ≡ slice_index (before ++ place ∷ []) i
           is' last = sym is ∙ sym (at-new before place i (omega (arith, old.paired)))
 
-  pub before_is-more : (i k : ℕ) → i < length (marks ++ m ∷ []) → slice_index (before ++ place ∷ []) i ≡ suc k → (k < i) × (slice_index (marks ++ m ∷ []) k ≡ slice_index (marks ++ m ∷ []) i)
-  before_is-more i k low e = cases (dec_lt i (length marks))
+  pub before_is-more : (i k : ℕ) → i < length (hashes ++ m ∷ []) → slice_index (before ++ place ∷ []) i ≡ suc k → (k < i) × (slice_index (hashes ++ m ∷ []) k ≡ slice_index (hashes ++ m ∷ []) i)
+  before_is-more i k low e = cases (dec_lt i (length hashes))
     where
-      cases : Dec (i < length marks) → (k < i) × (slice_index (marks ++ m ∷ []) k ≡ slice_index (marks ++ m ∷ []) i)
+      cases : Dec (i < length hashes) → (k < i) × (slice_index (hashes ++ m ∷ []) k ≡ slice_index (hashes ++ m ∷ []) i)
       cases (yes lt) =
           let h = old.before_is i k lt (sym (at-old before place i (omega (arith, old.paired))) ∙ e) in
           (h.0, same_place k (omega (arith, h.0)) ∙ (h.1 ∙ sym (same_place i lt)))
       cases (no not) =
-          let last : i ≡ length marks = omega (arith, longer marks m) in
+          let last : i ≡ length hashes = omega (arith, longer hashes m) in
           let h = old.newest_is m k (sym is ∙ (sym (at-new before place i (omega (arith, old.paired))) ∙ e)) in
-          (omega (arith, h.0), same_place k h.0 ∙ (h.1 ∙ sym (at-new marks m i last)))
+          (omega (arith, h.0), same_place k h.0 ∙ (h.1 ∙ sym (at-new hashes m i last)))
 
-pub is_index-more : (marks newest before : List ℕ) (m place : ℕ) → IsIndex marks newest before → m < 4096 → place ≡ slice_index newest m
-    → IsIndex (marks ++ m ∷ []) (set newest m (length marks + 1)) (before ++ place ∷ [])
-is_index-more marks newest before m place old small is = record {
-  sized = length-set newest m (length marks + 1) ∙ old.sized;
-  paired = longer before place ∙ (ap (λ k. k + 1) old.paired ∙ sym (longer marks m));
-  newer = newer-more marks newest before m place old small is;
-  newest_is = newest_is-more marks newest before m place old small is;
-  later = later-more marks newest before m place old small is;
-  before_is = before_is-more marks newest before m place old small is;
+pub is_index-more : (hashes newest before : List ℕ) (m place : ℕ) → IsIndex hashes newest before → m < 4096 → place ≡ slice_index newest m
+    → IsIndex (hashes ++ m ∷ []) (set newest m (length hashes + 1)) (before ++ place ∷ [])
+is_index-more hashes newest before m place old small is = record {
+  sized = length-set newest m (length hashes + 1) ∙ old.sized;
+  paired = longer before place ∙ (ap (λ k. k + 1) old.paired ∙ sym (longer hashes m));
+  newer = newer-more hashes newest before m place old small is;
+  newest_is = newest_is-more hashes newest before m place old small is;
+  later = later-more hashes newest before m place old small is;
+  before_is = before_is-more hashes newest before m place old small is;
 }

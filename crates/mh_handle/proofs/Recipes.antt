@@ -5,14 +5,14 @@ use Rattle.mh_edit.specs.declared.key.Key.{Key}
 use Rattle.mh_edit.specs.Applied.{applied}
 use Rattle.mh_form.specs.Body.{nothing}
 use Rattle.mh_handle.specs.Form.{body_from, body_of}
-use Rattle.mh_handle.specs.Marks.{mixed, all_mixed, key_mark, mark_of}
+use Rattle.mh_handle.specs.Hashes.{mixed, all_mixed, key_hash, hash_of}
 
-pub all_mixed-snoc : {A : Type 0} (part : A → ℕ) (mark : ℕ) (xs : List A) (x : A) → all_mixed part mark (xs ++ x ∷ []) ≡ mixed (all_mixed part mark xs) (part x)
-all_mixed-snoc part mark [] x = refl
-all_mixed-snoc part mark (y ∷ xs) x = all_mixed-snoc part (mixed mark (part y)) xs x
+pub all_mixed-snoc : {A : Type 0} (part : A → ℕ) (hash : ℕ) (xs : List A) (x : A) → all_mixed part hash (xs ++ x ∷ []) ≡ mixed (all_mixed part hash xs) (part x)
+all_mixed-snoc part hash [] x = refl
+all_mixed-snoc part hash (y ∷ xs) x = all_mixed-snoc part (mixed hash (part y)) xs x
 
-pub mark_of-snoc : (keys : List Key) (k : Key) → mark_of (keys ++ k ∷ []) ≡ mixed (mark_of keys) (key_mark k)
-mark_of-snoc keys k = all_mixed-snoc key_mark 0 keys k
+pub hash_of-snoc : (keys : List Key) (k : Key) → hash_of (keys ++ k ∷ []) ≡ mixed (hash_of keys) (key_hash k)
+hash_of-snoc keys k = all_mixed-snoc key_hash 0 keys k
 
 pub body_from-snoc : (body : FormBody) (keys : List Key) (k : Key) → body_from body (keys ++ k ∷ []) ≡ applied k (body_from body keys)
 body_from-snoc body [] k = refl

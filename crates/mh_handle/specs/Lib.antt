@@ -4,7 +4,7 @@ pub mod Errors
 pub mod Form
 pub mod Grows
 pub mod Index
-pub mod Marks
+pub mod Hashes
 pub mod Obeys
 pub mod Passes
 pub mod Recipe

@@ -1,8 +1,8 @@
 ghost use Rattle.std.specs.Prelude.{◌≡◌, ◌<◌, ◌++◌, ◌∷◌, [], length, IfOk, IsTrue};
 ghost use mathlib.Core.Logic.{◌↔◌};
-ghost use Rattle.mh_handle.specs.Marks.{mark_of};
+ghost use Rattle.mh_handle.specs.Hashes.{hash_of};
 
-use crate::mark::{Marked, mix};
+use crate::hash::{Hashed, mix};
 use crate::same::{Same, are_same};
 use mh_base::{Copied, NoMemory, Seq};
 use mh_edit::Key;
@@ -13,7 +13,7 @@ use std::marker::Model;
 #[derive(Debug, Drop)]
 pub struct Recipe {
     keys: Seq<Key>,
-    mark: u32,
+    hash: u32,
 }
 
 impl Model for Recipe {
@@ -22,11 +22,11 @@ impl Model for Recipe {
 
     ghost Value = { List Key };
 
-    ghost use Rattle.mh_handle.specs.Marks.{mark_of};
+    ghost use Rattle.mh_handle.specs.Hashes.{hash_of};
 
     ghost view = { λ r. r.keys };
 
-    ghost invariant = { λ r. (r.mark ≡ mark_of r.keys) × (r.mark < 4096) };
+    ghost invariant = { λ r. (r.hash ≡ hash_of r.keys) × (r.hash < 4096) };
 }
 
 impl Recipe {
@@ -36,7 +36,7 @@ impl Recipe {
     {
         Recipe {
             keys: Seq::new(alloc),
-            mark: 0,
+            hash: 0,
         }
     }
 
@@ -48,7 +48,7 @@ impl Recipe {
         keys.push(key.copy(alloc)?)?;
         Ok(Recipe {
             keys,
-            mark: self.mark_then(key),
+            hash: self.hash_then(key),
         })
     }
 
@@ -62,20 +62,20 @@ impl Recipe {
         }
     }
 
-    /// The mark of this recipe and one more key.
-    pub(crate) fn mark_then(&self, key: &Key) -> u32
-        ensures mark { result ≡ mark_of (self.now ++ key.now ∷ []) }
+    /// The hash of this recipe and one more key.
+    pub(crate) fn hash_then(&self, key: &Key) -> u32
+        ensures hash { result ≡ hash_of (self.now ++ key.now ∷ []) }
         ensures small { result < 4096 }
     {
-        mix(self.mark, key.mark())
+        mix(self.hash, key.hash())
     }
 
     /// A number below 4,096, by which recipes that differ are mostly told apart.
-    pub(crate) fn mark(&self) -> u32
-        ensures mark { result ≡ mark_of self.now }
+    pub(crate) fn hash(&self) -> u32
+        ensures hash { result ≡ hash_of self.now }
         ensures small { result < 4096 }
     {
-        self.mark
+        self.hash
     }
 
     /// How many keys there are.
@@ -89,6 +89,6 @@ impl Recipe {
     pub(crate) fn is_same(&self, other: &Recipe) -> bool
         ensures { IsTrue result ↔ (self.now ≡ other.now) }
     {
-        self.mark == other.mark && self.keys.is_same(&other.keys)
+        self.hash == other.hash && self.keys.is_same(&other.keys)
     }
 }

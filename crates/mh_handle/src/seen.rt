@@ -9,14 +9,14 @@ use mh_edit::Key;
 use std::alloc::Global;
 use std::marker::Model;
 
-// The forms that a pass has asked for, found by the mark of their recipe. Places are kept one
+// The forms that a pass has asked for, found by the hash of their recipe. Places are kept one
 // higher, and 0 is none.
 #[derive(Drop)]
 pub(crate) struct SeenForms<'t> {
     forms: Vec<&'t Form>,
-    // For each mark the latest form with it.
+    // For each hash the latest form with it.
     newest: Vec<usize>,
-    // For each form the one before it that has its mark.
+    // For each form the one before it that has its hash.
     before: Vec<usize>,
 }
 
@@ -54,7 +54,7 @@ impl<'t> SeenForms<'t> {
     pub(crate) fn find(&self, recipe: &Recipe, key: &Key) -> Option<&'t Form>
         ensures { Finds recipe_of self.now (recipe.now ++ key.now ∷ []) result }
     {
-        let mut place = self.newest[recipe.mark_then(key) as usize];
+        let mut place = self.newest[recipe.hash_then(key) as usize];
         while place > 0 {
             let form = self.forms[place - 1];
             if form.recipe().is_then(recipe, key) {
@@ -85,11 +85,11 @@ impl<'t> SeenForms<'t> {
         }
         self.forms.reserve(1)?;
         self.before.reserve(1)?;
-        let mark = form.recipe().mark() as usize;
-        let place = self.newest[mark];
+        let hash = form.recipe().hash() as usize;
+        let place = self.newest[hash];
         self.forms.push_reserved(form);
         self.before.push_reserved(place);
-        self.newest[mark] = self.forms.len();
+        self.newest[hash] = self.forms.len();
         Ok(())
     }
 }

@@ -9,7 +9,7 @@ use Rattle.mh_edit.specs.declared.key.Key.{Key}
 use Rattle.mh_edit.specs.declared.key.Key.TheVariants as key
 use Rattle.mh_edit.specs.declared.key.RetEntry.{RetEntry}
 use Rattle.mh_edit.specs.declared.key.RetEntry.TheVariants as entry
-use Rattle.mh_handle.specs.Marks.{basic_mark, entry_mark, ret_mark, ret_entry_mark}
+use Rattle.mh_handle.specs.Hashes.{basic_number, entry_number, ret_number, ret_entry_number}
 use Rattle.mh_plan.specs.SameRecipes.{key_numbers}
 
 -- ---- what numbers tell
@@ -61,46 +61,46 @@ key_at ns = key_of (first ns) (rest ns)
 
 -- ---- they tell what they were made of
 
-basic-told : (b : Basic) → basic_at (basic_mark b) ≡ b
+basic-told : (b : Basic) → basic_at (basic_number b) ≡ b
 basic-told basic.L = refl
 basic-told basic.I = refl
 basic-told basic.J = refl
 
-entry-told : (e : Option Basic) → entry_at (entry_mark e) ≡ e
+entry-told : (e : Option Basic) → entry_at (entry_number e) ≡ e
 entry-told None = refl
 entry-told (Some basic.L) = refl
 entry-told (Some basic.I) = refl
 entry-told (Some basic.J) = refl
 
-ret-told : (r : BasicRet) → ret_at (ret_mark r) ≡ r
+ret-told : (r : BasicRet) → ret_at (ret_number r) ≡ r
 ret-told basic_ret.V = refl
 ret-told (basic_ret.Is basic.L) = refl
 ret-told (basic_ret.Is basic.I) = refl
 ret-told (basic_ret.Is basic.J) = refl
 
-ret_entry-told : (r : RetEntry) → ret_entry_at (ret_entry_mark r) ≡ r
+ret_entry-told : (r : RetEntry) → ret_entry_at (ret_entry_number r) ≡ r
 ret_entry-told entry.Keep = refl
 ret_entry-told (entry.New basic_ret.V) = refl
 ret_entry-told (entry.New (basic_ret.Is basic.L)) = refl
 ret_entry-told (entry.New (basic_ret.Is basic.I)) = refl
 ret_entry-told (entry.New (basic_ret.Is basic.J)) = refl
 
-all-told : {A : Type 0} (mark : A → ℕ) (at : ℕ → A) → ((a : A) → at (mark a) ≡ a) → (xs : List A) → map at (map mark xs) ≡ xs
-all-told mark at told [] = refl
-all-told mark at told (x ∷ xs) = ap₂ (λ y ys. y ∷ ys) (told x) (all-told mark at told xs)
+all-told : {A : Type 0} (hash : A → ℕ) (at : ℕ → A) → ((a : A) → at (hash a) ≡ a) → (xs : List A) → map at (map hash xs) ≡ xs
+all-told hash at told [] = refl
+all-told hash at told (x ∷ xs) = ap₂ (λ y ys. y ∷ ys) (told x) (all-told hash at told xs)
 
-basics-told : (bs : List Basic) → map basic_at (map basic_mark bs) ≡ bs
-basics-told bs = all-told basic_mark basic_at basic-told bs
+basics-told : (bs : List Basic) → map basic_at (map basic_number bs) ≡ bs
+basics-told bs = all-told basic_number basic_at basic-told bs
 
-front-told : (bs : List Basic) (ns : List ℕ) → map basic_at (take (length bs) (map basic_mark bs ++ ns)) ≡ bs
+front-told : (bs : List Basic) (ns : List ℕ) → map basic_at (take (length bs) (map basic_number bs ++ ns)) ≡ bs
 front-told [] ns = refl
 front-told (b ∷ bs) ns = ap₂ (λ y ys. y ∷ ys) (basic-told b) (front-told bs ns)
 
-behind-told : (bs : List Basic) (ns : List ℕ) → drop (length bs) (map basic_mark bs ++ ns) ≡ ns
+behind-told : (bs : List Basic) (ns : List ℕ) → drop (length bs) (map basic_number bs ++ ns) ≡ ns
 behind-told [] ns = refl
 behind-told (b ∷ bs) ns = behind-told bs ns
 
-shape-told : (s : Shape) → shape_at (ret_mark s.ret ∷ map basic_mark s.params) ≡ s
+shape-told : (s : Shape) → shape_at (ret_number s.ret ∷ map basic_number s.params) ≡ s
 shape-told s = ap₂ (λ (ps : List Basic) (r : BasicRet). record { params = ps; ret = r }) (basics-told s.params) (ret-told s.ret)
 
 key-told : (k : Key) → key_at (key_numbers k) ≡ k
@@ -116,7 +116,7 @@ key-told (key.Permute bs ns) = ap₂ key.Permute (front-told bs ns) (behind-told
 key-told (key.Collect n bs r) = ap₂ (key.Collect n) (basics-told bs) (ret-told r)
 key-told (key.Fold n m r) = ap (key.Fold n m) (ret-told r)
 key-told (key.FilterReturn r) = ap key.FilterReturn (ret-told r)
-key-told (key.Convert es r) = ap₂ key.Convert (all-told entry_mark entry_at entry-told es) (ret_entry-told r)
+key-told (key.Convert es r) = ap₂ key.Convert (all-told entry_number entry_at entry-told es) (ret_entry-told r)
 key-told (key.Spread n b) = ap (key.Spread n) (basic-told b)
 key-told (key.Gather n b) = ap (key.Gather n) (basic-told b)
 
