@@ -46,21 +46,26 @@ pub record IsShaped (h : HandleView) : Type 0 where
   pub made : is_nothing (handle_body h) ≡ false
   pub params : HasShape (handle_body h) h.ty
 
--- the handle has the type, the weight, the recipe and the side types of the tree, and on all arguments of its type it does what the tree does, with types erased; that is well formed, and what it returns has the return type
+-- the handle stands for the tree: it is made as the tree is, and on all arguments of its type it does what the tree does
 pub record Stands (table : LeafTable) (h : HandleView) (t : Tree) : Type 0 where
+  -- it has the tree's type, weight, recipe and side types
   pub typed : type_of table t ≡ Ok h.ty
   pub weighed : h.weight ≡ weight t
   pub made : h.form.recipe ≡ recipe table t
   pub holds : h.sides ≡ sides table t
+  -- its form has as many fields, takes what the type says, and does something
   pub fielded : length h.fields ≡ (handle_body h).fields
   pub shaped : (handle_body h).params ≡ map basic_of h.ty.params
   pub begun : IsMade (handle_body h)
+  -- a run of its form on the erased arguments is what the tree does, with types erased
   pub runs :
       (args : List Value) (n : ℕ) → HaveTypes table.classes args h.ty.params → n < 2 ^ 32 →
       handle_run table h (map erased args) n ≡ erased_ran (mean table t args n)
+  -- that run finds all that it takes
   pub well_formed :
       (args : List Value) (n : ℕ) → HaveTypes table.classes args h.ty.params → n < 2 ^ 32 →
       handle_run table h (map erased args) n ≢ Stuck
+  -- what it returns has the return type
   pub returns : IsSound table.classes (mean table t) h.ty
 
 -- the handle stands for some tree

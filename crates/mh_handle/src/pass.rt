@@ -128,6 +128,9 @@ impl<'t> FormPass<'t> {
 }
 
 /// Puts a form into the chain, unless one with its recipe stands there.
+///
+/// The forms of the chain and this one have numbers of their own, from 1 to 16,384, so that a cell is
+/// left for it; no contract says so, and a chain that seems full is asked again.
 fn put_form<'t, R: Wait>(
     rt: &R,
     alloc: Global,

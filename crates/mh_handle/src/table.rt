@@ -65,8 +65,7 @@ impl FormTable {
     /// is answered without memory, and one that the chain shows without drawing a number; any other
     /// is made.
     ///
-    /// Where a cell of the chain shows a form that nobody has put, it looks again, for which it takes
-    /// `rt`. It answers `FormsFull` where the number drawn is above 16,384. A refusal may leave a
+    /// Where the chain seems full, it looks again, for which it takes `rt`. It answers `FormsFull` where the number drawn is above 16,384. A refusal may leave a
     /// number drawn, which is then spent.
     pub fn edit<'t, R: Wait>(
         &'t self,

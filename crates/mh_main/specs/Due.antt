@@ -25,7 +25,7 @@ usage_line = codes "usage: mh --mode run --leaves F --scripts F --plan F [CLASS]
 abbrev pub full_line : List ℕ
 full_line = codes "forms full\n"
 
--- nothing ran
+-- no table, no attempts and no answers
 abbrev pub IsIdle : TopAnswer → Type 0
 IsIdle answer = (answer.table ≡ []) × (answer.attempts ≡ []) × (answer.threads ≡ [])
 
@@ -41,7 +41,7 @@ IsReportOf p answer bytes =
     × AreAnswersOf p answer.threads
     × (bytes ≡ text p answer.attempts)
 
--- the listing of classes; nothing ran
+-- the listing of classes, with no table, no attempts and no answers
 abbrev pub IsListingOf : List Class → TopAnswer → List ℕ → Type 0
 IsListingOf classes answer bytes = IsIdle answer × (bytes ≡ listing classes)
 

@@ -240,8 +240,8 @@ fn answer_listing<S: Sink>(alloc: Global, sink: &mut S, text: &[u8]) -> TopAnswe
     }
 }
 
-/// The program: it reads what the words name, runs it, and writes what it gives. The gate is where the
-/// threads of a run may be held.
+/// The program: it reads what the words name, runs it, and writes what it gives. The gate, at which
+/// threads may be held, is not called yet: a run has one thread.
 pub fn top<'a, R: Threads + Wait + Sync, I: Inputs, S: Sink, G: Gate + Sync>(
     rt: &R,
     alloc: Global,
