@@ -10,7 +10,7 @@ ghost use Rattle.mh_handle_tests.specs.Making.{Spends};
 use mh_adapt::{bind, drop_args, permute};
 use mh_astype::{as_type, invoke_exact};
 use mh_base::{Copied, NoMemory, Seq};
-use mh_branch::{catch, gather, guard, identity, spread, throw};
+use mh_branch::{catch, constant, gather, guard, identity, spread, throw};
 use mh_handle::{Answer, FormTable, Handle, HandleError, Work, leaf};
 use mh_leaves::{Leaves, read_manifest};
 use mh_texts::read_literal;
@@ -52,11 +52,12 @@ pub const ZIN: u32 = 9;
 
 pub const FAIL: u32 = 10;
 
-/// What a handle is made from. Leaves are given by their numbers, and a type as the return type of
-/// a descriptor.
+/// What a handle is made from. Leaves are given by their numbers, a type as the return type of a
+/// descriptor, and a value as its literal.
 #[derive(Clone, Copy)]
 pub enum Root {
     Leaf(u32),
+    Constant(&'static str, &'static str),
     Identity(&'static str),
     Throw(&'static str, ClassId),
     Guard(u32, u32, u32),
@@ -154,6 +155,11 @@ fn rooted<'t, R: Wait>(
 {
     match root {
         Root::Leaf(number) => leaf_numbered(w, rt, alloc, number),
+        Root::Constant(text, value) => {
+            let classes = w.leaves.classes();
+            let ty = type_of(alloc, text, classes)?;
+            constant(w, rt, alloc, ty.ret, value_of(alloc, value, classes)?)
+        }
         Root::Identity(text) => {
             let ty = type_of(alloc, text, w.leaves.classes())?;
             identity(w, rt, alloc, ty.ret)

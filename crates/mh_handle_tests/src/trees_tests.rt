@@ -17,7 +17,13 @@ const LONGS_63: &str = "(JJJJJJJJJJJJJJJJJJJJJJJJJJJJJJJJJJJJJJJJJJJJJJJJJJJJJJJ
 
 const LONGS_64: &str = "(JJJJJJJJJJJJJJJJJJJJJJJJJJJJJJJJJJJJJJJJJJJJJJJJJJJJJJJJJJJJJJJJ)V";
 
-const ADAPTERS: [Case; 12] = [
+const ADAPTERS: [Case; 14] = [
+    ((Root::Constant("()I", "I:7"), &[]), &[], "i:7 calls"),
+    (
+        (Root::Constant("()J", "I:7"), &[Step::Drop(0, "(I)V")]),
+        &["i:1"],
+        "j:7 calls",
+    ),
     (
         (Root::Leaf(ADD), &[Step::Bind(1, "I:10")]),
         &["i:1"],

@@ -4,4 +4,4 @@ use Rattle.mh_bench.proofs.rows.once.Goals as goal
 
 pub row_on-done-requires : goal.row_on-done-requires
 row_on-done-requires g c =
-    record { ready = ready-first _ c.in_ok-table.seat (201 + c.args.turns) c.in_ok-pass.ensures c.in_ok-table.ensures (omega (arith, c.ranges.turns.fits)) }
+    record { ready = ready-first _ c.in_ok-table.seat (201 + c.args.turns) c.in_ok-pass.ensures c.in_ok-table.ensures.seat (omega (arith, c.ranges.turns.fits)) }
