@@ -20,12 +20,13 @@ fn with_part<'t>(
 {
     let weight = 1 + t.weight() + part.weight();
     let (field, sides) = part.into_part(alloc)?;
+    let fields = one_field(alloc, field)?;
     Ok(Growth {
         ty,
         weight,
         sides,
         key,
-        fields: one_field(alloc, field)?,
+        fields,
     })
 }
 
@@ -59,10 +60,11 @@ pub(crate) fn folding<'t>(
     requires few { length c.ty.params ≤ 255 }
     ensures { IfOk result (AddsPart ty t.now (fold_key pos c.entry.ty) c.entry) }
 {
+    let shape = shape(alloc, c.ty())?;
     let key = Key::Fold {
         pos,
         count: c.ty().params.len() as u8,
-        ret: shape(alloc, c.ty())?.ret,
+        ret: shape.ret,
     };
     with_part(alloc, ty, t, key, c)
 }
@@ -76,8 +78,7 @@ pub(crate) fn filtering<'t>(
 ) -> Result<Growth<'t>, NoMemory>
     ensures { IfOk result (AddsPart ty t.now (filterret_key f.entry.ty) f.entry) }
 {
-    let key = Key::FilterReturn {
-        ret: shape(alloc, f.ty())?.ret,
-    };
+    let shape = shape(alloc, f.ty())?;
+    let key = Key::FilterReturn { ret: shape.ret };
     with_part(alloc, ty, t, key, f)
 }

@@ -10,12 +10,12 @@ ghost use Rattle.mh_handle.specs.Obeys.{Obeys};
 ghost use Rattle.mh_handle.specs.Stands.{Stands};
 ghost use Rattle.mh_handle.specs.Works.{IsReady, GoesOn, Makes};
 
+use crate::types::{bind_type, drop_type, permute_type};
 use mh_base::{Copied, NoMemory, Seq};
 use mh_convert::fit;
 use mh_edit::{Key, Places};
 use mh_form::{Basics, Field, erase, shape};
 use mh_handle::{Growth, Handle, HandleError, Work, one_field};
-use mh_tree::{check_bind, check_drop, check_permute};
 use mh_values::{Classes, MethodTy, Ty, Tys, Value};
 use std::alloc::Global;
 use std::sync::Wait;
@@ -70,16 +70,17 @@ pub fn bind<'t, R: Wait>(
     ensures stands { (a : Tree) → Stands w.old.leaves.now t.entry a
         → IfOk result (λ h. Stands w.old.leaves.now h (tree.Bind a pos v)) }
 {
+    let own = bind_type(alloc, w, &t, pos, &v)?;
     let classes = w.classes();
-    let own = check_bind(alloc, t.ty(), t.weight(), pos, &v, classes)?;
     let param = *t.ty().params.get(usize::from(pos));
     let slot = erase(fitted(alloc, v, param, classes));
+    let fields = one_field(alloc, Field::Val(slot))?;
     let by = Growth {
         ty: own,
         weight: 1 + t.weight(),
         sides: Seq::new(alloc),
         key: Key::Bind { pos },
-        fields: one_field(alloc, Field::Val(slot))?,
+        fields,
     };
     t.grown(rt, alloc, w, by)
 }
@@ -103,15 +104,13 @@ pub fn drop_args<'t, R: Wait>(
     ensures stands { (a : Tree) → Stands w.old.leaves.now t.entry a
         → IfOk result (λ h. Stands w.old.leaves.now h (tree.Drop a pos tys.now)) }
 {
-    let own = check_drop(alloc, t.ty(), t.weight(), pos, tys, w.classes())?;
+    let own = drop_type(alloc, w, &t, pos, tys)?;
+    let basics = basics_of(alloc, tys)?;
     let by = Growth {
         ty: own,
         weight: 1 + t.weight(),
         sides: Seq::new(alloc),
-        key: Key::Add {
-            pos,
-            basics: basics_of(alloc, tys)?,
-        },
+        key: Key::Add { pos, basics },
         fields: Vec::new(alloc),
     };
     t.grown(rt, alloc, w, by)
@@ -138,15 +137,14 @@ pub fn permute<'t, R: Wait>(
     ensures stands { (a : Tree) → Stands w.old.leaves.now t.entry a
         → IfOk result (λ h. Stands w.old.leaves.now h (tree.Permute a ty.now reorder.now)) }
 {
-    let own = check_permute(alloc, t.ty(), t.weight(), ty, reorder, w.classes())?;
+    let own = permute_type(alloc, w, &t, ty, reorder)?;
+    let basics = basics_of(alloc, &ty.params)?;
+    let reorder = places_of(alloc, reorder)?;
     let by = Growth {
         ty: own,
         weight: 1 + t.weight(),
         sides: Seq::new(alloc),
-        key: Key::Permute {
-            basics: basics_of(alloc, &ty.params)?,
-            reorder: places_of(alloc, reorder)?,
-        },
+        key: Key::Permute { basics, reorder },
         fields: Vec::new(alloc),
     };
     t.grown(rt, alloc, w, by)

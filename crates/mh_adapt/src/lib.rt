@@ -5,6 +5,7 @@
 mod growths;
 mod inserting;
 mod parts;
+mod types;
 
 pub use inserting::{bind, drop_args, permute};
 pub use parts::{collect, filter, filterret, fold};

@@ -9,8 +9,8 @@ ghost use Rattle.mh_handle.specs.Works.{IsReady, GoesOn, Makes};
 ghost use Rattle.mh_adapt.specs.Parts.{collect_key, fold_key, filterret_key};
 
 use crate::growths::{collecting, filtering, folding};
+use crate::types::{collect_type, filter_type, filterret_type, fold_type};
 use mh_handle::{Handle, HandleError, Work};
-use mh_tree::{check_collect, check_filter, check_filterret, check_fold};
 use std::alloc::Global;
 use std::sync::Wait;
 
@@ -36,8 +36,7 @@ pub fn filter<'t, R: Wait>(
         → Stands w.old.leaves.now f.entry b
         → IfOk result (λ h. Stands w.old.leaves.now h (tree.FilterArg a pos b)) }
 {
-    let classes = w.leaves.classes();
-    let own = check_filter(alloc, t.ty(), t.weight(), pos, f.ty(), f.weight(), classes)?;
+    let own = filter_type(alloc, w, &t, pos, &f)?;
     let by = collecting(alloc, own, &t, pos, f)?;
     t.grown(rt, alloc, w, by)
 }
@@ -63,8 +62,7 @@ pub fn filterret<'t, R: Wait>(
         → Stands w.old.leaves.now f.entry b
         → IfOk result (λ h. Stands w.old.leaves.now h (tree.FilterRet a b)) }
 {
-    let classes = w.leaves.classes();
-    let own = check_filterret(alloc, t.ty(), t.weight(), f.ty(), f.weight(), classes)?;
+    let own = filterret_type(alloc, w, &t, &f)?;
     let by = filtering(alloc, own, &t, f)?;
     t.grown(rt, alloc, w, by)
 }
@@ -92,8 +90,7 @@ pub fn fold<'t, R: Wait>(
         → Stands w.old.leaves.now c.entry b
         → IfOk result (λ h. Stands w.old.leaves.now h (tree.Fold a pos b)) }
 {
-    let classes = w.leaves.classes();
-    let own = check_fold(alloc, t.ty(), t.weight(), pos, c.ty(), c.weight(), classes)?;
+    let own = fold_type(alloc, w, &t, pos, &c)?;
     let by = folding(alloc, own, &t, pos, c)?;
     t.grown(rt, alloc, w, by)
 }
@@ -121,8 +118,7 @@ pub fn collect<'t, R: Wait>(
         → Stands w.old.leaves.now f.entry b
         → IfOk result (λ h. Stands w.old.leaves.now h (tree.Collect a pos b)) }
 {
-    let classes = w.leaves.classes();
-    let own = check_collect(alloc, t.ty(), t.weight(), pos, f.ty(), f.weight(), classes)?;
+    let own = collect_type(alloc, w, &t, pos, &f)?;
     let by = collecting(alloc, own, &t, pos, f)?;
     t.grown(rt, alloc, w, by)
 }

@@ -11,6 +11,7 @@ use Rattle.mh_form.specs.Erasure.{basic_of, shape_of}
 use Rattle.mh_edit.specs.declared.key.Key.{Key}
 use Rattle.mh_edit.specs.declared.key.Key.TheVariants as key
 use Rattle.mh_handle.specs.declared.grow.Growth.{Growth}
+use Rattle.mh_branch.specs.declared.growths.Parts.{Parts}
 use Rattle.mh_handle.specs.Grows.{IsPartOf}
 use Rattle.mh_handle.specs.Recipe.{at_some}
 use Rattle.mh_handle.specs.Stands.{HandleView}
@@ -35,9 +36,25 @@ spread_keys array count = at_some (component_of array) (λ c. key.Spread count (
 abbrev pub gather_keys : Option Ty → ℕ → List Key
 gather_keys array count = at_some (component_of array) (λ c. key.Gather count (basic_of (item_type c)))
 
--- one field more, which holds the handle
-abbrev pub AddsPart : HandleView → List Field → List Field → Type 0
-AddsPart h old new = (f : Field) × (new ≡ old ++ f ∷ []) × IsPartOf h f
+-- one part more: a field that holds the handle, and the types that it holds
+pub record AddsPart (h : HandleView) (old new : Parts) : Type 0 where
+  pub fields : (f : Field) × (new.fields.items ≡ old.fields.items ++ f ∷ []) × IsPartOf h f
+  pub sides : new.sides ≡ old.sides ++ held_by h
+
+-- one field more, which holds a class
+pub record AddsClass (class : ClassId) (old new : Parts) : Type 0 where
+  pub fields : new.fields.items ≡ old.fields.items ++ field.Class class ∷ []
+  pub sides : new.sides ≡ old.sides
+
+-- the parts of a guard: the test first, then the two branches
+pub record AreGuardParts (test body other : HandleView) (parts : Parts) : Type 0 where
+  pub fields : (c b o : Field) × (parts.fields.items ≡ c ∷ b ∷ o ∷ []) × IsPartOf test c × IsPartOf body b × IsPartOf other o
+  pub sides : parts.sides ≡ held_by test ++ held_by body ++ held_by other
+
+-- the parts of a catch: the target first, then the class of exceptions, then the handler
+pub record AreCatchParts (body : HandleView) (class : ClassId) (handler : HandleView) (parts : Parts) : Type 0 where
+  pub fields : (b h : Field) × (parts.fields.items ≡ b ∷ field.Class class ∷ h ∷ []) × IsPartOf body b × IsPartOf handler h
+  pub sides : parts.sides ≡ held_by body ++ held_by handler
 
 -- a guard of this type: the test first, then the two branches
 pub record IsGuard (t : MethodTy) (test body other : HandleView) (by : Growth) : Type 0 where

@@ -1,20 +1,22 @@
 ghost use Rattle.std.specs.Prelude.{◌≡◌, ◌+◌, ◌++◌, ◌∷◌, [], IfOk, Some};
 ghost use Rattle.mh_form.specs.declared.field.Field.TheVariants as field;
-ghost use Rattle.mh_tree.specs.Rows.{component_of, gather_row, spread_row};
+ghost use Rattle.mh_values.specs.Classes.{AreClasses};
+ghost use Rattle.mh_tree.specs.Check.{Tells};
+ghost use Rattle.mh_tree.specs.Rows.{component_of, gather_row};
 ghost use Rattle.mh_tree.specs.Tree.{Tree};
 ghost use Rattle.mh_tree.specs.Tree as tree;
 ghost use Rattle.mh_handle.specs.Grows.{GainsNode};
 ghost use Rattle.mh_handle.specs.Obeys.{Obeys};
-ghost use Rattle.mh_handle.specs.Stands.{Stands};
+ghost use Rattle.mh_handle.specs.Stands.{IsShaped, Stands};
 ghost use Rattle.mh_handle.specs.Works.{IsReady, GoesOn, Makes};
-ghost use Rattle.mh_branch.specs.Growths.{gather_keys, spread_keys};
+ghost use Rattle.mh_branch.specs.Growths.{gather_keys};
 
 use mh_base::Seq;
 use mh_edit::Key;
 use mh_form::{Field, basic_of};
 use mh_handle::{Growth, Handle, HandleError, Work, one_field};
-use mh_tree::{check_gather, check_spread};
-use mh_values::{Comp, Ty};
+use mh_tree::{CheckError, check_gather};
+use mh_values::{Comp, MethodTy, Ty};
 use std::alloc::Global;
 use std::sync::Wait;
 
@@ -27,6 +29,21 @@ fn component_of(ty: Option<Ty>) -> Comp
         Some(Ty::Array(component)) => component,
         _ => unreachable!(),
     }
+}
+
+/// The type of a gather of a handle.
+fn gather_type<'t>(
+    alloc: Global,
+    w: &Work<'_, 't>,
+    t: &Handle<'t>,
+    arr: Option<Ty>,
+    n: u8,
+) -> Result<MethodTy, CheckError>
+    ensures are { AreClasses w.now.leaves.now.classes }
+    ensures shaped { IsShaped t.now }
+    ensures tells { Tells result (gather_row w.now.leaves.now.classes t.now.ty t.now.weight arr n) }
+{
+    check_gather(alloc, t.ty(), t.weight(), arr, n, w.classes())
 }
 
 /// A handle that takes up to 254 items in the place of the last argument of `t`, to which their
@@ -50,8 +67,9 @@ pub fn gather<'t, R: Wait>(
     ensures stands { (a : Tree) → Stands w.old.leaves.now t.entry a
         → IfOk result (λ h. Stands w.old.leaves.now h (tree.Gather a arr n)) }
 {
-    let own = check_gather(alloc, t.ty(), t.weight(), arr, n, w.classes())?;
+    let own = gather_type(alloc, w, &t, arr, n)?;
     let component = component_of(arr);
+    let fields = one_field(alloc, Field::Comp(component))?;
     let by = Growth {
         ty: own,
         weight: 1 + t.weight(),
@@ -60,7 +78,7 @@ pub fn gather<'t, R: Wait>(
             count: n,
             basic: basic_of(component.item_type()),
         },
-        fields: one_field(alloc, Field::Comp(component))?,
+        fields,
     };
     t.grown(rt, alloc, w, by)
 }

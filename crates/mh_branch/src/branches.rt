@@ -1,4 +1,6 @@
 ghost use Rattle.std.specs.Prelude.{◌∷◌, [], IfOk};
+ghost use Rattle.mh_values.specs.Classes.{AreClasses};
+ghost use Rattle.mh_tree.specs.Check.{Tells};
 ghost use Rattle.mh_tree.specs.Rows.{guard_row, catch_row};
 ghost use Rattle.mh_tree.specs.Tree.{Tree};
 ghost use Rattle.mh_tree.specs.Tree as tree;
@@ -9,10 +11,56 @@ ghost use Rattle.mh_branch.specs.Growths.{HasBranches, HasHandler, guard_key, ca
 
 use crate::growths::{catching, guarding};
 use mh_handle::{Handle, HandleError, Work};
-use mh_tree::{check_catch, check_guard};
-use mh_values::ClassId;
+use mh_tree::{CheckError, check_catch, check_guard};
+use mh_values::{ClassId, MethodTy};
 use std::alloc::Global;
 use std::sync::Wait;
+
+/// The type of a guard of handles.
+fn guard_type<'t>(
+    alloc: Global,
+    w: &Work<'_, 't>,
+    c: &Handle<'t>,
+    t: &Handle<'t>,
+    e: &Handle<'t>,
+) -> Result<MethodTy, CheckError>
+    ensures { Tells result (guard_row c.now.ty c.now.weight t.now.ty t.now.weight e.now.ty
+        e.now.weight) }
+{
+    check_guard(
+        alloc,
+        c.ty(),
+        c.weight(),
+        t.ty(),
+        t.weight(),
+        e.ty(),
+        e.weight(),
+        w.classes(),
+    )
+}
+
+/// The type of a catch of handles.
+fn catch_type<'t>(
+    alloc: Global,
+    w: &Work<'_, 't>,
+    t: &Handle<'t>,
+    class: ClassId,
+    h: &Handle<'t>,
+) -> Result<MethodTy, CheckError>
+    ensures are { AreClasses w.now.leaves.now.classes }
+    ensures tells { Tells result (catch_row w.now.leaves.now.classes t.now.ty t.now.weight class
+        h.now.ty h.now.weight) }
+{
+    check_catch(
+        alloc,
+        t.ty(),
+        t.weight(),
+        class,
+        h.ty(),
+        h.weight(),
+        w.classes(),
+    )
+}
 
 /// A handle that runs `t` where the test `c` gives true on the first arguments, and else `e`
 /// (`MethodHandles.guardWithTest`, SE 17). Refused where `t` and `e` differ in type, and where the
@@ -36,16 +84,7 @@ pub fn guard<'t, R: Wait>(
         → Stands w.old.leaves.now t.entry b → Stands w.old.leaves.now e.entry d
         → IfOk result (λ h. Stands w.old.leaves.now h (tree.Guard a b d)) }
 {
-    let own = check_guard(
-        alloc,
-        c.ty(),
-        c.weight(),
-        t.ty(),
-        t.weight(),
-        e.ty(),
-        e.weight(),
-        w.leaves.classes(),
-    )?;
+    let own = guard_type(alloc, w, &c, &t, &e)?;
     let by = guarding(alloc, own, c, t, e)?;
     Handle::rooted(rt, alloc, w, by)
 }
@@ -73,16 +112,7 @@ pub fn catch<'t, R: Wait>(
         → Stands w.old.leaves.now h.entry b → IfOk result
         (λ x. Stands w.old.leaves.now x (tree.Catch a class b)) }
 {
-    let classes = w.classes();
-    let own = check_catch(
-        alloc,
-        t.ty(),
-        t.weight(),
-        class,
-        h.ty(),
-        h.weight(),
-        classes,
-    )?;
+    let own = catch_type(alloc, w, &t, class, &h)?;
     let by = catching(alloc, own, t, class, h)?;
     Handle::rooted(rt, alloc, w, by)
 }

@@ -1,5 +1,5 @@
-ghost use Rattle.std.specs.Prelude.{◌≡◌, ◌≤◌, ◌+◌, ◌++◌, length, OnOk, IfOk};
-ghost use Rattle.mh_branch.specs.Growths.{AddsPart, IsCatch, IsGuard, held_by};
+ghost use Rattle.std.specs.Prelude.{◌≤◌, length, IfOk};
+ghost use Rattle.mh_branch.specs.Growths.{AddsClass, AddsPart, AreCatchParts, AreGuardParts, IsCatch, IsGuard};
 
 use mh_base::{NoMemory, Seq};
 use mh_edit::Key;
@@ -8,20 +8,70 @@ use mh_handle::{Growth, Handle, MethodTys};
 use mh_values::{ClassId, MethodTy};
 use std::alloc::Global;
 
-/// Adds a part: a field that holds it, and the types that it holds.
-fn push_part<'t>(
-    alloc: Global,
-    fields: &mut Fields<'t>,
-    sides: &mut MethodTys,
-    part: Handle<'t>,
-) -> Result<(), NoMemory>
-    ensures fields { OnOk result (AddsPart part.entry fields.old.items fields.new.items) }
-    ensures sides { OnOk result (sides.new ≡ sides.old ++ held_by part.entry) }
+/// Parts that a branch runs: the fields that hold them, and the types that they hold.
+#[derive(Drop)]
+struct Parts<'t> {
+    fields: Fields<'t>,
+    sides: MethodTys,
+}
+
+/// One part more.
+fn with_part<'t>(alloc: Global, parts: Parts<'t>, part: Handle<'t>) -> Result<Parts<'t>, NoMemory>
+    ensures { IfOk result (AddsPart part.entry parts.entry) }
 {
     let (field, holds) = part.into_part(alloc)?;
+    let Parts {
+        mut fields,
+        mut sides,
+    } = parts;
     sides.append(holds)?;
     fields.push(field)?;
-    Ok(())
+    Ok(Parts { fields, sides })
+}
+
+/// A class of exceptions behind parts.
+fn with_class<'t>(parts: Parts<'t>, class: ClassId) -> Result<Parts<'t>, NoMemory>
+    ensures { IfOk result (AddsClass class parts.entry) }
+{
+    let Parts { mut fields, sides } = parts;
+    fields.push(Field::Class(class))?;
+    Ok(Parts { fields, sides })
+}
+
+/// The parts of a guard: the test, and the two branches.
+fn guard_parts<'t>(
+    alloc: Global,
+    c: Handle<'t>,
+    t: Handle<'t>,
+    e: Handle<'t>,
+) -> Result<Parts<'t>, NoMemory>
+    ensures { IfOk result (AreGuardParts c.entry t.entry e.entry) }
+{
+    let none = Parts {
+        fields: Vec::new(alloc),
+        sides: Seq::new(alloc),
+    };
+    let test = with_part(alloc, none, c)?;
+    let one_branch = with_part(alloc, test, t)?;
+    with_part(alloc, one_branch, e)
+}
+
+/// The parts of a catch: the target and the handler, with the class of exceptions between them.
+fn catch_parts<'t>(
+    alloc: Global,
+    t: Handle<'t>,
+    class: ClassId,
+    h: Handle<'t>,
+) -> Result<Parts<'t>, NoMemory>
+    ensures { IfOk result (AreCatchParts t.entry class h.entry) }
+{
+    let none = Parts {
+        fields: Vec::new(alloc),
+        sides: Seq::new(alloc),
+    };
+    let target = with_part(alloc, none, t)?;
+    let caught = with_class(target, class)?;
+    with_part(alloc, caught, h)
 }
 
 /// What a guard of this type has: its three parts.
@@ -35,21 +85,16 @@ pub(crate) fn guarding<'t>(
     requires few { length c.ty.params ≤ 254 }
     ensures { IfOk result (IsGuard ty c.entry t.entry e.entry) }
 {
-    let key = Key::GuardRoot {
-        shape: shape(alloc, &ty)?,
-        test: c.ty().params.len() as u8,
-    };
+    let test = c.ty().params.len() as u8;
     let weight = 1 + c.weight() + t.weight() + e.weight();
-    let mut fields = Vec::new(alloc);
-    let mut sides = Seq::new(alloc);
-    push_part(alloc, &mut fields, &mut sides, c)?;
-    push_part(alloc, &mut fields, &mut sides, t)?;
-    push_part(alloc, &mut fields, &mut sides, e)?;
+    let parts = guard_parts(alloc, c, t, e)?;
+    let shape = shape(alloc, &ty)?;
+    let Parts { fields, sides } = parts;
     Ok(Growth {
         ty,
         weight,
         sides,
-        key,
+        key: Key::GuardRoot { shape, test },
         fields,
     })
 }
@@ -66,21 +111,16 @@ pub(crate) fn catching<'t>(
     requires few { length h.ty.params ≤ 255 }
     ensures { IfOk result (IsCatch ty t.entry class h.entry) }
 {
-    let key = Key::CatchRoot {
-        shape: shape(alloc, &ty)?,
-        handler: (h.ty().params.len() - 1) as u8,
-    };
+    let handler = (h.ty().params.len() - 1) as u8;
     let weight = 1 + t.weight() + h.weight();
-    let mut fields = Vec::new(alloc);
-    let mut sides = Seq::new(alloc);
-    push_part(alloc, &mut fields, &mut sides, t)?;
-    fields.push(Field::Class(class))?;
-    push_part(alloc, &mut fields, &mut sides, h)?;
+    let parts = catch_parts(alloc, t, class, h)?;
+    let shape = shape(alloc, &ty)?;
+    let Parts { fields, sides } = parts;
     Ok(Growth {
         ty,
         weight,
         sides,
-        key,
+        key: Key::CatchRoot { shape, handler },
         fields,
     })
 }

@@ -48,6 +48,7 @@ pub fn constant<'t, R: Wait>(
     let own = check_constant(alloc, ty, &v, classes)?;
     let Some(ret) = ty else { unreachable!() };
     let slot = erase(fitted(alloc, v, ret, classes));
+    let fields = one_field(alloc, Field::Val(slot))?;
     let by = Growth {
         ty: own,
         weight: 1,
@@ -55,7 +56,7 @@ pub fn constant<'t, R: Wait>(
         key: Key::ConstRoot {
             basic: basic_of(ret),
         },
-        fields: one_field(alloc, Field::Val(slot))?,
+        fields,
     };
     Handle::rooted(rt, alloc, w, by)
 }

@@ -16,43 +16,35 @@ use Rattle.mh_adapt.proofs.inserting.bind.Goals as goal
 
 pub fitted-requires : goal.fitted-requires
 fitted-requires g c =
-    let same : bind_row c.classes-classes.result.now c.ty.result.now c.weight.result c.args.pos c.args.v ≡ bind_row c.args.w.now.leaves.now.classes c.args.t.ty c.args.t.weight c.args.pos c.args.v =
-    λ i. bind_row (c.classes-classes.ensures.classes i) (c.ty.ensures.ty i) (c.weight.ensures.weight i) c.args.pos c.args.v in
     let at : slice_get c.args.t.ty.params c.args.pos ≡ Some c.get-param.result.now =
-    sym (λ i. slice_get ((c.ty-2.ensures.ty i).params) (c.from.ensures i)) ∙ c.get-param.ensures in
-    let w = bind-fitting c.args.w.now.leaves.now.classes c.args.t c.args.pos c.args.v c.in_ok-own.own (sym same ∙ c.in_ok-own.ensures) c.get-param.result.now at in
+    sym (λ i. slice_get ((c.ty.ensures.ty i).params) (c.from.ensures i)) ∙ c.get-param.ensures in
+    let w = bind-fitting c.args.w.now.leaves.now.classes c.args.t c.args.pos c.args.v c.in_ok-own.own c.in_ok-own.ensures.tells c.get-param.result.now at in
     (w.0, ap (λ cs. fit cs c.args.v c.get-param.result.now) c.classes-classes.ensures.classes ∙ w.1)
 
 pub grown-requires-clause-fits : goal.grown-requires-clause-fits
 grown-requires-clause-fits g c =
-    let same : bind_row c.classes-classes.result.now c.ty.result.now c.weight.result c.args.pos c.args.v ≡ bind_row c.args.w.now.leaves.now.classes c.args.t.ty c.args.t.weight c.args.pos c.args.v =
-    λ i. bind_row (c.classes-classes.ensures.classes i) (c.ty.ensures.ty i) (c.weight.ensures.weight i) c.args.pos c.args.v in
-    bind-fits c.args.w.now.leaves.now.classes c.args.t c.args.pos c.args.v c.in_ok-own.own (sym same ∙ c.in_ok-own.ensures) c.ty.ensures.shaped
+    bind-fits c.args.w.now.leaves.now.classes c.args.t c.args.pos c.args.v c.in_ok-own.own c.in_ok-own.ensures.tells c.in_ok-own.ensures.shaped
 
 pub grown-requires-clause-shaped : goal.grown-requires-clause-shaped
 grown-requires-clause-shaped g c =
-    let same : bind_row c.classes-classes.result.now c.ty.result.now c.weight.result c.args.pos c.args.v ≡ bind_row c.args.w.now.leaves.now.classes c.args.t.ty c.args.t.weight c.args.pos c.args.v =
-    λ i. bind_row (c.classes-classes.ensures.classes i) (c.ty.ensures.ty i) (c.weight.ensures.weight i) c.args.pos c.args.v in
-    bind-shaped c.args.w.now.leaves.now.classes c.args.t c.args.pos c.args.v c.in_ok-own.own (sym same ∙ c.in_ok-own.ensures) c.ty.ensures.shaped
+    bind-shaped c.args.w.now.leaves.now.classes c.args.t c.args.pos c.args.v c.in_ok-own.own c.in_ok-own.ensures.tells c.in_ok-own.ensures.shaped
 
 pub returns-clause-gains : goal.returns-clause-gains
-returns-clause-gains g c = grown-gains c.args.t c.in_ok-own.own c.weight-2.result c.new.result (key.Bind c.args.pos) c.in_ok-one_field.field-0.items c.grown.result c.weight-2.ensures.weight c.new.ensures c.grown.ensures.grows
+returns-clause-gains g c = grown-gains c.args.t c.in_ok-own.own c.weight.result c.new.result (key.Bind c.args.pos) c.in_ok-fields.fields.items c.grown.result c.weight.ensures.weight c.new.ensures c.grown.ensures.grows
 
 pub returns-clause-stands : goal.returns-clause-stands
 returns-clause-stands g c a st =
-    let same : bind_row c.classes-classes.result.now c.ty.result.now c.weight.result c.args.pos c.args.v ≡ bind_row c.args.w.now.leaves.now.classes c.args.t.ty c.args.t.weight c.args.pos c.args.v =
-    λ i. bind_row (c.classes-classes.ensures.classes i) (c.ty.ensures.ty i) (c.weight.ensures.weight i) c.args.pos c.args.v in
-    let row = sym same ∙ c.in_ok-own.ensures in
+    let row = c.in_ok-own.ensures.tells in
     let at : slice_get c.args.t.ty.params c.args.pos ≡ Some c.get-param.result.now =
-    sym (λ i. slice_get ((c.ty-2.ensures.ty i).params) (c.from.ensures i)) ∙ c.get-param.ensures in
+    sym (λ i. slice_get ((c.ty.ensures.ty i).params) (c.from.ensures i)) ∙ c.get-param.ensures in
     let fits : fit c.args.w.now.leaves.now.classes c.args.v c.get-param.result.now ≡ Ok c.fitted.result =
     sym (ap (λ cs. fit cs c.args.v c.get-param.result.now) c.classes-classes.ensures.classes) ∙ c.fitted.ensures in
     let own = key.Bind c.args.pos in
-    if-ok (λ x. Grows c.args.t x c.in_ok-own.own (1 + c.weight-2.result) c.new.result own c.in_ok-one_field.field-0.items)
+    if-ok (λ x. Grows c.args.t x c.in_ok-own.own (1 + c.weight.result) c.new.result own c.in_ok-fields.fields.items)
     (λ x. Stands c.args.w.now.leaves.now x (tree.Bind a c.args.pos c.args.v)) c.grown.result c.grown.ensures.grows
     (λ x grows.
     bind-stands c.args.w.now.leaves.now c.args.t x a c.args.pos c.args.v c.fitted.result c.get-param.result.now c.in_ok-own.own row at fits
-    (bind-fits c.args.w.now.leaves.now.classes c.args.t c.args.pos c.args.v c.in_ok-own.own row c.ty.ensures.shaped)
-    (grows-as c.args.t x c.in_ok-own.own (1 + c.weight-2.result) (1 + c.args.t.weight) c.new.result [] own own c.in_ok-one_field.field-0.items (field.Val (erased c.fitted.result) ∷ [])
-    (ap (λ n. 1 + n) c.weight-2.ensures.weight) c.new.ensures refl (c.in_ok-one_field.ensures ∙ ap (λ s. field.Val s ∷ []) c.erase-slot.ensures) grows)
+    (bind-fits c.args.w.now.leaves.now.classes c.args.t c.args.pos c.args.v c.in_ok-own.own row c.in_ok-own.ensures.shaped)
+    (grows-as c.args.t x c.in_ok-own.own (1 + c.weight.result) (1 + c.args.t.weight) c.new.result [] own own c.in_ok-fields.fields.items (field.Val (erased c.fitted.result) ∷ [])
+    (ap (λ n. 1 + n) c.weight.ensures.weight) c.new.ensures refl (c.in_ok-fields.ensures ∙ ap (λ s. field.Val s ∷ []) c.erase-slot.ensures) grows)
     st)

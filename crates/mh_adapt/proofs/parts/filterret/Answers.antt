@@ -11,8 +11,6 @@ returns-clause-gains g c = adds-gains c.in_ok-own.own c.args.t (filterret_key c.
 
 pub returns-clause-stands : goal.returns-clause-stands
 returns-clause-stands g c a b st sp =
-    let same : filterret_row c.ty.result.now c.weight.result c.ty-2.result.now c.weight-2.result ≡ filterret_row c.args.t.ty c.args.t.weight c.args.f.ty c.args.f.weight =
-    λ i. filterret_row (c.ty.ensures.ty i) (c.weight.ensures.weight i) (c.ty-2.ensures.ty i) (c.weight-2.ensures.weight i) in
     adds-stands c.in_ok-own.own c.args.t (filterret_key c.args.f.ty) c.args.f c.in_ok-by.by c.in_ok-by.ensures
     c.args.w.now.leaves.now (tree.FilterRet a b) c.grown.result c.grown.ensures.grows (λ h grows.
-    filterret-stands c.args.w.now.leaves.now c.args.t h c.args.f a b c.in_ok-by.ensures.fields.0 c.in_ok-own.own (sym same ∙ c.in_ok-own.ensures) c.in_ok-by.ensures.fields.2 grows st sp)
+    filterret-stands c.args.w.now.leaves.now c.args.t h c.args.f a b c.in_ok-by.ensures.fields.0 c.in_ok-own.own c.in_ok-own.ensures.tells c.in_ok-by.ensures.fields.2 grows st sp)

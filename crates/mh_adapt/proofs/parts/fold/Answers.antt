@@ -9,31 +9,23 @@ use Rattle.mh_adapt.proofs.parts.fold.Goals as goal
 
 pub folding-requires : goal.folding-requires
 folding-requires g c =
-    let same : fold_row c.ty.result.now c.weight.result c.args.pos c.ty-2.result.now c.weight-2.result ≡ fold_row c.args.t.ty c.args.t.weight c.args.pos c.args.c.ty c.args.c.weight =
-    λ i. fold_row (c.ty.ensures.ty i) (c.weight.ensures.weight i) c.args.pos (c.ty-2.ensures.ty i) (c.weight-2.ensures.weight i) in
-    record { few = fold-few c.args.t c.args.c c.ty.ensures.shaped c.args.pos c.in_ok-own.own (sym same ∙ c.in_ok-own.ensures) }
+    record { few = fold-few c.args.t c.args.c c.in_ok-own.ensures.shaped c.args.pos c.in_ok-own.own c.in_ok-own.ensures.tells }
 
 pub grown-requires-clause-fits : goal.grown-requires-clause-fits
 grown-requires-clause-fits g c =
-    let same : fold_row c.ty.result.now c.weight.result c.args.pos c.ty-2.result.now c.weight-2.result ≡ fold_row c.args.t.ty c.args.t.weight c.args.pos c.args.c.ty c.args.c.weight =
-    λ i. fold_row (c.ty.ensures.ty i) (c.weight.ensures.weight i) c.args.pos (c.ty-2.ensures.ty i) (c.weight-2.ensures.weight i) in
     adds-fits c.in_ok-own.own c.args.t (fold_key c.args.pos c.args.c.ty) c.args.c c.in_ok-by.by c.in_ok-by.ensures
-    (fold-suited c.args.t c.args.c c.ty.ensures.shaped c.args.pos c.in_ok-own.own (sym same ∙ c.in_ok-own.ensures))
+    (fold-suited c.args.t c.args.c c.in_ok-own.ensures.shaped c.args.pos c.in_ok-own.own c.in_ok-own.ensures.tells)
 
 pub grown-requires-clause-shaped : goal.grown-requires-clause-shaped
 grown-requires-clause-shaped g c =
-    let same : fold_row c.ty.result.now c.weight.result c.args.pos c.ty-2.result.now c.weight-2.result ≡ fold_row c.args.t.ty c.args.t.weight c.args.pos c.args.c.ty c.args.c.weight =
-    λ i. fold_row (c.ty.ensures.ty i) (c.weight.ensures.weight i) c.args.pos (c.ty-2.ensures.ty i) (c.weight-2.ensures.weight i) in
     adds-shaped c.in_ok-own.own c.args.t (fold_key c.args.pos c.args.c.ty) c.args.c c.in_ok-by.by c.in_ok-by.ensures
-    (fold-suited c.args.t c.args.c c.ty.ensures.shaped c.args.pos c.in_ok-own.own (sym same ∙ c.in_ok-own.ensures))
+    (fold-suited c.args.t c.args.c c.in_ok-own.ensures.shaped c.args.pos c.in_ok-own.own c.in_ok-own.ensures.tells)
 
 pub returns-clause-gains : goal.returns-clause-gains
 returns-clause-gains g c = adds-gains c.in_ok-own.own c.args.t (fold_key c.args.pos c.args.c.ty) c.args.c c.in_ok-by.by c.in_ok-by.ensures c.grown.result c.grown.ensures.grows
 
 pub returns-clause-stands : goal.returns-clause-stands
 returns-clause-stands g c a b st sp =
-    let same : fold_row c.ty.result.now c.weight.result c.args.pos c.ty-2.result.now c.weight-2.result ≡ fold_row c.args.t.ty c.args.t.weight c.args.pos c.args.c.ty c.args.c.weight =
-    λ i. fold_row (c.ty.ensures.ty i) (c.weight.ensures.weight i) c.args.pos (c.ty-2.ensures.ty i) (c.weight-2.ensures.weight i) in
     adds-stands c.in_ok-own.own c.args.t (fold_key c.args.pos c.args.c.ty) c.args.c c.in_ok-by.by c.in_ok-by.ensures
     c.args.w.now.leaves.now (tree.Fold a c.args.pos b) c.grown.result c.grown.ensures.grows (λ h grows.
-    fold-stands c.args.w.now.leaves.now c.args.t h c.args.c a b c.args.pos c.in_ok-by.ensures.fields.0 c.in_ok-own.own (sym same ∙ c.in_ok-own.ensures) c.in_ok-by.ensures.fields.2 grows st sp)
+    fold-stands c.args.w.now.leaves.now c.args.t h c.args.c a b c.args.pos c.in_ok-by.ensures.fields.0 c.in_ok-own.own c.in_ok-own.ensures.tells c.in_ok-by.ensures.fields.2 grows st sp)

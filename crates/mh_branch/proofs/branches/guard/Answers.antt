@@ -1,32 +1,22 @@
-use Rattle.std.proofs.Common.{◌≡◌, sym, ◌∙◌}
-use Rattle.mh_tree.specs.Rows.{guard_row}
 use Rattle.mh_branch.proofs.BranchAnswers.{guard-answers, guard-few, guard-fits-by, guard-light, guard-makes}
 use Rattle.mh_branch.proofs.Gained.{guard-gains}
 use Rattle.mh_branch.proofs.branches.guard.Goals as goal
 
 pub guarding-requires : goal.guarding-requires
 guarding-requires g c =
-    let same : guard_row c.ty.result.now c.weight.result c.ty-2.result.now c.weight-2.result c.ty-3.result.now c.weight-3.result ≡ guard_row c.args.c.ty c.args.c.weight c.args.t.ty c.args.t.weight c.args.e.ty c.args.e.weight =
-    λ i. guard_row (c.ty.ensures.ty i) (c.weight.ensures.weight i) (c.ty-2.ensures.ty i) (c.weight-2.ensures.weight i) (c.ty-3.ensures.ty i) (c.weight-3.ensures.weight i) in
-    record { few = guard-few c.args.c c.args.t c.args.e c.in_ok-own.own (sym same ∙ c.in_ok-own.ensures) }
+    record { few = guard-few c.args.c c.args.t c.args.e c.in_ok-own.own c.in_ok-own.ensures }
 
 pub rooted-requires-clause-fits : goal.rooted-requires-clause-fits
 rooted-requires-clause-fits g c =
-    let same : guard_row c.ty.result.now c.weight.result c.ty-2.result.now c.weight-2.result c.ty-3.result.now c.weight-3.result ≡ guard_row c.args.c.ty c.args.c.weight c.args.t.ty c.args.t.weight c.args.e.ty c.args.e.weight =
-    λ i. guard_row (c.ty.ensures.ty i) (c.weight.ensures.weight i) (c.ty-2.ensures.ty i) (c.weight-2.ensures.weight i) (c.ty-3.ensures.ty i) (c.weight-3.ensures.weight i) in
-    guard-fits-by c.args.c c.args.t c.args.e c.in_ok-own.own (sym same ∙ c.in_ok-own.ensures) c.in_ok-by.by c.in_ok-by.ensures
+    guard-fits-by c.args.c c.args.t c.args.e c.in_ok-own.own c.in_ok-own.ensures c.in_ok-by.by c.in_ok-by.ensures
 
 pub rooted-requires-clause-light : goal.rooted-requires-clause-light
 rooted-requires-clause-light g c =
-    let same : guard_row c.ty.result.now c.weight.result c.ty-2.result.now c.weight-2.result c.ty-3.result.now c.weight-3.result ≡ guard_row c.args.c.ty c.args.c.weight c.args.t.ty c.args.t.weight c.args.e.ty c.args.e.weight =
-    λ i. guard_row (c.ty.ensures.ty i) (c.weight.ensures.weight i) (c.ty-2.ensures.ty i) (c.weight-2.ensures.weight i) (c.ty-3.ensures.ty i) (c.weight-3.ensures.weight i) in
-    guard-light c.args.c c.args.t c.args.e c.in_ok-own.own (sym same ∙ c.in_ok-own.ensures) c.in_ok-by.by c.in_ok-by.ensures
+    guard-light c.args.c c.args.t c.args.e c.in_ok-own.own c.in_ok-own.ensures c.in_ok-by.by c.in_ok-by.ensures
 
 pub returns-clause-makes : goal.returns-clause-makes
 returns-clause-makes g c =
-    let same : guard_row c.ty.result.now c.weight.result c.ty-2.result.now c.weight-2.result c.ty-3.result.now c.weight-3.result ≡ guard_row c.args.c.ty c.args.c.weight c.args.t.ty c.args.t.weight c.args.e.ty c.args.e.weight =
-    λ i. guard_row (c.ty.ensures.ty i) (c.weight.ensures.weight i) (c.ty-2.ensures.ty i) (c.weight-2.ensures.weight i) (c.ty-3.ensures.ty i) (c.weight-3.ensures.weight i) in
-    guard-makes c.args.c c.args.t c.args.e c.in_ok-own.own (sym same ∙ c.in_ok-own.ensures) c.in_ok-by.by c.in_ok-by.ensures
+    guard-makes c.args.c c.args.t c.args.e c.in_ok-own.own c.in_ok-own.ensures c.in_ok-by.by c.in_ok-by.ensures
     c.args.w.now.pass.now c.rooted.new.w.pass.now c.rooted.result c.rooted.ensures.makes
 
 pub returns-clause-gains : goal.returns-clause-gains
@@ -34,7 +24,5 @@ returns-clause-gains g c = guard-gains c.in_ok-own.own c.args.c c.args.t c.args.
 
 pub returns-clause-stands : goal.returns-clause-stands
 returns-clause-stands g c a b d tests stands others =
-    let same : guard_row c.ty.result.now c.weight.result c.ty-2.result.now c.weight-2.result c.ty-3.result.now c.weight-3.result ≡ guard_row c.args.c.ty c.args.c.weight c.args.t.ty c.args.t.weight c.args.e.ty c.args.e.weight =
-    λ i. guard_row (c.ty.ensures.ty i) (c.weight.ensures.weight i) (c.ty-2.ensures.ty i) (c.weight-2.ensures.weight i) (c.ty-3.ensures.ty i) (c.weight-3.ensures.weight i) in
-    guard-answers c.args.c c.args.t c.args.e c.in_ok-own.own (sym same ∙ c.in_ok-own.ensures) c.in_ok-by.by c.in_ok-by.ensures
+    guard-answers c.args.c c.args.t c.args.e c.in_ok-own.own c.in_ok-own.ensures c.in_ok-by.by c.in_ok-by.ensures
     c.args.w.now.leaves.now c.rooted.result a b d c.rooted.ensures.grows tests stands others
