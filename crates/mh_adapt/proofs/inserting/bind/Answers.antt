@@ -1,7 +1,6 @@
 use Rattle.std.proofs.Common.{◌≡◌, refl, sym, ap, ◌∙◌, ◌+◌, Ok, Some, [], ◌∷◌}
 use Rattle.std.specs.Prelude.{slice_get}
 use Rattle.mh_convert.specs.Conversion.{fit}
-use Rattle.mh_tree.specs.Rows.{bind_row}
 use Rattle.mh_form.specs.declared.field.Field.TheVariants as field
 use Rattle.mh_form.specs.Erasure.{erased}
 use Rattle.mh_edit.specs.declared.key.Key.TheVariants as key

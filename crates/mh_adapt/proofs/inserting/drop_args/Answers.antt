@@ -1,5 +1,4 @@
-use Rattle.std.proofs.Common.{◌≡◌, sym, subst, ap, ◌∙◌, ◌+◌, []}
-use Rattle.mh_tree.specs.Rows.{drop_row}
+use Rattle.std.proofs.Common.{sym, subst, ap, ◌+◌, []}
 use Rattle.mh_tree.specs.Tree as tree
 use Rattle.mh_form.specs.Erasure.{basic_of}
 use Rattle.mh_edit.specs.declared.key.Key.TheVariants as key

@@ -1,5 +1,4 @@
-use Rattle.std.proofs.Common.{◌≡◌, sym, subst, ap, ap₂, ◌∙◌, ◌+◌, [], map, List, ℕ}
-use Rattle.mh_tree.specs.Rows.{permute_row}
+use Rattle.std.proofs.Common.{◌≡◌, sym, subst, ap, ap₂, ◌+◌, [], map, List, ℕ}
 use Rattle.mh_tree.specs.Tree as tree
 use Rattle.mh_form.specs.declared.basic.Basic.{Basic}
 use Rattle.mh_form.specs.Erasure.{basic_of}

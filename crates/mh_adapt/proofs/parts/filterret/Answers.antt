@@ -1,5 +1,3 @@
-use Rattle.std.proofs.Common.{◌≡◌, sym, ◌∙◌}
-use Rattle.mh_tree.specs.Rows.{filterret_row}
 use Rattle.mh_tree.specs.Tree as tree
 use Rattle.mh_adapt.specs.Parts.{filterret_key}
 use Rattle.mh_adapt.proofs.FilterReturnStands.{filterret-stands}

@@ -1,5 +1,3 @@
-use Rattle.std.proofs.Common.{◌≡◌, sym, ◌∙◌}
-use Rattle.mh_tree.specs.Rows.{fold_row}
 use Rattle.mh_tree.specs.Tree as tree
 use Rattle.mh_adapt.specs.Parts.{fold_key}
 use Rattle.mh_adapt.proofs.FoldStands.{fold-stands}
