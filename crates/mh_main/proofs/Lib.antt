@@ -5,3 +5,4 @@ pub mod Ledger
 pub mod Pieces
 pub mod Reaching
 pub mod Refusals
+pub mod Unread

@@ -36,6 +36,16 @@ StopsAt name before now (TooLong at) = (at.now ≡ name) × AreSame before now
 StopsAt name before now (Fault at line kind) = (at.now ≡ name) × AreSame before now
 StopsAt name before now (Place at place kind) = (at.now ≡ name) × AreSame before now
 
+-- a file of at most so many bytes was not read, or it is longer; one that is not there cannot be read
+abbrev pub UnreadIn : ℕ → Told → Stop → Type 0
+UnreadIn limit told NoMemory = Unit {0}
+UnreadIn limit told (ReadFault at) = Unit {0}
+UnreadIn limit (file bytes) (TooLong at) = limit < length bytes
+UnreadIn limit nothing (TooLong at) = Unit {0}
+UnreadIn limit absent (TooLong at) = ⊥
+UnreadIn limit told (Fault at line kind) = ⊥
+UnreadIn limit told (Place at place kind) = ⊥
+
 -- what is wrong with a file of a grammar whose faults have these words, where it is told; one that is not there cannot be read
 abbrev pub StopIn : {T K : Type 0} → ℕ → (K → List ℕ) → (List ℕ → Result T (LineFault K)) → Told → Stop → Type 0
 StopIn limit word meaning (file bytes) NoMemory = Unit {0}

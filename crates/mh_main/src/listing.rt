@@ -7,12 +7,13 @@ ghost use Rattle.mh_main.specs.Input.{IfListed, classes_input, most_sites};
 ghost use Rattle.mh_main.specs.Classes.{ListsClass};
 ghost use Rattle.mh_main.specs.Stops.{StopsAt, StopsIn, ClassStopIn, ReachesClass, Refuses};
 
+use crate::reading::read_input;
 use crate::stop::Stop;
 use mh_base::NoMemory;
 use mh_class_pool::{ClassError, ClassKind};
 use mh_classfile::read;
 use mh_listing::{push_count, push_sites};
-use mh_outside::{Inputs, ReadWhole, read_whole};
+use mh_outside::Inputs;
 use std::alloc::Global;
 
 /// How many bytes a class file may have.
@@ -53,6 +54,7 @@ fn class_word(kind: ClassKind) -> &'static str
 
 // Reads a class file that may have `room` call sites, lists them from number `first` on, and gives
 // the number behind the last.
+#[tactic(auto, using(crate::proofs::Unread::class_unread_in))]
 fn list_class<'a, I: Inputs>(
     alloc: Global,
     inputs: &mut I,
@@ -72,12 +74,7 @@ fn list_class<'a, I: Inputs>(
         (λ next. ListsClass room (I.told inputs.old name.now) first next
         text.old.items text.new.items) }
 {
-    let bytes = match read_whole(alloc, inputs, name, CLASS_LIMIT) {
-        Ok(bytes) => bytes,
-        Err(ReadWhole::NoMemory) => return Err(Stop::NoMemory),
-        Err(ReadWhole::ReadFault) => return Err(Stop::ReadFault(name)),
-        Err(ReadWhole::TooLong) => return Err(Stop::TooLong(name)),
-    };
+    let bytes = read_input(alloc, inputs, name, CLASS_LIMIT)?;
     let view = match read(alloc, &bytes, room) {
         Ok(view) => view,
         Err(ClassError::NoMemory) => return Err(Stop::NoMemory),

@@ -1,11 +1,12 @@
-ghost use Rattle.std.specs.Prelude.{◌≡◌, ◌≤◌, List, ℕ, IfOk, IfErr, OnOk, IfSome, IfNone};
+ghost use Rattle.std.specs.Prelude.{◌≡◌, ◌≤◌, List, ℕ, IfOk, IfErr, OnOk, length};
 ghost use Rattle.mh_outside.specs.Causes.{AreSame};
+ghost use Rattle.mh_outside.specs.Told.{IsWhole};
 ghost use Rattle.mh_leaves.specs.Manifest.{manifest, kind_word as manifest_word};
 ghost use Rattle.mh_plan.specs.Results.{AreCallsOf};
 ghost use Rattle.mh_plan.specs.Plan.{plan, kind_word as plan_word};
 ghost use Rattle.mh_main.specs.Words.{held_names};
 ghost use Rattle.mh_main.specs.Input.{Means, named_input, IfProgram, scripts, scripts_word, leaves_limit, plan_limit};
-ghost use Rattle.mh_main.specs.Stops.{StopsAt, StopIn, StopsIn, ReachesInput, Refuses};
+ghost use Rattle.mh_main.specs.Stops.{StopsAt, StopIn, StopsIn, ReachesInput, Refuses, UnreadIn};
 
 use crate::Program;
 use crate::stop::{Stop, no_scripts};
@@ -21,6 +22,31 @@ const LEAVES_LIMIT: usize = 262_144;
 /// How many bytes a plan may have.
 const PLAN_LIMIT: usize = 1_048_576;
 
+/// Reads an input of at most `limit` bytes whole.
+pub(crate) fn read_input<'a, I: Inputs>(
+    alloc: Global,
+    inputs: &mut I,
+    name: &'a str,
+    limit: usize,
+) -> Result<Vec<u8>, Stop<'a>>
+    ensures told { (n : List ℕ) → I.told inputs.new n ≡ I.told inputs.old n }
+    ensures later { (n : List ℕ) → I.faults inputs.old n ≤ I.faults inputs.new n }
+    ensures no_fault { OnOk result (AreSame (I.faults inputs.old) (I.faults inputs.new)) }
+    ensures stop { IfErr result
+        (λ stop. StopsAt name.now (I.faults inputs.old) (I.faults inputs.new) stop) }
+    ensures unread { IfErr result (λ stop. UnreadIn limit (I.told inputs.old name.now) stop) }
+    ensures file { IfOk result (λ bytes. IsWhole (I.told inputs.old name.now) bytes.items) }
+    ensures within { IfOk result (λ bytes. length bytes.items ≤ limit) }
+{
+    match read_whole(alloc, inputs, name, limit) {
+        Ok(bytes) => Ok(bytes),
+        Err(ReadWhole::NoMemory) => Err(Stop::NoMemory),
+        Err(ReadWhole::ReadFault) => Err(Stop::ReadFault(name)),
+        Err(ReadWhole::TooLong) => Err(Stop::TooLong(name)),
+    }
+}
+
+#[tactic(auto, using(crate::proofs::Unread::unread_in))]
 fn read_leaves<'a, I: Inputs>(
     alloc: Global,
     inputs: &mut I,
@@ -36,12 +62,7 @@ fn read_leaves<'a, I: Inputs>(
     ensures ok { IfOk result
         (λ leaves. Means leaves_limit manifest (I.told inputs.old name.now) leaves) }
 {
-    let bytes = match read_whole(alloc, inputs, name, LEAVES_LIMIT) {
-        Ok(bytes) => bytes,
-        Err(ReadWhole::NoMemory) => return Err(Stop::NoMemory),
-        Err(ReadWhole::ReadFault) => return Err(Stop::ReadFault(name)),
-        Err(ReadWhole::TooLong) => return Err(Stop::TooLong(name)),
-    };
+    let bytes = read_input(alloc, inputs, name, LEAVES_LIMIT)?;
     match read_manifest(alloc, &bytes) {
         Ok(leaves) => Ok(leaves),
         Err(ManifestError::NoMemory) => Err(Stop::NoMemory),
@@ -49,6 +70,7 @@ fn read_leaves<'a, I: Inputs>(
     }
 }
 
+#[tactic(auto, using(crate::proofs::Unread::unread_in))]
 fn read_scripts<'a, I: Inputs>(alloc: Global, inputs: &mut I, name: &'a str) -> Result<(), Stop<'a>>
     ensures told { (n : List ℕ) → I.told inputs.new n ≡ I.told inputs.old n }
     ensures later { (n : List ℕ) → I.faults inputs.old n ≤ I.faults inputs.new n }
@@ -59,18 +81,14 @@ fn read_scripts<'a, I: Inputs>(alloc: Global, inputs: &mut I, name: &'a str) -> 
         (λ stop. StopIn leaves_limit scripts_word scripts (I.told inputs.old name.now) stop) }
     ensures ok { OnOk result (Means leaves_limit scripts (I.told inputs.old name.now) tt) }
 {
-    let bytes = match read_whole(alloc, inputs, name, LEAVES_LIMIT) {
-        Ok(bytes) => bytes,
-        Err(ReadWhole::NoMemory) => return Err(Stop::NoMemory),
-        Err(ReadWhole::ReadFault) => return Err(Stop::ReadFault(name)),
-        Err(ReadWhole::TooLong) => return Err(Stop::TooLong(name)),
-    };
+    let bytes = read_input(alloc, inputs, name, LEAVES_LIMIT)?;
     match no_scripts(&bytes) {
         Ok(()) => Ok(()),
         Err(fault) => Err(Stop::Fault(name, fault.line, fault.kind.word())),
     }
 }
 
+#[tactic(auto, using(crate::proofs::Unread::unread_in))]
 fn read_calls<'a, I: Inputs>(
     alloc: Global,
     inputs: &mut I,
@@ -90,12 +108,7 @@ fn read_calls<'a, I: Inputs>(
         (I.told inputs.old name.now) calls) }
     ensures calls { IfOk result (AreCallsOf leaves.now) }
 {
-    let bytes = match read_whole(alloc, inputs, name, PLAN_LIMIT) {
-        Ok(bytes) => bytes,
-        Err(ReadWhole::NoMemory) => return Err(Stop::NoMemory),
-        Err(ReadWhole::ReadFault) => return Err(Stop::ReadFault(name)),
-        Err(ReadWhole::TooLong) => return Err(Stop::TooLong(name)),
-    };
+    let bytes = read_input(alloc, inputs, name, PLAN_LIMIT)?;
     match read_plan(alloc, &bytes, leaves) {
         Ok(plan) => Ok(plan),
         Err(PlanError::NoMemory) => Err(Stop::NoMemory),
