@@ -5,7 +5,7 @@ ghost use Rattle.mh_class_pool.specs.declared.fault.ClassError.TheVariants as cl
 ghost use Rattle.mh_made_class.specs.ReadBack.{IsReadable};
 
 use mh_base::{NoMemory, Seq};
-use mh_classfile::{ClassError, Constant, read};
+use mh_classfile::{ClassError, ClassView, Constant, read};
 use mh_made_class::{MadeArg, MadeArgs, MadeSite, MadeSites, make_class};
 use mh_values::Str;
 use std::alloc::Global;
@@ -61,28 +61,52 @@ fn count_read(alloc: Global, sites: &MadeSites) -> Result<u32, ClassError>
     Ok(view.sites())
 }
 
+fn made_len(alloc: Global, sites: MadeSites) -> Result<usize, NoMemory>
+    requires { AreMakeable sites }
+{
+    let file = make_class(alloc, &sites)?;
+    Ok(file.len())
+}
+
 #[test]
 fn lengths(rt: HostRuntime) -> Result<(), Fail> {
     let alloc = rt.alloc();
-    let none = make_class(alloc, &Seq::new(alloc))?;
-    assert_eq!(rt; none.len(), 271);
-    let one = make_class(alloc, &one_site(alloc, Seq::new(alloc))?)?;
-    assert_eq!(rt; one.len(), 319);
+    assert!(rt; made_len(alloc, Seq::new(alloc))? == 271);
+    let one = one_site(alloc, Seq::new(alloc))?;
+    assert!(rt; made_len(alloc, one)? == 319);
     Ok(())
+}
+
+/// The file of a call site with an argument of each kind.
+fn each_kind_file(alloc: Global) -> Result<Vec<u8>, NoMemory> {
+    let args = each_kind(alloc)?;
+    let sites = one_site(alloc, args)?;
+    make_class(alloc, &sites)
+}
+
+/// Whether a view is of one call site with an argument of each kind.
+fn has_each_kind(view: &ClassView<'_>) -> bool {
+    if view.sites() != 1 || view.bootstraps() != 1 || view.arguments(0) != 3 {
+        return false;
+    }
+    matches!(view.argument(0, 0), Constant::Integer(-2))
+        && matches!(view.argument(0, 1), Constant::Long(-3))
+        && matches!(view.argument(0, 2), Constant::Str(text) if text.bytes() == b"x".as_slice())
+}
+
+/// Whether the call site of a view is of the script `link` and the type `(II)I`.
+fn has_link(view: &ClassView<'_>) -> bool {
+    if view.sites() != 1 || view.bootstraps() != 1 {
+        return false;
+    }
+    view.site(0).descriptor.bytes() == b"(II)I".as_slice()
+        && view.bootstrap(0).name.bytes() == b"link".as_slice()
 }
 
 #[test]
 fn a_call_site_is_read_back(rt: HostRuntime) -> Result<(), Fail> {
-    let alloc = rt.alloc();
-    let file = make_class(alloc, &one_site(alloc, each_kind(alloc)?)?)?;
-    let view = read(alloc, &file, 1).ok().ok_or("a class file")?;
-    if view.sites() != 1 || view.bootstraps() != 1 || view.arguments(0) != 3 {
-        return Err(Fail::from("one site of three arguments"));
-    }
-    assert_eq!(rt; view.site(0).descriptor.bytes(), b"(II)I".as_slice());
-    assert_eq!(rt; view.bootstrap(0).name.bytes(), b"link".as_slice());
-    assert!(rt; matches!(view.argument(0, 0), Constant::Integer(-2)));
-    assert!(rt; matches!(view.argument(0, 1), Constant::Long(-3)));
-    assert!(rt; matches!(view.argument(0, 2), Constant::Str(t) if t.bytes() == b"x".as_slice()));
+    let file = each_kind_file(rt.alloc())?;
+    let view = read(rt.alloc(), &file, 1).ok().ok_or("a class file")?;
+    assert!(rt; has_each_kind(&view) && has_link(&view));
     Ok(())
 }

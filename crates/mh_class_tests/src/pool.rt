@@ -1,6 +1,6 @@
 use mh_class_bytes::Cursor;
 use mh_class_pool::{
-    ClassError, ClassFault, ClassKind, Entry, Kind, check_name, check_pool, read_pool, u1,
+    ClassError, ClassFault, ClassKind, Entry, Kind, Pool, check_name, check_pool, read_pool, u1,
 };
 use std::test::*;
 
@@ -10,28 +10,34 @@ const POOL: &[u8] = b"\0\
     \x01\0\x01C\x01\0\x01f\x01\0\x03()V\x07\0\x01\x0C\0\x02\0\x03\x0A\0\x04\0\x05\
     \x05\0\0\0\0\0\0\0\x07";
 
-#[test]
-fn a_pool(rt: HostRuntime) -> Result<(), Fail> {
-    let mut cursor = Cursor::new(POOL);
-    let _before = u1(&mut cursor, ClassKind::Truncated).ok().ok_or("a byte")?;
-    let pool = read_pool(rt.alloc(), 9, &mut cursor).ok().ok_or("a pool")?;
-    assert_eq!(rt; pool.len(), 9);
-    assert!(rt; check_pool(rt.alloc(), &pool).is_ok());
-    assert!(rt; matches!(pool.get(6), Some((23, Entry::Methodref(4, 5)))));
-    assert!(rt; matches!(pool.get(7), Some((28, Entry::Long(0, 7)))));
-    assert!(rt; pool.get(8).is_none());
-    assert!(rt; pool.is_text(3, b"()V"));
-    assert!(rt; check_name(&pool, Kind::Class, 4, 0).is_ok());
-    let wrong = check_name(&pool, Kind::Class, 1, 5);
-    assert!(rt;
-        matches!(
-            wrong,
+/// Whether the entries of [`POOL`] are these.
+fn has_entries(pool: &Pool<'_>) -> bool {
+    pool.len() == 9
+        && matches!(pool.get(6), Some((23, Entry::Methodref(4, 5))))
+        && matches!(pool.get(7), Some((28, Entry::Long(0, 7))))
+        && pool.get(8).is_none()
+        && pool.is_text(3, b"()V")
+}
+
+/// Whether class `C` is one by its index, and its name is none.
+fn has_class(pool: &Pool<'_>) -> bool {
+    check_name(pool, Kind::Class, 4, 0).is_ok()
+        && matches!(
+            check_name(pool, Kind::Class, 1, 5),
             Err(ClassFault {
                 at: 5,
                 kind: ClassKind::WrongKind
             })
         )
-    );
+}
+
+#[test]
+fn a_pool(rt: HostRuntime) -> Result<(), Fail> {
+    let mut cursor = Cursor::new(POOL);
+    let _before = u1(&mut cursor, ClassKind::Truncated).ok().ok_or("a byte")?;
+    let pool = read_pool(rt.alloc(), 9, &mut cursor).ok().ok_or("a pool")?;
+    let holds = check_pool(rt.alloc(), &pool).is_ok() && has_entries(&pool) && has_class(&pool);
+    assert!(rt; holds);
     Ok(())
 }
 

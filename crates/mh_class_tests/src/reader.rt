@@ -1,5 +1,4 @@
 use crate::files::{all_tags, code_front, demo, made, made_site};
-use mh_class_bytes::Text;
 use mh_classfile::{ClassError, ClassKind, ClassView, Constant, HandleRef, SiteView, read};
 use std::alloc::{AllocError, Global};
 use std::test::*;
@@ -64,36 +63,143 @@ fn is_handle(handle: &HandleRef<'_>, kind: u8, owner: &[u8], name: &[u8], len: u
         && handle.descriptor.bytes().len() == len
 }
 
-fn is_text(text: &Text<'_>, word: &[u8]) -> bool {
-    text.bytes() == word
+/// An index of the pool, the kind of the constant there, and its number or text where it has one.
+type Entry = (u16, &'static str, i64, &'static [u8]);
+
+/// Constants of [`made`].
+const MADE_CONSTANTS: [Entry; 4] = [
+    (0, "none", 0, b""),
+    (1, "other", 0, b""),
+    (2, "class", 0, b"made/Main"),
+    (13, "none", 0, b""),
+];
+
+/// Constants of [`all_tags`].
+const ALL_TAGS_CONSTANTS: [Entry; 12] = [
+    (5, "integer", -2, b""),
+    (6, "float", 0, b""),
+    (7, "long", -3, b""),
+    (8, "none", 0, b""),
+    (9, "double", 0, b""),
+    (10, "none", 0, b""),
+    (12, "string", 0, &[0xED, 0xA0, 0xBD, 0xED, 0xB8, 0x80]),
+    (19, "other", 0, b""),
+    (25, "method type", 0, b"()V"),
+    (26, "dynamic", 0, b""),
+    (27, "other", 0, b""),
+    (32, "none", 0, b""),
+];
+
+/// The kind of a constant, and its number or text where it has one.
+fn parts<'b>(constant: &Constant<'b>) -> (&'static str, i64, &'b [u8]) {
+    match constant {
+        Constant::Integer(number) => ("integer", i64::from(*number), b""),
+        Constant::Long(number) => ("long", *number, b""),
+        Constant::Float => ("float", 0, b""),
+        Constant::Double => ("double", 0, b""),
+        Constant::Class(name) => ("class", 0, name.bytes()),
+        Constant::Str(text) => ("string", 0, text.bytes()),
+        Constant::Handle(handle) => ("handle", i64::from(handle.kind), handle.name.bytes()),
+        Constant::MethodType(descriptor) => ("method type", 0, descriptor.bytes()),
+        Constant::Dynamic => ("dynamic", 0, b""),
+        Constant::Other => ("other", 0, b""),
+    }
+}
+
+fn has_constant(view: &ClassView<'_>, entry: &Entry) -> bool {
+    let (index, kind, number, text) = *entry;
+    match view.constant(index) {
+        Some(constant) => parts(&constant) == (kind, number, text),
+        None => kind == "none",
+    }
+}
+
+/// Whether a file is read without call sites, and has these constants.
+fn has_constants(alloc: Global, file: &[u8], entries: &[Entry]) -> bool {
+    match read(alloc, file, 0) {
+        Ok(view) => entries.iter().all(|entry| has_constant(&view, entry)),
+        Err(_) => false,
+    }
 }
 
 #[test]
-fn a_class_without_sites(rt: HostRuntime) -> Result<(), Fail> {
-    let view = read(rt.alloc(), made(), 0).ok().ok_or("a class file")?;
-    assert_eq!(rt; view.sites(), 0);
-    assert_eq!(rt; view.bootstraps(), 0);
-    assert!(rt; view.constant(0).is_none());
-    assert!(rt; view.constant(13).is_none());
-    assert!(rt; matches!(view.constant(1), Some(Constant::Other)));
+fn constants_of_each_kind(rt: HostRuntime) {
+    assert!(rt; has_constants(rt.alloc(), made(), &MADE_CONSTANTS));
+    assert!(rt; has_constants(rt.alloc(), all_tags(), &ALL_TAGS_CONSTANTS));
+}
+
+#[test]
+fn a_handle(rt: HostRuntime) -> Result<(), Fail> {
+    let view = read(rt.alloc(), all_tags(), 0).ok().ok_or("a class file")?;
+    let constant = view.constant(22);
     assert!(rt;
-        matches!(view.constant(2), Some(Constant::Class(name)) if is_text(&name, b"made/Main"))
+        matches!(constant, Some(Constant::Handle(h)) if is_handle(&h, 8, b"all/Tags", b"m", 3))
     );
     Ok(())
 }
 
 #[test]
-fn each_cut_of_a_class(rt: HostRuntime) {
-    let kind = ClassKind::Truncated;
-    for (len, at) in [(0, 0), (7, 6), (9, 8), (10, 10), (270, 269)] {
-        if let Some(bytes) = made().get(..len) {
-            assert!(rt; has_fault(rt.alloc(), bytes, 0, at, kind));
-        }
+fn a_class_without_sites(rt: HostRuntime) -> Result<(), Fail> {
+    let view = read(rt.alloc(), made(), 0).ok().ok_or("a class file")?;
+    assert!(rt; view.sites() == 0 && view.bootstraps() == 0);
+    Ok(())
+}
+
+/// Whether a call site of `run(I)V` has this place, bootstrap method and type.
+fn is_site(site: &SiteView<'_>, pc: u32, bootstrap: u16, descriptor: &[u8]) -> bool {
+    site.method.bytes() == b"run".as_slice()
+        && site.method_descriptor.bytes() == b"(I)V".as_slice()
+        && site.pc == pc
+        && site.bootstrap == bootstrap
+        && site.descriptor.bytes() == descriptor
+}
+
+/// Whether the call sites of a view are those of [`demo`].
+fn has_demo_sites(view: &ClassView<'_>) -> bool {
+    if view.sites() != 2 {
+        return false;
     }
+    is_site(&view.site(0), 21, 0, b"(I)Ljava/lang/String;")
+        && view.site(0).name.bytes() == b"makeConcatWithConstants".as_slice()
+        && is_site(&view.site(1), 27, 1, b"()Ljava/lang/Runnable;")
+}
+
+/// Whether the bootstrap methods of a view are those of [`demo`].
+fn has_demo_bootstraps(view: &ClassView<'_>) -> bool {
+    if view.bootstraps() != 2 {
+        return false;
+    }
+    let owner = b"java/lang/invoke/LambdaMetafactory";
+    is_handle(&view.bootstrap(1), 6, owner, b"metafactory", 204)
+        && view.arguments(0) == 1
+        && view.arguments(1) == 3
+}
+
+#[test]
+fn the_sites_of_a_class(rt: HostRuntime) -> Result<(), Fail> {
+    let view = read(rt.alloc(), demo(), 2).ok().ok_or("a class file")?;
+    assert!(rt; has_demo_sites(&view) && has_demo_bootstraps(&view));
+    Ok(())
+}
+
+/// Whether the front of [`made`] of this length is refused with a fault.
+fn is_cut(alloc: Global, len: usize) -> bool {
+    let front = made().get(..len).unwrap_or(made());
+    matches!(read(alloc, front, 0), Err(ClassError::Fault(_)))
+}
+
+#[test]
+fn each_cut_of_a_class(rt: HostRuntime) {
     for len in 0..made().len() {
-        if let Some(bytes) = made().get(..len) {
-            assert!(rt; matches!(read(rt.alloc(), bytes, 0), Err(ClassError::Fault(_))));
-        }
+        assert!(rt; is_cut(rt.alloc(), len));
+    }
+}
+
+#[test]
+fn places_of_cuts(rt: HostRuntime) {
+    for (len, at) in [(0, 0), (7, 6), (9, 8), (10, 10), (270, 269)] {
+        let front = made().get(..len).unwrap_or(made());
+        assert!(rt; has_fault(rt.alloc(), front, 0, at, ClassKind::Truncated));
     }
 }
 
@@ -151,11 +257,17 @@ const ALL_TAGS_FAULTS: [Broken; 14] = [
     (271, &[0, 8], 271, ClassKind::BadIndex),
 ];
 
+/// Whether a change of a file makes its fault.
+fn breaks(alloc: Global, file: &[u8], broken: &Broken) -> Result<bool, AllocError> {
+    let (from, to, at, kind) = *broken;
+    let bytes = changed(alloc, file, from, to)?;
+    Ok(has_fault(alloc, &bytes, 1, at, kind))
+}
+
 /// Whether each change of a file makes its fault.
 fn all_break(alloc: Global, file: &[u8], cases: &[Broken]) -> Result<bool, AllocError> {
-    for (from, to, at, kind) in cases {
-        let bytes = changed(alloc, file, *from, to)?;
-        if !has_fault(alloc, &bytes, 1, *at, *kind) {
+    for broken in cases {
+        if !breaks(alloc, file, broken)? {
             return Ok(false);
         }
     }
@@ -164,145 +276,163 @@ fn all_break(alloc: Global, file: &[u8], cases: &[Broken]) -> Result<bool, Alloc
 
 #[test]
 fn broken_files(rt: HostRuntime) -> Result<(), Fail> {
-    assert!(rt; all_break(rt.alloc(), made(), &MADE_FAULTS)?);
-    assert!(rt; all_break(rt.alloc(), made_site(), &MADE_SITE_FAULTS)?);
-    assert!(rt; all_break(rt.alloc(), all_tags(), &ALL_TAGS_FAULTS)?);
-    assert!(rt; has_fault(rt.alloc(), made_site(), 0, 295, ClassKind::TooManySites));
+    let alloc = rt.alloc();
+    for (file, cases) in [
+        (made(), MADE_FAULTS.as_slice()),
+        (made_site(), MADE_SITE_FAULTS.as_slice()),
+        (all_tags(), ALL_TAGS_FAULTS.as_slice()),
+    ] {
+        assert!(rt; all_break(alloc, file, cases)?);
+    }
     Ok(())
+}
+
+#[test]
+fn more_sites_than_asked_for(rt: HostRuntime) {
+    assert!(rt; has_fault(rt.alloc(), made_site(), 0, 295, ClassKind::TooManySites));
+}
+
+/// Whether [`made`] with a change is refused for what stands behind it.
+fn is_refused_before(
+    alloc: Global,
+    from: usize,
+    to: &[u8],
+    tail: &[u8],
+    kind: ClassKind,
+) -> Result<bool, AllocError> {
+    let mut bytes = changed(alloc, made(), from, to)?;
+    bytes.extend_from_slice(tail)?;
+    Ok(has_fault(alloc, &bytes, 0, 271, kind))
 }
 
 #[test]
 fn bytes_behind_a_class(rt: HostRuntime) -> Result<(), Fail> {
-    let mut bytes = Vec::new(rt.alloc());
-    bytes.extend_from_slice(made())?;
-    bytes.push(0)?;
-    assert!(rt; has_fault(rt.alloc(), &bytes, 0, 271, ClassKind::Trailing));
-    let mut twice = changed(rt.alloc(), made(), 261, &[0, 2])?;
-    twice.extend_from_slice(&[0, 8, 0, 0, 0, 2, 0, 0])?;
-    assert!(rt; has_fault(rt.alloc(), &twice, 0, 271, ClassKind::BadBootstraps));
+    let second = [0, 8, 0, 0, 0, 2, 0, 0];
+    assert!(rt; is_refused_before(rt.alloc(), 0, &[], &[0], ClassKind::Trailing)?);
+    assert!(rt; is_refused_before(rt.alloc(), 261, &[0, 2], &second, ClassKind::BadBootstraps)?);
     Ok(())
+}
+
+/// Whether [`made`] with a change is accepted.
+fn is_accepted(alloc: Global, from: usize, to: &[u8]) -> Result<bool, AllocError> {
+    let bytes = changed(alloc, made(), from, to)?;
+    Ok(read(alloc, &bytes, 0).is_ok())
 }
 
 #[test]
 fn changes_that_are_accepted(rt: HostRuntime) -> Result<(), Fail> {
-    let no_superclass = changed(rt.alloc(), made(), 226, &[0, 0])?;
-    assert!(rt; read(rt.alloc(), &no_superclass, 0).is_ok());
-    let code_of_a_class = changed(rt.alloc(), made(), 263, &[0, 7])?;
-    assert!(rt; read(rt.alloc(), &code_of_a_class, 0).is_ok());
-    Ok(())
-}
-
-#[test]
-fn the_sites_of_a_class(rt: HostRuntime) -> Result<(), Fail> {
-    let view = read(rt.alloc(), demo(), 2).ok().ok_or("a class file")?;
-    if view.sites() != 2 || view.bootstraps() != 2 {
-        return Err(Fail::from("two sites"));
+    // No superclass, and code that belongs to a class.
+    for (from, to) in [(226, &[0, 0]), (263, &[0, 7])] {
+        assert!(rt; is_accepted(rt.alloc(), from, to)?);
     }
-    let concatenation = view.site(0);
-    assert!(rt; is_text(&concatenation.method, b"run"));
-    assert!(rt; is_text(&concatenation.method_descriptor, b"(I)V"));
-    assert_eq!(rt; concatenation.pc, 21);
-    assert_eq!(rt; concatenation.bootstrap, 0);
-    assert!(rt; is_text(&concatenation.name, b"makeConcatWithConstants"));
-    assert!(rt; is_text(&concatenation.descriptor, b"(I)Ljava/lang/String;"));
-    let lambda = view.site(1);
-    assert_eq!(rt; lambda.pc, 27);
-    assert_eq!(rt; lambda.bootstrap, 1);
-    assert!(rt; is_text(&lambda.descriptor, b"()Ljava/lang/Runnable;"));
-    let owner = b"java/lang/invoke/LambdaMetafactory";
-    assert!(rt; is_handle(&view.bootstrap(1), 6, owner, b"metafactory", 204));
-    assert_eq!(rt; view.arguments(0), 1);
-    assert_eq!(rt; view.arguments(1), 3);
     Ok(())
 }
 
-#[test]
-fn constants_of_each_kind(rt: HostRuntime) -> Result<(), Fail> {
-    let view = read(rt.alloc(), all_tags(), 0).ok().ok_or("a class file")?;
-    assert!(rt; matches!(view.constant(5), Some(Constant::Integer(-2))));
-    assert!(rt; matches!(view.constant(6), Some(Constant::Float)));
-    assert!(rt; matches!(view.constant(7), Some(Constant::Long(-3))));
-    assert!(rt; view.constant(8).is_none());
-    assert!(rt; matches!(view.constant(9), Some(Constant::Double)));
-    assert!(rt; view.constant(10).is_none());
-    let text = [0xED, 0xA0, 0xBD, 0xED, 0xB8, 0x80];
-    assert!(rt; matches!(view.constant(12), Some(Constant::Str(t)) if is_text(&t, &text)));
-    assert!(rt; matches!(view.constant(19), Some(Constant::Other)));
-    assert!(rt;
-        matches!(view.constant(22), Some(Constant::Handle(h)) if is_handle(&h, 8, b"all/Tags", b"m", 3))
-    );
-    assert!(rt; matches!(view.constant(25), Some(Constant::MethodType(t)) if is_text(&t, b"()V")));
-    assert!(rt; matches!(view.constant(26), Some(Constant::Dynamic)));
-    assert!(rt; matches!(view.constant(27), Some(Constant::Other)));
-    assert!(rt; view.constant(32).is_none());
-    Ok(())
+/// The first and the last opcode of a run of instructions of this length.
+const LENGTHS: [(u8, u8, usize); 25] = [
+    (0, 15, 1),
+    (16, 16, 2),
+    (17, 17, 3),
+    (18, 18, 2),
+    (19, 20, 3),
+    (21, 25, 2),
+    (26, 53, 1),
+    (54, 58, 2),
+    (59, 131, 1),
+    (132, 132, 3),
+    (133, 152, 1),
+    (153, 168, 3),
+    (169, 169, 2),
+    (172, 177, 1),
+    (178, 184, 3),
+    (185, 185, 5),
+    (187, 187, 3),
+    (188, 188, 2),
+    (189, 189, 3),
+    (190, 191, 1),
+    (192, 193, 3),
+    (194, 195, 1),
+    (197, 197, 4),
+    (198, 199, 3),
+    (200, 201, 5),
+];
+
+/// Whether instructions of these opcodes have this length.
+fn have_len(alloc: Global, low: u8, high: u8, len: usize) -> Result<bool, AllocError> {
+    for opcode in low..=high {
+        let code = [opcode, 0, 0, 0, 0];
+        if !is_whole(alloc, code.get(..len).unwrap_or(&[]), 0)? {
+            return Ok(false);
+        }
+    }
+    Ok(true)
 }
 
 #[test]
 fn lengths_of_instructions(rt: HostRuntime) -> Result<(), Fail> {
-    let cases: [(u8, u8, usize); 25] = [
-        (0, 15, 1),
-        (16, 16, 2),
-        (17, 17, 3),
-        (18, 18, 2),
-        (19, 20, 3),
-        (21, 25, 2),
-        (26, 53, 1),
-        (54, 58, 2),
-        (59, 131, 1),
-        (132, 132, 3),
-        (133, 152, 1),
-        (153, 168, 3),
-        (169, 169, 2),
-        (172, 177, 1),
-        (178, 184, 3),
-        (185, 185, 5),
-        (187, 187, 3),
-        (188, 188, 2),
-        (189, 189, 3),
-        (190, 191, 1),
-        (192, 193, 3),
-        (194, 195, 1),
-        (197, 197, 4),
-        (198, 199, 3),
-        (200, 201, 5),
-    ];
-    for (low, high, len) in cases {
-        for opcode in low..=high {
-            let code = [opcode, 0, 0, 0, 0];
-            if let Some(code) = code.get(..len) {
-                assert!(rt; is_whole(rt.alloc(), code, 0)?);
-            }
-        }
+    for (low, high, len) in LENGTHS {
+        assert!(rt; have_len(rt.alloc(), low, high, len)?);
     }
+    Ok(())
+}
+
+#[test]
+fn opcodes_of_no_instruction(rt: HostRuntime) -> Result<(), Fail> {
     for opcode in 202..=255_u8 {
         assert!(rt; is_bad_at(rt.alloc(), &[opcode], 0)?);
     }
     Ok(())
 }
 
+/// Whether a switch with these operands is whole at `pc`, where its padding depends on its place.
+fn is_whole_switch(
+    alloc: Global,
+    opcode: u8,
+    operands: &[u8],
+    pc: usize,
+) -> Result<bool, AllocError> {
+    let mut code = Vec::new(alloc);
+    code.extend_from_slice([0; 3].get(..pc).unwrap_or(&[]))?;
+    code.push(opcode)?;
+    code.extend_from_slice([7; 3].get(pc..).unwrap_or(&[]))?;
+    code.extend_from_slice(operands)?;
+    is_whole(alloc, &code, pc)
+}
+
 #[test]
-fn instructions_of_their_own_length(rt: HostRuntime) -> Result<(), Fail> {
+fn switches(rt: HostRuntime) -> Result<(), Fail> {
     let table = [
         0, 0, 0, 9, 0xFF, 0xFF, 0xFF, 0xFF, 0, 0, 0, 0, 0, 0, 0, 9, 0, 0, 0, 9,
     ];
     let lookup = [0, 0, 0, 9, 0, 0, 0, 1, 0, 0, 0, 5, 0, 0, 0, 9];
     for pc in 0..4_usize {
-        for (opcode, operands) in [(170_u8, table.as_slice()), (171, lookup.as_slice())] {
-            let mut code = Vec::new(rt.alloc());
-            code.extend_from_slice([0; 3].get(..pc).unwrap_or(&[]))?;
-            code.push(opcode)?;
-            code.extend_from_slice([7; 3].get(pc..).unwrap_or(&[]))?;
-            code.extend_from_slice(operands)?;
-            assert!(rt; is_whole(rt.alloc(), &code, pc)?);
-        }
+        assert!(rt; is_whole_switch(rt.alloc(), 170, &table, pc)?);
+        assert!(rt; is_whole_switch(rt.alloc(), 171, &lookup, pc)?);
     }
-    let falling = [170, 0, 0, 0, 0, 0, 0, 9, 0, 0, 0, 1, 0, 0, 0, 0];
-    assert!(rt; is_bad_at(rt.alloc(), &falling, 0)?);
-    let negative = [171, 0, 0, 0, 0, 0, 0, 9, 0xFF, 0xFF, 0xFF, 0xFF];
-    assert!(rt; is_bad_at(rt.alloc(), &negative, 0)?);
-    assert!(rt; is_whole(rt.alloc(), &[196, 21, 1, 0], 0)?);
-    assert!(rt; is_whole(rt.alloc(), &[196, 132, 1, 0, 0, 1], 0)?);
-    assert!(rt; is_bad_at(rt.alloc(), &[196, 0, 0, 0], 0)?);
+    Ok(())
+}
+
+#[test]
+fn bad_instructions(rt: HostRuntime) -> Result<(), Fail> {
+    let codes: [&[u8]; 3] = [
+        // The low index is above the high one.
+        &[170, 0, 0, 0, 0, 0, 0, 9, 0, 0, 0, 1, 0, 0, 0, 0],
+        // The number of pairs is negative.
+        &[171, 0, 0, 0, 0, 0, 0, 9, 0xFF, 0xFF, 0xFF, 0xFF],
+        // Nothing to be widened.
+        &[196, 0, 0, 0],
+    ];
+    for code in codes {
+        assert!(rt; is_bad_at(rt.alloc(), code, 0)?);
+    }
+    Ok(())
+}
+
+#[test]
+fn wide_instructions(rt: HostRuntime) -> Result<(), Fail> {
+    let codes: [&[u8]; 2] = [&[196, 21, 1, 0], &[196, 132, 1, 0, 0, 1]];
+    for code in codes {
+        assert!(rt; is_whole(rt.alloc(), code, 0)?);
+    }
     Ok(())
 }

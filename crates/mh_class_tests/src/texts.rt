@@ -119,17 +119,25 @@ fn halves_without_a_partner(rt: HostRuntime) {
     }
 }
 
+/// Whether the numbers at the front are read, up to one that does not fit.
+fn reads_numbers(cursor: &mut Cursor<'_>) -> bool {
+    matches!(cursor.u1(), Ok(1))
+        && matches!(cursor.u2(), Ok(2))
+        && matches!(cursor.u4(), Ok(256))
+        && matches!(cursor.u4(), Err(Short { at: 7 }))
+}
+
+/// Whether the rest is read, and nothing behind it.
+fn reads_runs(cursor: &mut Cursor<'_>) -> bool {
+    matches!(cursor.take(2), Ok([7, 8]))
+        && matches!(cursor.u2(), Err(Short { at: 9 }))
+        && matches!(cursor.u1(), Ok(9))
+        && matches!(cursor.take(1), Err(Short { at: 10 }))
+        && matches!(cursor.take(0), Ok([]))
+}
+
 #[test]
 fn numbers_and_runs(rt: HostRuntime) {
     let mut cursor = Cursor::new(&[1, 0, 2, 0, 0, 1, 0, 7, 8, 9]);
-    assert!(rt; matches!(cursor.u1(), Ok(1)));
-    assert!(rt; matches!(cursor.u2(), Ok(2)));
-    assert!(rt; matches!(cursor.u4(), Ok(256)));
-    assert!(rt; matches!(cursor.u4(), Err(Short { at: 7 })));
-    assert!(rt; matches!(cursor.take(2), Ok([7, 8])));
-    assert!(rt; matches!(cursor.u2(), Err(Short { at: 9 })));
-    assert!(rt; matches!(cursor.u1(), Ok(9)));
-    assert!(rt; matches!(cursor.take(1), Err(Short { at: 10 })));
-    assert!(rt; matches!(cursor.take(0), Ok([])));
-    assert_eq!(rt; cursor.at(), 10);
+    assert!(rt; reads_numbers(&mut cursor) && reads_runs(&mut cursor) && cursor.at() == 10);
 }
