@@ -2,10 +2,6 @@
 #![tactic(auto)]
 
 #[cfg(test)]
-mod making;
-#[cfg(test)]
-mod parts_tests;
-#[cfg(test)]
 mod trees;
 #[cfg(test)]
 mod trees_tests;

@@ -7,9 +7,9 @@ ghost use Rattle.mh_handle.specs.Stands.{StandsForSome};
 ghost use Rattle.mh_handle.specs.Works.{IsReady};
 ghost use Rattle.mh_handle_tests.specs.Making.{Spends};
 
-use mh_adapt::{bind, drop_args, permute};
+use mh_adapt::{bind, collect, drop_args, filter, filterret, fold, permute};
 use mh_astype::{as_type, invoke_exact};
-use mh_base::{Copied, NoMemory, Seq};
+use mh_base::{NoMemory, Seq};
 use mh_branch::{catch, constant, gather, guard, identity, spread, throw};
 use mh_handle::{Answer, FormTable, Handle, HandleError, Work, leaf};
 use mh_leaves::{Leaves, read_manifest};
@@ -38,6 +38,8 @@ pub const SUB: u32 = 1;
 
 pub const DIV: u32 = 2;
 
+pub const TICK: u32 = 3;
+
 pub const SAME: u32 = 4;
 
 pub const NOTHING: u32 = 5;
@@ -64,16 +66,32 @@ pub enum Root {
     Catch(u32, ClassId, u32),
 }
 
-/// One adapter more. A value is given as its literal, types as the parameters of a descriptor, and
-/// one type as the return type of a descriptor.
+/// One adapter more. A value is given as its literal, a type as a descriptor, and a part as a leaf,
+/// or it is a copy of the handle.
 #[derive(Clone, Copy)]
 pub enum Step {
     Bind(u8, &'static str),
-    Drop(u8, &'static str),
-    Permute(&'static str, &'static [u8]),
-    Spread(&'static str, u8),
-    Gather(&'static str, u8),
-    AsType(&'static str),
+    Typed(&'static str, Typed),
+    Joined(u32, Joined),
+    Doubled,
+}
+
+/// An adapter that is given types: the parameters of a descriptor, its return type, or all of it.
+#[derive(Clone, Copy)]
+pub enum Typed {
+    Drop(u8),
+    Permute(&'static [u8]),
+    Spread(u8),
+    Gather(u8),
+    AsType,
+}
+
+/// An adapter that runs another handle.
+#[derive(Clone, Copy)]
+pub enum Joined {
+    Filter(u8),
+    Fold(u8),
+    Collect(u8),
 }
 
 /// What a handle is made from, and the steps that adapt it.
@@ -90,6 +108,11 @@ fn type_of(alloc: Global, text: &str, classes: &Classes) -> Result<MethodTy, NoM
 
 fn value_of(alloc: Global, text: &str, classes: &Classes) -> Result<Value, NoMemory> {
     read_literal(alloc, text.as_bytes(), classes).map_err(|_| NoMemory)
+}
+
+fn ret_of(alloc: Global, text: &str, classes: &Classes) -> Result<Option<Ty>, NoMemory> {
+    let ty = type_of(alloc, text, classes)?;
+    Ok(ty.ret)
 }
 
 fn leaf_numbered<'t, R: Wait>(
@@ -143,6 +166,23 @@ fn caught<'t, R: Wait>(
     catch(w, rt, alloc, t, class, h)
 }
 
+fn constant_of<'t, R: Wait>(
+    w: &mut Work<'_, 't>,
+    rt: &R,
+    alloc: Global,
+    text: &str,
+    value: &str,
+) -> Result<Handle<'t>, HandleError>
+    requires ready { IsReady w.old 1 }
+    ensures spends { Spends 1 w.old w.new }
+    ensures stands { IfOk result (StandsForSome w.old.leaves.now) }
+{
+    let classes = w.leaves.classes();
+    let ret = ret_of(alloc, text, classes)?;
+    let value = value_of(alloc, value, classes)?;
+    constant(w, rt, alloc, ret, value)
+}
+
 fn rooted<'t, R: Wait>(
     w: &mut Work<'_, 't>,
     rt: &R,
@@ -153,24 +193,124 @@ fn rooted<'t, R: Wait>(
     ensures spends { Spends 4 w.old w.new }
     ensures stands { IfOk result (StandsForSome w.old.leaves.now) }
 {
+    let classes = w.leaves.classes();
     match root {
         Root::Leaf(number) => leaf_numbered(w, rt, alloc, number),
-        Root::Constant(text, value) => {
-            let classes = w.leaves.classes();
-            let ty = type_of(alloc, text, classes)?;
-            constant(w, rt, alloc, ty.ret, value_of(alloc, value, classes)?)
-        }
-        Root::Identity(text) => {
-            let ty = type_of(alloc, text, w.leaves.classes())?;
-            identity(w, rt, alloc, ty.ret)
-        }
-        Root::Throw(text, class) => {
-            let ty = type_of(alloc, text, w.leaves.classes())?;
-            throw(w, rt, alloc, ty.ret, class)
-        }
+        Root::Constant(text, value) => constant_of(w, rt, alloc, text, value),
+        Root::Identity(text) => identity(w, rt, alloc, ret_of(alloc, text, classes)?),
+        Root::Throw(text, class) => throw(w, rt, alloc, ret_of(alloc, text, classes)?, class),
         Root::Guard(test, target, fallback) => guarded(w, rt, alloc, test, target, fallback),
         Root::Catch(target, class, handler) => caught(w, rt, alloc, target, class, handler),
     }
+}
+
+fn bound<'t, R: Wait>(
+    w: &mut Work<'_, 't>,
+    rt: &R,
+    alloc: Global,
+    h: Handle<'t>,
+    pos: u8,
+    text: &str,
+) -> Result<Handle<'t>, HandleError>
+    requires ready { IsReady w.old 1 }
+    requires stands { StandsForSome w.old.leaves.now h }
+    ensures spends { Spends 1 w.old w.new }
+    ensures stands { IfOk result (StandsForSome w.old.leaves.now) }
+{
+    let value = value_of(alloc, text, w.leaves.classes())?;
+    bind(w, rt, alloc, h, pos, value)
+}
+
+fn by_type<'t, R: Wait>(
+    w: &mut Work<'_, 't>,
+    rt: &R,
+    alloc: Global,
+    h: Handle<'t>,
+    ty: &MethodTy,
+    how: Typed,
+) -> Result<Handle<'t>, HandleError>
+    requires ready { IsReady w.old 2 }
+    requires stands { StandsForSome w.old.leaves.now h }
+    ensures spends { Spends 2 w.old w.new }
+    ensures stands { IfOk result (StandsForSome w.old.leaves.now) }
+{
+    match how {
+        Typed::Drop(pos) => drop_args(w, rt, alloc, h, pos, &ty.params),
+        Typed::Permute(reorder) => permute(w, rt, alloc, h, ty, reorder),
+        Typed::Spread(n) => spread(w, rt, alloc, h, ty.ret, n),
+        Typed::Gather(n) => gather(w, rt, alloc, h, ty.ret, n),
+        Typed::AsType => as_type(w, rt, alloc, h, ty),
+    }
+}
+
+fn with_type<'t, R: Wait>(
+    w: &mut Work<'_, 't>,
+    rt: &R,
+    alloc: Global,
+    h: Handle<'t>,
+    text: &str,
+    how: Typed,
+) -> Result<Handle<'t>, HandleError>
+    requires ready { IsReady w.old 2 }
+    requires stands { StandsForSome w.old.leaves.now h }
+    ensures spends { Spends 2 w.old w.new }
+    ensures stands { IfOk result (StandsForSome w.old.leaves.now) }
+{
+    let ty = type_of(alloc, text, w.leaves.classes())?;
+    by_type(w, rt, alloc, h, &ty, how)
+}
+
+fn by_part<'t, R: Wait>(
+    w: &mut Work<'_, 't>,
+    rt: &R,
+    alloc: Global,
+    h: Handle<'t>,
+    part: Handle<'t>,
+    how: Joined,
+) -> Result<Handle<'t>, HandleError>
+    requires ready { IsReady w.old 1 }
+    requires stands { StandsForSome w.old.leaves.now h }
+    requires part { StandsForSome w.old.leaves.now part }
+    ensures spends { Spends 1 w.old w.new }
+    ensures stands { IfOk result (StandsForSome w.old.leaves.now) }
+{
+    match how {
+        Joined::Filter(pos) => filter(w, rt, alloc, h, pos, part),
+        Joined::Fold(pos) => fold(w, rt, alloc, h, pos, part),
+        Joined::Collect(pos) => collect(w, rt, alloc, h, pos, part),
+    }
+}
+
+fn with_part<'t, R: Wait>(
+    w: &mut Work<'_, 't>,
+    rt: &R,
+    alloc: Global,
+    h: Handle<'t>,
+    number: u32,
+    how: Joined,
+) -> Result<Handle<'t>, HandleError>
+    requires ready { IsReady w.old 2 }
+    requires stands { StandsForSome w.old.leaves.now h }
+    ensures spends { Spends 2 w.old w.new }
+    ensures stands { IfOk result (StandsForSome w.old.leaves.now) }
+{
+    let part = leaf_numbered(w, rt, alloc, number)?;
+    by_part(w, rt, alloc, h, part, how)
+}
+
+fn doubled<'t, R: Wait>(
+    w: &mut Work<'_, 't>,
+    rt: &R,
+    alloc: Global,
+    h: Handle<'t>,
+) -> Result<Handle<'t>, HandleError>
+    requires ready { IsReady w.old 1 }
+    requires stands { StandsForSome w.old.leaves.now h }
+    ensures spends { Spends 1 w.old w.new }
+    ensures stands { IfOk result (StandsForSome w.old.leaves.now) }
+{
+    let part = h.copy(alloc, w)?;
+    filterret(w, rt, alloc, h, part)
 }
 
 fn adapted<'t, R: Wait>(
@@ -185,23 +325,11 @@ fn adapted<'t, R: Wait>(
     ensures spends { Spends 2 w.old w.new }
     ensures stands { IfOk result (StandsForSome w.old.leaves.now) }
 {
-    let classes = w.leaves.classes();
     match step {
-        Step::Bind(pos, text) => bind(w, rt, alloc, h, pos, value_of(alloc, text, classes)?),
-        Step::Drop(pos, text) => {
-            let ty = type_of(alloc, text, classes)?;
-            drop_args(w, rt, alloc, h, pos, &ty.params)
-        }
-        Step::Permute(text, reorder) => {
-            let ty = type_of(alloc, text, classes)?;
-            permute(w, rt, alloc, h, &ty, reorder)
-        }
-        Step::Spread(text, n) => spread(w, rt, alloc, h, type_of(alloc, text, classes)?.ret, n),
-        Step::Gather(text, n) => gather(w, rt, alloc, h, type_of(alloc, text, classes)?.ret, n),
-        Step::AsType(text) => {
-            let ty = type_of(alloc, text, classes)?;
-            as_type(w, rt, alloc, h, &ty)
-        }
+        Step::Bind(pos, text) => bound(w, rt, alloc, h, pos, text),
+        Step::Typed(text, how) => with_type(w, rt, alloc, h, text, how),
+        Step::Joined(number, how) => with_part(w, rt, alloc, h, number, how),
+        Step::Doubled => doubled(w, rt, alloc, h),
     }
 }
 
@@ -250,6 +378,20 @@ fn items_of(alloc: Global, texts: &[&str], classes: &Classes) -> Result<Items, N
     Ok(items)
 }
 
+fn call_typed<'t>(
+    alloc: Global,
+    h: &Handle<'t>,
+    leaves: &Leaves,
+    args: &Items,
+) -> Result<Answer, NoMemory>
+    requires stands { StandsForSome leaves.now h.now }
+{
+    if !are_typed(args.as_slice(), h.ty().params.as_slice(), leaves.classes()) {
+        return Err(NoMemory);
+    }
+    invoke_exact(alloc, h, leaves, h.ty(), args, 0)
+}
+
 fn call<'t>(
     alloc: Global,
     h: &Handle<'t>,
@@ -258,12 +400,39 @@ fn call<'t>(
 ) -> Result<Answer, NoMemory>
     requires stands { StandsForSome leaves.now h.now }
 {
-    let ty = h.ty().copy(alloc)?;
     let args = items_of(alloc, texts, leaves.classes())?;
-    if !are_typed(args.as_slice(), ty.params.as_slice(), leaves.classes()) {
-        return Err(NoMemory);
-    }
-    invoke_exact(alloc, h, leaves, &ty, &args, 0)
+    call_typed(alloc, h, leaves, &args)
+}
+
+fn answer_on<'t, R: Wait>(
+    w: &mut Work<'_, 't>,
+    rt: &R,
+    alloc: Global,
+    making: &Making,
+    texts: &[&str],
+) -> Result<Answer, HandleError>
+    requires ready { IsReady w.old 204 }
+    requires few { length making.now.1.now ≤ 100 }
+{
+    let leaves = w.leaves;
+    let h = made(w, rt, alloc, making)?;
+    Ok(call(alloc, &h, leaves, texts)?)
+}
+
+fn numbers_on<'t, R: Wait>(
+    w: &mut Work<'_, 't>,
+    rt: &R,
+    alloc: Global,
+    first: &Making,
+    second: &Making,
+) -> Result<(u64, u64), HandleError>
+    requires ready { IsReady w.old 408 }
+    requires first { length first.now.1.now ≤ 100 }
+    requires second { length second.now.1.now ≤ 100 }
+{
+    let one = made(w, rt, alloc, first)?;
+    let other = made(w, rt, alloc, second)?;
+    Ok((one.form().number(), other.form().number()))
 }
 
 /// What a handle answers that is made on a table of its own, by up to 100 steps, to a call by its
@@ -285,13 +454,13 @@ pub fn answer_of<R: Wait>(
         pass: &mut pass,
         leaves,
     };
-    let h = made(&mut w, rt, alloc, making);
+    let answer = answer_on(&mut w, rt, alloc, making, texts);
     let Work {
         forms: _,
         pass: _,
         leaves: _,
     } = w;
-    Ok(call(alloc, &h?, leaves, texts)?)
+    answer
 }
 
 /// The numbers of the forms of two handles that are made on one table, each by up to 100 steps.
@@ -312,12 +481,11 @@ pub fn form_numbers<R: Wait>(
         pass: &mut pass,
         leaves,
     };
-    let one = made(&mut w, rt, alloc, first);
-    let other = made(&mut w, rt, alloc, second);
+    let numbers = numbers_on(&mut w, rt, alloc, first, second);
     let Work {
         forms: _,
         pass: _,
         leaves: _,
     } = w;
-    Ok((one?.form().number(), other?.form().number()))
+    numbers
 }

@@ -1,16 +1,11 @@
 use Rattle.mh_tree.specs.Tree as tree
 use Rattle.mh_handle_tests.proofs.Spending.{some-tree}
-use Rattle.mh_handle_tests.proofs.making.adapted.Goals as goal
+use Rattle.mh_handle_tests.proofs.trees.by_part.Goals as goal
 
 pub returns-in-Filter-clause-stands : goal.returns-in-Filter-clause-stands
 returns-in-Filter-clause-stands g c =
     some-tree c.args.w.now.leaves.now (tree.FilterArg c.requires.stands.0 c.in-Filter.pos c.requires.part.0) c.filter.result
     (c.filter.ensures.stands c.requires.stands.0 c.requires.part.0 c.requires.stands.1 c.requires.part.1)
-
-pub returns-in-FilterResult-clause-stands : goal.returns-in-FilterResult-clause-stands
-returns-in-FilterResult-clause-stands g c =
-    some-tree c.args.w.now.leaves.now (tree.FilterRet c.requires.stands.0 c.requires.part.0) c.filterret.result
-    (c.filterret.ensures.stands c.requires.stands.0 c.requires.part.0 c.requires.stands.1 c.requires.part.1)
 
 pub returns-in-Fold-clause-stands : goal.returns-in-Fold-clause-stands
 returns-in-Fold-clause-stands g c =
