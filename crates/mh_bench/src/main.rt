@@ -5,7 +5,7 @@
 mod making;
 mod rows;
 
-use rows::{measured, row_named};
+use rows::{Row, measured, row_named};
 use std::process::ExitCode;
 use std::{env, io};
 
@@ -24,23 +24,27 @@ fn words(rt: &HostRuntime) -> io::Result<Vec<String>> {
     Ok(words)
 }
 
+/// The row's name, the row and the number of turns that the words name.
+fn request(words: &[String]) -> Option<(&str, Row, u32)> {
+    let [name, turns] = words else {
+        return None;
+    };
+    let row = row_named(name.as_str())?;
+    let turns = turns.as_str().parse::<u32>().ok()?;
+    Some((name.as_str(), row, turns))
+}
+
 fn main(rt: HostRuntime) -> ExitCode {
     let Ok(words) = words(&rt) else {
         return ExitCode::from(FAILED);
     };
-    let [name, turns] = words.as_slice() else {
-        return ExitCode::from(USAGE);
-    };
-    let Some(row) = row_named(name.as_str()) else {
-        return ExitCode::from(USAGE);
-    };
-    let Ok(turns) = turns.as_str().parse::<u32>() else {
+    let Some((name, row, turns)) = request(words.as_slice()) else {
         return ExitCode::from(USAGE);
     };
     let Ok(sum) = measured(&rt, rt.alloc(), row, turns) else {
         return ExitCode::from(FAILED);
     };
-    match println!(rt; "{} {turns} {sum}", name.as_str()) {
+    match println!(rt; "{name} {turns} {sum}") {
         Ok(()) => ExitCode::SUCCESS,
         Err(_) => ExitCode::from(FAILED),
     }

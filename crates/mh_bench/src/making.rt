@@ -89,6 +89,55 @@ fn filtered<'t, R: Wait>(
     filter(w, rt, alloc, h, 0, part)
 }
 
+fn converted<'t, R: Wait>(
+    w: &mut Work<'_, 't>,
+    rt: &R,
+    alloc: Global,
+    h: Handle<'t>,
+) -> Result<Handle<'t>, HandleError>
+    requires ready { IsReady w.old 2 }
+    requires stands { StandsForSome w.old.leaves.now h }
+    ensures spends { Spends 2 w.old w.new }
+    ensures stands { IfOk result (StandsForSome w.old.leaves.now) }
+{
+    let ty = MethodTy {
+        params: h.ty().params.copy()?,
+        ret: Some(LONG),
+    };
+    as_type(w, rt, alloc, h, &ty)
+}
+
+fn doubled<'t, R: Wait>(
+    w: &mut Work<'_, 't>,
+    rt: &R,
+    alloc: Global,
+    h: Handle<'t>,
+) -> Result<Handle<'t>, HandleError>
+    requires ready { IsReady w.old 1 }
+    requires stands { StandsForSome w.old.leaves.now h }
+    ensures spends { Spends 1 w.old w.new }
+    ensures stands { IfOk result (StandsForSome w.old.leaves.now) }
+{
+    let part = h.copy(alloc, w)?;
+    filterret(w, rt, alloc, h, part)
+}
+
+fn dropped<'t, R: Wait>(
+    w: &mut Work<'_, 't>,
+    rt: &R,
+    alloc: Global,
+    h: Handle<'t>,
+    count: u8,
+) -> Result<Handle<'t>, HandleError>
+    requires ready { IsReady w.old 1 }
+    requires stands { StandsForSome w.old.leaves.now h }
+    ensures spends { Spends 1 w.old w.new }
+    ensures stands { IfOk result (StandsForSome w.old.leaves.now) }
+{
+    let types = ints(alloc, count)?;
+    drop_args(w, rt, alloc, h, 0, &types)
+}
+
 fn adapted<'t, R: Wait>(
     w: &mut Work<'_, 't>,
     rt: &R,
@@ -104,18 +153,9 @@ fn adapted<'t, R: Wait>(
     match step {
         Step::Bind(number) => bind(w, rt, alloc, h, 0, Value::Boxed(Num::I(number))),
         Step::Filter => filtered(w, rt, alloc, h),
-        Step::Convert => {
-            let ty = MethodTy {
-                params: h.ty().params.copy()?,
-                ret: Some(LONG),
-            };
-            as_type(w, rt, alloc, h, &ty)
-        }
-        Step::Double => {
-            let part = h.copy(alloc, w)?;
-            filterret(w, rt, alloc, h, part)
-        }
-        Step::Drop(count) => drop_args(w, rt, alloc, h, 0, &ints(alloc, count)?),
+        Step::Convert => converted(w, rt, alloc, h),
+        Step::Double => doubled(w, rt, alloc, h),
+        Step::Drop(count) => dropped(w, rt, alloc, h, count),
     }
 }
 

@@ -2,23 +2,24 @@
 
 ghost use Rattle.std.specs.Prelude.{◌≡◌, ◌≤◌, ◌+◌, length, IfOk};
 ghost use Rattle.mh_values.specs.HasType.{HaveTypes};
+ghost use Rattle.mh_handle.specs.Passes.{seat_at};
 ghost use Rattle.mh_handle.specs.Works.{IsReady};
 ghost use Rattle.mh_handle.specs.Stands.{StandsForSome};
 
-use crate::making::{ADD, INT, LONG, SAME, Step, demo_leaves, made};
+use crate::making::{ADD, INT, SAME, Step, demo_leaves, made};
 use mh_adapt::bind;
 use mh_astype::invoke_exact;
 use mh_base::{NoMemory, Seq};
 use mh_edit::Key;
 use mh_form::{Basic, BasicRet, Basics, Shape};
-use mh_handle::{FormTable, Handle, HandleError, Work};
+use mh_handle::{FormSeat, FormTable, Handle, HandleError, Work};
 use mh_leaves::Leaves;
-use mh_values::{Items, MethodTy, Num, Ty, Value};
+use mh_values::{Items, LeafId, MethodTy, Num, Value};
 use std::alloc::Global;
 use std::sync::Wait;
 
 /// What is measured.
-#[derive(Clone, Copy, Debug, PartialEq, Eq)]
+#[derive(Clone, Copy)]
 pub enum Row {
     /// A call of a leaf under a bind, a filter and a conversion.
     RunThreeNames,
@@ -92,7 +93,6 @@ fn run<'t>(
     h: &Handle<'t>,
     leaves: &Leaves,
     numbers: &[i32],
-    ret: Ty,
     turns: u32,
 ) -> Result<u64, NoMemory>
     requires stands { StandsForSome leaves.now h.now }
@@ -105,7 +105,7 @@ fn run<'t>(
     }
     let ty = MethodTy {
         params,
-        ret: Some(ret),
+        ret: h.ty().ret,
     };
     run_each(alloc, h, leaves, &ty, &args, turns)
 }
@@ -191,39 +191,48 @@ fn forms<'t, R: Wait>(
     Ok(sum)
 }
 
-/// The work of a row, so many times, on one table.
-fn row_on<'t, R: Wait>(
+/// Makes a handle of ints by these steps, and calls it so many times.
+fn calls<'t, R: Wait>(
     w: &mut Work<'_, 't>,
     rt: &R,
     alloc: Global,
-    row: Row,
+    id: LeafId,
+    steps: &[Step],
+    numbers: &[i32],
+    turns: u32,
+) -> Result<u64, HandleError>
+    requires ready { IsReady w.old 201 }
+    requires few { length steps.now ≤ 100 }
+{
+    let leaves = w.leaves;
+    let h = made(w, rt, alloc, id, steps)?;
+    Ok(run(alloc, &h, leaves, numbers, turns)?)
+}
+
+/// Makes a handle, and asks so many times for its form with the first parameter bound.
+fn edits<'t, R: Wait>(
+    w: &mut Work<'_, 't>,
+    rt: &R,
+    alloc: Global,
     turns: u32,
 ) -> Result<u64, HandleError>
     requires ready { IsReady w.old (201 + turns) }
 {
-    match row {
-        Row::RunThreeNames => {
-            let h = made(w, rt, alloc, ADD, &THREE_NAMES)?;
-            Ok(run(alloc, &h, w.leaves, &[7], LONG, turns)?)
-        }
-        Row::EditSeen => {
-            let h = made(w, rt, alloc, ADD, &[Step::Filter])?;
-            edit_each(w, rt, alloc, &h, turns)
-        }
-        Row::BindSeen => {
-            let h = made(w, rt, alloc, ADD, &[Step::Filter])?;
-            bind_each(w, rt, alloc, &h, turns)
-        }
-        Row::Drops60 => {
-            let h = made(w, rt, alloc, SAME, &drops())?;
-            Ok(h.form().number())
-        }
-        Row::Tree256 => {
-            let h = made(w, rt, alloc, SAME, &TREE)?;
-            Ok(run(alloc, &h, w.leaves, &[1, 2], INT, turns)?)
-        }
-        Row::NewForm => forms(w, rt, alloc, turns),
-    }
+    let h = made(w, rt, alloc, ADD, &[Step::Filter])?;
+    edit_each(w, rt, alloc, &h, turns)
+}
+
+/// Makes a handle, and binds so many copies of it.
+fn binds<'t, R: Wait>(
+    w: &mut Work<'_, 't>,
+    rt: &R,
+    alloc: Global,
+    turns: u32,
+) -> Result<u64, HandleError>
+    requires ready { IsReady w.old (201 + turns) }
+{
+    let h = made(w, rt, alloc, ADD, &[Step::Filter])?;
+    bind_each(w, rt, alloc, &h, turns)
 }
 
 /// A drop of 193 ints, and 60 drops of one.
@@ -235,18 +244,49 @@ fn drops() -> [Step; 61]
     steps
 }
 
-/// The work of a row, so many times, on a table of its own.
-fn once<R: Wait>(
+/// Makes a handle of 254 parameters.
+fn many_drops<'t, R: Wait>(w: &mut Work<'_, 't>, rt: &R, alloc: Global) -> Result<u64, HandleError>
+    requires ready { IsReady w.old 201 }
+{
+    let h = made(w, rt, alloc, SAME, &drops())?;
+    Ok(h.form().number())
+}
+
+/// The work of a row, so many times, on one table.
+fn row_on<'t, R: Wait>(
+    w: &mut Work<'_, 't>,
     rt: &R,
     alloc: Global,
+    row: Row,
+    turns: u32,
+) -> Result<u64, HandleError>
+    requires ready { IsReady w.old (201 + turns) }
+{
+    match row {
+        Row::RunThreeNames => calls(w, rt, alloc, ADD, &THREE_NAMES, &[7], turns),
+        Row::EditSeen => edits(w, rt, alloc, turns),
+        Row::BindSeen => binds(w, rt, alloc, turns),
+        Row::Drops60 => many_drops(w, rt, alloc),
+        Row::Tree256 => calls(w, rt, alloc, SAME, &TREE, &[1, 2], turns),
+        Row::NewForm => forms(w, rt, alloc, turns),
+    }
+}
+
+/// The work of a row, so many times, by the first pass over a table.
+fn first_on<R: Wait>(
+    rt: &R,
+    alloc: Global,
+    table: &FormTable,
+    seat: FormSeat,
     leaves: &Leaves,
     row: Row,
     turns: u32,
-) -> Result<u64, HandleError> {
-    let (table, seat) = FormTable::new(alloc)?;
+) -> Result<u64, HandleError>
+    requires first { seat ≡ seat_at 0 }
+{
     let mut pass = table.first_pass(alloc, seat)?;
     let mut w = Work {
-        forms: &table,
+        forms: table,
         pass: &mut pass,
         leaves,
     };
@@ -259,10 +299,22 @@ fn once<R: Wait>(
     done
 }
 
+/// The work of a row, so many times, on a table of its own.
+fn once<R: Wait>(
+    rt: &R,
+    alloc: Global,
+    leaves: &Leaves,
+    row: Row,
+    turns: u32,
+) -> Result<u64, HandleError> {
+    let (table, seat) = FormTable::new(alloc)?;
+    first_on(rt, alloc, &table, seat, leaves, row, turns)
+}
+
 /// The work of a row, so many times. The answer depends on all of it.
 pub fn measured<R: Wait>(rt: &R, alloc: Global, row: Row, turns: u32) -> Result<u64, HandleError> {
     let leaves = demo_leaves(alloc)?;
-    if row != Row::Drops60 {
+    if !matches!(row, Row::Drops60) {
         return once(rt, alloc, &leaves, row, turns);
     }
     let mut sum: u64 = 0;

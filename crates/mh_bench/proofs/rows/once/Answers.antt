@@ -1,7 +1,0 @@
-use Rattle.std.proofs.Common.{◌+◌, arith}
-use Rattle.mh_bench.proofs.Rooms.{ready-first}
-use Rattle.mh_bench.proofs.rows.once.Goals as goal
-
-pub row_on-done-requires : goal.row_on-done-requires
-row_on-done-requires g c =
-    record { ready = ready-first _ c.in_ok-table.seat (201 + c.args.turns) c.in_ok-pass.ensures c.in_ok-table.ensures.seat (omega (arith, c.ranges.turns.fits)) }
