@@ -1,8 +1,9 @@
 //! Handles made of the leaves of one manifest by roots and adapters, which are given as texts, and
 //! called.
 
-ghost use Rattle.std.specs.Prelude.{◌≤◌, length, IfOk, IsTrue};
+ghost use Rattle.std.specs.Prelude.{◌≡◌, ◌≤◌, length, IfOk, IsTrue};
 ghost use Rattle.mh_values.specs.HasType.{HaveTypes};
+ghost use Rattle.mh_handle.specs.Passes.{seat_at};
 ghost use Rattle.mh_handle.specs.Stands.{StandsForSome};
 ghost use Rattle.mh_handle.specs.Works.{IsReady};
 ghost use Rattle.mh_handle_tests.specs.Making.{Spends};
@@ -11,7 +12,7 @@ use mh_adapt::{bind, collect, drop_args, filter, filterret, fold, permute};
 use mh_astype::{as_type, invoke_exact};
 use mh_base::{NoMemory, Seq};
 use mh_branch::{catch, constant, gather, guard, identity, spread, throw};
-use mh_handle::{Answer, FormTable, Handle, HandleError, Work, leaf};
+use mh_handle::{Answer, FormSeat, FormTable, Handle, HandleError, Work, leaf};
 use mh_leaves::{Leaves, read_manifest};
 use mh_texts::read_literal;
 use mh_values::{ClassId, Classes, Items, LeafId, MethodTy, Ty, Value, has_type, read_descriptor};
@@ -419,6 +420,20 @@ fn answer_on<'t, R: Wait>(
     Ok(call(alloc, &h, leaves, texts)?)
 }
 
+fn number_on<'t, R: Wait>(
+    w: &mut Work<'_, 't>,
+    rt: &R,
+    alloc: Global,
+    making: &Making,
+) -> Result<u64, HandleError>
+    requires ready { IsReady w.old 204 }
+    requires few { length making.now.1.now ≤ 100 }
+    ensures spends { Spends 204 w.old w.new }
+{
+    let h = made(w, rt, alloc, making)?;
+    Ok(h.form().number())
+}
+
 fn numbers_on<'t, R: Wait>(
     w: &mut Work<'_, 't>,
     rt: &R,
@@ -430,9 +445,64 @@ fn numbers_on<'t, R: Wait>(
     requires first { length first.now.1.now ≤ 100 }
     requires second { length second.now.1.now ≤ 100 }
 {
-    let one = made(w, rt, alloc, first)?;
-    let other = made(w, rt, alloc, second)?;
-    Ok((one.form().number(), other.form().number()))
+    let one = number_on(w, rt, alloc, first)?;
+    let other = number_on(w, rt, alloc, second)?;
+    Ok((one, other))
+}
+
+fn answer_at<R: Wait>(
+    rt: &R,
+    alloc: Global,
+    table: &FormTable,
+    seat: FormSeat,
+    leaves: &Leaves,
+    making: &Making,
+    texts: &[&str],
+) -> Result<Answer, HandleError>
+    requires first { seat ≡ seat_at 0 }
+    requires few { length making.now.1.now ≤ 100 }
+{
+    let mut pass = table.first_pass(alloc, seat)?;
+    let mut w = Work {
+        forms: table,
+        pass: &mut pass,
+        leaves,
+    };
+    let answer = answer_on(&mut w, rt, alloc, making, texts);
+    let Work {
+        forms: _,
+        pass: _,
+        leaves: _,
+    } = w;
+    answer
+}
+
+fn numbers_at<R: Wait>(
+    rt: &R,
+    alloc: Global,
+    table: &FormTable,
+    seat: FormSeat,
+    leaves: &Leaves,
+    first: &Making,
+    second: &Making,
+) -> Result<(u64, u64), HandleError>
+    requires seat { seat ≡ seat_at 0 }
+    requires first { length first.now.1.now ≤ 100 }
+    requires second { length second.now.1.now ≤ 100 }
+{
+    let mut pass = table.first_pass(alloc, seat)?;
+    let mut w = Work {
+        forms: table,
+        pass: &mut pass,
+        leaves,
+    };
+    let numbers = numbers_on(&mut w, rt, alloc, first, second);
+    let Work {
+        forms: _,
+        pass: _,
+        leaves: _,
+    } = w;
+    numbers
 }
 
 /// What a handle answers that is made on a table of its own, by up to 100 steps, to a call by its
@@ -448,19 +518,7 @@ pub fn answer_of<R: Wait>(
         return Err(HandleError::NoMemory);
     }
     let (table, seat) = FormTable::new(alloc)?;
-    let mut pass = table.first_pass(alloc, seat)?;
-    let mut w = Work {
-        forms: &table,
-        pass: &mut pass,
-        leaves,
-    };
-    let answer = answer_on(&mut w, rt, alloc, making, texts);
-    let Work {
-        forms: _,
-        pass: _,
-        leaves: _,
-    } = w;
-    answer
+    answer_at(rt, alloc, &table, seat, leaves, making, texts)
 }
 
 /// The numbers of the forms of two handles that are made on one table, each by up to 100 steps.
@@ -475,17 +533,5 @@ pub fn form_numbers<R: Wait>(
         return Err(HandleError::NoMemory);
     }
     let (table, seat) = FormTable::new(alloc)?;
-    let mut pass = table.first_pass(alloc, seat)?;
-    let mut w = Work {
-        forms: &table,
-        pass: &mut pass,
-        leaves,
-    };
-    let numbers = numbers_on(&mut w, rt, alloc, first, second);
-    let Work {
-        forms: _,
-        pass: _,
-        leaves: _,
-    } = w;
-    numbers
+    numbers_at(rt, alloc, &table, seat, leaves, first, second)
 }
