@@ -103,10 +103,17 @@ fn has_link(view: &ClassView<'_>) -> bool {
         && view.bootstrap(0).name.bytes() == b"link".as_slice()
 }
 
+/// Whether a file is read with one call site, as [`each_kind_file`] has it.
+fn is_read_back(alloc: Global, file: &[u8]) -> bool {
+    match read(alloc, file, 1) {
+        Ok(view) => has_each_kind(&view) && has_link(&view),
+        Err(_) => false,
+    }
+}
+
 #[test]
 fn a_call_site_is_read_back(rt: HostRuntime) -> Result<(), Fail> {
     let file = each_kind_file(rt.alloc())?;
-    let view = read(rt.alloc(), &file, 1).ok().ok_or("a class file")?;
-    assert!(rt; has_each_kind(&view) && has_link(&view));
+    assert!(rt; is_read_back(rt.alloc(), &file));
     Ok(())
 }

@@ -128,21 +128,33 @@ fn constants_of_each_kind(rt: HostRuntime) {
     assert!(rt; has_constants(rt.alloc(), all_tags(), &ALL_TAGS_CONSTANTS));
 }
 
-#[test]
-fn a_handle(rt: HostRuntime) -> Result<(), Fail> {
-    let view = read(rt.alloc(), all_tags(), 0).ok().ok_or("a class file")?;
-    let constant = view.constant(22);
-    assert!(rt;
-        matches!(constant, Some(Constant::Handle(h)) if is_handle(&h, 8, b"all/Tags", b"m", 3))
-    );
-    Ok(())
+/// Whether the constant at an index of [`all_tags`] is the handle of an interface method.
+fn has_handle(alloc: Global, index: u16) -> bool {
+    let Ok(view) = read(alloc, all_tags(), 0) else {
+        return false;
+    };
+    matches!(
+        view.constant(index),
+        Some(Constant::Handle(h)) if is_handle(&h, 8, b"all/Tags", b"m", 3)
+    )
 }
 
 #[test]
-fn a_class_without_sites(rt: HostRuntime) -> Result<(), Fail> {
-    let view = read(rt.alloc(), made(), 0).ok().ok_or("a class file")?;
-    assert!(rt; view.sites() == 0 && view.bootstraps() == 0);
-    Ok(())
+fn a_handle(rt: HostRuntime) {
+    assert!(rt; has_handle(rt.alloc(), 22));
+}
+
+/// Whether a file is read as one without call sites and bootstrap methods.
+fn has_no_sites(alloc: Global, file: &[u8]) -> bool {
+    match read(alloc, file, 0) {
+        Ok(view) => view.sites() == 0 && view.bootstraps() == 0,
+        Err(_) => false,
+    }
+}
+
+#[test]
+fn a_class_without_sites(rt: HostRuntime) {
+    assert!(rt; has_no_sites(rt.alloc(), made()));
 }
 
 /// Whether a call site of `run(I)V` has this place, bootstrap method and type.
@@ -175,11 +187,17 @@ fn has_demo_bootstraps(view: &ClassView<'_>) -> bool {
         && view.arguments(1) == 3
 }
 
+/// Whether [`demo`] is read with its call sites and bootstrap methods.
+fn is_demo_read(alloc: Global) -> bool {
+    match read(alloc, demo(), 2) {
+        Ok(view) => has_demo_sites(&view) && has_demo_bootstraps(&view),
+        Err(_) => false,
+    }
+}
+
 #[test]
-fn the_sites_of_a_class(rt: HostRuntime) -> Result<(), Fail> {
-    let view = read(rt.alloc(), demo(), 2).ok().ok_or("a class file")?;
-    assert!(rt; has_demo_sites(&view) && has_demo_bootstraps(&view));
-    Ok(())
+fn the_sites_of_a_class(rt: HostRuntime) {
+    assert!(rt; is_demo_read(rt.alloc()));
 }
 
 /// Whether the front of [`made`] of this length is refused with a fault.
