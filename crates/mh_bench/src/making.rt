@@ -89,6 +89,15 @@ fn filtered<'t, R: Wait>(
     filter(w, rt, alloc, h, 0, part)
 }
 
+/// The same parameters with the result of a long.
+fn with_long(ty: &MethodTy) -> Result<MethodTy, NoMemory> {
+    let params = ty.params.copy()?;
+    Ok(MethodTy {
+        params,
+        ret: Some(LONG),
+    })
+}
+
 fn converted<'t, R: Wait>(
     w: &mut Work<'_, 't>,
     rt: &R,
@@ -100,10 +109,7 @@ fn converted<'t, R: Wait>(
     ensures spends { Spends 2 w.old w.new }
     ensures stands { IfOk result (StandsForSome w.old.leaves.now) }
 {
-    let ty = MethodTy {
-        params: h.ty().params.copy()?,
-        ret: Some(LONG),
-    };
+    let ty = with_long(h.ty())?;
     as_type(w, rt, alloc, h, &ty)
 }
 

@@ -1,6 +1,7 @@
 //! The work that is measured.
 
-ghost use Rattle.std.specs.Prelude.{◌≡◌, ◌≤◌, ◌+◌, length, IfOk};
+ghost use Rattle.std.specs.Prelude.{◌≡◌, ◌≤◌, ◌+◌, List, length, IfOk};
+ghost use Rattle.mh_values.specs.declared.class.Class.{Class};
 ghost use Rattle.mh_values.specs.HasType.{HaveTypes};
 ghost use Rattle.mh_handle.specs.Passes.{seat_at};
 ghost use Rattle.mh_handle.specs.Works.{IsReady};
@@ -14,7 +15,7 @@ use mh_edit::Key;
 use mh_form::{Basic, BasicRet, Basics, Shape};
 use mh_handle::{FormSeat, FormTable, Handle, HandleError, Work};
 use mh_leaves::Leaves;
-use mh_values::{Items, LeafId, MethodTy, Num, Value};
+use mh_values::{Items, LeafId, MethodTy, Num, Tys, Value};
 use std::alloc::Global;
 use std::sync::Wait;
 
@@ -87,6 +88,20 @@ fn run_each<'t>(
     Ok(calls)
 }
 
+/// Ints as arguments, and their types.
+fn int_args(alloc: Global, numbers: &[i32]) -> Result<(Items, Tys), NoMemory>
+    ensures { IfOk result
+        (λ made. (classes : List Class) → HaveTypes classes made.0 made.1) }
+{
+    let mut params = Seq::new(alloc);
+    let mut args = Seq::new(alloc);
+    for number in numbers {
+        params.push(INT)?;
+        args.push(Value::Prim(Num::I(*number)))?;
+    }
+    Ok((args, params))
+}
+
 /// Calls a handle of ints so many times.
 fn run<'t>(
     alloc: Global,
@@ -97,12 +112,7 @@ fn run<'t>(
 ) -> Result<u64, NoMemory>
     requires stands { StandsForSome leaves.now h.now }
 {
-    let mut params = Seq::new(alloc);
-    let mut args = Seq::new(alloc);
-    for number in numbers {
-        params.push(INT)?;
-        args.push(Value::Prim(Num::I(*number)))?;
-    }
+    let (args, params) = int_args(alloc, numbers)?;
     let ty = MethodTy {
         params,
         ret: h.ty().ret,
