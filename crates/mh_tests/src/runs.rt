@@ -2,7 +2,9 @@ use mh_main::top;
 use mh_outside::{MemoryInputs, MemorySink, OpenGate};
 use std::alloc::{AllocError, Global};
 use std::collections::BTreeMap;
+use std::sync::Wait;
 use std::test::Fail;
+use std::thread::Threads;
 
 const LEAVES: &str = "class demo/Host java/lang/Object\nstatic demo/Host add (II)I iadd\n";
 
@@ -71,163 +73,190 @@ fn sink(alloc: Global, fail: &[u64]) -> Result<MemorySink, AllocError> {
     })
 }
 
+/// The program's status and its sink after a run. The reads and writes of these numbers fail.
+fn run<R: Threads + Wait + Sync>(
+    rt: &R,
+    alloc: Global,
+    files: (&str, &str),
+    reads: &[u64],
+    writes: &[u64],
+) -> Result<(u8, MemorySink), AllocError> {
+    let (leaves, plan) = files;
+    let mut inputs = inputs(alloc, leaves, plan, reads)?;
+    let mut sink = sink(alloc, writes)?;
+    let answer = top(rt, alloc, &WORDS, &mut inputs, &mut sink, &OpenGate);
+    Ok((answer.status, sink))
+}
+
+/// The leaves and the plan, the status and the text of a run.
+type Run = (&'static str, &'static str, u8, &'static str);
+
+fn holds<R: Threads + Wait + Sync>(
+    rt: &R,
+    alloc: Global,
+    row: &Run,
+    reads: &[u64],
+    writes: &[u64],
+) -> Result<bool, AllocError> {
+    let (leaves, plan, status, text) = *row;
+    let (found, sink) = run(rt, alloc, (leaves, plan), reads, writes)?;
+    Ok(found == status && sink.bytes.as_slice() == text.as_bytes())
+}
+
+const RUNS: [Run; 10] = [
+    (LEAVES, PLAN, 0, TEXT),
+    // Sums wrap to 32 bits.
+    (
+        LEAVES,
+        "thread\nexact leaf:demo/Host.add:(II)I (II)I i:2147483647 i:1\n",
+        0,
+        "thread 0\nreturns i:-2147483648 calls 0\nattempts 0 forms 1 types 0\n",
+    ),
+    (LEAVES, "", 0, "attempts 0 forms 0 types 0\n"),
+    (
+        HOST,
+        "thread\ngeneric leaf:demo/Host.wide:(JI)J (Ljava/lang/Object;I)J I:5 i:0\ngeneric leaf:demo/Host.wide:(JI)J (Ljava/lang/Object;I)J J:5 i:0\ngeneric leaf:demo/Host.wide:(JI)J (Ljava/lang/Object;I)J s:x i:0\ngeneric leaf:demo/Host.wide:(JI)J (Ljava/lang/Object;I)J null i:0\n",
+        0,
+        "thread 0\nreturns j:5 calls 3\nreturns j:5 calls 3\nthrows java/lang/ClassCastException s: calls -\nthrows java/lang/NullPointerException s: calls -\nattempts 0 forms 2 types 0\n",
+    ),
+    (
+        HOST,
+        "thread\ngeneric leaf:demo/Host.flag:(Z)V (Ljava/lang/Number;)V J:1\n",
+        0,
+        "thread 0\nthrows java/lang/invoke/WrongMethodTypeException s:have\\s(Z)V\\swant\\s(Ljava/lang/Number;)V calls -\nattempts 0 forms 1 types 0\n",
+    ),
+    (
+        HOST,
+        "thread\ngeneric leaf:demo/Host.flag:(Z)V (Ljava/lang/Object;)V Z:true\nthread\ngeneric leaf:demo/Host.same:(I)I (I)J i:-7\ngeneric leaf:demo/Host.same:(I)I (I)I i:7\n",
+        0,
+        "thread 0\nreturns void calls 4\nthread 1\nreturns j:-7 calls 2\nreturns i:7 calls 2\nattempts 0 forms 4 types 0\n",
+    ),
+    (
+        HOST,
+        "thread\nexact leaf:demo/Host.div:(II)I (II)I i:1 i:0\nexact leaf:demo/Host.div:(II)I (II)I i:-2147483648 i:-1\nexact leaf:demo/Host.add:(II)I (IJ)I i:1 j:2\n",
+        0,
+        "thread 0\nthrows java/lang/ArithmeticException s:/\\sby\\szero calls 1\nreturns i:-2147483648 calls 1\nthrows java/lang/invoke/WrongMethodTypeException s:have\\s(II)I\\swant\\s(IJ)I calls -\nattempts 0 forms 1 types 0\n",
+    ),
+    (
+        HOST,
+        "thread\ngeneric leaf:demo/Host.add:(II)I (II)I i:1 s:x\n",
+        1,
+        "refused plan.txt line 2 BadArguments\n",
+    ),
+    (
+        "class a/A java/lang/Object\nclass a/B no/Such\n",
+        "",
+        1,
+        "refused leaves.txt line 2 UnknownClass\n",
+    ),
+    (
+        "static java/lang/Object note ()V note\nstatic java/lang/Object note ()V note\n",
+        "",
+        1,
+        "refused leaves.txt line 2 Twice\n",
+    ),
+];
+
 #[test]
-fn sums_wrap_to_32_bits(rt: HostRuntime) -> Result<(), Fail> {
-    let alloc = rt.alloc();
-    for (plan, text) in [
-        (PLAN, TEXT),
-        (
-            "thread\nexact leaf:demo/Host.add:(II)I (II)I i:2147483647 i:1\n",
-            "thread 0\nreturns i:-2147483648 calls 0\nattempts 0 forms 1 types 0\n",
-        ),
-        ("", "attempts 0 forms 0 types 0\n"),
-    ] {
-        let mut inputs = inputs(alloc, LEAVES, plan, &[])?;
-        let mut sink = sink(alloc, &[])?;
-        let answer = top(&rt, alloc, &WORDS, &mut inputs, &mut sink, &OpenGate);
-        assert_eq!(rt; answer.status, 0);
-        assert_eq!(rt; sink.bytes.as_slice(), text.as_bytes());
+fn runs_whole(rt: HostRuntime) -> Result<(), Fail> {
+    for row in &RUNS {
+        assert!(rt; holds(&rt, rt.alloc(), row, &[], &[])?);
     }
     Ok(())
 }
 
-// With memory this is the text of the run. Where an allocation fails, the run ends with status 3 and
-// nothing written, or the sink, which keeps its bytes in memory, has failed.
+/// Whether a run is whole. Where an allocation fails, it ends with status 3 and nothing written, or
+/// the sink, which keeps its bytes in memory, has failed.
+fn is_whole_or_nothing(status: u8, sink: &MemorySink) -> bool {
+    match status {
+        0 => sink.bytes.as_slice() == TEXT.as_bytes(),
+        3 => sink.bytes.is_empty(),
+        7 => sink.faults != 0,
+        _ => false,
+    }
+}
+
 #[test]
 fn a_run_is_whole_or_writes_nothing(rt: HostRuntime) -> Result<(), Fail> {
-    let alloc = rt.alloc();
-    let mut inputs = inputs(alloc, LEAVES, PLAN, &[])?;
-    let mut sink = sink(alloc, &[])?;
-    let answer = top(&rt, alloc, &WORDS, &mut inputs, &mut sink, &OpenGate);
-    let is_whole = answer.status == 0 && sink.bytes.as_slice() == TEXT.as_bytes();
-    let is_nothing = answer.status == 3 && sink.bytes.is_empty();
-    let has_failed = answer.status == 7 && sink.faults != 0;
-    assert!(rt; is_whole || is_nothing || has_failed);
+    let (status, sink) = run(&rt, rt.alloc(), (LEAVES, PLAN), &[], &[])?;
+    assert!(rt; is_whole_or_nothing(status, &sink));
     Ok(())
 }
+
+/// The number of a read that fails, the status and the text.
+const READS: [(u64, u8, &str); 6] = [
+    (0, 6, "cannot read leaves.txt\n"),
+    (1, 6, "cannot read leaves.txt\n"),
+    (2, 6, "cannot read scripts.txt\n"),
+    (3, 6, "cannot read plan.txt\n"),
+    (4, 6, "cannot read plan.txt\n"),
+    (5, 0, TEXT),
+];
 
 #[test]
 fn each_read_that_fails_names_its_input(rt: HostRuntime) -> Result<(), Fail> {
-    let alloc = rt.alloc();
-    for (call, status, text) in [
-        (0, 6, "cannot read leaves.txt\n"),
-        (1, 6, "cannot read leaves.txt\n"),
-        (2, 6, "cannot read scripts.txt\n"),
-        (3, 6, "cannot read plan.txt\n"),
-        (4, 6, "cannot read plan.txt\n"),
-        (5, 0, TEXT),
-    ] {
-        let mut inputs = inputs(alloc, LEAVES, PLAN, &[call])?;
-        let mut sink = sink(alloc, &[])?;
-        let answer = top(&rt, alloc, &WORDS, &mut inputs, &mut sink, &OpenGate);
-        assert_eq!(rt; answer.status, status, "where read {call} fails");
-        assert_eq!(rt; sink.bytes.as_slice(), text.as_bytes());
+    for (call, status, text) in READS {
+        assert!(rt; holds(&rt, rt.alloc(), &(LEAVES, PLAN, status, text), &[call], &[])?);
     }
     Ok(())
 }
+
+/// The plan, the number of a write that fails, the status and the text.
+const WRITES: [(&str, u64, u8, &str); 5] = [
+    (PLAN, 0, 7, ""),
+    (PLAN, 1, 0, TEXT),
+    ("thread\nother\n", 0, 7, ""),
+    ("thread\nother\n", 1, 7, "refused "),
+    ("thread\nother\n", 4, 7, "refused plan.txt line 2"),
+];
 
 #[test]
 fn each_write_that_fails_leaves_a_front_part(rt: HostRuntime) -> Result<(), Fail> {
-    let alloc = rt.alloc();
-    for (plan, call, status, text) in [
-        (PLAN, 0, 7, ""),
-        (PLAN, 1, 0, TEXT),
-        ("thread\nother\n", 0, 7, ""),
-        ("thread\nother\n", 1, 7, "refused "),
-        ("thread\nother\n", 4, 7, "refused plan.txt line 2"),
-    ] {
-        let mut inputs = inputs(alloc, LEAVES, plan, &[])?;
-        let mut sink = sink(alloc, &[call])?;
-        let answer = top(&rt, alloc, &WORDS, &mut inputs, &mut sink, &OpenGate);
-        assert_eq!(rt; answer.status, status, "where write {call} fails");
-        assert_eq!(rt; sink.bytes.as_slice(), text.as_bytes());
+    for (plan, call, status, text) in WRITES {
+        assert!(rt; holds(&rt, rt.alloc(), &(LEAVES, plan, status, text), &[], &[call])?);
     }
     Ok(())
 }
 
-#[test]
-fn calls_by_a_type_answer_or_throw(rt: HostRuntime) -> Result<(), Fail> {
-    let alloc = rt.alloc();
-    for (leaves, plan, status, text) in [
-        (
-            HOST,
-            "thread\ngeneric leaf:demo/Host.wide:(JI)J (Ljava/lang/Object;I)J I:5 i:0\ngeneric leaf:demo/Host.wide:(JI)J (Ljava/lang/Object;I)J J:5 i:0\ngeneric leaf:demo/Host.wide:(JI)J (Ljava/lang/Object;I)J s:x i:0\ngeneric leaf:demo/Host.wide:(JI)J (Ljava/lang/Object;I)J null i:0\n",
-            0,
-            "thread 0\nreturns j:5 calls 3\nreturns j:5 calls 3\nthrows java/lang/ClassCastException s: calls -\nthrows java/lang/NullPointerException s: calls -\nattempts 0 forms 2 types 0\n",
-        ),
-        (
-            HOST,
-            "thread\ngeneric leaf:demo/Host.flag:(Z)V (Ljava/lang/Number;)V J:1\n",
-            0,
-            "thread 0\nthrows java/lang/invoke/WrongMethodTypeException s:have\\s(Z)V\\swant\\s(Ljava/lang/Number;)V calls -\nattempts 0 forms 1 types 0\n",
-        ),
-        (
-            HOST,
-            "thread\ngeneric leaf:demo/Host.flag:(Z)V (Ljava/lang/Object;)V Z:true\nthread\ngeneric leaf:demo/Host.same:(I)I (I)J i:-7\ngeneric leaf:demo/Host.same:(I)I (I)I i:7\n",
-            0,
-            "thread 0\nreturns void calls 4\nthread 1\nreturns j:-7 calls 2\nreturns i:7 calls 2\nattempts 0 forms 4 types 0\n",
-        ),
-        (
-            HOST,
-            "thread\nexact leaf:demo/Host.div:(II)I (II)I i:1 i:0\nexact leaf:demo/Host.div:(II)I (II)I i:-2147483648 i:-1\nexact leaf:demo/Host.add:(II)I (IJ)I i:1 j:2\n",
-            0,
-            "thread 0\nthrows java/lang/ArithmeticException s:/\\sby\\szero calls 1\nreturns i:-2147483648 calls 1\nthrows java/lang/invoke/WrongMethodTypeException s:have\\s(II)I\\swant\\s(IJ)I calls -\nattempts 0 forms 1 types 0\n",
-        ),
-        (
-            HOST,
-            "thread\ngeneric leaf:demo/Host.add:(II)I (II)I i:1 s:x\n",
-            1,
-            "refused plan.txt line 2 BadArguments\n",
-        ),
-        (
-            "class a/A java/lang/Object\nclass a/B no/Such\n",
-            "",
-            1,
-            "refused leaves.txt line 2 UnknownClass\n",
-        ),
-        (
-            "static java/lang/Object note ()V note\nstatic java/lang/Object note ()V note\n",
-            "",
-            1,
-            "refused leaves.txt line 2 Twice\n",
-        ),
-    ] {
-        let mut inputs = inputs(alloc, leaves, plan, &[])?;
-        let mut sink = sink(alloc, &[])?;
-        let answer = top(&rt, alloc, &WORDS, &mut inputs, &mut sink, &OpenGate);
-        assert_eq!(rt; answer.status, status);
-        assert_eq!(rt; sink.bytes.as_slice(), text.as_bytes());
+/// How many threads and calls a plan has, the status, and the text where it is refused.
+type Limit = (u32, u32, u8, &'static str);
+
+const LIMITS: [Limit; 4] = [
+    (64, 1, 0, ""),
+    (65, 1, 1, "refused plan.txt line 65 TooMany\n"),
+    (1, 10000, 0, ""),
+    (1, 10001, 1, "refused plan.txt line 10002 TooMany\n"),
+];
+
+fn push_lines(text: &mut String, line: &str, count: u32) -> Result<(), AllocError> {
+    for _ in 0..count {
+        text.push_str(line)?;
     }
     Ok(())
+}
+
+fn long_plan(alloc: Global, threads: u32, calls: u32) -> Result<String, AllocError> {
+    let mut plan = String::new(alloc);
+    push_lines(&mut plan, THREAD, threads)?;
+    push_lines(&mut plan, CALL, calls)?;
+    Ok(plan)
+}
+
+fn is_limited<R: Threads + Wait + Sync>(
+    rt: &R,
+    alloc: Global,
+    limit: &Limit,
+) -> Result<bool, AllocError> {
+    let (threads, calls, status, text) = *limit;
+    let plan = long_plan(alloc, threads, calls)?;
+    let (found, sink) = run(rt, alloc, (NOTE, plan.as_str()), &[], &[])?;
+    Ok(found == status && (status == 0 || sink.bytes.as_slice() == text.as_bytes()))
 }
 
 #[test]
 fn plans_end_at_64_threads_and_10000_calls(rt: HostRuntime) -> Result<(), Fail> {
-    let alloc = rt.alloc();
-    for (threads, calls, status, text) in [
-        (64, 1, 0, ""),
-        (65, 1, 1, "refused plan.txt line 65 TooMany\n"),
-        (1, 10000, 0, ""),
-        (1, 10001, 1, "refused plan.txt line 10002 TooMany\n"),
-    ] {
-        let mut plan = String::new(alloc);
-        for _ in 0..threads {
-            plan.push_str(THREAD)?;
-        }
-        for _ in 0..calls {
-            plan.push_str(CALL)?;
-        }
-        let mut inputs = inputs(alloc, NOTE, &plan, &[])?;
-        let mut sink = sink(alloc, &[])?;
-        let answer = top(&rt, alloc, &WORDS, &mut inputs, &mut sink, &OpenGate);
-        assert_eq!(rt;
-            answer.status,
-            status,
-            "with {threads} threads and {calls} calls"
-        );
-        if status != 0 {
-            assert_eq!(rt; sink.bytes.as_slice(), text.as_bytes());
-        }
+    for limit in &LIMITS {
+        assert!(rt; is_limited(&rt, rt.alloc(), limit)?);
     }
     Ok(())
 }

@@ -97,39 +97,32 @@ fn add_file(
     }
 }
 
-/// A made class without call sites and one with one, the class of javac, and two that are refused.
-fn class_files(alloc: Global) -> Result<BTreeMap<String, Vec<u8>>, Fail> {
-    let mut files = BTreeMap::new(alloc);
+/// A made class without call sites, and one with one.
+fn add_made(alloc: Global, files: &mut BTreeMap<String, Vec<u8>>) -> Result<(), NoMemory> {
+    let none = make_class(alloc, &Seq::new(alloc))?;
+    add_file(alloc, files, "none.class", none)?;
+    let sites = one_site(alloc)?;
+    let made = make_class(alloc, &sites)?;
+    add_file(alloc, files, "made.class", made)?;
+    Ok(())
+}
+
+/// The class of javac, and two files that are refused.
+fn add_others(alloc: Global, files: &mut BTreeMap<String, Vec<u8>>) -> Result<(), AllocError> {
+    add_file(alloc, files, "demo.class", Vec::from_slice(alloc, DEMO)?)?;
     add_file(
         alloc,
-        &mut files,
-        "none.class",
-        make_class(alloc, &Seq::new(alloc))?,
-    )?;
-    add_file(
-        alloc,
-        &mut files,
-        "made.class",
-        make_class(alloc, &one_site(alloc)?)?,
-    )?;
-    add_file(
-        alloc,
-        &mut files,
-        "demo.class",
-        Vec::from_slice(alloc, DEMO)?,
-    )?;
-    add_file(
-        alloc,
-        &mut files,
+        files,
         "short.class",
         Vec::from_slice(alloc, &DEMO[..100])?,
     )?;
-    add_file(
-        alloc,
-        &mut files,
-        "long.class",
-        vec![in alloc; 0; 1_048_577]?,
-    )?;
+    add_file(alloc, files, "long.class", vec![in alloc; 0; 1_048_577]?)
+}
+
+fn class_files(alloc: Global) -> Result<BTreeMap<String, Vec<u8>>, Fail> {
+    let mut files = BTreeMap::new(alloc);
+    add_made(alloc, &mut files)?;
+    add_others(alloc, &mut files)?;
     Ok(files)
 }
 
@@ -155,45 +148,58 @@ fn list<'a, R: Threads + Wait + Sync>(
     Ok((answer.status, sink.bytes))
 }
 
+/// Whether the program answers so, and writes these pieces.
+fn holds<'a, R: Threads + Wait + Sync>(
+    rt: &R,
+    alloc: Global,
+    words: &'a [&'a str],
+    status: u8,
+    pieces: &[&str],
+) -> Result<bool, Fail> {
+    let text = pieces.concat(alloc)?;
+    let (found, bytes) = list(rt, alloc, words)?;
+    Ok(found == status && bytes.as_slice() == text.as_bytes())
+}
+
+/// The words, the status, and the pieces of the text.
+const LISTS: [(&[&str], u8, &[&str]); 7] = [
+    (&["--mode", "sites"], 0, &["sites 0\n"]),
+    (
+        &["--mode", "sites", "made.class"],
+        0,
+        &["site 0 ", MADE_SITE, "sites 1\n"],
+    ),
+    (
+        &["--mode", "sites", "demo.class"],
+        0,
+        &[DEMO_SITES, "sites 2\n"],
+    ),
+    (
+        &["--mode", "sites", "none.class", "demo.class", "made.class"],
+        0,
+        &[DEMO_SITES, "site 2 ", MADE_SITE, "sites 3\n"],
+    ),
+    (
+        &["--mode", "sites", "made.class", "other.class"],
+        6,
+        &["cannot read other.class\n"],
+    ),
+    (
+        &["--mode", "sites", "long.class", "other.class"],
+        1,
+        &["refused long.class too long\n"],
+    ),
+    (
+        &["--mode", "sites", "made.class", "short.class"],
+        1,
+        &["refused short.class at 92 Truncated\n"],
+    ),
+];
+
 #[test]
 fn call_sites_of_class_files(rt: HostRuntime) -> Result<(), Fail> {
-    let cases: [(&[&str], u8, &[&str]); 7] = [
-        (&["--mode", "sites"], 0, &["sites 0\n"]),
-        (
-            &["--mode", "sites", "made.class"],
-            0,
-            &["site 0 ", MADE_SITE, "sites 1\n"],
-        ),
-        (
-            &["--mode", "sites", "demo.class"],
-            0,
-            &[DEMO_SITES, "sites 2\n"],
-        ),
-        (
-            &["--mode", "sites", "none.class", "demo.class", "made.class"],
-            0,
-            &[DEMO_SITES, "site 2 ", MADE_SITE, "sites 3\n"],
-        ),
-        (
-            &["--mode", "sites", "made.class", "other.class"],
-            6,
-            &["cannot read other.class\n"],
-        ),
-        (
-            &["--mode", "sites", "long.class", "other.class"],
-            1,
-            &["refused long.class too long\n"],
-        ),
-        (
-            &["--mode", "sites", "made.class", "short.class"],
-            1,
-            &["refused short.class at 92 Truncated\n"],
-        ),
-    ];
-    for (words, status, pieces) in cases {
-        let (found, bytes) = list(&rt, rt.alloc(), words)?;
-        assert_eq!(rt; found, status);
-        assert_eq!(rt; bytes.as_slice(), pieces.concat(rt.alloc())?.as_bytes());
+    for (words, status, pieces) in LISTS {
+        assert!(rt; holds(&rt, rt.alloc(), words, status, pieces)?);
     }
     Ok(())
 }
@@ -203,11 +209,7 @@ fn at_most_64_class_files(rt: HostRuntime) -> Result<(), Fail> {
     let mut words = ["none.class"; 67];
     words[0] = "--mode";
     words[1] = "sites";
-    let (status, bytes) = list(&rt, rt.alloc(), &words[..66])?;
-    assert_eq!(rt; status, 0);
-    assert_eq!(rt; bytes.as_slice(), b"sites 0\n".as_slice());
-    let (status, bytes) = list(&rt, rt.alloc(), &words)?;
-    assert_eq!(rt; status, 2);
-    assert_eq!(rt; bytes.as_slice(), USAGE.as_bytes());
+    assert!(rt; holds(&rt, rt.alloc(), &words[..66], 0, &["sites 0\n"])?);
+    assert!(rt; holds(&rt, rt.alloc(), &words, 2, &[USAGE])?);
     Ok(())
 }
