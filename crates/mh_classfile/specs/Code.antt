@@ -34,16 +34,26 @@ raised n = (n + 2 ^ 31) % 2 ^ 32
 abbrev pub padding : ℕ → ℕ → ℕ
 padding start at = 3 - (at - start) % 4
 
--- tableswitch behind its opcode: padding, default, low, high, and four bytes for each number from low to high
+-- so many bytes, which say nothing of call sites
+unfoldable pub passed : ℕ → Part (Unit {0})
+passed len = do
+  bytes ← run BadCode len
+  done tt
+
+-- the table of a tableswitch: low, high, and four bytes for each number from low to high
+abbrev pub table : ℕ → Part (Unit {0})
+table at = do
+  low ← number BadCode 4
+  high ← number BadCode 4
+  ordered ← check (nat_le (raised low) (raised high)) at BadCode
+  passed (4 * (raised high - raised low + 1))
+
+-- tableswitch behind its opcode: padding, default and the table
 unfoldable pub table_switch : ℕ → ℕ → Part (Unit {0})
 table_switch start at = do
   pad ← run BadCode (padding start at)
   default ← number BadCode 4
-  low ← number BadCode 4
-  high ← number BadCode 4
-  ordered ← check (nat_le (raised low) (raised high)) at BadCode
-  entries ← run BadCode (4 * (raised high - raised low + 1))
-  done tt
+  table at
 
 -- lookupswitch behind its opcode: padding, default, a count that is not negative, and eight bytes for each pair
 unfoldable pub lookup_switch : ℕ → ℕ → Part (Unit {0})
@@ -53,12 +63,6 @@ lookup_switch start at = do
   pairs ← number BadCode 4
   positive ← check (nat_lt pairs (2 ^ 31)) at BadCode
   entries ← run BadCode (8 * pairs)
-  done tt
-
--- so many bytes, which say nothing of call sites
-unfoldable pub passed : ℕ → Part (Unit {0})
-passed len = do
-  bytes ← run BadCode len
   done tt
 
 -- wide behind its opcode (6.5): iinc with its operands, or an instruction on a local variable with a longer index

@@ -1,5 +1,6 @@
 -- Class files (JVMS 4.1): which bytes are one, and the class that they are.
 use Rattle.std.specs.Prelude.{◌≡◌, ℕ, nat_lt, nat_le, ◌==◌, ◌&&◌, List, [], length, Option, Some, Ok, Err, unwrap_or, ◌⊎◌}
+use Rattle.mh_class_bytes.specs.Position.{Position}
 use Rattle.mh_class_bytes.specs.declared.fault.Fault.{Fault}
 use Rattle.mh_class_bytes.specs.Format.{number, here, check, verdict, done, ◌>>=◌, Spells, Checked, reads, and_then}
 use Rattle.mh_class_pool.specs.declared.entry.Entry.TheVariants as entries
@@ -7,6 +8,7 @@ use Rattle.mh_class_pool.specs.declared.fault.ClassKind.{ClassKind}
 use Rattle.mh_class_pool.specs.declared.fault.ClassKind.TheVariants.{Truncated, BadMagic, BadVersion, BadIndex, BadBootstraps, Trailing}
 use Rattle.mh_class_pool.specs.Entries.{Part, Slot, pool_of}
 use Rattle.mh_class_pool.specs.References.{Verdict, holds, each, good_references}
+use Rattle.mh_classfile.specs.declared.site.Site.{Site}
 use Rattle.mh_classfile.specs.Members.{class_names, members}
 use Rattle.mh_classfile.specs.Bootstraps.{class_attributes}
 use Rattle.mh_classfile.specs.Rows.{Row}
@@ -37,19 +39,38 @@ has_bootstrap count _ = Ok tt
 abbrev pub rows_or_none : Option (List Row) → List Row
 rows_or_none found = unwrap_or found []
 
+-- the end of a class file of so many bytes, and that its entries name bootstrap methods that are there
+abbrev pub class_end : List Slot → List Site → List Row → ℕ → Part Class
+class_end pool sites rows total = do
+  at ← here
+  ended ← check (at == total) at Trailing
+  known ← verdict (each (has_bootstrap (length rows)) pool)
+  done (class_of pool sites rows)
+
+-- a class file of so many bytes behind its members
+abbrev pub class_rest : List Slot → List Site → ℕ → Part Class
+class_rest pool sites total = do
+  found ← class_attributes pool
+  class_end pool sites (rows_or_none found) total
+
+-- a class file of so many bytes behind its pool, with at most so many call sites
+abbrev pub class_body : List Slot → ℕ → ℕ → Part Class
+class_body pool room total = do
+  names ← class_names pool
+  sites ← members pool room
+  class_rest pool sites total
+
 -- a class file of so many bytes, with at most so many call sites
 unfoldable pub class_file : ℕ → ℕ → Part Class
 class_file room total = do
   count ← header
   pool ← pool_of count
   good ← verdict (good_references pool)
-  names ← class_names pool
-  sites ← members pool room
-  found ← class_attributes pool
-  at ← here
-  ended ← check (at == total) at Trailing
-  known ← verdict (each (has_bootstrap (length (rows_or_none found))) pool)
-  done (class_of pool sites (rows_or_none found))
+  class_body pool room total
+
+-- the class that is read at a position, or the first condition that does not hold
+abbrev pub class_read : Part Class → Position → Checked ClassKind Class
+class_read format at = and_then (reads format at) (λ x. Ok x.0)
 
 -- the bytes are a class file of this class, with at most so many call sites
 abbrev pub IsClassFile : ℕ → List ℕ → Class → Type 0
@@ -57,7 +78,7 @@ IsClassFile room bytes c = Spells (class_file room (length bytes)) 0 bytes c
 
 -- the class, or the first condition in reading order that does not hold
 abbrev pub class_or_fault : ℕ → List ℕ → Checked ClassKind Class
-class_or_fault room bytes = and_then (reads (class_file room (length bytes)) (record { bytes = bytes; at = 0 })) (λ x. Ok x.0)
+class_or_fault room bytes = class_read (class_file room (length bytes)) (record { bytes = bytes; at = 0 })
 
 -- just one of two things there is: the one class that the bytes are, or the first fault, where they are none
 abbrev pub IsEither : ℕ → List ℕ → Type 0

@@ -1,7 +1,8 @@
 -- Fields, methods and their attributes (JVMS 4.5, 4.6, 4.7.3).
 use Rattle.std.specs.Prelude.{ℕ, ◌+◌, nat_lt, ◌&&◌, not, codes, List, [], Bool, true, false}
 use Rattle.std.specs.Str.{bytes_eq}
-use Rattle.mh_class_bytes.specs.Format.{number, run, here, check, verdict, choose, part, done, ◌>>=◌, repeated}
+use Rattle.mh_class_bytes.specs.Position.{Position}
+use Rattle.mh_class_bytes.specs.Format.{number, run, here, check, verdict, choose, part, done, ◌>>=◌, repeated, Reading, reads, and_then, cut, filled}
 use Rattle.mh_class_pool.specs.declared.entry.Kind.{Kind}
 use Rattle.mh_class_pool.specs.declared.entry.Kind.TheVariants as kinds
 use Rattle.mh_classfile.specs.declared.site.Method.{Method}
@@ -11,6 +12,10 @@ use Rattle.mh_class_pool.specs.declared.fault.ClassKind.TheVariants.{Truncated, 
 use Rattle.mh_class_pool.specs.Entries.{Part, Slot, text}
 use Rattle.mh_class_pool.specs.References.{names, names_or_none}
 use Rattle.mh_classfile.specs.Code.{passed, code_sites}
+
+-- what the bytes between a place and the position say, all of which must be read
+abbrev pub between : {A : Type 0} → ℕ → ClassKind → Part A → Position → Reading ClassKind A
+between begin left contents end = and_then (reads contents (cut end.at (record { bytes = end.bytes; at = begin }))) (filled left end)
 
 -- so many of one part, of which nothing is kept
 abbrev pub rows : Part (Unit {0}) → ℕ → Part (Unit {0})

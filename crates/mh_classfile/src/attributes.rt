@@ -1,9 +1,10 @@
-ghost use Rattle.std.specs.Prelude.{◌≡◌, ◌==◌, if◌then◌else◌, Ok, Err};
+ghost use Rattle.std.specs.Prelude.{◌≡◌, ◌==◌, ◌≤◌, ◌+◌, ◌^◌, if◌then◌else◌, Ok, Err};
 ghost use Rattle.mh_class_bytes.specs.Bytes.{Moves};
 ghost use Rattle.mh_class_bytes.specs.Format.{Finds, Reads, reads};
 ghost use Rattle.mh_class_pool.specs.Answers.{Gives};
-ghost use Rattle.mh_classfile.specs.Code.{passed};
-ghost use Rattle.mh_classfile.specs.Members.{rows, named_index, passed_contents, attribute, attributes, code_bytes, code_tail, code_contents, code_attribute};
+ghost use Rattle.mh_class_pool.specs.declared.fault.ClassKind.TheVariants.{BadCode};
+ghost use Rattle.mh_classfile.specs.Code.{passed, code_sites};
+ghost use Rattle.mh_classfile.specs.Members.{between, rows, named_index, passed_contents, attribute, attributes, code_bytes, code_tail, code_contents, code_attribute};
 
 use crate::code::{pass, read_sites};
 use crate::site::{Method, Sites};
@@ -92,6 +93,28 @@ pub fn check_filled(at: usize, end: usize, kind: ClassKind) -> Result<(), ClassF
     }
 }
 
+/// Finds the call sites of the code between a place and the cursor.
+fn read_code_between(
+    pool: &Pool<'_>,
+    method: Method,
+    sites: &mut Sites,
+    start: usize,
+    end: &Cursor<'_>,
+) -> Result<(), ClassError>
+    requires begun { start ≤ end.now.at }
+    requires near { end.now.at ≤ start + 2 ^ 16 }
+    ensures gives { Gives (λ _. sites.new.sites) result end.now
+        (between start BadCode
+        (code_sites pool.now method sites.old.room start end.now.at sites.old.sites) end.now) }
+    ensures room { sites.new.room ≡ sites.old.room }
+{
+    let to = end.at();
+    let mut code = Cursor::resume(&end.whole()[..to], start);
+    read_sites(pool, method, start, to, sites, &mut code)?;
+    check_filled(code.at(), to, ClassKind::BadCode)?;
+    Ok(())
+}
+
 #[tactic(auto, unfolding(crate::specs::Members::code_bytes))]
 fn read_code_bytes(
     pool: &Pool<'_>,
@@ -112,11 +135,7 @@ fn read_code_bytes(
     }
     let start = cursor.at();
     let _code = run(cursor, len as usize, kind)?;
-    let end = cursor.at();
-    let mut code = Cursor::resume(&cursor.whole()[..end], start);
-    read_sites(pool, method, start, end, sites, &mut code)?;
-    check_filled(code.at(), end, kind)?;
-    Ok(())
+    read_code_between(pool, method, sites, start, cursor)
 }
 
 #[tactic(auto, unfolding(crate::specs::Members::code_tail))]
@@ -151,6 +170,27 @@ fn read_code_contents(
     Ok(())
 }
 
+/// Finds the call sites of the contents of a `Code` attribute, between a place and the cursor.
+fn read_contents_between(
+    pool: &Pool<'_>,
+    method: Method,
+    sites: &mut Sites,
+    begin: usize,
+    end: &Cursor<'_>,
+) -> Result<(), ClassError>
+    requires { begin ≤ end.now.at }
+    ensures gives { Gives (λ _. sites.new.sites) result end.now
+        (between begin BadCode
+        (code_contents pool.now method sites.old.room sites.old.sites) end.now) }
+    ensures room { sites.new.room ≡ sites.old.room }
+{
+    let to = end.at();
+    let mut contents = Cursor::resume(&end.whole()[..to], begin);
+    read_code_contents(pool, method, sites, &mut contents)?;
+    check_filled(contents.at(), to, ClassKind::BadCode)?;
+    Ok(())
+}
+
 /// Finds the call sites of a `Code` attribute, behind its name (JVMS SE 17, 4.7.3).
 #[tactic(auto, unfolding(crate::specs::Members::code_attribute))]
 pub fn read_code(
@@ -167,9 +207,5 @@ pub fn read_code(
     let len = u4(cursor, ClassKind::Truncated)?;
     let begin = cursor.at();
     let _contents = run(cursor, len as usize, ClassKind::Truncated)?;
-    let end = cursor.at();
-    let mut contents = Cursor::resume(&cursor.whole()[..end], begin);
-    read_code_contents(pool, method, sites, &mut contents)?;
-    check_filled(contents.at(), end, ClassKind::BadCode)?;
-    Ok(())
+    read_contents_between(pool, method, sites, begin, cursor)
 }

@@ -1,9 +1,9 @@
-ghost use Rattle.std.specs.Prelude.{◌≡◌, ◌≤◌, ◌<◌, ◌+◌, ◌-◌, ◌^◌, length, nat_lt, [], ◌∷◌, ◌++◌, OnOk, IfOk, IsTrue, IsSome};
+ghost use Rattle.std.specs.Prelude.{◌≡◌, ◌≤◌, ◌<◌, ◌+◌, ◌-◌, ◌*◌, ◌^◌, length, nat_lt, [], ◌∷◌, ◌++◌, OnOk, IfOk, IsTrue, IsSome};
 ghost use Rattle.std.specs.Option.{option_to_list};
 ghost use Rattle.mh_class_bytes.specs.Bytes.{Moves};
 ghost use Rattle.mh_class_bytes.specs.Format.{Reads, reads};
 ghost use Rattle.mh_class_pool.specs.Answers.{Gives};
-ghost use Rattle.mh_classfile.specs.Code.{is_local, fixed_len, padding, table_switch, lookup_switch, wide, passed, ordinary, operands, call_site, instruction, code_sites};
+ghost use Rattle.mh_classfile.specs.Code.{is_local, fixed_len, raised, padding, table, table_switch, lookup_switch, wide, passed, ordinary, operands, call_site, instruction, code_sites};
 
 use crate::site::{Method, Site, Sites};
 use mh_class_bytes::Cursor;
@@ -39,6 +39,38 @@ fn padding(start: usize, at: usize) -> usize
     3 - (at - start) % 4
 }
 
+/// A signed number, raised by 2 ^ 31, so that its order is that of the numbers.
+fn raised(number: u32) -> u32
+    ensures { result ≡ raised number }
+{
+    number.wrapping_add(0x8000_0000)
+}
+
+/// Passes four bytes for each number from `low` to `high`.
+#[tactic(auto, unfolding(crate::specs::Code::passed))]
+fn pass_entries(low: u32, high: u32, cursor: &mut Cursor<'_>) -> Result<(), ClassFault>
+    requires { low ≤ high }
+    ensures reads { Reads (λ x. x) result cursor.new
+        (reads (passed (4 * (high - low + 1))) cursor.old) }
+    ensures moves { Moves cursor.old cursor.new }
+{
+    pass(4 * ((high - low) as usize + 1), cursor)
+}
+
+/// Passes the lowest and the highest number of a `tableswitch`, and its entries.
+fn pass_table(at: usize, cursor: &mut Cursor<'_>) -> Result<(), ClassFault>
+    ensures reads { Reads (λ x. x) result cursor.new (reads (table at) cursor.old) }
+    ensures moves { Moves cursor.old cursor.new }
+{
+    let kind = ClassKind::BadCode;
+    let low = raised(u4(cursor, kind)?);
+    let high = raised(u4(cursor, kind)?);
+    if low > high {
+        return Err(ClassFault { at, kind });
+    }
+    pass_entries(low, high, cursor)
+}
+
 #[tactic(auto, unfolding(crate::specs::Code::table_switch))]
 fn pass_table_switch(start: usize, at: usize, cursor: &mut Cursor<'_>) -> Result<(), ClassFault>
     requires { start ≤ at }
@@ -48,13 +80,7 @@ fn pass_table_switch(start: usize, at: usize, cursor: &mut Cursor<'_>) -> Result
     let kind = ClassKind::BadCode;
     let _padding = run(cursor, padding(start, at), kind)?;
     let _default = u4(cursor, kind)?;
-    let low = u4(cursor, kind)?.wrapping_add(0x8000_0000);
-    let high = u4(cursor, kind)?.wrapping_add(0x8000_0000);
-    if low > high {
-        return Err(ClassFault { at, kind });
-    }
-    let _entries = run(cursor, 4 * ((high - low) as usize + 1), kind)?;
-    Ok(())
+    pass_table(at, cursor)
 }
 
 #[tactic(auto, unfolding(crate::specs::Code::lookup_switch))]

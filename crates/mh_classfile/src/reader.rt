@@ -6,7 +6,7 @@ ghost use Rattle.mh_class_pool.specs.Entries.{slot};
 ghost use Rattle.mh_class_pool.specs.References.{each};
 ghost use Rattle.mh_classfile.specs.Rows.{closed_of};
 ghost use Rattle.mh_classfile.specs.Class.{Class};
-ghost use Rattle.mh_classfile.specs.File.{header, has_bootstrap, rows_or_none, IsClassFile, class_or_fault, IsEither};
+ghost use Rattle.mh_classfile.specs.File.{header, has_bootstrap, rows_or_none, class_end, class_rest, class_body, class_read, IsClassFile, class_or_fault, IsEither};
 
 use crate::attributes::check_filled;
 use crate::bootstraps::Bootstraps;
@@ -84,6 +84,57 @@ fn methods_or_none(alloc: Global, found: Option<Bootstraps>) -> Bootstraps
     }
 }
 
+/// The class whose file of so many bytes was read up to a cursor.
+fn read_end<'b>(
+    pool: Pool<'b>,
+    sites: Sites,
+    bootstraps: Bootstraps,
+    total: usize,
+    cursor: &Cursor<'b>,
+) -> Result<ClassView<'b>, ClassError>
+    ensures { Yields (λ v. v) result
+        (class_read (class_end pool.entry sites.sites bootstraps.closed total) cursor.now) }
+{
+    check_filled(cursor.at(), total, ClassKind::Trailing)?;
+    check_bootstraps(&pool, bootstraps.len())?;
+    Ok(ClassView {
+        pool,
+        sites,
+        bootstraps,
+    })
+}
+
+/// The class whose attributes stand at a cursor, behind its members.
+fn read_rest<'b>(
+    alloc: Global,
+    pool: Pool<'b>,
+    sites: Sites,
+    total: usize,
+    mut cursor: Cursor<'b>,
+) -> Result<ClassView<'b>, ClassError>
+    ensures { Yields (λ v. v) result (class_read (class_rest pool.entry sites.sites total) cursor.entry) }
+{
+    let found = read_class_attributes(alloc, &pool, &mut cursor)?;
+    let bootstraps = methods_or_none(alloc, found);
+    read_end(pool, sites, bootstraps, total, &cursor)
+}
+
+/// The class whose flags and names stand at a cursor, behind the pool.
+fn read_body<'b>(
+    alloc: Global,
+    pool: Pool<'b>,
+    room: u32,
+    total: usize,
+    mut cursor: Cursor<'b>,
+) -> Result<ClassView<'b>, ClassError>
+    ensures { Yields (λ v. v) result (class_read (class_body pool.entry room total) cursor.entry) }
+{
+    pass_class_names(&pool, &mut cursor)?;
+    let mut sites = Sites::new(alloc, room);
+    read_members(&pool, &mut sites, &mut cursor)?;
+    read_rest(alloc, pool, sites, total, cursor)
+}
+
 #[tactic(auto, unfolding(crate::specs::File::class_file))]
 fn read_exact<'b>(alloc: Global, bytes: &'b [u8], room: u32) -> Result<ClassView<'b>, ClassError>
     ensures { Yields (λ v. v) result (class_or_fault room bytes.now) }
@@ -92,18 +143,7 @@ fn read_exact<'b>(alloc: Global, bytes: &'b [u8], room: u32) -> Result<ClassView
     let count = read_header(&mut cursor)?;
     let pool = read_pool(alloc, count, &mut cursor)?;
     check_pool(alloc, &pool)?;
-    pass_class_names(&pool, &mut cursor)?;
-    let mut sites = Sites::new(alloc, room);
-    read_members(&pool, &mut sites, &mut cursor)?;
-    let found = read_class_attributes(alloc, &pool, &mut cursor)?;
-    let bootstraps = methods_or_none(alloc, found);
-    check_filled(cursor.at(), bytes.len(), ClassKind::Trailing)?;
-    check_bootstraps(&pool, bootstraps.len())?;
-    Ok(ClassView {
-        pool,
-        sites,
-        bootstraps,
-    })
+    read_body(alloc, pool, room, bytes.len(), cursor)
 }
 
 /// The class that the bytes are, over the bytes, where it has at most `room` call sites; otherwise
