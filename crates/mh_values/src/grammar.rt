@@ -2,7 +2,7 @@ ghost use Rattle.std.specs.Prelude.{◌≡◌, ◌+◌};
 ghost use Rattle.mh_values.specs.Grammar.{is_base, behind, element, begun, within_array, within_name, parameter, next, is_end};
 
 /// What a type stands for in a text of types.
-#[derive(Clone, Copy, Debug, PartialEq, Eq)]
+#[derive(Clone, Copy)]
 pub(crate) enum Place {
     /// A parameter; with it the parameters take so many slots.
     Parameter(u8),
@@ -13,7 +13,7 @@ pub(crate) enum Place {
 }
 
 /// How far a method descriptor, or another text of types, was read (JVMS SE 17, 4.3.2 and 4.3.3).
-#[derive(Clone, Copy, Debug, PartialEq, Eq)]
+#[derive(Clone, Copy)]
 pub(crate) enum Standing {
     /// Nothing was read.
     Front,

@@ -61,6 +61,25 @@ impl Registry {
         self.numbers.get(name).copied()
     }
 
+    /// Puts a class behind the others, and its number where its name is the key.
+    fn put(&mut self, key: Vec<u8>, class: Class) -> Result<(), NoMemory>
+        requires key { key.items ≡ class.name }
+        requires new { class_named self.old class.name ≡ None }
+        requires behind { IsWithin (length self.old) class.superclass }
+        requires few { length self.old < 2 ^ 32 }
+        ensures ok { OnOk result (self.new ≡ self.old ++ class ∷ []) }
+        ensures ordered { OnOk result (AreOrdered self.new) }
+        ensures err { OnErr result (self.new ≡ self.old) }
+    {
+        let number = ClassId(self.list.len() as u32);
+        self.list.push(class)?;
+        let Ok(_) = self.numbers.insert(key, number) else {
+            let _ = self.list.pop();
+            return Err(NoMemory);
+        };
+        Ok(())
+    }
+
     /// Puts a class behind the others.
     pub(crate) fn add(&mut self, name: &[u8], superclass: Option<ClassId>) -> Result<(), NoMemory>
         requires new { class_named self.old name.now ≡ None }
@@ -72,16 +91,7 @@ impl Registry {
     {
         let alloc = *self.list.allocator();
         let key = Vec::from_slice(alloc, name)?;
-        let class = Class {
-            name: Seq::from_vec(Vec::from_slice(alloc, name)?),
-            superclass,
-        };
-        let number = ClassId(self.list.len() as u32);
-        self.list.push(class)?;
-        let Ok(_) = self.numbers.insert(key, number) else {
-            let _ = self.list.pop();
-            return Err(NoMemory);
-        };
-        Ok(())
+        let name = Seq::from_vec(Vec::from_slice(alloc, name)?);
+        self.put(key, Class { name, superclass })
     }
 }
