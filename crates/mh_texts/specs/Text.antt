@@ -80,6 +80,10 @@ text_of bytes = option_and_then if_short (characters_from escape.Outside bytes)
 
 -- ---- printing
 
+-- how a character is printed by its number
+abbrev pub numbered_char : ℕ → List ℕ
+numbered_char c = codes "\\u{" ++ digits 16 false c ++ codes "}"
+
 -- how a character is printed: by its own escape, as itself, or by its number
 abbrev pub escaped_char : ℕ → List ℕ
 escaped_char c =
@@ -87,7 +91,7 @@ escaped_char c =
     else (if c == 44 then codes "\\c"
     else (if c == 10 then codes "\\n"
     else (if c == 92 then codes "\\\\"
-    else (if is_graphic c then c ∷ [] else codes "\\u{" ++ digits 16 false c ++ codes "}"))))
+    else (if is_graphic c then c ∷ [] else numbered_char c))))
 
 -- how characters are printed
 abbrev pub escaped : List ℕ → List ℕ

@@ -11,7 +11,7 @@ use std::alloc::Global;
 const MOST_CHARACTERS: usize = 4096;
 
 /// How far an escape was read in a text.
-#[derive(Clone, Copy, Debug, PartialEq, Eq)]
+#[derive(Clone, Copy)]
 pub(crate) enum Escape {
     /// No escape is begun.
     Outside,
@@ -115,7 +115,7 @@ pub(crate) fn read_text(alloc: Global, bytes: &[u8]) -> Result<Str, LiteralError
         }
         escape = next;
     }
-    if escape == Escape::Outside && text.len() <= MOST_CHARACTERS {
+    if matches!(escape, Escape::Outside) && text.len() <= MOST_CHARACTERS {
         Ok(text)
     } else {
         Err(LiteralError::Bad)

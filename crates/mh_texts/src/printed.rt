@@ -1,7 +1,7 @@
 ghost use Rattle.std.specs.Prelude.{◌≡◌, ◌++◌, codes, flat_map, IfOk, OnOk};
 ghost use Rattle.std.specs.Fmt.{signed_decimal, decimal};
 ghost use Rattle.mh_values.specs.TypeText.{primitive_text};
-ghost use Rattle.mh_texts.specs.Text.{escaped_char, escaped, cut};
+ghost use Rattle.mh_texts.specs.Text.{numbered_char, escaped_char, escaped, cut};
 ghost use Rattle.mh_texts.specs.Printed.{name_text, class_text, component_text, type_text, return_text, method_type_text, bool_text, prim_text, boxed_text, string_text, object_text, exception_text, item_text, items_text, array_text, value_text};
 
 use itoa::Buffer;
@@ -22,23 +22,35 @@ pub(crate) fn cut(mut bytes: Vec<u8>) -> Result<Vec<u8>, NoMemory>
     Ok(bytes)
 }
 
+/// Writes bytes as they are.
+fn push(bytes: &mut Vec<u8>, text: &[u8]) -> Result<(), NoMemory>
+    ensures { OnOk result (bytes.new.items ≡ bytes.old.items ++ text.now) }
+{
+    bytes.extend_from_slice(text)?;
+    Ok(())
+}
+
+/// Writes a character by its number.
+fn push_code(bytes: &mut Vec<u8>, character: char) -> Result<(), NoMemory>
+    ensures { OnOk result (bytes.new.items ≡ bytes.old.items ++ numbered_char character) }
+{
+    let alloc = *bytes.allocator();
+    let number = format!(in alloc; "\\u{{{:x}}}", character as u32)?;
+    push(bytes, number.as_bytes())
+}
+
 /// Writes a character: by its own escape, as itself, or by its number.
 fn push_char(bytes: &mut Vec<u8>, character: char) -> Result<(), NoMemory>
     ensures { OnOk result (bytes.new.items ≡ bytes.old.items ++ escaped_char character) }
 {
     match character {
-        ' ' => bytes.extend_from_slice(b"\\s")?,
-        ',' => bytes.extend_from_slice(b"\\c")?,
-        '\n' => bytes.extend_from_slice(b"\\n")?,
-        '\\' => bytes.extend_from_slice(b"\\\\")?,
-        '!'..='~' => bytes.push(character as u8)?,
-        _ => {
-            let alloc = *bytes.allocator();
-            let number = format!(in alloc; "\\u{{{:x}}}", character as u32)?;
-            bytes.extend_from_slice(number.as_bytes())?;
-        }
+        ' ' => push(bytes, b"\\s"),
+        ',' => push(bytes, b"\\c"),
+        '\n' => push(bytes, b"\\n"),
+        '\\' => push(bytes, b"\\\\"),
+        '!'..='~' => push(bytes, &[character as u8]),
+        _ => push_code(bytes, character),
     }
-    Ok(())
 }
 
 /// Writes characters with their escapes.
@@ -66,8 +78,7 @@ fn push_int(bytes: &mut Vec<u8>, number: i32) -> Result<(), NoMemory>
     ensures { OnOk result (bytes.new.items ≡ bytes.old.items ++ signed_decimal number) }
 {
     let mut buffer = Buffer::new();
-    bytes.extend_from_slice(buffer.format(number).as_bytes())?;
-    Ok(())
+    push(bytes, buffer.format(number).as_bytes())
 }
 
 /// Writes a number.
@@ -75,8 +86,7 @@ fn push_long(bytes: &mut Vec<u8>, number: i64) -> Result<(), NoMemory>
     ensures { OnOk result (bytes.new.items ≡ bytes.old.items ++ signed_decimal number) }
 {
     let mut buffer = Buffer::new();
-    bytes.extend_from_slice(buffer.format(number).as_bytes())?;
-    Ok(())
+    push(bytes, buffer.format(number).as_bytes())
 }
 
 /// Writes a number without a sign.
@@ -84,8 +94,7 @@ fn push_unsigned(bytes: &mut Vec<u8>, number: u32) -> Result<(), NoMemory>
     ensures { OnOk result (bytes.new.items ≡ bytes.old.items ++ decimal number) }
 {
     let mut buffer = Buffer::new();
-    bytes.extend_from_slice(buffer.format(number).as_bytes())?;
-    Ok(())
+    push(bytes, buffer.format(number).as_bytes())
 }
 
 /// Writes `true` or `false`.
@@ -93,11 +102,10 @@ fn push_bool(bytes: &mut Vec<u8>, truth: bool) -> Result<(), NoMemory>
     ensures { OnOk result (bytes.new.items ≡ bytes.old.items ++ bool_text truth) }
 {
     if truth {
-        bytes.extend_from_slice(b"true")?;
+        push(bytes, b"true")
     } else {
-        bytes.extend_from_slice(b"false")?;
+        push(bytes, b"false")
     }
-    Ok(())
 }
 
 /// Writes a number of a primitive type.
@@ -106,15 +114,15 @@ fn push_prim(bytes: &mut Vec<u8>, number: Num) -> Result<(), NoMemory>
 {
     match number {
         Num::Z(truth) => {
-            bytes.extend_from_slice(b"z:")?;
+            push(bytes, b"z:")?;
             push_bool(bytes, truth)
         }
         Num::I(number) => {
-            bytes.extend_from_slice(b"i:")?;
+            push(bytes, b"i:")?;
             push_int(bytes, number)
         }
         Num::J(number) => {
-            bytes.extend_from_slice(b"j:")?;
+            push(bytes, b"j:")?;
             push_long(bytes, number)
         }
     }
@@ -126,15 +134,15 @@ fn push_boxed(bytes: &mut Vec<u8>, number: Num) -> Result<(), NoMemory>
 {
     match number {
         Num::Z(truth) => {
-            bytes.extend_from_slice(b"Z:")?;
+            push(bytes, b"Z:")?;
             push_bool(bytes, truth)
         }
         Num::I(number) => {
-            bytes.extend_from_slice(b"I:")?;
+            push(bytes, b"I:")?;
             push_int(bytes, number)
         }
         Num::J(number) => {
-            bytes.extend_from_slice(b"J:")?;
+            push(bytes, b"J:")?;
             push_long(bytes, number)
         }
     }
@@ -144,7 +152,7 @@ fn push_boxed(bytes: &mut Vec<u8>, number: Num) -> Result<(), NoMemory>
 fn push_string(bytes: &mut Vec<u8>, text: &[char]) -> Result<(), NoMemory>
     ensures { OnOk result (bytes.new.items ≡ bytes.old.items ++ string_text text.now) }
 {
-    bytes.extend_from_slice(b"s:")?;
+    push(bytes, b"s:")?;
     push_chars(bytes, text)
 }
 
@@ -158,9 +166,9 @@ fn push_object(
     ensures { OnOk result (bytes.new.items
         ≡ bytes.old.items ++ object_text classes.now class number) }
 {
-    bytes.extend_from_slice(b"o:")?;
+    push(bytes, b"o:")?;
     push_name(bytes, classes.name(class))?;
-    bytes.extend_from_slice(b"#")?;
+    push(bytes, b"#")?;
     push_unsigned(bytes, number)
 }
 
@@ -169,7 +177,7 @@ fn push_exception(bytes: &mut Vec<u8>, classes: &Classes, exc: &Exc) -> Result<(
     ensures { OnOk result (bytes.new.items
         ≡ bytes.old.items ++ exception_text classes.now exc.now) }
 {
-    bytes.extend_from_slice(b"x:")?;
+    push(bytes, b"x:")?;
     push_name(bytes, classes.name(exc.class))
 }
 
@@ -177,8 +185,7 @@ fn push_exception(bytes: &mut Vec<u8>, classes: &Classes, exc: &Exc) -> Result<(
 fn push_null(bytes: &mut Vec<u8>) -> Result<(), NoMemory>
     ensures { OnOk result (bytes.new.items ≡ bytes.old.items ++ codes "null") }
 {
-    bytes.extend_from_slice(b"null")?;
-    Ok(())
+    push(bytes, b"null")
 }
 
 /// Writes an item of an array.
@@ -201,7 +208,7 @@ fn push_more(bytes: &mut Vec<u8>, classes: &Classes, items: &[Cell]) -> Result<(
         ≡ bytes.old.items ++ flat_map (λ item. codes "," ++ item_text classes.now item) items.now) }
 {
     for item in items {
-        bytes.extend_from_slice(b",")?;
+        push(bytes, b",")?;
         push_item(bytes, classes, item)?;
     }
     Ok(())
@@ -225,21 +232,19 @@ fn push_primitive(bytes: &mut Vec<u8>, primitive: Primitive) -> Result<(), NoMem
     ensures { OnOk result (bytes.new.items ≡ bytes.old.items ++ primitive_text primitive) }
 {
     match primitive {
-        Primitive::Z => bytes.extend_from_slice(b"Z")?,
-        Primitive::I => bytes.extend_from_slice(b"I")?,
-        Primitive::J => bytes.extend_from_slice(b"J")?,
+        Primitive::Z => push(bytes, b"Z"),
+        Primitive::I => push(bytes, b"I"),
+        Primitive::J => push(bytes, b"J"),
     }
-    Ok(())
 }
 
 /// Writes a class as a type.
 fn push_class(bytes: &mut Vec<u8>, classes: &Classes, class: ClassId) -> Result<(), NoMemory>
     ensures { OnOk result (bytes.new.items ≡ bytes.old.items ++ class_text classes.now class) }
 {
-    bytes.extend_from_slice(b"L")?;
+    push(bytes, b"L")?;
     push_name(bytes, classes.name(class))?;
-    bytes.extend_from_slice(b";")?;
-    Ok(())
+    push(bytes, b";")
 }
 
 /// Writes the type of an array's items.
@@ -261,7 +266,7 @@ fn push_type(bytes: &mut Vec<u8>, classes: &Classes, ty: Ty) -> Result<(), NoMem
         Ty::Prim(primitive) => push_primitive(bytes, primitive),
         Ty::Class(class) => push_class(bytes, classes, class),
         Ty::Array(component) => {
-            bytes.extend_from_slice(b"[")?;
+            push(bytes, b"[")?;
             push_component(bytes, classes, component)
         }
     }
@@ -284,10 +289,7 @@ fn push_return(bytes: &mut Vec<u8>, classes: &Classes, ret: Option<Ty>) -> Resul
 {
     match ret {
         Some(ty) => push_type(bytes, classes, ty),
-        None => {
-            bytes.extend_from_slice(b"V")?;
-            Ok(())
-        }
+        None => push(bytes, b"V"),
     }
 }
 
@@ -300,9 +302,9 @@ pub(crate) fn push_method_type(
     ensures { OnOk result (bytes.new.items
         ≡ bytes.old.items ++ method_type_text classes.now ty.now) }
 {
-    bytes.extend_from_slice(b"(")?;
+    push(bytes, b"(")?;
     push_types(bytes, classes, ty.params.as_slice())?;
-    bytes.extend_from_slice(b")")?;
+    push(bytes, b")")?;
     push_return(bytes, classes, ty.ret)
 }
 
@@ -316,12 +318,11 @@ fn push_array(
     ensures { OnOk result (bytes.new.items
         ≡ bytes.old.items ++ array_text classes.now component items.now) }
 {
-    bytes.extend_from_slice(b"a:")?;
+    push(bytes, b"a:")?;
     push_component(bytes, classes, component)?;
-    bytes.extend_from_slice(b"[")?;
+    push(bytes, b"[")?;
     push_items(bytes, classes, items)?;
-    bytes.extend_from_slice(b"]")?;
-    Ok(())
+    push(bytes, b"]")
 }
 
 /// Writes a value.
