@@ -1,7 +1,10 @@
-ghost use Rattle.std.specs.Prelude.{◌≡◌, ◌≢◌, if◌then◌else◌, IfOk};
-ghost use Rattle.mh_values.specs.Computation.{Stuck};
-ghost use Rattle.mh_form.specs.Run.{guarded_field, ran_of_run, ran_of_step, run_bound, run_field, senses_in, step};
-ghost use Rattle.mh_form.specs.Slots.{holds_one, is_caught};
+ghost use Rattle.std.specs.Prelude.{◌≡◌, ◌≢◌, ◌∷◌, if◌then◌else◌, IfOk};
+ghost use Rattle.mh_values.specs.declared.value.Value.TheVariants.{Thrown};
+ghost use Rattle.mh_values.specs.Computation.{Stuck, after, found, guarded};
+ghost use Rattle.mh_form.specs.declared.name.Name.TheVariants.{Link};
+ghost use Rattle.mh_form.specs.declared.slot.Slot.TheVariants as slot;
+ghost use Rattle.mh_form.specs.Run.{ended, guarded_field, picked, ran_of_run, ran_of_step, run_bound, run_field, senses_in, step};
+ghost use Rattle.mh_form.specs.Slots.{filled, holds_one, is_caught};
 
 use crate::lookup::class_in;
 use crate::outcome::Stepped;
@@ -10,7 +13,7 @@ use crate::slots::{filled, first, holds_one, pick, raised, result_in};
 use crate::{Bound, Field, Name, Operands, Ran, Slot, SlotOutcome, Slots};
 use mh_base::{NoMemory, Seq};
 use mh_leaves::Leaves;
-use mh_values::{ClassId, Value};
+use mh_values::{Calls, ClassId, Exc, Value};
 use std::alloc::Global;
 
 /// A part that is guarded: its field, the class of exceptions that are handled, the field of the
@@ -46,6 +49,68 @@ fn run_part(
     }
 }
 
+/// A run behind these leaf calls.
+fn run_after(calls: Calls, ran: Ran) -> Result<Ran, NoMemory>
+    ensures { IfOk result (λ r. ran_of_run r ≡ after calls (ran_of_run ran)) }
+{
+    let mut calls = calls;
+    calls.append(ran.calls)?;
+    Ok(Ran {
+        outcome: ran.outcome,
+        calls,
+    })
+}
+
+/// The arguments of a handler: the exception, and those that are kept.
+fn handler_args(alloc: Global, exc: Exc, kept: Slots) -> Result<Slots, NoMemory>
+    ensures { IfOk result (λ args. args ≡ slot.L (Thrown exc) ∷ kept) }
+{
+    let mut args = Seq::new(alloc);
+    args.push(Slot::L(Value::Thrown(exc)))?;
+    args.append(kept)?;
+    Ok(args)
+}
+
+/// What a guarded part gave, or what the handler gives of its exception.
+#[cycle(run)]
+fn handle(
+    alloc: Global,
+    bound: &Bound<'_>,
+    leaves: &Leaves,
+    guard: Guard,
+    ran: Ran,
+    kept: Slots,
+    n: u32,
+) -> Result<Ran, NoMemory>
+    requires well_formed { guarded (ran_of_run ran) (is_caught leaves.now.classes guard.class) n
+        (λ e k. run_field (senses_in leaves.now bound.now) guard.handler
+        (slot.L (Thrown e) ∷ kept) k) ≢ Stuck }
+    ensures { IfOk result (λ r. ran_of_run r
+        ≡ guarded (ran_of_run ran) (is_caught leaves.now.classes guard.class) n
+        (λ e k. run_field (senses_in leaves.now bound.now) guard.handler
+        (slot.L (Thrown e) ∷ kept) k)) }
+{
+    let Ran { outcome, calls } = ran;
+    match outcome {
+        SlotOutcome::Return(slot) => Ok(Ran {
+            outcome: SlotOutcome::Return(slot),
+            calls,
+        }),
+        SlotOutcome::Throw(exc) => {
+            if !leaves.classes().subclass(exc.class, guard.class) {
+                return Ok(Ran {
+                    outcome: SlotOutcome::Throw(exc),
+                    calls,
+                });
+            }
+            let later = raised(n, &calls);
+            let args = handler_args(alloc, exc, kept)?;
+            let handled = run_part(alloc, bound, leaves, guard.handler, args, later)?;
+            run_after(calls, handled)
+        }
+    }
+}
+
 #[cycle(run)]
 fn run_guarded(
     alloc: Global,
@@ -62,31 +127,50 @@ fn run_guarded(
         (is_caught leaves.now.classes guard.class) guard.handler guard.kept args n) }
 {
     let kept = first(alloc, &args, guard.kept)?;
-    let Ran { outcome, mut calls } = run_part(alloc, bound, leaves, guard.part, args, n)?;
-    match outcome {
-        SlotOutcome::Return(slot) => Ok(Ran {
-            outcome: SlotOutcome::Return(slot),
-            calls,
-        }),
-        SlotOutcome::Throw(exc) => {
-            if !leaves.classes().subclass(exc.class, guard.class) {
-                return Ok(Ran {
-                    outcome: SlotOutcome::Throw(exc),
-                    calls,
-                });
-            }
-            let later = raised(n, &calls);
-            let mut given = Seq::new(alloc);
-            given.push(Slot::L(Value::Thrown(exc)))?;
-            given.append(kept)?;
-            let handled = run_part(alloc, bound, leaves, guard.handler, given, later)?;
-            calls.append(handled.calls)?;
-            Ok(Ran {
-                outcome: handled.outcome,
-                calls,
-            })
-        }
-    }
+    let ran = run_part(alloc, bound, leaves, guard.part, args, n)?;
+    handle(alloc, bound, leaves, guard, ran, kept, n)
+}
+
+/// Runs a guarded part on the slots at these places.
+#[cycle(run)]
+fn step_guarded(
+    alloc: Global,
+    bound: &Bound<'_>,
+    leaves: &Leaves,
+    guard: Guard,
+    args: &Operands,
+    slots: &Slots,
+    n: u32,
+) -> Result<Stepped, NoMemory>
+    requires well_formed { found (picked slots.now args.now) (λ xs. filled
+        (guarded_field (senses_in leaves.now bound.now) guard.part
+        (is_caught leaves.now.classes guard.class) guard.handler guard.kept xs n)) ≢ Stuck }
+    ensures { IfOk result (λ r. ran_of_step r ≡ found (picked slots.now args.now) (λ xs. filled
+        (guarded_field (senses_in leaves.now bound.now) guard.part
+        (is_caught leaves.now.classes guard.class) guard.handler guard.kept xs n))) }
+{
+    let args = pick(alloc, slots, args)?;
+    Ok(filled(run_guarded(alloc, bound, leaves, guard, args, n)?))
+}
+
+/// Runs the part in a field on the slots at these places.
+#[cycle(run)]
+fn step_link(
+    alloc: Global,
+    bound: &Bound<'_>,
+    leaves: &Leaves,
+    field: u32,
+    args: &Operands,
+    slots: &Slots,
+    n: u32,
+) -> Result<Stepped, NoMemory>
+    requires well_formed { step (Link field args.now) (senses_in leaves.now bound.now) slots.now n
+        ≢ Stuck }
+    ensures { IfOk result (λ r. ran_of_step r
+        ≡ step (Link field args.now) (senses_in leaves.now bound.now) slots.now n) }
+{
+    let args = pick(alloc, slots, args)?;
+    Ok(filled(run_part(alloc, bound, leaves, field, args, n)?))
 }
 
 /// The field of one of two parts: the first where the slot of the test is int 1.
@@ -112,21 +196,16 @@ fn step(
     match name {
         Name::Get(field) => get(alloc, bound, leaves, *field),
         Name::Call(field, args) => call_leaf(alloc, bound, leaves, *field, args, slots, n),
-        Name::Link(field, args) => {
-            let args = pick(alloc, slots, args)?;
-            Ok(filled(run_part(alloc, bound, leaves, *field, args, n)?))
-        }
+        Name::Link(field, args) => step_link(alloc, bound, leaves, *field, args, slots, n),
         Name::Select(test, field, other, args) => {
             let at = *test as usize;
             if at >= slots.len() {
                 unreachable!()
             }
             let part = chosen(slots.get(at), *field, *other);
-            let args = pick(alloc, slots, args)?;
-            Ok(filled(run_part(alloc, bound, leaves, part, args, n)?))
+            step_link(alloc, bound, leaves, part, args, slots, n)
         }
         Name::Guarded(part, class, handler, args, kept) => {
-            let args = pick(alloc, slots, args)?;
             let Some(class) = class_in(bound, leaves, *class) else {
                 unreachable!()
             };
@@ -136,7 +215,7 @@ fn step(
                 handler: *handler,
                 kept: *kept,
             };
-            Ok(filled(run_guarded(alloc, bound, leaves, guard, args, n)?))
+            step_guarded(alloc, bound, leaves, guard, args, slots, n)
         }
         Name::Conv(field, slot) | Name::Cast(field, slot) => {
             convert(alloc, bound, leaves, *field, *slot, slots)
@@ -147,6 +226,18 @@ fn step(
         Name::Elem(slot, at) => item(alloc, *slot, *at, slots),
         Name::Raise(slot) => throw(alloc, *slot, slots),
     }
+}
+
+/// A run whose names all gave a slot: it ends with the result at a place.
+fn returned(alloc: Global, place: Option<u32>, slots: Slots, calls: Calls) -> Result<Ran, NoMemory>
+    requires { ended place slots 0 ≢ Stuck }
+    ensures { IfOk result (λ r. ran_of_run r ≡ after calls (ended place slots 0)) }
+{
+    let given = result_in(alloc, place, &slots)?;
+    Ok(Ran {
+        outcome: SlotOutcome::Return(given),
+        calls,
+    })
 }
 
 /// Runs a body on its fields and on arguments, where `n` leaf calls were made before in the
@@ -175,17 +266,13 @@ pub fn run<'t>(
                 slots.push(slot)?;
             }
             Stepped::Ended(exc, more) => {
-                calls.append(more)?;
-                return Ok(Ran {
+                let last = Ran {
                     outcome: SlotOutcome::Throw(exc),
-                    calls,
-                });
+                    calls: more,
+                };
+                return run_after(calls, last);
             }
         }
     }
-    let given = result_in(alloc, bound.body.out, &slots)?;
-    Ok(Ran {
-        outcome: SlotOutcome::Return(given),
-        calls,
-    })
+    returned(alloc, bound.body.out, slots, calls)
 }
