@@ -1,5 +1,5 @@
 -- What contracts see of the seats and passes of a table of forms, and what an edit leaves of a pass.
-use Rattle.std.specs.Prelude.{◌≡◌, ℕ, zero, suc, ◌+◌, ◌-◌, ◌^◌, ◌<◌, ◌⊎◌, List, [], ◌∷◌, ◌++◌, length, slice_get, Result, Ok, Err, Some}
+use Rattle.std.specs.Prelude.{◌≡◌, ℕ, zero, suc, ◌+◌, ◌-◌, ◌^◌, ◌<◌, ◌⊎◌, List, [], ◌∷◌, ◌++◌, length, slice_get, Result, Ok, Err, Option, None, Some}
 use Rattle.std.specs.List.{All}
 use denote.Ref.{Bor}
 use Rattle.mh_setonce.specs.Walks.{StartsWith, Lacks, Has}
@@ -76,6 +76,12 @@ abbrev pub Edits : List Key → PassView → PassView → Result (Bor FormView) 
 Edits recipe old new (Ok form) = (form.now.recipe ≡ recipe) × AsksFor form.now old new × DrawsAtMostOne recipe old new × IsFormOf recipe new.nodes form.now
 Edits recipe old new (Err NoMemory) = NotAsked recipe old new × DrawsAtMostOne recipe old new
 Edits recipe old new (Err (FormsFull drawn)) = NotAsked recipe old new × Draws drawn old.seat new.seat × (16384 < drawn) × Lacks recipe_of new.nodes recipe
+
+-- what asking for a form answers that was not asked for before: what the edit does where the chain shows it, or memory is short; else the pass has not learnt it
+abbrev pub AsksShown : {E : Type 0} → List Key → PassView → PassView → Result (Option (Bor FormView)) E → Type 0
+AsksShown recipe old new (Ok (Some form)) = Edits recipe old new (Ok form)
+AsksShown recipe old new (Ok None) = Learns old new × Lacks recipe_of new.nodes recipe
+AsksShown recipe old new (Err e) = Edits recipe old new (Err NoMemory)
 
 -- what the making of a form answers that was neither asked for nor learnt
 abbrev pub Makes : List Key → PassView → PassView → Result (Bor FormView) EditError → Type 0

@@ -1,8 +1,9 @@
-ghost use Rattle.std.specs.Prelude.{◌≡◌, ◌≤◌, ◌++◌, ◌∷◌, [], length, OnOk, OnErr, IfOk, IfSome};
+ghost use Rattle.std.specs.Prelude.{◌≡◌, ◌≤◌, ◌++◌, ◌∷◌, [], length, OnOk, OnErr, IfOk, IfSome, List, ℕ};
+ghost use Rattle.mh_setonce.specs.Puts.{PutIn, Refused};
 ghost use Rattle.mh_setonce.specs.Walks.{Distinct, Finds, Has, Lacks, StartsWith};
-ghost use Rattle.mh_handle.specs.Form.{body_of};
+ghost use Rattle.mh_handle.specs.Form.{FormView, body_of};
 ghost use Rattle.mh_handle.specs.Index.{recipe_of};
-ghost use Rattle.mh_handle.specs.Passes.{IsFormOf, Learns, Makes, pass_at};
+ghost use Rattle.mh_handle.specs.Passes.{AsksShown, IsFormOf, Learns, Makes, pass_at};
 
 use crate::error::EditError;
 use crate::form::Form;
@@ -96,6 +97,25 @@ impl<'t> FormPass<'t> {
         self.seen.add(form)
     }
 
+    /// Asks for the form of a recipe that was not asked for, if the chain shows it.
+    pub(crate) fn ask_shown(
+        &mut self,
+        chain: &'t Chain<Form>,
+        recipe: &Recipe,
+    ) -> Result<Option<&'t Form>, NoMemory>
+        requires pass { self.old.cells ≡ chain.now }
+        requires new { Lacks recipe_of self.old.asked recipe.now }
+        ensures cells { self.new.cells ≡ self.old.cells }
+        ensures learnt { StartsWith self.new.nodes self.old.nodes }
+        ensures asks { AsksShown recipe.now self.old self.new result }
+    {
+        let Some(found) = self.find(chain, recipe)? else {
+            return Ok(None);
+        };
+        self.ask(found)?;
+        Ok(Some(found))
+    }
+
     /// Makes a form that was neither asked for nor learnt, with a number of its own, unless another
     /// pass has made it meanwhile.
     pub(crate) fn make<R: Wait>(
@@ -146,11 +166,31 @@ fn put_form<'t, R: Wait>(
 {
     for _ in rt.forever() {
         match chain.find_or_put(rt, alloc, walk, form) {
-            Ok(Put::Mine(made)) => return Ok(made),
-            Ok(Put::Theirs(made, _)) => return Ok(made),
-            Err(PutRefused::NoMemory(_)) => return Err(NoMemory),
-            Err(PutRefused::Full(back)) => form = back,
+            Ok(put) => return Ok(node_of(put)),
+            Err(refused) => form = handed_back(refused)?,
         }
     }
     unreachable!()
+}
+
+/// The form of the chain, whoever put it there.
+fn node_of<'t>(put: Put<'t, Form>) -> &'t Form
+    ensures { (before after : List FormView) (form : FormView)
+        → PutIn recipe_of before after form put.entry → Has recipe_of after form.recipe result.now }
+{
+    match put {
+        Put::Mine(form) => form,
+        Put::Theirs(form, _) => form,
+    }
+}
+
+/// The form that was not put, where the chain seems full.
+fn handed_back(refused: PutRefused<Form>) -> Result<Form, NoMemory>
+    ensures { (nodes : List FormView) (cells : List ℕ) (form : FormView)
+        → Refused recipe_of nodes cells form refused → IfOk result (λ back. back ≡ form) }
+{
+    match refused {
+        PutRefused::NoMemory(_) => Err(NoMemory),
+        PutRefused::Full(back) => Ok(back),
+    }
 }
