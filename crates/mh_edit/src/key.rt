@@ -18,7 +18,7 @@ pub enum RetEntry {
 /// makes (the idea of OpenJDK's `LambdaFormEditor`). A root makes a form of nothing. What the new
 /// form uses beside its arguments it finds in new fields behind the old ones, in the order named
 /// here.
-#[derive(Debug, Drop)]
+#[derive(Drop)]
 pub enum Key {
     /// A call of a leaf. Field: the leaf.
     LeafRoot {

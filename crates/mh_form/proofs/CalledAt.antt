@@ -1,8 +1,7 @@
 -- A leaf on the slots at places is the leaf on those slots, picked.
-use Rattle.std.proofs.Common.{◌≡◌, ◌≢◌, refl, sym, ap, ap₂, ◌∙◌, ℕ, suc, ◌+◌, ◌<◌, ◌≤◌, List, [], ◌∷◌, ◌++◌, Option, Some, None, drop, length}
+use Rattle.std.proofs.Common.{◌≡◌, ◌≢◌, refl, sym, ap, ap₂, ◌∙◌, ℕ, ◌+◌, ◌<◌, ◌≤◌, List, [], ◌∷◌, ◌++◌, Option, Some, None, drop, length}
 use Rattle.std.specs.Prelude.{slice_get}
 use Rattle.std.proofs.Math.ListN.{drop_of_length-le}
-use Rattle.std.proofs.lemmas.Option.{slice_get_past}
 use Rattle.mh_values.specs.declared.class.Class.{Class}
 use Rattle.mh_values.specs.declared.types.Ty.{Ty}
 use Rattle.mh_values.specs.declared.value.LeafId.{LeafId}
@@ -97,14 +96,6 @@ pub at-short :
 at-short classes slots ts ps vs i low high =
     let q = first-left ts i low in
     ap (typed_on vs) (ap₂ (typed_at classes slots) q.1 (drop_of_length-le ps high))
-
-pub at-past :
-    (classes : List Class) (slots : List Slot) (ts : List Ty) (ps : List ℕ) (vs : List Value) (i p : ℕ) →
-    i < length ts → slice_get ps i ≡ Some p → length slots ≤ p → typed_on vs (typed_at classes slots (drop i ts) (drop i ps)) ≡ None
-at-past classes slots ts ps vs i p low k high =
-    let q = first-left ts i low in
-    ap (typed_on vs) (ap₂ (typed_at classes slots) q.1 (drop-at ps i p k))
-    ∙ ap (λ o. typed_on vs (value_and_more (typed_slot classes q.0 o) (typed_at classes slots (drop (suc i) ts) (drop (i + 1) ps)))) (slice_get_past slots p high)
 
 pub at-none :
     (classes : List Class) (slots : List Slot) (ts : List Ty) (ps : List ℕ) (vs : List Value) (i : ℕ) (t : Ty) (p : ℕ) →

@@ -25,7 +25,7 @@ pub enum BasicRet {
 }
 
 /// An erased method type.
-#[derive(Debug, Drop)]
+#[derive(Drop)]
 pub struct Shape {
     pub params: Basics,
     pub ret: BasicRet,

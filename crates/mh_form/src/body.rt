@@ -7,7 +7,7 @@ use std::alloc::Global;
 
 /// What a form does, apart from what its fields hold: it takes slots of these basic types, runs its
 /// names in order, and gives the slot at a place of the list that they made, or nothing.
-#[derive(Debug, Drop)]
+#[derive(Drop)]
 pub struct FormBody {
     pub params: Basics,
     /// How many fields the names use.

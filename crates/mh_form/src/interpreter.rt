@@ -1,4 +1,4 @@
-ghost use Rattle.std.specs.Prelude.{◌≡◌, ◌≢◌, ◌∷◌, if◌then◌else◌, IfOk};
+ghost use Rattle.std.specs.Prelude.{◌≡◌, ◌≢◌, ◌++◌, ◌∷◌, [], if◌then◌else◌, IfOk};
 ghost use Rattle.mh_values.specs.declared.value.Value.TheVariants.{Thrown};
 ghost use Rattle.mh_values.specs.Computation.{Stuck, after, found, guarded};
 ghost use Rattle.mh_form.specs.declared.name.Name.TheVariants.{Link};
@@ -53,12 +53,13 @@ fn run_part(
 fn run_after(calls: Calls, ran: Ran) -> Result<Ran, NoMemory>
     ensures { IfOk result (λ r. ran_of_run r ≡ after calls (ran_of_run ran)) }
 {
+    let Ran {
+        outcome,
+        calls: later,
+    } = ran;
     let mut calls = calls;
-    calls.append(ran.calls)?;
-    Ok(Ran {
-        outcome: ran.outcome,
-        calls,
-    })
+    calls.append(later)?;
+    Ok(Ran { outcome, calls })
 }
 
 /// The arguments of a handler: the exception, and those that are kept.
@@ -228,15 +229,36 @@ fn step(
     }
 }
 
-/// A run whose names all gave a slot: it ends with the result at a place.
-fn returned(alloc: Global, place: Option<u32>, slots: Slots, calls: Calls) -> Result<Ran, NoMemory>
-    requires { ended place slots 0 ≢ Stuck }
-    ensures { IfOk result (λ r. ran_of_run r ≡ after calls (ended place slots 0)) }
+/// A run under way: the slots, and the leaf calls so far.
+#[derive(Drop)]
+struct Progress {
+    slots: Slots,
+    calls: Calls,
+}
+
+/// A run under way after one more name, which filled its slot.
+fn filled_up(run: Progress, slot: Slot, more: Calls) -> Result<Progress, NoMemory>
+    ensures { IfOk result
+        (λ r. r ≡ record { slots = run.slots ++ slot ∷ []; calls = run.calls ++ more }) }
 {
-    let given = result_in(alloc, place, &slots)?;
+    let Progress {
+        mut slots,
+        mut calls,
+    } = run;
+    calls.append(more)?;
+    slots.push(slot)?;
+    Ok(Progress { slots, calls })
+}
+
+/// The end of a run whose names all filled their slots, with the result at a place.
+fn returned(alloc: Global, run: Progress, place: Option<u32>) -> Result<Ran, NoMemory>
+    requires { ended place run.slots 0 ≢ Stuck }
+    ensures { IfOk result (λ r. ran_of_run r ≡ after run.calls (ended place run.slots 0)) }
+{
+    let given = result_in(alloc, place, &run.slots)?;
     Ok(Ran {
         outcome: SlotOutcome::Return(given),
-        calls,
+        calls: run.calls,
     })
 }
 
@@ -255,24 +277,25 @@ pub fn run<'t>(
     requires well_formed { run_bound leaves.now bound.now args n ≢ Stuck }
     ensures { IfOk result (λ r. ran_of_run r ≡ run_bound leaves.now bound.now args n) }
 {
-    let mut slots = args;
-    let mut calls = Seq::new(alloc);
+    let mut progress = Progress {
+        slots: args,
+        calls: Seq::new(alloc),
+    };
     let mut count = n;
     for name in bound.body.names.as_slice() {
-        match step(alloc, bound, leaves, name, &slots, count)? {
+        match step(alloc, bound, leaves, name, &progress.slots, count)? {
             Stepped::Filled(slot, more) => {
                 count = raised(count, &more);
-                calls.append(more)?;
-                slots.push(slot)?;
+                progress = filled_up(progress, slot, more)?;
             }
             Stepped::Ended(exc, more) => {
                 let last = Ran {
                     outcome: SlotOutcome::Throw(exc),
                     calls: more,
                 };
-                return run_after(calls, last);
+                return run_after(progress.calls, last);
             }
         }
     }
-    returned(alloc, bound.body.out, slots, calls)
+    returned(alloc, progress, bound.body.out)
 }

@@ -6,7 +6,7 @@ pub type Operands = Seq<u32>;
 /// One step of a form (a `Name` of OpenJDK's `LambdaForm`). It puts one slot at the end of the list
 /// of slots: what it gives, or int 0 where it gives nothing. Fields are named by their number, and
 /// slots by their place in that list, both from 0.
-#[derive(Debug, Drop)]
+#[derive(Drop)]
 pub enum Name {
     /// `Get(field)`: the slot in a field.
     Get(u32),

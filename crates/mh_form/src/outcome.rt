@@ -2,14 +2,14 @@ use crate::Slot;
 use mh_values::{Calls, Exc};
 
 /// How a run ends: with a slot, without one, or with an exception.
-#[derive(Debug, Drop)]
+#[derive(Drop)]
 pub enum SlotOutcome {
     Return(Option<Slot>),
     Throw(Exc),
 }
 
 /// A run: how it ended, and the leaf calls that it made, in order.
-#[derive(Debug, Drop)]
+#[derive(Drop)]
 pub struct Ran {
     pub outcome: SlotOutcome,
     pub calls: Calls,

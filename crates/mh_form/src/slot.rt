@@ -2,7 +2,7 @@ use mh_base::Seq;
 use mh_values::Value;
 
 /// A value whose type is erased: a `boolean` is int 0 or 1.
-#[derive(Debug, Drop)]
+#[derive(Drop)]
 pub enum Slot {
     I(i32),
     J(i64),

@@ -1,6 +1,6 @@
 //! Slots by their place, and what a slot holds.
 
-ghost use Rattle.std.specs.Prelude.{◌≡◌, ◌≢◌, IfOk, None, Some, [], take};
+ghost use Rattle.std.specs.Prelude.{◌≡◌, ◌≢◌, ◌++◌, ◌∷◌, IfOk, None, Some, [], take};
 ghost use Rattle.mh_values.specs.Computation.{Stuck, Threw, raised};
 ghost use Rattle.mh_form.specs.declared.slot.Slot.{Slot};
 ghost use Rattle.mh_form.specs.Run.{picked, ran_of_run, ran_of_step, result_at};
@@ -19,6 +19,16 @@ pub(crate) fn raised(n: u32, calls: &Calls) -> u32
     ((n as u64 + calls.len() as u64 % 0x1_0000_0000) % 0x1_0000_0000) as u32
 }
 
+/// Slots with a copy of one more.
+fn with_copy(alloc: Global, slots: Slots, slot: &Slot) -> Result<Slots, NoMemory>
+    ensures { IfOk result (λ xs. xs ≡ slots ++ slot.now ∷ []) }
+{
+    let copy = slot.copy(alloc)?;
+    let mut xs = slots;
+    xs.push(copy)?;
+    Ok(xs)
+}
+
 /// Copies of the slots at these places.
 pub(crate) fn pick(alloc: Global, slots: &Slots, places: &Operands) -> Result<Slots, NoMemory>
     requires { picked slots.now places.now ≢ None }
@@ -30,7 +40,7 @@ pub(crate) fn pick(alloc: Global, slots: &Slots, places: &Operands) -> Result<Sl
         if at >= slots.len() {
             unreachable!()
         }
-        xs.push(slots.get(at).copy(alloc)?)?;
+        xs = with_copy(alloc, xs, slots.get(at))?;
     }
     Ok(xs)
 }
@@ -61,7 +71,7 @@ pub(crate) fn first(alloc: Global, slots: &Slots, count: u32) -> Result<Slots, N
     let mut xs = Seq::new(alloc);
     for slot in slots.as_slice() {
         if xs.len() < count as usize {
-            xs.push(slot.copy(alloc)?)?;
+            xs = with_copy(alloc, xs, slot)?;
         }
     }
     Ok(xs)
