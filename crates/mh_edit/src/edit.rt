@@ -1,13 +1,13 @@
 ghost use Rattle.std.specs.Prelude.{◌≡◌, ◌+◌, ◌-◌, ◌<◌, ◌≤◌, ◌∷◌, [], IfOk, IsTrue, length, replicate};
 ghost use Rattle.std.specs.List.{range_with_len};
-ghost use Rattle.mh_form.specs.declared.name.Name.TheVariants.{MakeArray};
-ghost use Rattle.mh_edit.specs.Applied.{adding, applied, binding, collecting, converting, filtering, folding, gathering, given, permuting, places_of, returning, spreading};
+ghost use Rattle.mh_form.specs.declared.name.Name.TheVariants.{CheckArray, MakeArray};
+ghost use Rattle.mh_edit.specs.Applied.{adding, applied, binding, collecting, converting, elem_names, filtering, folding, gathering, given, permuting, places_of, returning, spreading};
 ghost use Rattle.mh_edit.specs.Fit.{fits, taken_by};
 ghost use Rattle.mh_edit.specs.Law.{Law};
 
 use crate::fit::taken_by;
 use crate::frame::{Splice, converting, edited, finished, reframed, returning};
-use crate::names::{push_elems, range, single};
+use crate::names::{link, one_basic, push_elems, range, single};
 use crate::narrow::narrow;
 use crate::roots::{catch_body, constant_body, guard_body, identity_body, leaf_body, throw_body};
 use crate::{Key, Places, RetEntry};
@@ -29,14 +29,14 @@ fn binding(alloc: Global, body: &FormBody, pos: u8) -> Result<FormBody, NoMemory
     requires { pos < length body.now.params }
     ensures { IfOk result (λ new. new ≡ binding pos body.now) }
 {
-    let made = narrow((body.params.len() - 1) as u64)?;
+    let made = range(alloc, narrow((body.params.len() - 1) as u64)?, 1)?;
+    let before = single(alloc, Name::Get(body.fields))?;
     let splice = Splice {
         pos: pos as u32,
         taken: 1,
         basics: &Seq::new(alloc),
     };
-    let before = single(alloc, Name::Get(body.fields))?;
-    edited(alloc, body, splice, before, range(alloc, made, 1)?, 1)
+    edited(alloc, body, splice, before, made, 1)
 }
 
 fn adding(alloc: Global, body: &FormBody, pos: u8, basics: &Basics) -> Result<FormBody, NoMemory>
@@ -71,14 +71,8 @@ fn permuting(
     ensures { IfOk result (λ new. new ≡ permuting basics.now reorder.now body.now) }
 {
     let table = widened(alloc, reorder)?;
-    reframed(
-        alloc,
-        body,
-        basics.copy()?,
-        Seq::new(alloc),
-        table.as_slice(),
-        0,
-    )
+    let params = basics.copy()?;
+    reframed(alloc, body, params, Seq::new(alloc), table.as_slice(), 0)
 }
 
 fn collecting(
@@ -98,16 +92,9 @@ fn collecting(
         basics,
     };
     let width = narrow(body.params.len() as u64)? as u64 + put as u64;
-    let made = narrow(width - splice.taken as u64)?;
-    let part = Name::Link(body.fields, range(alloc, pos as u32, put)?);
-    edited(
-        alloc,
-        body,
-        splice,
-        single(alloc, part)?,
-        given(alloc, ret, made)?,
-        1,
-    )
+    let made = given(alloc, ret, narrow(width - splice.taken as u64)?)?;
+    let part = link(alloc, body.fields, pos as u32, put)?;
+    edited(alloc, body, splice, part, made, 1)
 }
 
 fn folding(
@@ -120,21 +107,16 @@ fn folding(
     requires { pos + taken_by ret ≤ length body.now.params }
     ensures { IfOk result (λ new. new ≡ folding pos count ret body.now) }
 {
+    let taken = taken_by(ret) as u32;
+    let left = narrow((body.params.len() - taken as usize) as u64)?;
+    let made = given(alloc, ret, left)?;
+    let part = link(alloc, body.fields, pos as u32, count as u32)?;
     let splice = Splice {
         pos: pos as u32,
-        taken: taken_by(ret) as u32,
+        taken,
         basics: &Seq::new(alloc),
     };
-    let made = narrow((body.params.len() - splice.taken as usize) as u64)?;
-    let part = Name::Link(body.fields, range(alloc, pos as u32, count as u32)?);
-    edited(
-        alloc,
-        body,
-        splice,
-        single(alloc, part)?,
-        given(alloc, ret, made)?,
-        1,
-    )
+    edited(alloc, body, splice, part, made, 1)
 }
 
 /// The places of a result, if there is one.
@@ -151,7 +133,17 @@ fn filtering(alloc: Global, body: &FormBody, ret: BasicRet) -> Result<FormBody, 
     ensures { IfOk result (λ new. new ≡ filtering ret body.now) }
 {
     let part = Name::Link(body.fields, places_of(alloc, body.out)?);
-    finished(body.copy(alloc)?, part, ret)
+    let old = body.copy(alloc)?;
+    finished(old, part, ret)
+}
+
+/// The names that check an array, and get each of its items.
+fn spread_names(alloc: Global, array: u32, count: u32) -> Result<Names, NoMemory>
+    ensures { IfOk result (λ names. names ≡ CheckArray array count ∷ elem_names array 0 count) }
+{
+    let mut names = single(alloc, Name::CheckArray(array, count))?;
+    push_elems(&mut names, array, count)?;
+    Ok(names)
 }
 
 fn spreading(alloc: Global, body: &FormBody, count: u8) -> Result<FormBody, NoMemory>
@@ -159,16 +151,14 @@ fn spreading(alloc: Global, body: &FormBody, count: u8) -> Result<FormBody, NoMe
     ensures { IfOk result (λ new. new ≡ spreading count body.now) }
 {
     let pos = narrow((body.params.len() - count as usize) as u64)?;
-    let mut before = single(alloc, Name::CheckArray(pos, count as u32))?;
-    push_elems(&mut before, pos, count as u32)?;
-    let mut array = Seq::new(alloc);
-    array.push(Basic::L)?;
+    let items = range(alloc, narrow(pos as u64 + 2)?, count as u32)?;
+    let before = spread_names(alloc, pos, count as u32)?;
+    let array = one_basic(alloc, Basic::L)?;
     let splice = Splice {
         pos,
         taken: count as u32,
         basics: &array,
     };
-    let items = range(alloc, narrow(pos as u64 + 2)?, count as u32)?;
     edited(alloc, body, splice, before, items, 0)
 }
 
@@ -187,10 +177,8 @@ fn repeated(alloc: Global, count: u8, basic: Basic) -> Result<Basics, NoMemory>
 fn array_name(alloc: Global, comp: u32, from: u32, count: u8) -> Result<Names, NoMemory>
     ensures { IfOk result (λ names. names ≡ MakeArray comp (range_with_len from count) ∷ []) }
 {
-    single(
-        alloc,
-        Name::MakeArray(comp, range(alloc, from, count as u32)?),
-    )
+    let items = range(alloc, from, count as u32)?;
+    single(alloc, Name::MakeArray(comp, items))
 }
 
 fn gathering(alloc: Global, body: &FormBody, count: u8, basic: Basic) -> Result<FormBody, NoMemory>
@@ -198,15 +186,15 @@ fn gathering(alloc: Global, body: &FormBody, count: u8, basic: Basic) -> Result<
     ensures { IfOk result (λ new. new ≡ gathering count basic body.now) }
 {
     let pos = narrow((body.params.len() - 1) as u64)?;
+    let made = range(alloc, narrow(pos as u64 + count as u64)?, 1)?;
+    let before = array_name(alloc, body.fields, pos, count)?;
     let items = repeated(alloc, count, basic)?;
     let splice = Splice {
         pos,
         taken: 1,
         basics: &items,
     };
-    let before = array_name(alloc, body.fields, pos, count)?;
-    let made = narrow(pos as u64 + count as u64)?;
-    edited(alloc, body, splice, before, range(alloc, made, 1)?, 1)
+    edited(alloc, body, splice, before, made, 1)
 }
 
 fn converted(

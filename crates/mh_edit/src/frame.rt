@@ -1,13 +1,13 @@
 //! Bodies with names before the old ones, or a name behind them.
 
-ghost use Rattle.std.specs.Prelude.{◌≡◌, ◌+◌, ◌≤◌, ◌++◌, IfOk, length};
+ghost use Rattle.std.specs.Prelude.{◌≡◌, ◌+◌, ◌-◌, ◌≤◌, ◌++◌, IfOk, length};
 ghost use Rattle.mh_values.specs.Computation.{spliced};
-ghost use Rattle.mh_edit.specs.Applied.{converting, finishing, out_of, returning};
+ghost use Rattle.mh_edit.specs.Applied.{conv_table, converting, finishing, out_of, returning};
 ghost use Rattle.mh_edit.specs.Rename.{edited, ending_with, reframed, table};
 
 use crate::RetEntry;
 use crate::names::{
-    conv_count, push_all, push_conv_params, push_conv_places, push_convs, push_range,
+    conv_count, push_all, push_conv_params, push_conv_places, push_convs, push_range, range,
 };
 use crate::narrow::narrow;
 use crate::rename::{Renaming, place_if_any, rename_all};
@@ -46,12 +46,13 @@ pub(crate) fn reframed(
     ensures { IfOk result (λ new. new ≡ reframed body.now params before table.now more) }
 {
     let base = narrow(params.len() as u64 + before.len() as u64)?;
+    let fields = narrow(body.fields as u64 + more as u64)?;
     let to = Renaming { table, base };
     let out = place_if_any(to, body.out)?;
     let names = rename_all(alloc, to, before, &body.names)?;
     Ok(FormBody {
         params,
-        fields: narrow(body.fields as u64 + more as u64)?,
+        fields,
         names,
         out,
     })
@@ -61,10 +62,10 @@ pub(crate) fn reframed(
 fn table(alloc: Global, pos: u32, put: u32, mid: Operands, rest: u32) -> Result<Operands, NoMemory>
     ensures { IfOk result (λ places. places ≡ table pos put mid rest) }
 {
-    let mut places = Seq::new(alloc);
-    push_range(&mut places, 0, pos)?;
+    let end = narrow(pos as u64 + put as u64)?;
+    let mut places = range(alloc, 0, pos)?;
     places.append(mid)?;
-    push_range(&mut places, narrow(pos as u64 + put as u64)?, rest)?;
+    push_range(&mut places, end, rest)?;
     Ok(places)
 }
 
@@ -96,12 +97,27 @@ pub(crate) fn edited(
     ensures { IfOk result (λ new. new ≡ edited body.now
         splice.entry.pos splice.entry.taken splice.entry.basics.now before mid more) }
 {
-    let gone = splice.pos as usize + splice.taken as usize;
-    let rest = narrow((body.params.len() - gone) as u64)?;
-    let put = narrow(splice.basics.len() as u64)?;
-    let places = table(alloc, splice.pos, put, mid, rest)?;
+    let places = spliced_table(alloc, &body.params, splice, mid)?;
     let params = spliced(alloc, &body.params, splice)?;
     reframed(alloc, body, params, before, places.as_slice(), more)
+}
+
+/// The new places of parameters that are spliced.
+fn spliced_table(
+    alloc: Global,
+    params: &Basics,
+    splice: Splice<'_>,
+    mid: Operands,
+) -> Result<Operands, NoMemory>
+    requires { splice.pos + splice.taken ≤ length params.now }
+    ensures { IfOk result (λ places. places ≡ table splice.entry.pos
+        (length splice.entry.basics.now) mid
+        (length params.now - (splice.entry.pos + splice.entry.taken))) }
+{
+    let gone = splice.pos as usize + splice.taken as usize;
+    let rest = narrow((params.len() - gone) as u64)?;
+    let put = narrow(splice.basics.len() as u64)?;
+    table(alloc, splice.pos, put, mid, rest)
 }
 
 /// One name more, which takes the result, and one field more.
@@ -109,23 +125,29 @@ pub(crate) fn finished(body: FormBody, last: Name, ret: BasicRet) -> Result<Form
     ensures { IfOk result (λ new. new ≡ ending_with body last
         (out_of ret (length body.params + length body.names))) }
 {
-    let out = out_of(
-        ret,
-        narrow(body.params.len() as u64 + body.names.len() as u64)?,
-    );
+    let place = narrow(body.params.len() as u64 + body.names.len() as u64)?;
+    let fields = narrow(body.fields as u64 + 1)?;
     let FormBody {
         params,
-        fields,
         mut names,
         ..
     } = body;
     names.push(last)?;
     Ok(FormBody {
         params,
-        fields: narrow(fields as u64 + 1)?,
+        fields,
         names,
-        out,
+        out: out_of(ret, place),
     })
+}
+
+/// The new places of parameters that are converted, where they have an entry.
+fn conv_places(alloc: Global, entries: &[Option<Basic>], made: u32) -> Result<Operands, NoMemory>
+    ensures { IfOk result (λ places. places ≡ conv_table entries.now 0 made) }
+{
+    let mut places = Seq::new(alloc);
+    push_conv_places(&mut places, entries, 0, made)?;
+    Ok(places)
 }
 
 /// Parameters converted, where they have an entry.
@@ -137,13 +159,13 @@ pub(crate) fn converting(
     ensures { IfOk result (λ new. new ≡ converting entries.now body.now) }
 {
     let old = body.params.as_slice();
+    let count = narrow(old.len() as u64)?;
+    let more = conv_count(entries)?;
+    let places = conv_places(alloc, entries, count)?;
     let mut params = Seq::new(alloc);
     push_conv_params(&mut params, entries, old)?;
     let mut names = Seq::new(alloc);
     push_convs(&mut names, entries, old, body.fields, 0)?;
-    let mut places = Seq::new(alloc);
-    push_conv_places(&mut places, entries, 0, narrow(old.len() as u64)?)?;
-    let more = conv_count(entries)?;
     reframed(alloc, body, params, names, places.as_slice(), more)
 }
 

@@ -2,6 +2,7 @@
 
 ghost use Rattle.std.specs.Prelude.{◌≡◌, ◌+◌, ◌^◌, ◌<◌, ◌++◌, ◌∷◌, [], IfOk, OnOk};
 ghost use Rattle.std.specs.List.{range_with_len};
+ghost use Rattle.mh_form.specs.declared.name.Name.TheVariants.{Link};
 ghost use Rattle.mh_edit.specs.Applied.{conv_name, conv_names, conv_table, conv_params, conv_count, elem_names};
 
 use crate::narrow::narrow;
@@ -16,6 +17,15 @@ pub(crate) fn single(alloc: Global, name: Name) -> Result<Names, NoMemory>
     let mut names = Seq::new(alloc);
     names.push(name)?;
     Ok(names)
+}
+
+/// A list of one basic type.
+pub(crate) fn one_basic(alloc: Global, basic: Basic) -> Result<Basics, NoMemory>
+    ensures { IfOk result (λ basics. basics ≡ basic ∷ []) }
+{
+    let mut basics = Seq::new(alloc);
+    basics.push(basic)?;
+    Ok(basics)
 }
 
 pub(crate) fn push_range(places: &mut Operands, from: u32, count: u32) -> Result<(), NoMemory>
@@ -35,6 +45,14 @@ pub(crate) fn range(alloc: Global, from: u32, count: u32) -> Result<Operands, No
     let mut places = Seq::new(alloc);
     push_range(&mut places, from, count)?;
     Ok(places)
+}
+
+/// A list of one name, which runs the part in a field on the slots from a place on, so many.
+pub(crate) fn link(alloc: Global, field: u32, from: u32, count: u32) -> Result<Names, NoMemory>
+    ensures { IfOk result (λ names. names ≡ Link field (range_with_len from count) ∷ []) }
+{
+    let args = range(alloc, from, count)?;
+    single(alloc, Name::Link(field, args))
 }
 
 pub(crate) fn push_all(to: &mut Basics, from: &[Basic]) -> Result<(), NoMemory>

@@ -1,23 +1,28 @@
 //! The bodies that roots make.
 
-ghost use Rattle.std.specs.Prelude.{◌≡◌, IfOk};
+ghost use Rattle.std.specs.Prelude.{◌≡◌, ◌∷◌, [], IfOk};
+ghost use Rattle.std.specs.List.{range_with_len};
+ghost use Rattle.mh_form.specs.declared.name.Name.TheVariants.{Link, Select};
 ghost use Rattle.mh_edit.specs.Applied.{catch_body, constant_body, guard_body, identity_body, leaf_body, throw_body};
 
 use crate::frame::out_of;
-use crate::names::{range, single};
+use crate::names::{link, one_basic, range, single};
 use crate::narrow::narrow;
 use mh_base::{NoMemory, Seq};
-use mh_form::{Basic, BasicRet, FormBody, Name, Shape};
+use mh_form::{Basic, BasicRet, FormBody, Name, Names, Shape};
 use std::alloc::Global;
 
 pub(crate) fn leaf_body(alloc: Global, shape: &Shape) -> Result<FormBody, NoMemory>
     ensures { IfOk result (λ body. body ≡ leaf_body shape.now) }
 {
     let count = narrow(shape.params.len() as u64)?;
+    let args = range(alloc, 0, count)?;
+    let names = single(alloc, Name::Call(0, args))?;
+    let params = shape.params.copy()?;
     Ok(FormBody {
-        params: shape.params.copy()?,
+        params,
         fields: 1,
-        names: single(alloc, Name::Call(0, range(alloc, 0, count)?))?,
+        names,
         out: out_of(shape.ret, count),
     })
 }
@@ -25,10 +30,11 @@ pub(crate) fn leaf_body(alloc: Global, shape: &Shape) -> Result<FormBody, NoMemo
 pub(crate) fn constant_body(alloc: Global) -> Result<FormBody, NoMemory>
     ensures { IfOk result (λ body. body ≡ constant_body) }
 {
+    let names = single(alloc, Name::Get(0))?;
     Ok(FormBody {
         params: Seq::new(alloc),
         fields: 1,
-        names: single(alloc, Name::Get(0))?,
+        names,
         out: Some(0),
     })
 }
@@ -36,8 +42,7 @@ pub(crate) fn constant_body(alloc: Global) -> Result<FormBody, NoMemory>
 pub(crate) fn identity_body(alloc: Global, basic: Basic) -> Result<FormBody, NoMemory>
     ensures { IfOk result (λ body. body ≡ identity_body basic) }
 {
-    let mut params = Seq::new(alloc);
-    params.push(basic)?;
+    let params = one_basic(alloc, basic)?;
     Ok(FormBody {
         params,
         fields: 0,
@@ -49,27 +54,39 @@ pub(crate) fn identity_body(alloc: Global, basic: Basic) -> Result<FormBody, NoM
 pub(crate) fn throw_body(alloc: Global, ret: BasicRet) -> Result<FormBody, NoMemory>
     ensures { IfOk result (λ body. body ≡ throw_body ret) }
 {
-    let mut params = Seq::new(alloc);
-    params.push(Basic::L)?;
+    let params = one_basic(alloc, Basic::L)?;
+    let names = single(alloc, Name::Raise(0))?;
     Ok(FormBody {
         params,
         fields: 0,
-        names: single(alloc, Name::Raise(0))?,
+        names,
         out: out_of(ret, 1),
     })
+}
+
+/// The names that run a test on the first arguments, and one of two parts on all.
+fn guard_names(alloc: Global, count: u32, test: u32) -> Result<Names, NoMemory>
+    ensures { IfOk result (λ names. names ≡ Link 0 (range_with_len 0 test)
+        ∷ Select count 1 2 (range_with_len 0 count) ∷ []) }
+{
+    let args = range(alloc, 0, count)?;
+    let mut names = link(alloc, 0, 0, test)?;
+    names.push(Name::Select(count, 1, 2, args))?;
+    Ok(names)
 }
 
 pub(crate) fn guard_body(alloc: Global, shape: &Shape, test: u8) -> Result<FormBody, NoMemory>
     ensures { IfOk result (λ body. body ≡ guard_body shape.now test) }
 {
     let count = narrow(shape.params.len() as u64)?;
-    let mut names = single(alloc, Name::Link(0, range(alloc, 0, test as u32)?))?;
-    names.push(Name::Select(count, 1, 2, range(alloc, 0, count)?))?;
+    let made = narrow(count as u64 + 1)?;
+    let names = guard_names(alloc, count, test as u32)?;
+    let params = shape.params.copy()?;
     Ok(FormBody {
-        params: shape.params.copy()?,
+        params,
         fields: 3,
         names,
-        out: out_of(shape.ret, narrow(count as u64 + 1)?),
+        out: out_of(shape.ret, made),
     })
 }
 
@@ -78,10 +95,12 @@ pub(crate) fn catch_body(alloc: Global, shape: &Shape, kept: u8) -> Result<FormB
 {
     let count = narrow(shape.params.len() as u64)?;
     let args = range(alloc, 0, count)?;
+    let names = single(alloc, Name::Guarded(0, 1, 2, args, kept as u32))?;
+    let params = shape.params.copy()?;
     Ok(FormBody {
-        params: shape.params.copy()?,
+        params,
         fields: 3,
-        names: single(alloc, Name::Guarded(0, 1, 2, args, kept as u32))?,
+        names,
         out: out_of(shape.ret, count),
     })
 }

@@ -1,4 +1,4 @@
-ghost use Rattle.std.specs.Prelude.{◌≡◌, ℕ, ◌≤◌, [], length, IfOk, OnErr, IfSome, IfNone, slice_get, Some};
+ghost use Rattle.std.specs.Prelude.{◌≡◌, ℕ, ◌≤◌, [], length, IfOk, IfErr, OnErr, IfSome, IfNone, slice_get, Some};
 ghost use Rattle.once_cell.specs.Once.{cell_name};
 ghost use Rattle.mh_setonce.specs.Walks.{StartsWith, Lacks, Finds, Distinct, Meet};
 ghost use Rattle.mh_setonce.specs.Puts.{Puts};
@@ -89,19 +89,9 @@ impl<V: Keyed> Chain<V> {
         ensures put { Puts V.key_of walk.old walk.new value result }
     {
         for _ in rt.forever() {
-            if walk.learn().is_err() {
-                return Err(PutRefused::NoMemory(value));
-            }
-            if let Some(node) = walk.same(&value) {
-                return Ok(Put::Theirs(node, value));
-            }
-            if walk.is_full() {
-                return Err(PutRefused::Full(value));
-            }
-            match walk.try_put(alloc, value) {
-                Tried::Mine(node) => return Ok(Put::Mine(node)),
-                Tried::Again(back) => value = back,
-                Tried::NoMemory(back) => return Err(PutRefused::NoMemory(back)),
+            match put_once(alloc, walk, value) {
+                Ok(put) => return put,
+                Err(back) => value = back,
             }
         }
         unreachable!()
@@ -113,6 +103,34 @@ impl<V: Keyed> Chain<V> {
         ensures { Meet a.now.nodes b.now.nodes result }
     {
         twice::meet_all(a.learnt.as_slice(), b.learnt.as_slice())
+    }
+}
+
+// One try of a put, which hands the value back where it may be tried again.
+fn put_once<'t, V: Keyed>(
+    alloc: Global,
+    walk: &mut Walk<'t, V>,
+    value: V,
+) -> Result<Result<Put<'t, V>, PutRefused<V>>, V>
+    ensures cells { walk.new.cells ≡ walk.old.cells }
+    ensures nodes { StartsWith walk.new.nodes walk.old.nodes }
+    ensures once { Distinct V.key_of walk.new.nodes }
+    ensures put { IfOk result (Puts V.key_of walk.old walk.new value) }
+    ensures back { IfErr result (λ back. back ≡ value) }
+{
+    if walk.learn().is_err() {
+        return Ok(Err(PutRefused::NoMemory(value)));
+    }
+    if let Some(node) = walk.same(&value) {
+        return Ok(Ok(Put::Theirs(node, value)));
+    }
+    if walk.is_full() {
+        return Ok(Err(PutRefused::Full(value)));
+    }
+    match walk.try_put(alloc, value) {
+        Tried::Mine(node) => Ok(Ok(Put::Mine(node))),
+        Tried::Again(back) => Err(back),
+        Tried::NoMemory(back) => Ok(Err(PutRefused::NoMemory(back))),
     }
 }
 
