@@ -1,5 +1,5 @@
 use mh_base::Seq;
-use mh_convert::{RetConv, conversion, convert, fit, misfit, ret_conversion};
+use mh_convert::{Conv, RetConv, conversion, convert, fit, misfit, ret_conversion};
 use mh_values::{ClassId, Classes, Comp, Exc, Num, Primitive, Ty, Value, has_type};
 use std::alloc::Global;
 use std::test::Fail;
@@ -26,41 +26,43 @@ const INTS: Ty = Ty::Array(Comp::Prim(Primitive::I));
 
 const STRINGS: Ty = Ty::Array(Comp::Class(ClassId::STRING));
 
+/// Two types, and whether values of the first are converted to the second.
+const ALLOWED: [(Ty, Ty, bool); 22] = [
+    (Z, Z, true),
+    (I, J, true),
+    (J, I, false),
+    (Z, I, false),
+    (I, Z, false),
+    (STRING, INTS, true),
+    (INTS, OBJECT, true),
+    (I, INTEGER, true),
+    (I, NUMBER, true),
+    (I, OBJECT, true),
+    (I, LONG, false),
+    (Z, NUMBER, false),
+    (Z, BOOLEAN, true),
+    (J, INTS, false),
+    (OBJECT, J, true),
+    (NUMBER, J, true),
+    (INTEGER, J, true),
+    (LONG, I, false),
+    (NUMBER, Z, false),
+    (BOOLEAN, Z, true),
+    (STRING, I, false),
+    (INTS, I, false),
+];
+
 #[test]
 fn allows_the_conversions_of_the_table(rt: HostRuntime) -> Result<(), Fail> {
     let classes = Classes::builtin(rt.alloc())?;
-    for (from, to, allowed) in [
-        (Z, Z, true),
-        (I, J, true),
-        (J, I, false),
-        (Z, I, false),
-        (I, Z, false),
-        (STRING, INTS, true),
-        (INTS, OBJECT, true),
-        (I, INTEGER, true),
-        (I, NUMBER, true),
-        (I, OBJECT, true),
-        (I, LONG, false),
-        (Z, NUMBER, false),
-        (Z, BOOLEAN, true),
-        (J, INTS, false),
-        (OBJECT, J, true),
-        (NUMBER, J, true),
-        (INTEGER, J, true),
-        (LONG, I, false),
-        (NUMBER, Z, false),
-        (BOOLEAN, Z, true),
-        (STRING, I, false),
-        (INTS, I, false),
-    ] {
-        let got = conversion(from, to, &classes).is_some();
-        assert_eq!(rt; got, allowed, "{from:?} to {to:?}");
+    for (from, to, allowed) in ALLOWED.iter().copied() {
+        assert!(rt; conversion(from, to, &classes).is_some() == allowed);
     }
     Ok(())
 }
 
 /// A value before it is converted, and what became of it.
-#[derive(Clone, Copy, Debug, PartialEq, Eq)]
+#[derive(Clone, Copy, PartialEq)]
 enum Kept {
     Prim(Num),
     Boxed(Num),
@@ -70,6 +72,10 @@ enum Kept {
 }
 
 use Kept::{Boxed, Null, Prim, Text, Thrown};
+
+const CAST: Kept = Thrown(ClassId::CLASS_CAST);
+
+const NULL_POINTER: Kept = Thrown(ClassId::NULL_POINTER);
 
 fn value(alloc: Global, given: Kept) -> Value {
     match given {
@@ -91,85 +97,100 @@ fn left_of(converted: Result<Value, Exc>) -> Kept {
     }
 }
 
-/// What a value becomes, where it has the type and the conversion is allowed.
-fn converted(alloc: Global, from: Ty, to: Ty, before: Kept, classes: &Classes) -> Option<Kept> {
+/// Two types, a value of the first, and what it becomes at the second.
+const CONVERTED: [(Ty, Ty, Kept, Kept); 16] = [
+    (Z, Z, Prim(Num::Z(true)), Prim(Num::Z(true))),
+    (I, J, Prim(Num::I(-5)), Prim(Num::J(-5))),
+    (I, OBJECT, Prim(Num::I(5)), Boxed(Num::I(5))),
+    (Z, BOOLEAN, Prim(Num::Z(false)), Boxed(Num::Z(false))),
+    (OBJECT, J, Boxed(Num::I(5)), Prim(Num::J(5))),
+    (OBJECT, J, Boxed(Num::J(5)), Prim(Num::J(5))),
+    (OBJECT, I, Boxed(Num::J(5)), CAST),
+    (OBJECT, J, Boxed(Num::Z(true)), CAST),
+    (OBJECT, Z, Boxed(Num::Z(true)), Prim(Num::Z(true))),
+    (OBJECT, J, Text, CAST),
+    (OBJECT, J, Null, NULL_POINTER),
+    (INTEGER, J, Null, NULL_POINTER),
+    (OBJECT, STRING, Text, Text),
+    (OBJECT, INTS, Text, CAST),
+    (OBJECT, STRINGS, Null, Null),
+    (NUMBER, INTEGER, Boxed(Num::J(5)), CAST),
+];
+
+/// Whether a value has its type and becomes what is wanted.
+fn is_converted(
+    alloc: Global,
+    (from, to, before, after): (Ty, Ty, Kept, Kept),
+    classes: &Classes,
+) -> bool {
+    let Some(by) = conversion(from, to, classes) else {
+        return false;
+    };
     let v = value(alloc, before);
-    let by = conversion(from, to, classes)?;
     if has_type(&v, by.from, classes) {
-        Some(left_of(convert(alloc, by, v, classes)))
+        left_of(convert(alloc, by, v, classes)) == after
     } else {
-        None
+        false
     }
 }
 
 #[test]
 fn gives_the_values_of_the_table(rt: HostRuntime) -> Result<(), Fail> {
-    let alloc = rt.alloc();
-    let classes = Classes::builtin(alloc)?;
-    let cast = Thrown(ClassId::CLASS_CAST);
-    for (from, to, before, after) in [
-        (Z, Z, Prim(Num::Z(true)), Prim(Num::Z(true))),
-        (I, J, Prim(Num::I(-5)), Prim(Num::J(-5))),
-        (I, OBJECT, Prim(Num::I(5)), Boxed(Num::I(5))),
-        (Z, BOOLEAN, Prim(Num::Z(false)), Boxed(Num::Z(false))),
-        (OBJECT, J, Boxed(Num::I(5)), Prim(Num::J(5))),
-        (OBJECT, J, Boxed(Num::J(5)), Prim(Num::J(5))),
-        (OBJECT, I, Boxed(Num::J(5)), cast),
-        (OBJECT, J, Boxed(Num::Z(true)), cast),
-        (OBJECT, Z, Boxed(Num::Z(true)), Prim(Num::Z(true))),
-        (OBJECT, J, Text, cast),
-        (OBJECT, J, Null, Thrown(ClassId::NULL_POINTER)),
-        (INTEGER, J, Null, Thrown(ClassId::NULL_POINTER)),
-        (OBJECT, STRING, Text, Text),
-        (OBJECT, INTS, Text, cast),
-        (OBJECT, STRINGS, Null, Null),
-        (NUMBER, INTEGER, Boxed(Num::J(5)), cast),
-    ] {
-        let got = converted(alloc, from, to, before, &classes);
-        assert_eq!(rt; got, Some(after), "{before:?} from {from:?} to {to:?}");
+    let classes = Classes::builtin(rt.alloc())?;
+    for row in CONVERTED.iter().copied() {
+        assert!(rt; is_converted(rt.alloc(), row, &classes));
     }
     Ok(())
+}
+
+/// A type, a value that is bound at it, and what is bound.
+const FITTED: [(Ty, Kept, Kept); 10] = [
+    (I, Boxed(Num::I(7)), Prim(Num::I(7))),
+    (J, Boxed(Num::I(7)), Prim(Num::J(7))),
+    (I, Boxed(Num::J(7)), CAST),
+    (Z, Null, NULL_POINTER),
+    (I, Text, CAST),
+    (STRING, Text, Text),
+    (INTEGER, Text, CAST),
+    (INTS, Null, Null),
+    (OBJECT, Boxed(Num::Z(true)), Boxed(Num::Z(true))),
+    (OBJECT, Prim(Num::I(7)), CAST),
+];
+
+/// Whether a bound value becomes what is wanted, and is a misfit where that is an exception.
+fn is_fitted(alloc: Global, (to, before, after): (Ty, Kept, Kept), classes: &Classes) -> bool {
+    let refused = misfit(alloc, &value(alloc, before), to, classes).is_some();
+    let fitted = left_of(fit(alloc, value(alloc, before), to, classes));
+    refused == matches!(after, Thrown(_)) && fitted == after
 }
 
 #[test]
 fn fits_bound_values(rt: HostRuntime) -> Result<(), Fail> {
-    let alloc = rt.alloc();
-    let classes = Classes::builtin(alloc)?;
-    let cast = Thrown(ClassId::CLASS_CAST);
-    for (to, before, after) in [
-        (I, Boxed(Num::I(7)), Prim(Num::I(7))),
-        (J, Boxed(Num::I(7)), Prim(Num::J(7))),
-        (I, Boxed(Num::J(7)), cast),
-        (Z, Null, Thrown(ClassId::NULL_POINTER)),
-        (I, Text, cast),
-        (STRING, Text, Text),
-        (INTEGER, Text, cast),
-        (INTS, Null, Null),
-        (OBJECT, Boxed(Num::Z(true)), Boxed(Num::Z(true))),
-        (OBJECT, Prim(Num::I(7)), cast),
-    ] {
-        let misfit = misfit(alloc, &value(alloc, before), to, &classes);
-        assert_eq!(rt; misfit.is_some(), matches!(after, Thrown(_)));
-        let got = left_of(fit(alloc, value(alloc, before), to, &classes));
-        assert_eq!(rt; got, after, "{before:?} at {to:?}");
+    let classes = Classes::builtin(rt.alloc())?;
+    for row in FITTED.iter().copied() {
+        assert!(rt; is_fitted(rt.alloc(), row, &classes));
     }
     Ok(())
 }
 
+/// Two result types, and how results of the first become those of the second.
+const RETURNED: [(Option<Ty>, Option<Ty>, Option<RetConv>); 5] = [
+    (None, None, Some(RetConv::Keep)),
+    (Some(J), None, Some(RetConv::Discard)),
+    (None, Some(J), Some(RetConv::Default(J))),
+    (Some(J), Some(I), None),
+    (
+        Some(I),
+        Some(J),
+        Some(RetConv::Value(Conv { from: I, to: J })),
+    ),
+];
+
 #[test]
 fn converts_returns(rt: HostRuntime) -> Result<(), Fail> {
     let classes = Classes::builtin(rt.alloc())?;
-    assert_eq!(rt; ret_conversion(None, None, &classes), Some(RetConv::Keep));
-    assert_eq!(rt;
-        ret_conversion(Some(J), None, &classes),
-        Some(RetConv::Discard)
-    );
-    assert_eq!(rt;
-        ret_conversion(None, Some(J), &classes),
-        Some(RetConv::Default(J))
-    );
-    assert_eq!(rt; ret_conversion(Some(J), Some(I), &classes), None);
-    let widened = conversion(I, J, &classes).map(RetConv::Value);
-    assert_eq!(rt; ret_conversion(Some(I), Some(J), &classes), widened);
+    for (from, to, want) in RETURNED.iter().copied() {
+        assert!(rt; ret_conversion(from, to, &classes) == want);
+    }
     Ok(())
 }

@@ -19,7 +19,7 @@ const TOO_LONG: [char; 15] = [
 ];
 
 /// An argument, or what a leaf gives.
-#[derive(Clone, Copy, Debug, PartialEq, Eq)]
+#[derive(Clone, Copy, PartialEq)]
 enum Seen {
     Is(Num),
     Text,
@@ -60,52 +60,81 @@ fn seen_of(outcome: &Outcome) -> Seen {
     }
 }
 
-fn int(number: i32) -> Seen {
-    Is(Num::I(number))
+const TRUE: Seen = Is(Num::Z(true));
+
+const FALSE: Seen = Is(Num::Z(false));
+
+/// A kind, its arguments, and what it gives of them.
+const RUNS: [(Kind, &[Seen], Seen); 24] = [
+    (
+        Kind::Iadd,
+        &[Is(Num::I(i32::MAX)), Is(Num::I(1))],
+        Is(Num::I(i32::MIN)),
+    ),
+    (Kind::Isub, &[Is(Num::I(2)), Is(Num::I(3))], Is(Num::I(-1))),
+    (
+        Kind::Imul,
+        &[Is(Num::I(65536)), Is(Num::I(65537))],
+        Is(Num::I(65536)),
+    ),
+    (Kind::Idiv, &[Is(Num::I(-7)), Is(Num::I(2))], Is(Num::I(-3))),
+    (
+        Kind::Idiv,
+        &[Is(Num::I(i32::MIN)), Is(Num::I(-1))],
+        Is(Num::I(i32::MIN)),
+    ),
+    (
+        Kind::Idiv,
+        &[Is(Num::I(1)), Is(Num::I(0))],
+        Thrown(ClassId::ARITHMETIC),
+    ),
+    (
+        Kind::Ladd,
+        &[Is(Num::J(i64::MAX)), Is(Num::J(1))],
+        Is(Num::J(i64::MIN)),
+    ),
+    (Kind::Ieq, &[Is(Num::I(4)), Is(Num::I(4))], TRUE),
+    (Kind::Ilt, &[Is(Num::I(-1)), Is(Num::I(0))], TRUE),
+    (Kind::Not, &[FALSE], TRUE),
+    (Kind::Concat, &[Text, Null], Text),
+    (Kind::Concat, &[Text, Object], Thrown(ClassId::CLASS_CAST)),
+    (Kind::Length, &[Text], Is(Num::I(0))),
+    (Kind::Length, &[Null], Thrown(ClassId::NULL_POINTER)),
+    (Kind::Length, &[Object], Thrown(ClassId::CLASS_CAST)),
+    (Kind::Same, &[Object], Object),
+    (Kind::First, &[Text, Is(Num::I(1))], Text),
+    (
+        Kind::Pick,
+        &[TRUE, Is(Num::I(1)), Is(Num::I(2))],
+        Is(Num::I(1)),
+    ),
+    (
+        Kind::Pick,
+        &[FALSE, Is(Num::I(1)), Is(Num::I(2))],
+        Is(Num::I(2)),
+    ),
+    (Kind::Tick, &[], Is(Num::I(-2))),
+    (Kind::Note, &[Is(Num::I(1))], Nothing),
+    (
+        Kind::Throw(ClassId::ARITHMETIC),
+        &[],
+        Thrown(ClassId::ARITHMETIC),
+    ),
+    (Kind::Same, &[Null], Null),
+    (Kind::First, &[Null, Text], Null),
+];
+
+/// Whether a kind gives this of its arguments, after all but one of the calls that are counted.
+fn gives(alloc: Global, kind: Kind, args: &[Seen], want: Seen) -> Result<bool, NoMemory> {
+    let args = items(alloc, args)?;
+    let outcome = kind_does(alloc, kind, &args, u32::MAX - 1)?;
+    Ok(outcome.as_ref().map(seen_of) == Some(want))
 }
 
 #[test]
 fn each_kind_does_what_the_table_says(rt: HostRuntime) -> Result<(), Fail> {
-    let alloc = rt.alloc();
-    let truth = Is(Num::Z(true));
-    let rows: [(Kind, &[Seen], Seen); 24] = [
-        (Kind::Iadd, &[int(i32::MAX), int(1)], int(i32::MIN)),
-        (Kind::Isub, &[int(2), int(3)], int(-1)),
-        (Kind::Imul, &[int(65536), int(65537)], int(65536)),
-        (Kind::Idiv, &[int(-7), int(2)], int(-3)),
-        (Kind::Idiv, &[int(i32::MIN), int(-1)], int(i32::MIN)),
-        (Kind::Idiv, &[int(1), int(0)], Thrown(ClassId::ARITHMETIC)),
-        (
-            Kind::Ladd,
-            &[Is(Num::J(i64::MAX)), Is(Num::J(1))],
-            Is(Num::J(i64::MIN)),
-        ),
-        (Kind::Ieq, &[int(4), int(4)], truth),
-        (Kind::Ilt, &[int(-1), int(0)], truth),
-        (Kind::Not, &[Is(Num::Z(false))], truth),
-        (Kind::Concat, &[Text, Null], Text),
-        (Kind::Concat, &[Text, Object], Thrown(ClassId::CLASS_CAST)),
-        (Kind::Length, &[Text], int(0)),
-        (Kind::Length, &[Null], Thrown(ClassId::NULL_POINTER)),
-        (Kind::Length, &[Object], Thrown(ClassId::CLASS_CAST)),
-        (Kind::Same, &[Object], Object),
-        (Kind::First, &[Text, int(1)], Text),
-        (Kind::Pick, &[truth, int(1), int(2)], int(1)),
-        (Kind::Pick, &[Is(Num::Z(false)), int(1), int(2)], int(2)),
-        (Kind::Tick, &[], int(-2)),
-        (Kind::Note, &[int(1)], Nothing),
-        (
-            Kind::Throw(ClassId::ARITHMETIC),
-            &[],
-            Thrown(ClassId::ARITHMETIC),
-        ),
-        (Kind::Same, &[Null], Null),
-        (Kind::First, &[Null, Text], Null),
-    ];
-    for (kind, args, want) in rows {
-        let outcome = kind_does(alloc, kind, &items(alloc, args)?, u32::MAX - 1)?;
-        let got = outcome.as_ref().map(seen_of);
-        assert_eq!(rt; got, Some(want), "{kind:?} on {args:?}");
+    for (kind, args, want) in RUNS.iter().copied() {
+        assert!(rt; gives(rt.alloc(), kind, args, want)?);
     }
     Ok(())
 }
@@ -115,10 +144,7 @@ fn text(alloc: Global, content: &[char]) -> Result<Value, NoMemory> {
 }
 
 fn two(alloc: Global, first: Value, second: Value) -> Result<Items, NoMemory> {
-    let mut items = Seq::new(alloc);
-    items.push(first)?;
-    items.push(second)?;
-    Ok(items)
+    Ok(Seq::from_vec(vec![in alloc; first, second]?))
 }
 
 fn is_text(outcome: &Option<Outcome>, want: &[char]) -> bool {
@@ -135,93 +161,118 @@ fn says(outcome: &Option<Outcome>, class: ClassId, word: &[char]) -> bool {
     }
 }
 
-/// What `concat` gives of a text and another value.
-fn concat(alloc: Global, front: &[char], back: Value) -> Result<Option<Outcome>, NoMemory> {
-    let front = text(alloc, front)?;
+/// Whether `null` is joined to a text as its name.
+fn joins_null(alloc: Global) -> Result<bool, NoMemory> {
+    let front = text(alloc, &['a', 'b'])?;
+    let args = two(alloc, front, Value::Null)?;
+    let joined = kind_does(alloc, Kind::Concat, &args, 0)?;
+    Ok(is_text(&joined, &['a', 'b', 'n', 'u', 'l', 'l']))
+}
+
+/// Whether a text of 4097 characters is refused.
+fn refuses_long_texts(alloc: Global) -> Result<bool, NoMemory> {
+    let front = text(alloc, &['x'; 4096])?;
+    let back = text(alloc, &['y'])?;
     let args = two(alloc, front, back)?;
-    kind_does(alloc, Kind::Concat, &args, 0)
+    let refused = kind_does(alloc, Kind::Concat, &args, 0)?;
+    Ok(says(&refused, ClassId::INTERNAL_ERROR, &TOO_LONG))
 }
 
-#[test]
-fn texts_are_joined(rt: HostRuntime) -> Result<(), Fail> {
-    let alloc = rt.alloc();
-    let joined = concat(alloc, &['a', 'b'], Value::Null)?;
-    assert!(rt; is_text(&joined, &['a', 'b', 'n', 'u', 'l', 'l']));
-    let more = text(alloc, &['y'])?;
-    let refused = concat(alloc, &['x'; 4096], more)?;
-    assert!(rt; says(&refused, ClassId::INTERNAL_ERROR, &TOO_LONG));
-    Ok(())
-}
-
-#[test]
-fn texts_are_measured_in_units(rt: HostRuntime) -> Result<(), Fail> {
-    let alloc = rt.alloc();
+/// Whether a character outside the basic plane counts as two units.
+fn measures_units(alloc: Global) -> Result<bool, NoMemory> {
     let measured = text(alloc, &['a', '\u{1F600}'])?;
-    let mut args = Seq::new(alloc);
-    args.push(measured)?;
+    let args = Seq::from_vec(vec![in alloc; measured]?);
     let units = kind_does(alloc, Kind::Length, &args, 0)?;
-    assert_eq!(rt; units.as_ref().map(seen_of), Some(int(3)));
+    Ok(units.as_ref().map(seen_of) == Some(Is(Num::I(3))))
+}
+
+#[test]
+fn texts_are_joined_and_measured(rt: HostRuntime) -> Result<(), Fail> {
+    assert!(rt; joins_null(rt.alloc())?);
+    assert!(rt; refuses_long_texts(rt.alloc())?);
+    assert!(rt; measures_units(rt.alloc())?);
     Ok(())
+}
+
+/// Whether `null` is no receiver of a leaf.
+fn lacks_null(alloc: Global, is_virtual: bool) -> Result<bool, NoMemory> {
+    let args = items(alloc, &[Null])?;
+    Ok(lacks_receiver(is_virtual, &args))
+}
+
+/// What the leaf `note` of an object gives of `null`.
+fn given_null(alloc: Global, is_virtual: bool) -> Result<Seen, NoMemory> {
+    let args = items(alloc, &[Null])?;
+    let leaf = Leaf {
+        owner: ClassId::OBJECT,
+        name: Seq::new(alloc),
+        descriptor: Seq::new(alloc),
+        is_virtual,
+        ty: MethodTy {
+            params: Seq::new(alloc),
+            ret: None,
+        },
+        kind: Kind::Note,
+    };
+    let outcome = leaf_does(alloc, &leaf, &args, 0)?;
+    Ok(seen_of(&outcome))
+}
+
+/// Whether `note` gives this of `null`, which is no receiver of a virtual leaf.
+fn notes_null(alloc: Global, is_virtual: bool, want: Seen) -> Result<bool, NoMemory> {
+    let lacks = lacks_null(alloc, is_virtual)?;
+    let seen = given_null(alloc, is_virtual)?;
+    Ok(lacks == is_virtual && seen == want)
 }
 
 #[test]
 fn a_virtual_leaf_does_not_run_on_null(rt: HostRuntime) -> Result<(), Fail> {
-    let alloc = rt.alloc();
     for (is_virtual, want) in [(true, Thrown(ClassId::NULL_POINTER)), (false, Nothing)] {
-        let leaf = Leaf {
-            owner: ClassId::OBJECT,
-            name: Seq::new(alloc),
-            descriptor: Seq::new(alloc),
-            is_virtual,
-            ty: MethodTy {
-                params: Seq::new(alloc),
-                ret: None,
-            },
-            kind: Kind::Note,
-        };
-        let args = items(alloc, &[Null])?;
-        assert_eq!(rt; lacks_receiver(is_virtual, &args), is_virtual);
-        assert_eq!(rt; seen_of(&leaf_does(alloc, &leaf, &args, 0)?), want);
+        assert!(rt; notes_null(rt.alloc(), is_virtual, want)?);
     }
     Ok(())
 }
 
-fn method_type(alloc: Global, params: &[Ty], ret: Option<Ty>) -> Result<MethodTy, NoMemory> {
-    Ok(MethodTy {
-        params: Seq::from_vec(Vec::from_slice(alloc, params)?),
-        ret,
-    })
+/// A kind, the type of a leaf, and whether the leaf may be of that kind.
+const KIND_TYPES: [(Kind, &[Ty], Option<Ty>, bool); 19] = [
+    (Kind::Iadd, &[I, I], Some(I), true),
+    (Kind::Iadd, &[I, J], Some(I), false),
+    (Kind::Ladd, &[J, J], Some(J), true),
+    (Kind::Ieq, &[I, I], Some(Z), true),
+    (Kind::Ilt, &[I, I], Some(I), false),
+    (Kind::Not, &[Z], Some(Z), true),
+    (Kind::Concat, &[STRING, STRING], Some(STRING), true),
+    (Kind::Concat, &[OBJECT, STRING], Some(STRING), false),
+    (Kind::Length, &[STRING], Some(I), true),
+    (Kind::Same, &[OBJECT], Some(OBJECT), true),
+    (Kind::Same, &[OBJECT, I], Some(OBJECT), false),
+    (Kind::First, &[OBJECT, I], Some(OBJECT), true),
+    (Kind::First, &[OBJECT], Some(OBJECT), false),
+    (Kind::Pick, &[Z, J, J], Some(J), true),
+    (Kind::Pick, &[Z, J, I], Some(J), false),
+    (Kind::Tick, &[STRING], Some(I), true),
+    (Kind::Tick, &[], None, false),
+    (Kind::Note, &[], None, true),
+    (Kind::Throw(ClassId::ARITHMETIC), &[Z], Some(J), true),
+];
+
+/// Whether a kind allows leaves of this type.
+fn allows(alloc: Global, kind: Kind, params: &[Ty], ret: Option<Ty>) -> Result<bool, NoMemory> {
+    let params = Seq::from_vec(Vec::from_slice(alloc, params)?);
+    Ok(is_kind_type(kind, &MethodTy { params, ret }))
 }
 
 #[test]
 fn kinds_allow_their_types(rt: HostRuntime) -> Result<(), Fail> {
-    let alloc = rt.alloc();
-    let rows: [(Kind, &[Ty], Option<Ty>, bool); 19] = [
-        (Kind::Iadd, &[I, I], Some(I), true),
-        (Kind::Iadd, &[I, J], Some(I), false),
-        (Kind::Ladd, &[J, J], Some(J), true),
-        (Kind::Ieq, &[I, I], Some(Z), true),
-        (Kind::Ilt, &[I, I], Some(I), false),
-        (Kind::Not, &[Z], Some(Z), true),
-        (Kind::Concat, &[STRING, STRING], Some(STRING), true),
-        (Kind::Concat, &[OBJECT, STRING], Some(STRING), false),
-        (Kind::Length, &[STRING], Some(I), true),
-        (Kind::Same, &[OBJECT], Some(OBJECT), true),
-        (Kind::Same, &[OBJECT, I], Some(OBJECT), false),
-        (Kind::First, &[OBJECT, I], Some(OBJECT), true),
-        (Kind::First, &[OBJECT], Some(OBJECT), false),
-        (Kind::Pick, &[Z, J, J], Some(J), true),
-        (Kind::Pick, &[Z, J, I], Some(J), false),
-        (Kind::Tick, &[STRING], Some(I), true),
-        (Kind::Tick, &[], None, false),
-        (Kind::Note, &[], None, true),
-        (Kind::Throw(ClassId::ARITHMETIC), &[Z], Some(J), true),
-    ];
-    for (kind, params, ret, allowed) in rows {
-        let ty = method_type(alloc, params, ret)?;
-        assert_eq!(rt; is_kind_type(kind, &ty), allowed, "{kind:?} {params:?}");
+    for (kind, params, ret, allowed) in KIND_TYPES.iter().copied() {
+        assert!(rt; allows(rt.alloc(), kind, params, ret)? == allowed);
     }
-    let classes = Classes::builtin(alloc)?;
+    Ok(())
+}
+
+#[test]
+fn kinds_throw_exceptions_only(rt: HostRuntime) -> Result<(), Fail> {
+    let classes = Classes::builtin(rt.alloc())?;
     assert!(rt; throws_exceptions(Kind::Throw(ClassId::THROWABLE), &classes));
     assert!(rt; !throws_exceptions(Kind::Throw(ClassId::STRING), &classes));
     Ok(())

@@ -1,14 +1,20 @@
 use mh_base::{NoMemory, Seq};
 use mh_texts::{LiteralError, read_literal, show_exc, show_text, show_type, show_value};
-use mh_values::{Cause, ClassId, Classes, Exc, Str, read_descriptor};
+use mh_values::{Cause, ClassId, Classes, DescriptorError, Exc, Str, Value, read_descriptor};
 use std::alloc::Global;
 use std::test::Fail;
+
+/// Whether a value is printed so.
+fn is_shown(alloc: Global, v: &Value, classes: &Classes, want: &str) -> Result<bool, NoMemory> {
+    let shown = show_value(alloc, v, classes)?;
+    Ok(shown.as_slice() == want.as_bytes())
+}
 
 /// Whether a token is read, and then printed so; a token that is no literal is printed as `bad`.
 fn prints(alloc: Global, token: &str, want: &str) -> Result<bool, NoMemory> {
     let classes = Classes::builtin(alloc)?;
     match read_literal(alloc, token.as_bytes(), &classes) {
-        Ok(v) => Ok(show_value(alloc, &v, &classes)?.as_slice() == want.as_bytes()),
+        Ok(v) => is_shown(alloc, &v, &classes, want),
         Err(LiteralError::Bad) => Ok(want == "bad"),
         Err(LiteralError::NoMemory) => Err(NoMemory),
     }
@@ -106,10 +112,10 @@ const ARRAYS: [(&str, &str); 12] = [
 #[test]
 fn literals_are_read_and_printed(rt: HostRuntime) -> Result<(), Fail> {
     let alloc = rt.alloc();
-    assert_eq!(rt; first_wrong(alloc, &NUMBERS)?, None);
-    assert_eq!(rt; first_wrong(alloc, &TEXTS)?, None);
-    assert_eq!(rt; first_wrong(alloc, &REFERENCES)?, None);
-    assert_eq!(rt; first_wrong(alloc, &ARRAYS)?, None);
+    assert!(rt; first_wrong(alloc, &NUMBERS)?.is_none());
+    assert!(rt; first_wrong(alloc, &TEXTS)?.is_none());
+    assert!(rt; first_wrong(alloc, &REFERENCES)?.is_none());
+    assert!(rt; first_wrong(alloc, &ARRAYS)?.is_none());
     Ok(())
 }
 
@@ -123,88 +129,108 @@ fn text_of(alloc: Global, count: usize, last: char) -> Result<Str, NoMemory> {
     Ok(text)
 }
 
-/// The last five bytes of a printed text, and its length.
-fn end_of(alloc: Global, count: usize, last: char) -> Result<(Vec<u8>, usize), NoMemory> {
+/// The count of characters `a`, the last character, and the last five bytes of the printed text
+/// and its length.
+const CUT: [(usize, char, &str, usize); 3] = [
+    (1023, 'b', "aaaab", 1024),
+    (1024, 'b', "aa...", 1027),
+    (1023, ' ', "a\\...", 1027),
+];
+
+/// Whether a text is printed with this end and length.
+fn is_cut(
+    alloc: Global,
+    (count, last, end, length): (usize, char, &str, usize),
+) -> Result<bool, NoMemory> {
     let text = text_of(alloc, count, last)?;
     let shown = show_text(alloc, text.as_slice())?;
     let len = shown.len();
-    Ok((
-        Vec::from_slice(alloc, &shown[len.saturating_sub(5)..])?,
-        len,
-    ))
+    Ok(len == length && &shown[len.saturating_sub(5)..] == end.as_bytes())
 }
 
 #[test]
 fn printed_texts_are_cut_behind_1024_characters(rt: HostRuntime) -> Result<(), Fail> {
-    let alloc = rt.alloc();
-    let (end, len) = end_of(alloc, 1023, 'b')?;
-    assert_eq!(rt; end.as_slice(), b"aaaab".as_slice());
-    assert_eq!(rt; len, 1024);
-    let (end, len) = end_of(alloc, 1024, 'b')?;
-    assert_eq!(rt; end.as_slice(), b"aa...".as_slice());
-    assert_eq!(rt; len, 1027);
-    let (end, len) = end_of(alloc, 1023, ' ')?;
-    assert_eq!(rt; end.as_slice(), b"a\\...".as_slice());
-    assert_eq!(rt; len, 1027);
-    Ok(())
-}
-
-#[test]
-fn a_text_has_at_most_4096_characters(rt: HostRuntime) -> Result<(), Fail> {
-    let alloc = rt.alloc();
-    let classes = Classes::builtin(alloc)?;
-    let mut token = Vec::from_slice(alloc, b"s:")?;
-    for _ in 0..4096 {
-        token.push(b'a')?;
+    for row in CUT.iter().copied() {
+        assert!(rt; is_cut(rt.alloc(), row)?);
     }
-    assert!(rt; read_literal(alloc, &token, &classes).is_ok());
-    token.push(b'a')?;
-    assert_eq!(rt;
-        read_literal(alloc, &token, &classes).err(),
-        Some(LiteralError::Bad)
-    );
     Ok(())
 }
 
-#[test]
-fn an_array_has_at_most_254_items(rt: HostRuntime) -> Result<(), Fail> {
-    let alloc = rt.alloc();
+/// Whether a token is a literal.
+fn is_literal(alloc: Global, token: &[u8]) -> Result<bool, NoMemory> {
     let classes = Classes::builtin(alloc)?;
-    let mut token = Vec::from_slice(alloc, b"a:I[i:0")?;
-    for _ in 0..253 {
-        token.extend_from_slice(b",i:1")?;
+    match read_literal(alloc, token, &classes) {
+        Ok(_) => Ok(true),
+        Err(LiteralError::Bad) => Ok(false),
+        Err(LiteralError::NoMemory) => Err(NoMemory),
     }
-    let mut more = Vec::from_slice(alloc, &token)?;
-    token.push(b']')?;
-    more.extend_from_slice(b",i:1]")?;
-    assert!(rt; read_literal(alloc, &token, &classes).is_ok());
-    assert_eq!(rt;
-        read_literal(alloc, &more, &classes).err(),
-        Some(LiteralError::Bad)
-    );
+}
+
+/// Whether `front`, so many times `item`, and `back` are a literal.
+fn reads(
+    alloc: Global,
+    (front, item, back): (&str, &str, &str),
+    count: usize,
+) -> Result<bool, NoMemory> {
+    let mut token = Vec::from_slice(alloc, front.as_bytes())?;
+    for _ in 0..count {
+        token.extend_from_slice(item.as_bytes())?;
+    }
+    token.extend_from_slice(back.as_bytes())?;
+    is_literal(alloc, &token)
+}
+
+/// Texts have at most 4096 characters, and arrays at most 254 items.
+const LIMITS: [((&str, &str, &str), usize); 2] = [
+    (("s:", "a", ""), 4096),
+    (("a:I[i:0", ",i:1", "]"), 253),
+];
+
+#[test]
+fn literals_have_limits(rt: HostRuntime) -> Result<(), Fail> {
+    for (token, limit) in LIMITS.iter().copied() {
+        assert!(rt; reads(rt.alloc(), token, limit)?);
+        assert!(rt; !reads(rt.alloc(), token, limit + 1)?);
+    }
     Ok(())
 }
 
-#[test]
-fn exceptions_and_types_are_printed(rt: HostRuntime) -> Result<(), Fail> {
-    let alloc = rt.alloc();
-    let classes = Classes::builtin(alloc)?;
-    let exc = Exc {
+/// An exception without a message, and its cause with one.
+fn caused(alloc: Global) -> Result<Exc, NoMemory> {
+    let message = text_of(alloc, 2, ' ')?;
+    Ok(Exc {
         class: ClassId(14),
         message: Seq::new(alloc),
         cause: Some(Cause {
             class: ClassId::ARITHMETIC,
-            message: text_of(alloc, 2, ' ')?,
+            message,
         }),
-    };
-    let shown = show_exc(alloc, &exc, &classes)?;
+    })
+}
+
+/// Whether an exception with a cause is printed with both messages.
+fn prints_causes(alloc: Global, classes: &Classes) -> Result<bool, NoMemory> {
+    let exc = caused(alloc)?;
+    let shown = show_exc(alloc, &exc, classes)?;
     let want = "java/lang/BootstrapMethodError s: cause java/lang/ArithmeticException s:aa\\s";
-    assert_eq!(rt; shown.as_slice(), want.as_bytes());
-    let text = "(Z[Ljava/lang/String;J)[I";
-    let ty = read_descriptor(alloc, text.as_bytes(), &classes)?;
-    assert_eq!(rt;
-        show_type(alloc, &ty, &classes)?.as_slice(),
-        text.as_bytes()
-    );
+    Ok(shown.as_slice() == want.as_bytes())
+}
+
+/// Whether a method type is printed as the descriptor it was read from.
+fn prints_descriptor(
+    alloc: Global,
+    text: &str,
+    classes: &Classes,
+) -> Result<bool, DescriptorError> {
+    let ty = read_descriptor(alloc, text.as_bytes(), classes)?;
+    let shown = show_type(alloc, &ty, classes)?;
+    Ok(shown.as_slice() == text.as_bytes())
+}
+
+#[test]
+fn exceptions_and_types_are_printed(rt: HostRuntime) -> Result<(), Fail> {
+    let classes = Classes::builtin(rt.alloc())?;
+    assert!(rt; prints_causes(rt.alloc(), &classes)?);
+    assert!(rt; prints_descriptor(rt.alloc(), "(Z[Ljava/lang/String;J)[I", &classes)?);
     Ok(())
 }

@@ -2,8 +2,8 @@ ghost use Rattle.std.specs.Prelude.{◌<◌, length, OnOk};
 
 use mh_base::{NoMemory, Seq};
 use mh_values::{
-    ClassId, Classes, Comp, DeclareError, DescriptorError, Num, Primitive, Ty, Value,
-    descriptor_text, has_type, read_descriptor, read_type, read_types, slots,
+    ClassId, Classes, Comp, DeclareError, DescriptorError, Num, Primitive, Ty, Value, has_type,
+    read_descriptor, read_type, read_types, slots,
 };
 use std::alloc::Global;
 use std::test::Fail;
@@ -86,76 +86,78 @@ fn first_wrong(classes: &Classes, rows: &[(&str, &str)]) -> Option<usize> {
 #[test]
 fn built_in_classes_stand_below_their_superclasses(rt: HostRuntime) -> Result<(), Fail> {
     let classes = Classes::builtin(rt.alloc())?;
-    assert_eq!(rt; first_wrong(&classes, &PARENTS), None);
-    assert_eq!(rt; classes.len(), 28);
+    assert!(rt; first_wrong(&classes, &PARENTS).is_none());
+    assert!(rt; classes.len() == 28);
     Ok(())
 }
+
+/// The classes that have a constant, and their names.
+const CONSTANTS: [(ClassId, &str); 21] = [
+    (ClassId::OBJECT, "java/lang/Object"),
+    (ClassId::INTEGER, "java/lang/Integer"),
+    (ClassId::LONG, "java/lang/Long"),
+    (ClassId::BOOLEAN, "java/lang/Boolean"),
+    (ClassId::STRING, "java/lang/String"),
+    (ClassId::THROWABLE, "java/lang/Throwable"),
+    (ClassId::EXCEPTION, "java/lang/Exception"),
+    (ClassId::RUNTIME_EXCEPTION, "java/lang/RuntimeException"),
+    (ClassId::ERROR, "java/lang/Error"),
+    (
+        ClassId::BOOTSTRAP_METHOD_ERROR,
+        "java/lang/BootstrapMethodError",
+    ),
+    (
+        ClassId::NO_CLASS_DEF_FOUND,
+        "java/lang/NoClassDefFoundError",
+    ),
+    (ClassId::NO_SUCH_METHOD, "java/lang/NoSuchMethodError"),
+    (ClassId::INTERNAL_ERROR, "java/lang/InternalError"),
+    (
+        ClassId::WRONG_METHOD_TYPE,
+        "java/lang/invoke/WrongMethodTypeException",
+    ),
+    (ClassId::CLASS_CAST, "java/lang/ClassCastException"),
+    (ClassId::NULL_POINTER, "java/lang/NullPointerException"),
+    (
+        ClassId::ILLEGAL_ARGUMENT,
+        "java/lang/IllegalArgumentException",
+    ),
+    (ClassId::ARITHMETIC, "java/lang/ArithmeticException"),
+    (
+        ClassId::UNSUPPORTED_OPERATION,
+        "java/lang/UnsupportedOperationException",
+    ),
+    (
+        ClassId::STRING_CONCAT,
+        "java/lang/invoke/StringConcatException",
+    ),
+    (ClassId::STACK_OVERFLOW, "java/lang/StackOverflowError"),
+];
 
 #[test]
 fn constants_name_their_classes(rt: HostRuntime) -> Result<(), Fail> {
     let classes = Classes::builtin(rt.alloc())?;
-    for (class, name) in [
-        (ClassId::OBJECT, "java/lang/Object"),
-        (ClassId::INTEGER, "java/lang/Integer"),
-        (ClassId::LONG, "java/lang/Long"),
-        (ClassId::BOOLEAN, "java/lang/Boolean"),
-        (ClassId::STRING, "java/lang/String"),
-        (ClassId::THROWABLE, "java/lang/Throwable"),
-        (ClassId::EXCEPTION, "java/lang/Exception"),
-        (ClassId::RUNTIME_EXCEPTION, "java/lang/RuntimeException"),
-        (ClassId::ERROR, "java/lang/Error"),
-        (
-            ClassId::BOOTSTRAP_METHOD_ERROR,
-            "java/lang/BootstrapMethodError",
-        ),
-        (
-            ClassId::NO_CLASS_DEF_FOUND,
-            "java/lang/NoClassDefFoundError",
-        ),
-        (ClassId::NO_SUCH_METHOD, "java/lang/NoSuchMethodError"),
-        (ClassId::INTERNAL_ERROR, "java/lang/InternalError"),
-        (
-            ClassId::WRONG_METHOD_TYPE,
-            "java/lang/invoke/WrongMethodTypeException",
-        ),
-        (ClassId::CLASS_CAST, "java/lang/ClassCastException"),
-        (ClassId::NULL_POINTER, "java/lang/NullPointerException"),
-        (
-            ClassId::ILLEGAL_ARGUMENT,
-            "java/lang/IllegalArgumentException",
-        ),
-        (ClassId::ARITHMETIC, "java/lang/ArithmeticException"),
-        (
-            ClassId::UNSUPPORTED_OPERATION,
-            "java/lang/UnsupportedOperationException",
-        ),
-        (
-            ClassId::STRING_CONCAT,
-            "java/lang/invoke/StringConcatException",
-        ),
-        (ClassId::STACK_OVERFLOW, "java/lang/StackOverflowError"),
-    ] {
-        assert_eq!(rt; classes.name(class), name.as_bytes(), "{name}");
+    for (class, name) in CONSTANTS.iter().copied() {
+        assert!(rt; classes.name(class) == name.as_bytes());
     }
     Ok(())
+}
+
+/// Whether the first class stands below the second, and the second not below the first.
+fn is_below(classes: &Classes, below: ClassId, above: ClassId) -> bool {
+    classes.subclass(below, above) && !classes.subclass(above, below)
 }
 
 #[test]
 fn a_class_is_declared_once(rt: HostRuntime) -> Result<(), Fail> {
     let mut classes = Classes::builtin(rt.alloc())?;
     let host = ClassId(28);
-    assert_eq!(rt; classes.declare(b"demo/Host", ClassId::EXCEPTION), Ok(host));
-    assert_eq!(rt;
-        classes.declare(b"demo/Host", ClassId::OBJECT),
-        Err(DeclareError::Twice)
-    );
-    assert_eq!(rt;
-        classes.declare(b"java/lang/Long", host),
-        Err(DeclareError::Twice)
-    );
-    assert_eq!(rt; classes.find(b"demo/Host"), Some(host));
-    assert!(rt; classes.subclass(host, ClassId::THROWABLE));
-    assert!(rt; !classes.subclass(ClassId::THROWABLE, host));
+    assert!(rt; classes.declare(b"demo/Host", ClassId::EXCEPTION) == Ok(host));
+    let again = classes.declare(b"demo/Host", ClassId::OBJECT);
+    let built_in = classes.declare(b"java/lang/Long", host);
+    assert!(rt; again == Err(DeclareError::Twice) && built_in == Err(DeclareError::Twice));
+    assert!(rt; classes.find(b"demo/Host") == Some(host));
+    assert!(rt; is_below(&classes, host, ClassId::THROWABLE));
     Ok(())
 }
 
@@ -173,16 +175,11 @@ fn declare_many(classes: &mut Classes, count: u16) -> Result<(), DeclareError>
 #[test]
 fn at_most_1024_classes_are_declared(rt: HostRuntime) -> Result<(), Fail> {
     let mut classes = Classes::builtin(rt.alloc())?;
-    assert_eq!(rt; declare_many(&mut classes, 1024), Ok(()));
-    assert_eq!(rt;
-        classes.declare(b"one more", ClassId::OBJECT),
-        Err(DeclareError::TooMany)
-    );
-    assert_eq!(rt;
-        classes.declare(&[3, 255], ClassId::OBJECT),
-        Err(DeclareError::Twice)
-    );
-    assert_eq!(rt; classes.len(), 1052);
+    assert!(rt; declare_many(&mut classes, 1024).is_ok());
+    let more = classes.declare(b"one more", ClassId::OBJECT);
+    let again = classes.declare(&[3, 255], ClassId::OBJECT);
+    assert!(rt; more == Err(DeclareError::TooMany) && again == Err(DeclareError::Twice));
+    assert!(rt; classes.len() == 1052);
     Ok(())
 }
 
@@ -192,21 +189,23 @@ fn refusal(alloc: Global, text: &str) -> Result<Option<DescriptorError>, NoMemor
     Ok(read_descriptor(alloc, text.as_bytes(), &classes).err())
 }
 
+/// Method descriptors, and what is wrong with each.
+const REFUSALS: [(&str, Option<DescriptorError>); 6] = [
+    ("(I[[J)V", Some(DescriptorError::Unsupported { at: 2 })),
+    (
+        "(Lno/Such;)V",
+        Some(DescriptorError::NoClass { at: 2, len: 7 }),
+    ),
+    ("(I", Some(DescriptorError::Bad { at: 2 })),
+    ("(V)V", Some(DescriptorError::Bad { at: 1 })),
+    ("(S)V", Some(DescriptorError::Unsupported { at: 1 })),
+    ("(Z[Ljava/lang/String;)J", None),
+];
+
 #[test]
 fn descriptors_are_refused_at_their_places(rt: HostRuntime) -> Result<(), Fail> {
-    let alloc = rt.alloc();
-    for (text, want) in [
-        ("(I[[J)V", Some(DescriptorError::Unsupported { at: 2 })),
-        (
-            "(Lno/Such;)V",
-            Some(DescriptorError::NoClass { at: 2, len: 7 }),
-        ),
-        ("(I", Some(DescriptorError::Bad { at: 2 })),
-        ("(V)V", Some(DescriptorError::Bad { at: 1 })),
-        ("(S)V", Some(DescriptorError::Unsupported { at: 1 })),
-        ("(Z[Ljava/lang/String;)J", None),
-    ] {
-        assert_eq!(rt; refusal(alloc, text)?, want, "{text}");
+    for (text, want) in REFUSALS.iter().copied() {
+        assert!(rt; refusal(rt.alloc(), text)? == want);
     }
     Ok(())
 }
@@ -226,44 +225,67 @@ fn slots_of_longs(alloc: Global, count: usize, more: &[u8]) -> Result<u32, Descr
 #[test]
 fn slots_above_255_are_refused(rt: HostRuntime) -> Result<(), Fail> {
     let alloc = rt.alloc();
-    let bad = DescriptorError::Bad { at: 128 };
-    assert_eq!(rt; slots_of_longs(alloc, 127, b"I)V"), Ok(255));
-    assert_eq!(rt; slots_of_longs(alloc, 128, b")V"), Err(bad));
+    let most = slots_of_longs(alloc, 127, b"I)V");
+    let more = slots_of_longs(alloc, 128, b")V");
+    assert!(rt; most == Ok(255) && more == Err(DescriptorError::Bad { at: 128 }));
     Ok(())
+}
+
+const OBJECT: Ty = Ty::Class(ClassId::OBJECT);
+
+/// Whether a text is read as so many types, or refused so.
+fn reads_types(
+    alloc: Global,
+    text: &[u8],
+    classes: &Classes,
+    want: Result<usize, DescriptorError>,
+) -> bool {
+    read_types(alloc, text, classes).map(|types| types.len()) == want
 }
 
 #[test]
 fn types_are_read_one_by_one(rt: HostRuntime) -> Result<(), Fail> {
-    let alloc = rt.alloc();
-    let classes = Classes::builtin(alloc)?;
-    let object = Ty::Class(ClassId::OBJECT);
-    let unknown = DescriptorError::NoClass { at: 3, len: 1 };
-    assert_eq!(rt; read_type(b"Ljava/lang/Object;", &classes), Ok(object));
-    assert_eq!(rt;
-        read_type(b"V", &classes),
-        Err(DescriptorError::Bad { at: 0 })
-    );
-    assert_eq!(rt;
-        read_types(alloc, b"I[ZJ", &classes).map(|types| types.len()),
-        Ok(3)
-    );
-    assert_eq!(rt; read_types(alloc, b"J[Lx;", &classes).err(), Some(unknown));
+    let classes = Classes::builtin(rt.alloc())?;
+    let void = Err(DescriptorError::Bad { at: 0 });
+    let unknown = Err(DescriptorError::NoClass { at: 3, len: 1 });
+    assert!(rt; read_type(b"Ljava/lang/Object;", &classes) == Ok(OBJECT));
+    assert!(rt; read_type(b"V", &classes) == void);
+    assert!(rt; reads_types(rt.alloc(), b"I[ZJ", &classes, Ok(3)));
+    assert!(rt; reads_types(rt.alloc(), b"J[Lx;", &classes, unknown));
+    Ok(())
+}
+
+const THROWABLES: Ty = Ty::Array(Comp::Class(ClassId::THROWABLE));
+
+/// The components of an array, a type, and whether the array has it.
+const ARRAYS: [(Comp, Ty, bool); 3] = [
+    (Comp::Prim(Primitive::I), OBJECT, true),
+    (Comp::Class(ClassId::ERROR), THROWABLES, true),
+    (Comp::Prim(Primitive::I), THROWABLES, false),
+];
+
+#[test]
+fn arrays_have_the_types_above_their_own(rt: HostRuntime) -> Result<(), Fail> {
+    let classes = Classes::builtin(rt.alloc())?;
+    for (comp, ty, has) in ARRAYS.iter().copied() {
+        let array = Value::Array(comp, Seq::new(rt.alloc()));
+        assert!(rt; has_type(&array, ty, &classes) == has);
+    }
     Ok(())
 }
 
 #[test]
-fn values_have_the_types_above_their_own(rt: HostRuntime) -> Result<(), Fail> {
-    let alloc = rt.alloc();
-    let classes = Classes::builtin(alloc)?;
-    let object = Ty::Class(ClassId::OBJECT);
-    let ints = Value::Array(Comp::Prim(Primitive::I), Seq::new(alloc));
-    let errors = Value::Array(Comp::Class(ClassId::ERROR), Seq::new(alloc));
-    let throwables = Ty::Array(Comp::Class(ClassId::THROWABLE));
-    assert!(rt; has_type(&ints, object, &classes));
-    assert!(rt; has_type(&errors, throwables, &classes));
-    assert!(rt; !has_type(&ints, throwables, &classes));
-    assert!(rt; has_type(&Value::Null, throwables, &classes));
-    assert!(rt; !has_type(&Value::Boxed(Num::I(1)), Ty::Class(ClassId::LONG), &classes));
+fn null_has_the_types_of_references(rt: HostRuntime) -> Result<(), Fail> {
+    let classes = Classes::builtin(rt.alloc())?;
+    assert!(rt; has_type(&Value::Null, THROWABLES, &classes));
     assert!(rt; !has_type(&Value::Null, Ty::Prim(Primitive::J), &classes));
+    Ok(())
+}
+
+#[test]
+fn a_boxed_int_is_no_long(rt: HostRuntime) -> Result<(), Fail> {
+    let classes = Classes::builtin(rt.alloc())?;
+    let boxed = Value::Boxed(Num::I(1));
+    assert!(rt; !has_type(&boxed, Ty::Class(ClassId::LONG), &classes));
     Ok(())
 }
