@@ -2,13 +2,13 @@ use mh_base::NoMemory;
 use mh_leaves::How::{Any, Static, Virtual};
 use mh_leaves::ManifestKind::{BadDescriptor, BadKind, BadLine, TooMany, Twice, UnknownClass};
 use mh_leaves::Missing::{NoClass, NoMethod};
-use mh_leaves::{ManifestError, ManifestKind, read_manifest};
+use mh_leaves::{How, Leaves, ManifestError, ManifestKind, Missing, read_manifest};
 use mh_values::LeafId;
 use std::alloc::{AllocError, Global};
 use std::test::Fail;
 
 /// How a manifest is read.
-#[derive(Clone, Copy, Debug, PartialEq, Eq)]
+#[derive(Clone, Copy, PartialEq)]
 enum Told {
     /// It registers so many leaves.
     Leaves(u32),
@@ -84,8 +84,8 @@ const MANIFESTS: [(&str, Told); 20] = [
 #[test]
 fn the_first_faulty_line_has_the_lowest_kind(rt: HostRuntime) -> Result<(), Fail> {
     let alloc = rt.alloc();
-    for (manifest, want) in MANIFESTS {
-        assert_eq!(rt; read(alloc, manifest.as_bytes())?, want, "of {manifest}");
+    for (manifest, want) in MANIFESTS.iter().copied() {
+        assert!(rt; read(alloc, manifest.as_bytes())? == want);
     }
     Ok(())
 }
@@ -109,46 +109,72 @@ fn leaf_of_longs(alloc: Global, word: &str, count: u32) -> Result<String, AllocE
     Ok(text)
 }
 
+/// Whether a manifest of so many classes is read so.
+fn declares(alloc: Global, count: u32, want: Told) -> Result<bool, NoMemory> {
+    let manifest = classes(alloc, count)?;
+    Ok(read(alloc, manifest.as_bytes())? == want)
+}
+
+/// Whether a manifest of a leaf with so many longs and an int is read so.
+fn registers(alloc: Global, word: &str, count: u32, want: Told) -> Result<bool, NoMemory> {
+    let manifest = leaf_of_longs(alloc, word, count)?;
+    Ok(read(alloc, manifest.as_bytes())? == want)
+}
+
 #[test]
-fn limits_are_met(rt: HostRuntime) -> Result<(), Fail> {
-    let alloc = rt.alloc();
-    for (manifest, want) in [
-        (classes(alloc, 1024)?, Told::Leaves(0)),
-        (classes(alloc, 1025)?, Told::Fault(1025, TooMany)),
-        (leaf_of_longs(alloc, "static", 126)?, Told::Leaves(1)),
-        (leaf_of_longs(alloc, "virtual", 126)?, Told::Leaves(1)),
-        (
-            leaf_of_longs(alloc, "static", 127)?,
-            Told::Fault(1, BadDescriptor),
-        ),
-    ] {
-        assert_eq!(rt; read(alloc, manifest.as_bytes())?, want);
+fn at_most_1024_classes_are_declared(rt: HostRuntime) -> Result<(), Fail> {
+    assert!(rt; declares(rt.alloc(), 1024, Told::Leaves(0))?);
+    assert!(rt; declares(rt.alloc(), 1025, Told::Fault(1025, TooMany))?);
+    Ok(())
+}
+
+/// The word of a leaf, its count of longs, and how its manifest is read.
+const LEAVES_OF_LONGS: [(&str, u32, Told); 3] = [
+    ("static", 126, Told::Leaves(1)),
+    ("virtual", 126, Told::Leaves(1)),
+    ("static", 127, Told::Fault(1, BadDescriptor)),
+];
+
+#[test]
+fn a_leaf_takes_at_most_255_slots(rt: HostRuntime) -> Result<(), Fail> {
+    for (word, count, want) in LEAVES_OF_LONGS.iter().copied() {
+        assert!(rt; registers(rt.alloc(), word, count, want)?);
     }
     Ok(())
 }
 
+/// The owner, name and descriptor of a leaf, how it is called, and what is found.
+type Row = (
+    &'static str,
+    &'static str,
+    &'static str,
+    How,
+    Result<LeafId, Missing>,
+);
+
+const FOUND: [Row; 8] = [
+    ("a", "f", "(II)I", Any, Ok(LeafId(0))),
+    ("a", "f", "(II)I", Static, Ok(LeafId(0))),
+    ("a", "f", "(I)I", Virtual, Ok(LeafId(1))),
+    ("a", "f", "(I)I", Static, Err(NoMethod)),
+    ("a", "f", "(La;I)I", Virtual, Err(NoMethod)),
+    ("a", "g", "(II)I", Any, Err(NoMethod)),
+    ("java/lang/Object", "f", "(II)I", Any, Err(NoMethod)),
+    ("b", "f", "(II)I", Any, Err(NoClass)),
+];
+
+/// Whether the texts of a leaf find what is wanted.
+fn is_found(leaves: &Leaves, (owner, name, descriptor, how, want): Row) -> bool {
+    let owner = owner.as_bytes();
+    leaves.find(owner, name.as_bytes(), descriptor.as_bytes(), how) == want
+}
+
 #[test]
 fn leaves_are_found_by_their_texts(rt: HostRuntime) -> Result<(), Fail> {
-    let alloc = rt.alloc();
     let manifest = b"class a java/lang/Object\nstatic a f (II)I iadd\nvirtual a f (I)I tick\n";
-    let leaves = read_manifest(alloc, manifest).map_err(|_| NoMemory)?;
-    for (owner, name, descriptor, how, want) in [
-        ("a", "f", "(II)I", Any, Ok(LeafId(0))),
-        ("a", "f", "(II)I", Static, Ok(LeafId(0))),
-        ("a", "f", "(I)I", Virtual, Ok(LeafId(1))),
-        ("a", "f", "(I)I", Static, Err(NoMethod)),
-        ("a", "f", "(La;I)I", Virtual, Err(NoMethod)),
-        ("a", "g", "(II)I", Any, Err(NoMethod)),
-        ("java/lang/Object", "f", "(II)I", Any, Err(NoMethod)),
-        ("b", "f", "(II)I", Any, Err(NoClass)),
-    ] {
-        let found = leaves.find(
-            owner.as_bytes(),
-            name.as_bytes(),
-            descriptor.as_bytes(),
-            how,
-        );
-        assert_eq!(rt; found, want, "{owner}.{name}:{descriptor}");
+    let leaves = read_manifest(rt.alloc(), manifest).map_err(|_| NoMemory)?;
+    for row in FOUND.iter().copied() {
+        assert!(rt; is_found(&leaves, row));
     }
     Ok(())
 }
