@@ -1,5 +1,6 @@
 ghost use Rattle.std.specs.Prelude.{◌≡◌};
 
+use mh_base::NoMemory;
 use mh_setonce::{Chain, Keyed, Put, PutRefused, Walk};
 use std::alloc::Global;
 use std::sync::Wait;
@@ -31,28 +32,91 @@ impl Keyed for Entry {
     fn kept(&self) {}
 }
 
+/// Whether the entry becomes the chain's.
+fn is_mine<'t, R: Wait>(
+    rt: &R,
+    alloc: Global,
+    chain: &'t Chain<Entry>,
+    walk: &mut Walk<'t, Entry>,
+    entry: Entry,
+) -> bool
+    requires { walk.old.cells ≡ chain.now }
+    ensures { walk.new.cells ≡ walk.old.cells }
+{
+    let by = entry.by;
+    match chain.find_or_put(rt, alloc, walk, entry) {
+        Ok(Put::Mine(node)) => node.by == by,
+        _ => false,
+    }
+}
+
+/// Whether the entry is handed back, and one that `by` put stands in its place.
+fn is_theirs<'t, R: Wait>(
+    rt: &R,
+    alloc: Global,
+    chain: &'t Chain<Entry>,
+    walk: &mut Walk<'t, Entry>,
+    entry: Entry,
+    by: u32,
+) -> bool
+    requires { walk.old.cells ≡ chain.now }
+    ensures { walk.new.cells ≡ walk.old.cells }
+{
+    let own = entry.by;
+    match chain.find_or_put(rt, alloc, walk, entry) {
+        Ok(Put::Theirs(node, back)) => node.by == by && back.by == own,
+        _ => false,
+    }
+}
+
+/// Whether the walk finds an entry with key 7 that `by` put.
+fn finds<'t>(chain: &'t Chain<Entry>, walk: &mut Walk<'t, Entry>, by: u32) -> Result<bool, NoMemory>
+    requires { walk.old.cells ≡ chain.now }
+    ensures { walk.new.cells ≡ walk.old.cells }
+{
+    match chain.find(walk, &7)? {
+        Some(node) => Ok(node.by == by),
+        None => Ok(false),
+    }
+}
+
+/// Whether a copy of the second walk has seen key 7 alone, and the first begins with it.
+fn copies(chain: &Chain<Entry>, first: &Walk<Entry>, second: &Walk<Entry>) -> Result<bool, NoMemory>
+    requires { (first.now.cells ≡ chain.now) × (second.now.cells ≡ chain.now) }
+{
+    let copy = second.copy()?;
+    let is_alone = copy.seen(&7).is_some() && copy.seen(&8).is_none();
+    Ok(is_alone && copy.len() == 1 && chain.meet(first, &copy) == 1)
+}
+
 #[test]
 fn a_second_walk_finds_what_was_put_through_the_first(rt: HostRuntime) -> Result<(), Fail> {
     let alloc = rt.alloc();
     let chain = Chain::new(alloc, 4)?;
     let mut first = chain.walk(alloc);
     let mut second = chain.walk(alloc);
-    match chain.find_or_put(&rt, alloc, &mut first, Entry { key: 7, by: 1 }) {
-        Ok(Put::Mine(entry)) => assert!(rt; entry.by == 1),
-        _ => panic!(rt; "the chain was empty"),
-    }
-    let found = chain
-        .find(&mut second, &7)?
-        .ok_or("the first put is found")?;
-    assert!(rt; found.by == 1);
-    match chain.find_or_put(&rt, alloc, &mut second, Entry { key: 7, by: 2 }) {
-        Ok(Put::Theirs(entry, back)) => assert!(rt; entry.by == 1 && back.by == 2),
-        _ => panic!(rt; "the key was there"),
-    }
-    let copy = second.copy()?;
-    assert!(rt; copy.len() == 1 && copy.seen(&7).is_some() && copy.seen(&8).is_none());
-    assert_eq!(rt; chain.meet(&first, &copy), 1);
+    assert!(rt; is_mine(&rt, alloc, &chain, &mut first, Entry { key: 7, by: 1 }));
+    assert!(rt; finds(&chain, &mut second, 1)?);
+    assert!(rt; is_theirs(&rt, alloc, &chain, &mut second, Entry { key: 7, by: 2 }, 1));
+    assert!(rt; copies(&chain, &first, &second)?);
     Ok(())
+}
+
+/// Whether a full chain hands the entry back.
+fn is_refused<'t, R: Wait>(
+    rt: &R,
+    alloc: Global,
+    chain: &'t Chain<Entry>,
+    walk: &mut Walk<'t, Entry>,
+    entry: Entry,
+) -> bool
+    requires { walk.old.cells ≡ chain.now }
+{
+    let key = entry.key;
+    match chain.find_or_put(rt, alloc, walk, entry) {
+        Err(PutRefused::Full(back)) => back.key == key,
+        _ => false,
+    }
 }
 
 #[test]
@@ -60,14 +124,8 @@ fn a_full_chain_hands_the_value_back(rt: HostRuntime) -> Result<(), Fail> {
     let alloc = rt.alloc();
     let chain = Chain::new(alloc, 1)?;
     let mut walk = chain.walk(alloc);
-    match chain.find_or_put(&rt, alloc, &mut walk, Entry { key: 1, by: 1 }) {
-        Ok(Put::Mine(entry)) => assert!(rt; entry.key == 1),
-        _ => panic!(rt; "the chain was empty"),
-    }
-    match chain.find_or_put(&rt, alloc, &mut walk, Entry { key: 2, by: 1 }) {
-        Err(PutRefused::Full(back)) => assert!(rt; back.key == 2),
-        _ => panic!(rt; "the one cell is taken"),
-    }
+    assert!(rt; is_mine(&rt, alloc, &chain, &mut walk, Entry { key: 1, by: 1 }));
+    assert!(rt; is_refused(&rt, alloc, &chain, &mut walk, Entry { key: 2, by: 1 }));
     Ok(())
 }
 
