@@ -13,7 +13,7 @@ use mh_values::{
 use std::alloc::Global;
 
 /// A value that is bound, or that is constant.
-#[derive(Clone, Copy, Debug)]
+#[derive(Clone, Copy)]
 pub enum Given {
     Null,
     Int,
@@ -21,7 +21,7 @@ pub enum Given {
 }
 
 /// What a node of one part adds to it. Types are texts, `V` is void.
-#[derive(Clone, Copy, Debug)]
+#[derive(Clone, Copy)]
 pub enum Adapter {
     Bind(u8, Given),
     Drop(u8, &'static str),
@@ -32,7 +32,7 @@ pub enum Adapter {
 }
 
 /// What a node of two parts adds to them.
-#[derive(Clone, Copy, Debug)]
+#[derive(Clone, Copy)]
 pub enum Joint {
     Filter(u8),
     FilterReturn,
@@ -42,7 +42,7 @@ pub enum Joint {
 }
 
 /// A node: the types of its parts, each a descriptor, and what it adds.
-#[derive(Clone, Copy, Debug)]
+#[derive(Clone, Copy)]
 pub enum Node {
     Leaf,
     Constant(&'static str, Given),
@@ -87,37 +87,77 @@ fn checked_leaf(alloc: Global, leaves: &Leaves) -> Result<MethodTy, CheckError> 
     }
 }
 
+/// The type of a node that drops arguments of these types.
+fn checked_drop(
+    alloc: Global,
+    classes: &Classes,
+    t: &MethodTy,
+    weight: u32,
+    (pos, put): (u8, &str),
+) -> Result<MethodTy, CheckError> {
+    let put = types(alloc, put, classes)?;
+    check_drop(alloc, t, weight, pos, &put, classes)
+}
+
+/// The type of a node that permutes arguments to this type.
+fn checked_permute(
+    alloc: Global,
+    classes: &Classes,
+    t: &MethodTy,
+    weight: u32,
+    (asked, order): (&str, &[u8]),
+) -> Result<MethodTy, CheckError> {
+    let asked = method_type(alloc, asked, classes)?;
+    check_permute(alloc, t, weight, &asked, order, classes)
+}
+
+/// The type of a node that converts to this type.
+fn checked_astype(
+    alloc: Global,
+    classes: &Classes,
+    t: &MethodTy,
+    weight: u32,
+    asked: &str,
+) -> Result<MethodTy, CheckError> {
+    let asked = method_type(alloc, asked, classes)?;
+    check_astype(alloc, t, weight, &asked, classes)
+}
+
 /// The type of a node of one part, of this type and weight.
 fn checked_one(
     alloc: Global,
     classes: &Classes,
-    t: &str,
+    t: &MethodTy,
     weight: u32,
     adapter: Adapter,
 ) -> Result<MethodTy, CheckError> {
-    let t = method_type(alloc, t, classes)?;
     match adapter {
-        Adapter::Bind(pos, v) => check_bind(alloc, &t, weight, pos, &value(v), classes),
-        Adapter::Drop(pos, put) => {
-            let put = types(alloc, put, classes)?;
-            check_drop(alloc, &t, weight, pos, &put, classes)
-        }
+        Adapter::Bind(pos, v) => check_bind(alloc, t, weight, pos, &value(v), classes),
+        Adapter::Drop(pos, put) => checked_drop(alloc, classes, t, weight, (pos, put)),
         Adapter::Permute(asked, order) => {
-            let asked = method_type(alloc, asked, classes)?;
-            check_permute(alloc, &t, weight, &asked, order, classes)
+            checked_permute(alloc, classes, t, weight, (asked, order))
         }
         Adapter::Spread(array, count) => {
-            let array = option_type(array, classes);
-            check_spread(alloc, &t, weight, array, count, classes)
+            check_spread(
+                alloc,
+                t,
+                weight,
+                option_type(array, classes),
+                count,
+                classes,
+            )
         }
         Adapter::Gather(array, count) => {
-            let array = option_type(array, classes);
-            check_gather(alloc, &t, weight, array, count, classes)
+            check_gather(
+                alloc,
+                t,
+                weight,
+                option_type(array, classes),
+                count,
+                classes,
+            )
         }
-        Adapter::AsType(asked) => {
-            let asked = method_type(alloc, asked, classes)?;
-            check_astype(alloc, &t, weight, &asked, classes)
-        }
+        Adapter::AsType(asked) => checked_astype(alloc, classes, t, weight, asked),
     }
 }
 
@@ -125,19 +165,16 @@ fn checked_one(
 fn checked_two(
     alloc: Global,
     classes: &Classes,
-    t: &str,
-    part: &str,
+    (t, part): (&MethodTy, &MethodTy),
     weight: u32,
     joint: Joint,
 ) -> Result<MethodTy, CheckError> {
-    let t = method_type(alloc, t, classes)?;
-    let part = method_type(alloc, part, classes)?;
     match joint {
-        Joint::Filter(pos) => check_filter(alloc, &t, weight, pos, &part, weight, classes),
-        Joint::FilterReturn => check_filterret(alloc, &t, weight, &part, weight, classes),
-        Joint::Fold(pos) => check_fold(alloc, &t, weight, pos, &part, weight, classes),
-        Joint::Collect(pos) => check_collect(alloc, &t, weight, pos, &part, weight, classes),
-        Joint::Catch(class) => check_catch(alloc, &t, weight, class, &part, weight, classes),
+        Joint::Filter(pos) => check_filter(alloc, t, weight, pos, part, weight, classes),
+        Joint::FilterReturn => check_filterret(alloc, t, weight, part, weight, classes),
+        Joint::Fold(pos) => check_fold(alloc, t, weight, pos, part, weight, classes),
+        Joint::Collect(pos) => check_collect(alloc, t, weight, pos, part, weight, classes),
+        Joint::Catch(class) => check_catch(alloc, t, weight, class, part, weight, classes),
     }
 }
 
@@ -171,8 +208,15 @@ pub(crate) fn checked(
         }
         Node::Identity(ty) => check_identity(alloc, option_type(ty, classes), classes),
         Node::Throw(ret, class) => check_throw(alloc, option_type(ret, classes), class, classes),
-        Node::One(t, adapter) => checked_one(alloc, classes, t, weight, adapter),
-        Node::Two(t, part, joint) => checked_two(alloc, classes, t, part, weight, joint),
+        Node::One(t, adapter) => {
+            let t = method_type(alloc, t, classes)?;
+            checked_one(alloc, classes, &t, weight, adapter)
+        }
+        Node::Two(t, part, joint) => {
+            let t = method_type(alloc, t, classes)?;
+            let part = method_type(alloc, part, classes)?;
+            checked_two(alloc, classes, (&t, &part), weight, joint)
+        }
         Node::Guard(test, target, fallback) => {
             checked_guard(alloc, classes, test, target, fallback, weight)
         }

@@ -20,7 +20,7 @@ const LONGS_AND_ONE: &str =
     "(JJJJJJJJJJJJJJJJJJJJJJJJJJJJJJJJJJJJJJJJJJJJJJJJJJJJJJJJJJJJJJJJJJJJJJJJJJJJJJJJJJJJJJJJJJJJJJJJJJJJJJJJJJJJJJJJJJJJJJJJJJJJJJJZ)V";
 
 /// What a check tells of a node.
-#[derive(Clone, Copy, Debug)]
+#[derive(Clone, Copy)]
 enum Want {
     /// Its type, as a descriptor.
     Type(&'static str),
@@ -56,25 +56,20 @@ fn is_refusal(exc: &Exc, want: Want) -> bool {
     }
 }
 
-/// Whether a check told what is wanted.
-fn told(
-    alloc: Global,
-    got: &Result<MethodTy, CheckError>,
-    want: Want,
-    classes: &Classes,
-) -> Result<bool, NoMemory> {
-    Ok(match (got, want) {
-        (Ok(ty), Want::Type(text)) => is_same_method_type(ty, &method_type(alloc, text, classes)?),
-        (Err(CheckError::Refused(exc)), want) => is_refusal(exc, want),
-        _ => false,
-    })
+/// Whether it is the type that is wanted.
+fn is_type(alloc: Global, ty: &MethodTy, want: Want, classes: &Classes) -> Result<bool, NoMemory> {
+    let Want::Type(text) = want else {
+        return Ok(false);
+    };
+    let wanted = method_type(alloc, text, classes)?;
+    Ok(is_same_method_type(ty, &wanted))
 }
 
 /// A node, the weight of each of its parts, and what is told of it.
 type Row = (Node, u32, Want);
 
 /// Nodes without parts.
-const NO_PART: [Row; 9] = [
+static NO_PART: [Row; 9] = [
     (Leaf, 1, Type("(II)I")),
     (Constant("I", Int), 1, Type("()I")),
     (Constant("V", Int), 1, Illegal("constant")),
@@ -99,7 +94,7 @@ const NO_PART: [Row; 9] = [
 ];
 
 /// Nodes of one part.
-const ONE_PART: [Row; 35] = [
+static ONE_PART: [Row; 35] = [
     (One("(II)I", Bind(1, Int)), 255, Type("(I)I")),
     (One("(II)I", Bind(2, Int)), 1, Illegal("bind")),
     (
@@ -182,7 +177,7 @@ const ONE_PART: [Row; 35] = [
 ];
 
 /// Nodes of two or three parts.
-const MORE_PARTS: [Row; 47] = [
+static MORE_PARTS: [Row; 47] = [
     (Two(LONGS, "()V", Collect(127)), 1, Type(LONGS)),
     (Two("(IJ)I", "(Z)J", Filter(1)), 127, Type("(IZ)I")),
     (Two("(IJ)I", "(Z)J", Filter(2)), 1, Illegal("filter")),
@@ -308,43 +303,42 @@ const MORE_PARTS: [Row; 47] = [
     ),
 ];
 
-/// The first of these rows of which a check tells something else.
-fn first_wrong(
-    alloc: Global,
-    leaves: &Leaves,
-    rows: &[Row],
-) -> Result<Option<(Node, u32)>, NoMemory> {
-    for (node, weight, want) in rows.iter().copied() {
-        let got = checked(alloc, leaves, node, weight);
-        if !told(alloc, &got, want, leaves.classes())? {
-            return Ok(Some((node, weight)));
+/// Whether a check tells what is wanted of a node.
+fn is_told(alloc: Global, leaves: &Leaves, (node, weight, want): Row) -> Result<bool, NoMemory> {
+    match checked(alloc, leaves, node, weight) {
+        Ok(ty) => is_type(alloc, &ty, want, leaves.classes()),
+        Err(CheckError::Refused(exc)) => Ok(is_refusal(&exc, want)),
+        Err(CheckError::NoMemory) => Err(NoMemory),
+    }
+}
+
+/// Whether a check tells what is wanted of each of these nodes.
+fn are_told(alloc: Global, leaves: &Leaves, rows: &[Row]) -> Result<bool, NoMemory> {
+    for row in rows.iter().copied() {
+        if !is_told(alloc, leaves, row)? {
+            return Ok(false);
         }
     }
-    Ok(None)
-}
-
-fn wrong_without_parts(alloc: Global, leaves: &Leaves) -> Result<Option<(Node, u32)>, NoMemory> {
-    first_wrong(alloc, leaves, &NO_PART)
-}
-
-fn wrong_of_one_part(alloc: Global, leaves: &Leaves) -> Result<Option<(Node, u32)>, NoMemory> {
-    first_wrong(alloc, leaves, &ONE_PART)
-}
-
-fn wrong_of_more_parts(alloc: Global, leaves: &Leaves) -> Result<Option<(Node, u32)>, NoMemory> {
-    first_wrong(alloc, leaves, &MORE_PARTS)
+    Ok(true)
 }
 
 #[test]
-fn each_refusal_has_its_exception(rt: HostRuntime) -> Result<(), Fail> {
-    let alloc = rt.alloc();
-    let leaves = host(alloc)?;
-    for wrong in [
-        wrong_without_parts(alloc, &leaves)?,
-        wrong_of_one_part(alloc, &leaves)?,
-        wrong_of_more_parts(alloc, &leaves)?,
-    ] {
-        assert!(rt; wrong.is_none(), "{wrong:?}");
-    }
+fn nodes_without_parts(rt: HostRuntime) -> Result<(), Fail> {
+    let leaves = host(rt.alloc())?;
+    assert!(rt; are_told(rt.alloc(), &leaves, &NO_PART)?);
+    Ok(())
+}
+
+#[test]
+fn nodes_of_one_part(rt: HostRuntime) -> Result<(), Fail> {
+    let leaves = host(rt.alloc())?;
+    assert!(rt; are_told(rt.alloc(), &leaves, &ONE_PART)?);
+    Ok(())
+}
+
+#[test]
+fn nodes_of_more_parts(rt: HostRuntime) -> Result<(), Fail> {
+    let leaves = host(rt.alloc())?;
+    assert!(rt; are_told(rt.alloc(), &leaves, &MORE_PARTS)?);
     Ok(())
 }
