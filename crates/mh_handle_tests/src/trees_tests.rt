@@ -19,7 +19,7 @@ const LONGS_63: &str = "(JJJJJJJJJJJJJJJJJJJJJJJJJJJJJJJJJJJJJJJJJJJJJJJJJJJJJJJ
 
 const LONGS_64: &str = "(JJJJJJJJJJJJJJJJJJJJJJJJJJJJJJJJJJJJJJJJJJJJJJJJJJJJJJJJJJJJJJJJ)V";
 
-const ADAPTERS: [Case; 14] = [
+static ADAPTERS: [Case; 14] = [
     ((Root::Constant("()I", "I:7"), &[]), &[], "i:7 calls"),
     (
         (
@@ -129,7 +129,7 @@ const ADAPTERS: [Case; 14] = [
     ),
 ];
 
-const ARRAYS: [Case; 6] = [
+static ARRAYS: [Case; 6] = [
     (
         (Root::Leaf(ADD), &[Step::Typed("()[I", Typed::Spread(2))]),
         &["a:I[i:1,i:2]"],
@@ -165,7 +165,7 @@ const ARRAYS: [Case; 6] = [
     ),
 ];
 
-const BRANCHES: [Case; 8] = [
+static BRANCHES: [Case; 8] = [
     (
         (Root::Guard(LESS, ADD, SUB), &[]),
         &["i:1", "i:2"],
@@ -236,7 +236,7 @@ const CALLS_128: &str = "\
     \x204 4 4 4 4 4 4 4 4 4 4 4 4 4 4 4 4 4 4 4 4 4 4 4 4 4 4 4 4 4 4 4\
     \x204 4 4 4 4 4 4 4 4 4 4 4 4 4 4 4 4 4 4 4 4 4 4 4 4 4 4 4 4 4 4 4";
 
-const PARTS: [Case; 6] = [
+static PARTS: [Case; 6] = [
     // The later filter runs first.
     (
         (
@@ -374,7 +374,7 @@ fn parts(rt: HostRuntime) -> Result<(), Fail> {
 }
 
 /// Two handles, and the numbers of their forms, which are drawn from 1 on.
-const PAIRS: [(Making, Making, (u64, u64)); 5] = [
+static PAIRS: [(Making, Making, (u64, u64)); 5] = [
     ((Root::Leaf(ADD), &[]), (Root::Leaf(SUB), &[]), (1, 1)),
     (
         (Root::Leaf(ADD), &[Step::Bind(1, "I:10")]),
