@@ -36,7 +36,7 @@ pub enum Row {
     NewForm,
 }
 
-const ROWS: [(&str, Row); 6] = [
+static ROWS: [(&str, Row); 6] = [
     ("run-three-names", Row::RunThreeNames),
     ("edit-seen", Row::EditSeen),
     ("bind-seen", Row::BindSeen),
@@ -68,6 +68,21 @@ pub fn row_named(name: &str) -> Option<Row> {
     None
 }
 
+/// Calls a handle, and counts the leaf calls.
+fn run_once<'t>(
+    alloc: Global,
+    h: &Handle<'t>,
+    leaves: &Leaves,
+    ty: &MethodTy,
+    args: &Items,
+) -> Result<u64, NoMemory>
+    requires typed { HaveTypes leaves.now.classes args.now ty.now.params }
+    requires stands { StandsForSome leaves.now h.now }
+{
+    let answer = invoke_exact(alloc, h, leaves, ty, args, 0)?;
+    Ok(answer.calls().len() as u64)
+}
+
 /// Calls a handle so many times with ints of its types, and counts the leaf calls.
 fn run_each<'t>(
     alloc: Global,
@@ -82,8 +97,7 @@ fn run_each<'t>(
 {
     let mut calls: u64 = 0;
     for _ in 0..turns {
-        let answer = invoke_exact(alloc, h, leaves, ty, args, 0)?;
-        calls = calls.wrapping_add(answer.calls().len() as u64);
+        calls = calls.wrapping_add(run_once(alloc, h, leaves, ty, args)?);
     }
     Ok(calls)
 }

@@ -67,7 +67,7 @@ fn is_handle(handle: &HandleRef<'_>, kind: u8, owner: &[u8], name: &[u8], len: u
 type Entry = (u16, &'static str, i64, &'static [u8]);
 
 /// Constants of [`made`].
-const MADE_CONSTANTS: [Entry; 4] = [
+static MADE_CONSTANTS: [Entry; 4] = [
     (0, "none", 0, b""),
     (1, "other", 0, b""),
     (2, "class", 0, b"made/Main"),
@@ -75,7 +75,7 @@ const MADE_CONSTANTS: [Entry; 4] = [
 ];
 
 /// Constants of [`all_tags`].
-const ALL_TAGS_CONSTANTS: [Entry; 12] = [
+static ALL_TAGS_CONSTANTS: [Entry; 12] = [
     (5, "integer", -2, b""),
     (6, "float", 0, b""),
     (7, "long", -3, b""),
@@ -225,7 +225,7 @@ fn places_of_cuts(rt: HostRuntime) {
 type Broken = (usize, &'static [u8], usize, ClassKind);
 
 /// Changes of [`made`] and the faults that they make.
-const MADE_FAULTS: [Broken; 15] = [
+static MADE_FAULTS: [Broken; 15] = [
     (0, &[0], 0, ClassKind::BadMagic),
     (6, &[0, 0x42], 6, ClassKind::BadVersion),
     (8, &[0, 0], 8, ClassKind::BadIndex),
@@ -244,7 +244,7 @@ const MADE_FAULTS: [Broken; 15] = [
 ];
 
 /// Changes of [`made_site`] and the faults that they make.
-const MADE_SITE_FAULTS: [Broken; 5] = [
+static MADE_SITE_FAULTS: [Broken; 5] = [
     (247, &[0x58], 243, ClassKind::BadDescriptor),
     (257, &[0, 1], 256, ClassKind::BadBootstraps),
     (296, &[0, 0], 295, ClassKind::BadIndex),
@@ -253,7 +253,7 @@ const MADE_SITE_FAULTS: [Broken; 5] = [
 ];
 
 /// Changes of [`all_tags`] and the faults that they make.
-const ALL_TAGS_FAULTS: [Broken; 14] = [
+static ALL_TAGS_FAULTS: [Broken; 14] = [
     // The last index is that of a Long, or of a Double.
     (8, &[0, 8], 56, ClassKind::BadIndex),
     (8, &[0, 10], 65, ClassKind::BadIndex),
@@ -347,7 +347,7 @@ fn changes_that_are_accepted(rt: HostRuntime) -> Result<(), Fail> {
 }
 
 /// The first and the last opcode of a run of instructions of this length.
-const LENGTHS: [(u8, u8, usize); 25] = [
+static LENGTHS: [(u8, u8, usize); 25] = [
     (0, 15, 1),
     (16, 16, 2),
     (17, 17, 3),
@@ -388,8 +388,8 @@ fn have_len(alloc: Global, low: u8, high: u8, len: usize) -> Result<bool, AllocE
 
 #[test]
 fn lengths_of_instructions(rt: HostRuntime) -> Result<(), Fail> {
-    for (low, high, len) in LENGTHS {
-        assert!(rt; have_len(rt.alloc(), low, high, len)?);
+    for (low, high, len) in &LENGTHS {
+        assert!(rt; have_len(rt.alloc(), *low, *high, *len)?);
     }
     Ok(())
 }

@@ -36,57 +36,61 @@ fn is_lone_at(alloc: Global, bytes: &[u8], at: usize, shown: &[char]) -> Result<
     Ok(is_lone && chars.as_slice() == shown)
 }
 
+/// Bytes that are no text, and the place where that shows.
+static NO_TEXTS: [(&[u8], usize); 16] = [
+    (&[0], 0),
+    (&[b'a', 0, b'b'], 1),
+    (&[0xE0, 0x80, 0x80], 0),
+    (&[b'a', 0xE0, 0x9F, 0xBF], 1),
+    (&[0xC1, 0x80], 0),
+    (&[0xC0, 0x81], 0),
+    (&[0x80], 0),
+    (&[b'a', b'b', 0xBF], 2),
+    (&[0xC3], 0),
+    (&[0xC3, b'a'], 0),
+    (&[0xED], 0),
+    (&[0xED, 0xA0], 0),
+    (&[0xED, 0xA0, b'a'], 0),
+    (&[b'a', 0xE2, 0x82], 1),
+    (&[0xC0, 0x80, 0xC0], 2),
+    (&[0xFF, b'a'], 0),
+];
+
 #[test]
 fn bytes_that_are_no_text(rt: HostRuntime) {
-    let cases: [(&[u8], usize); 16] = [
-        (&[0], 0),
-        (&[b'a', 0, b'b'], 1),
-        (&[0xE0, 0x80, 0x80], 0),
-        (&[b'a', 0xE0, 0x9F, 0xBF], 1),
-        (&[0xC1, 0x80], 0),
-        (&[0xC0, 0x81], 0),
-        (&[0x80], 0),
-        (&[b'a', b'b', 0xBF], 2),
-        (&[0xC3], 0),
-        (&[0xC3, b'a'], 0),
-        (&[0xED], 0),
-        (&[0xED, 0xA0], 0),
-        (&[0xED, 0xA0, b'a'], 0),
-        (&[b'a', 0xE2, 0x82], 1),
-        (&[0xC0, 0x80, 0xC0], 2),
-        (&[0xFF, b'a'], 0),
-    ];
-    for (bytes, at) in cases {
-        assert!(rt; is_bad_at(bytes, at));
+    for (bytes, at) in &NO_TEXTS {
+        assert!(rt; is_bad_at(*bytes, *at));
     }
     for first in 0xF0..=0xFE_u8 {
         assert!(rt; is_bad_at(&[b'a', first, 0x9F, 0x98, 0x80], 1));
     }
 }
 
+/// Texts and their characters.
+static TEXTS: [(&[u8], &[char]); 8] = [
+    (&[], &[]),
+    (b"java/lang", &['j', 'a', 'v', 'a', '/', 'l', 'a', 'n', 'g']),
+    (&[0xC0, 0x80], &['\0']),
+    (&[0xC2, 0x80, 0xDF, 0xBF], &['\u{80}', '\u{7FF}']),
+    (
+        &[0xE0, 0xA0, 0x80, 0xEF, 0xBF, 0xBF],
+        &['\u{800}', '\u{FFFF}'],
+    ),
+    (&[0xED, 0xA0, 0xBD, 0xED, 0xB8, 0x80], &['\u{1F600}']),
+    (
+        &[0xED, 0xAF, 0xBF, 0xED, 0xBF, 0xBF, b'.'],
+        &['\u{10FFFF}', '.'],
+    ),
+    (
+        &[0xED, 0x9F, 0xBF, 0xEE, 0x80, 0x80],
+        &['\u{D7FF}', '\u{E000}'],
+    ),
+];
+
 #[test]
 fn characters_of_texts(rt: HostRuntime) {
-    let cases: [(&[u8], &[char]); 8] = [
-        (&[], &[]),
-        (b"java/lang", &['j', 'a', 'v', 'a', '/', 'l', 'a', 'n', 'g']),
-        (&[0xC0, 0x80], &['\0']),
-        (&[0xC2, 0x80, 0xDF, 0xBF], &['\u{80}', '\u{7FF}']),
-        (
-            &[0xE0, 0xA0, 0x80, 0xEF, 0xBF, 0xBF],
-            &['\u{800}', '\u{FFFF}'],
-        ),
-        (&[0xED, 0xA0, 0xBD, 0xED, 0xB8, 0x80], &['\u{1F600}']),
-        (
-            &[0xED, 0xAF, 0xBF, 0xED, 0xBF, 0xBF, b'.'],
-            &['\u{10FFFF}', '.'],
-        ),
-        (
-            &[0xED, 0x9F, 0xBF, 0xEE, 0x80, 0x80],
-            &['\u{D7FF}', '\u{E000}'],
-        ),
-    ];
-    for (bytes, chars) in cases {
-        assert!(rt; matches!(has_chars(rt.alloc(), bytes, chars), Ok(true)));
+    for (bytes, chars) in &TEXTS {
+        assert!(rt; matches!(has_chars(rt.alloc(), *bytes, *chars), Ok(true)));
     }
 }
 
@@ -102,20 +106,22 @@ fn characters_spelled_as_in_utf8(rt: HostRuntime) {
     }
 }
 
+/// Texts, where they have a half of a pair without a partner, and what is shown of them.
+static HALVES: [(&[u8], usize, &[char]); 4] = [
+    (&[0xED, 0xA0, 0x80], 0, &['\u{FFFD}']),
+    (&[b'a', 0xED, 0xB8, 0x80], 1, &['a', '\u{FFFD}']),
+    (&[0xED, 0xA0, 0xBD, b'a'], 0, &['\u{FFFD}', 'a']),
+    (
+        &[0xED, 0xA0, 0xBD, 0xED, 0xB8, 0x80, 0xED, 0xB8, 0x80],
+        6,
+        &['\u{1F600}', '\u{FFFD}'],
+    ),
+];
+
 #[test]
 fn halves_without_a_partner(rt: HostRuntime) {
-    let cases: [(&[u8], usize, &[char]); 4] = [
-        (&[0xED, 0xA0, 0x80], 0, &['\u{FFFD}']),
-        (&[b'a', 0xED, 0xB8, 0x80], 1, &['a', '\u{FFFD}']),
-        (&[0xED, 0xA0, 0xBD, b'a'], 0, &['\u{FFFD}', 'a']),
-        (
-            &[0xED, 0xA0, 0xBD, 0xED, 0xB8, 0x80, 0xED, 0xB8, 0x80],
-            6,
-            &['\u{1F600}', '\u{FFFD}'],
-        ),
-    ];
-    for (bytes, at, shown) in cases {
-        assert!(rt; matches!(is_lone_at(rt.alloc(), bytes, at, shown), Ok(true)));
+    for (bytes, at, shown) in &HALVES {
+        assert!(rt; matches!(is_lone_at(rt.alloc(), *bytes, *at, *shown), Ok(true)));
     }
 }
 
