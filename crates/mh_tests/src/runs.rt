@@ -88,79 +88,135 @@ fn run<R: Threads + Wait + Sync>(
     Ok((answer.status, sink))
 }
 
-/// The leaves and the plan, the status and the text of a run.
-type Run = (&'static str, &'static str, u8, &'static str);
+/// The leaves, the plan, the reads and the writes that fail, the status and the text of a run.
+type Run = (
+    &'static str,
+    &'static str,
+    &'static [u64],
+    &'static [u64],
+    u8,
+    &'static str,
+);
 
-fn holds<R: Threads + Wait + Sync>(
-    rt: &R,
-    alloc: Global,
-    row: &Run,
-    reads: &[u64],
-    writes: &[u64],
-) -> Result<bool, AllocError> {
-    let (leaves, plan, status, text) = *row;
+fn holds<R: Threads + Wait + Sync>(rt: &R, alloc: Global, row: &Run) -> Result<bool, AllocError> {
+    let (leaves, plan, reads, writes, status, text) = *row;
     let (found, sink) = run(rt, alloc, (leaves, plan), reads, writes)?;
     Ok(found == status && sink.bytes.as_slice() == text.as_bytes())
 }
 
-const RUNS: [Run; 10] = [
-    (LEAVES, PLAN, 0, TEXT),
+static RUNS: [Run; 10] = [
+    (LEAVES, PLAN, &[], &[], 0, TEXT),
     // Sums wrap to 32 bits.
     (
         LEAVES,
         "thread\nexact leaf:demo/Host.add:(II)I (II)I i:2147483647 i:1\n",
+        &[],
+        &[],
         0,
         "thread 0\nreturns i:-2147483648 calls 0\nattempts 0 forms 1 types 0\n",
     ),
-    (LEAVES, "", 0, "attempts 0 forms 0 types 0\n"),
+    (LEAVES, "", &[], &[], 0, "attempts 0 forms 0 types 0\n"),
     (
         HOST,
         "thread\ngeneric leaf:demo/Host.wide:(JI)J (Ljava/lang/Object;I)J I:5 i:0\ngeneric leaf:demo/Host.wide:(JI)J (Ljava/lang/Object;I)J J:5 i:0\ngeneric leaf:demo/Host.wide:(JI)J (Ljava/lang/Object;I)J s:x i:0\ngeneric leaf:demo/Host.wide:(JI)J (Ljava/lang/Object;I)J null i:0\n",
+        &[],
+        &[],
         0,
         "thread 0\nreturns j:5 calls 3\nreturns j:5 calls 3\nthrows java/lang/ClassCastException s: calls -\nthrows java/lang/NullPointerException s: calls -\nattempts 0 forms 2 types 0\n",
     ),
     (
         HOST,
         "thread\ngeneric leaf:demo/Host.flag:(Z)V (Ljava/lang/Number;)V J:1\n",
+        &[],
+        &[],
         0,
         "thread 0\nthrows java/lang/invoke/WrongMethodTypeException s:have\\s(Z)V\\swant\\s(Ljava/lang/Number;)V calls -\nattempts 0 forms 1 types 0\n",
     ),
     (
         HOST,
         "thread\ngeneric leaf:demo/Host.flag:(Z)V (Ljava/lang/Object;)V Z:true\nthread\ngeneric leaf:demo/Host.same:(I)I (I)J i:-7\ngeneric leaf:demo/Host.same:(I)I (I)I i:7\n",
+        &[],
+        &[],
         0,
         "thread 0\nreturns void calls 4\nthread 1\nreturns j:-7 calls 2\nreturns i:7 calls 2\nattempts 0 forms 4 types 0\n",
     ),
     (
         HOST,
         "thread\nexact leaf:demo/Host.div:(II)I (II)I i:1 i:0\nexact leaf:demo/Host.div:(II)I (II)I i:-2147483648 i:-1\nexact leaf:demo/Host.add:(II)I (IJ)I i:1 j:2\n",
+        &[],
+        &[],
         0,
         "thread 0\nthrows java/lang/ArithmeticException s:/\\sby\\szero calls 1\nreturns i:-2147483648 calls 1\nthrows java/lang/invoke/WrongMethodTypeException s:have\\s(II)I\\swant\\s(IJ)I calls -\nattempts 0 forms 1 types 0\n",
     ),
     (
         HOST,
         "thread\ngeneric leaf:demo/Host.add:(II)I (II)I i:1 s:x\n",
+        &[],
+        &[],
         1,
         "refused plan.txt line 2 BadArguments\n",
     ),
     (
         "class a/A java/lang/Object\nclass a/B no/Such\n",
         "",
+        &[],
+        &[],
         1,
         "refused leaves.txt line 2 UnknownClass\n",
     ),
     (
         "static java/lang/Object note ()V note\nstatic java/lang/Object note ()V note\n",
         "",
+        &[],
+        &[],
         1,
         "refused leaves.txt line 2 Twice\n",
     ),
 ];
 
+/// Runs of which one read fails.
+static READS: [Run; 6] = [
+    (LEAVES, PLAN, &[0], &[], 6, "cannot read leaves.txt\n"),
+    (LEAVES, PLAN, &[1], &[], 6, "cannot read leaves.txt\n"),
+    (LEAVES, PLAN, &[2], &[], 6, "cannot read scripts.txt\n"),
+    (LEAVES, PLAN, &[3], &[], 6, "cannot read plan.txt\n"),
+    (LEAVES, PLAN, &[4], &[], 6, "cannot read plan.txt\n"),
+    (LEAVES, PLAN, &[5], &[], 0, TEXT),
+];
+
+/// Runs of which one write fails, and a front part is written.
+static WRITES: [Run; 5] = [
+    (LEAVES, PLAN, &[], &[0], 7, ""),
+    (LEAVES, PLAN, &[], &[1], 0, TEXT),
+    (LEAVES, "thread\nother\n", &[], &[0], 7, ""),
+    (LEAVES, "thread\nother\n", &[], &[1], 7, "refused "),
+    (
+        LEAVES,
+        "thread\nother\n",
+        &[],
+        &[4],
+        7,
+        "refused plan.txt line 2",
+    ),
+];
+
+fn all_hold<R: Threads + Wait + Sync>(
+    rt: &R,
+    alloc: Global,
+    rows: &[Run],
+) -> Result<bool, AllocError> {
+    for row in rows {
+        if !holds(rt, alloc, row)? {
+            return Ok(false);
+        }
+    }
+    Ok(true)
+}
+
 #[test]
-fn runs_whole(rt: HostRuntime) -> Result<(), Fail> {
-    for row in &RUNS {
-        assert!(rt; holds(&rt, rt.alloc(), row, &[], &[])?);
+fn whole_runs(rt: HostRuntime) -> Result<(), Fail> {
+    for rows in [RUNS.as_slice(), READS.as_slice(), WRITES.as_slice()] {
+        assert!(rt; all_hold(&rt, rt.alloc(), rows)?);
     }
     Ok(())
 }
@@ -183,45 +239,10 @@ fn a_run_is_whole_or_writes_nothing(rt: HostRuntime) -> Result<(), Fail> {
     Ok(())
 }
 
-/// The number of a read that fails, the status and the text.
-const READS: [(u64, u8, &str); 6] = [
-    (0, 6, "cannot read leaves.txt\n"),
-    (1, 6, "cannot read leaves.txt\n"),
-    (2, 6, "cannot read scripts.txt\n"),
-    (3, 6, "cannot read plan.txt\n"),
-    (4, 6, "cannot read plan.txt\n"),
-    (5, 0, TEXT),
-];
-
-#[test]
-fn each_read_that_fails_names_its_input(rt: HostRuntime) -> Result<(), Fail> {
-    for (call, status, text) in READS {
-        assert!(rt; holds(&rt, rt.alloc(), &(LEAVES, PLAN, status, text), &[call], &[])?);
-    }
-    Ok(())
-}
-
-/// The plan, the number of a write that fails, the status and the text.
-const WRITES: [(&str, u64, u8, &str); 5] = [
-    (PLAN, 0, 7, ""),
-    (PLAN, 1, 0, TEXT),
-    ("thread\nother\n", 0, 7, ""),
-    ("thread\nother\n", 1, 7, "refused "),
-    ("thread\nother\n", 4, 7, "refused plan.txt line 2"),
-];
-
-#[test]
-fn each_write_that_fails_leaves_a_front_part(rt: HostRuntime) -> Result<(), Fail> {
-    for (plan, call, status, text) in WRITES {
-        assert!(rt; holds(&rt, rt.alloc(), &(LEAVES, plan, status, text), &[], &[call])?);
-    }
-    Ok(())
-}
-
 /// How many threads and calls a plan has, the status, and the text where it is refused.
 type Limit = (u32, u32, u8, &'static str);
 
-const LIMITS: [Limit; 4] = [
+static LIMITS: [Limit; 4] = [
     (64, 1, 0, ""),
     (65, 1, 1, "refused plan.txt line 65 TooMany\n"),
     (1, 10000, 0, ""),

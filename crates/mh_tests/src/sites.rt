@@ -162,7 +162,7 @@ fn holds<'a, R: Threads + Wait + Sync>(
 }
 
 /// The words, the status, and the pieces of the text.
-const LISTS: [(&[&str], u8, &[&str]); 7] = [
+static LISTS: [(&[&str], u8, &[&str]); 7] = [
     (&["--mode", "sites"], 0, &["sites 0\n"]),
     (
         &["--mode", "sites", "made.class"],
@@ -198,8 +198,8 @@ const LISTS: [(&[&str], u8, &[&str]); 7] = [
 
 #[test]
 fn call_sites_of_class_files(rt: HostRuntime) -> Result<(), Fail> {
-    for (words, status, pieces) in LISTS {
-        assert!(rt; holds(&rt, rt.alloc(), words, status, pieces)?);
+    for (words, status, pieces) in &LISTS {
+        assert!(rt; holds(&rt, rt.alloc(), *words, *status, *pieces)?);
     }
     Ok(())
 }
