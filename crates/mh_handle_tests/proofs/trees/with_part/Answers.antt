@@ -1,5 +1,4 @@
-use Rattle.std.proofs.Common.{ap, subst}
-use Rattle.std.proofs.Common.{IfOk}
+use Rattle.std.proofs.Common.{subst, ap, IfOk}
 use Rattle.mh_handle.specs.Stands.{StandsForSome}
 use Rattle.mh_handle_tests.proofs.Rooms.{spends-then}
 use Rattle.mh_handle_tests.proofs.trees.with_part.Goals as goal
