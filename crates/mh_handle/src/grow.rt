@@ -54,12 +54,9 @@ fn edited<'t, R: Wait>(
         weight,
         sides: more_sides,
         key,
-        fields: mut more_fields,
+        fields: more_fields,
     } = by;
-    let mut sides = sides;
-    let mut fields = fields;
-    sides.append(more_sides)?;
-    append_fields(&mut fields, &mut more_fields)?;
+    let (fields, sides) = joined(fields, more_fields, sides, more_sides)?;
     let form = w.edit(rt, alloc, form, key)?;
     Ok(Handle {
         ty,
@@ -151,9 +148,21 @@ pub fn one_field<'t>(alloc: Global, field: Field<'t>) -> Result<Fields<'t>, NoMe
     Ok(fields)
 }
 
-fn append_fields<'t>(fields: &mut Fields<'t>, more: &mut Fields<'t>) -> Result<(), NoMemory>
-    ensures { IfOk result (λ _. fields.new.items ≡ fields.old.items ++ more.old.items) }
+/// Fields and side types, each with more of them behind.
+fn joined<'t>(
+    fields: Fields<'t>,
+    more_fields: Fields<'t>,
+    sides: MethodTys,
+    more_sides: MethodTys,
+) -> Result<(Fields<'t>, MethodTys), NoMemory>
+    ensures fields { IfOk result
+        (λ all. all.0.items ≡ fields.entry.items ++ more_fields.entry.items) }
+    ensures sides { IfOk result (λ all. all.1 ≡ sides ++ more_sides) }
 {
-    fields.append(more)?;
-    Ok(())
+    let mut sides = sides;
+    sides.append(more_sides)?;
+    let mut fields = fields;
+    let mut more = more_fields;
+    fields.append(&mut more)?;
+    Ok((fields, sides))
 }

@@ -1,8 +1,7 @@
 ghost use Rattle.std.specs.Prelude.{◌≡◌, ◌≤◌, ◌++◌, ◌∷◌, [], length, IfOk, IsTrue};
-ghost use Rattle.mh_setonce.specs.Walks.{Lacks, StartsWith};
+ghost use Rattle.mh_setonce.specs.Walks.{StartsWith};
 ghost use Rattle.mh_edit.specs.Fit.{fits};
 ghost use Rattle.mh_handle.specs.Form.{base_form, body_of};
-ghost use Rattle.mh_handle.specs.Index.{recipe_of};
 ghost use Rattle.mh_handle.specs.Passes.{Edits, pass_at, seat_at};
 
 use crate::error::EditError;
@@ -83,14 +82,10 @@ impl FormTable {
         ensures learnt { StartsWith pass.new.nodes pass.old.nodes }
         ensures edits { Edits (form.entry.now.recipe ++ key ∷ []) pass.old pass.new result }
     {
-        match pass.seen(form.recipe(), &key) {
-            Some(seen) => Ok(seen),
-            None => self.edit_unseen(rt, alloc, pass, form, &key),
-        }
+        self.edit_by(rt, alloc, pass, form, &key)
     }
 
-    /// The form of a recipe and one more key, which the pass has not asked for.
-    fn edit_unseen<'t, R: Wait>(
+    fn edit_by<'t, R: Wait>(
         &'t self,
         rt: &R,
         alloc: Global,
@@ -101,11 +96,13 @@ impl FormTable {
         requires fits { IsTrue (fits key.now (body_of form.now.recipe)) }
         requires pass { pass.old.cells ≡ self.now }
         requires room { 1 ≤ pass.old.seat.room }
-        requires unseen { Lacks recipe_of pass.old.asked (form.now.recipe ++ key.now ∷ []) }
         ensures cells { pass.new.cells ≡ pass.old.cells }
         ensures learnt { StartsWith pass.new.nodes pass.old.nodes }
         ensures edits { Edits (form.entry.now.recipe ++ key.now ∷ []) pass.old pass.new result }
     {
+        if let Some(seen) = pass.seen(form.recipe(), key) {
+            return Ok(seen);
+        }
         let recipe = form.recipe().then(alloc, key)?;
         if let Some(found) = pass.ask_shown(&self.chain, &recipe)? {
             return Ok(found);
