@@ -50,7 +50,7 @@ fn run_part(
 }
 
 /// A run behind these leaf calls.
-fn run_after(calls: Calls, ran: Ran) -> Result<Ran, NoMemory>
+fn after_calls(calls: Calls, ran: Ran) -> Result<Ran, NoMemory>
     ensures { IfOk result (λ r. ran_of_run r ≡ after calls (ran_of_run ran)) }
 {
     let Ran {
@@ -74,7 +74,7 @@ fn handler_args(alloc: Global, exc: Exc, kept: Slots) -> Result<Slots, NoMemory>
 
 /// What a guarded part gave, or what the handler gives of its exception.
 #[cycle(run)]
-fn handle(
+fn handle_exception(
     alloc: Global,
     bound: &Bound<'_>,
     leaves: &Leaves,
@@ -107,7 +107,7 @@ fn handle(
             let later = raised(n, &calls);
             let args = handler_args(alloc, exc, kept)?;
             let handled = run_part(alloc, bound, leaves, guard.handler, args, later)?;
-            run_after(calls, handled)
+            after_calls(calls, handled)
         }
     }
 }
@@ -129,7 +129,7 @@ fn run_guarded(
 {
     let kept = first(alloc, &args, guard.kept)?;
     let ran = run_part(alloc, bound, leaves, guard.part, args, n)?;
-    handle(alloc, bound, leaves, guard, ran, kept, n)
+    handle_exception(alloc, bound, leaves, guard, ran, kept, n)
 }
 
 /// Runs a guarded part on the slots at these places.
@@ -237,28 +237,32 @@ struct Progress {
 }
 
 /// A run under way after one more name, which filled its slot.
-fn filled_up(run: Progress, slot: Slot, more: Calls) -> Result<Progress, NoMemory>
+fn advance(progress: Progress, slot: Slot, more: Calls) -> Result<Progress, NoMemory>
     ensures { IfOk result
-        (λ r. r ≡ record { slots = run.slots ++ slot ∷ []; calls = run.calls ++ more }) }
+        (λ r. r ≡ record {
+          slots = progress.slots ++ slot ∷ [];
+          calls = progress.calls ++ more;
+        }) }
 {
     let Progress {
         mut slots,
         mut calls,
-    } = run;
+    } = progress;
     calls.append(more)?;
     slots.push(slot)?;
     Ok(Progress { slots, calls })
 }
 
 /// The end of a run whose names all filled their slots, with the result at a place.
-fn returned(alloc: Global, run: Progress, place: Option<u32>) -> Result<Ran, NoMemory>
-    requires { ended place run.slots 0 ≢ Stuck }
-    ensures { IfOk result (λ r. ran_of_run r ≡ after run.calls (ended place run.slots 0)) }
+fn finish(alloc: Global, progress: Progress, place: Option<u32>) -> Result<Ran, NoMemory>
+    requires { ended place progress.slots 0 ≢ Stuck }
+    ensures { IfOk result
+        (λ r. ran_of_run r ≡ after progress.calls (ended place progress.slots 0)) }
 {
-    let given = result_in(alloc, place, &run.slots)?;
+    let given = result_in(alloc, place, &progress.slots)?;
     Ok(Ran {
         outcome: SlotOutcome::Return(given),
-        calls: run.calls,
+        calls: progress.calls,
     })
 }
 
@@ -286,16 +290,16 @@ pub fn run<'t>(
         match step(alloc, bound, leaves, name, &progress.slots, count)? {
             Stepped::Filled(slot, more) => {
                 count = raised(count, &more);
-                progress = filled_up(progress, slot, more)?;
+                progress = advance(progress, slot, more)?;
             }
             Stepped::Ended(exc, more) => {
                 let last = Ran {
                     outcome: SlotOutcome::Throw(exc),
                     calls: more,
                 };
-                return run_after(progress.calls, last);
+                return after_calls(progress.calls, last);
             }
         }
     }
-    returned(alloc, progress, bound.body.out)
+    finish(alloc, progress, bound.body.out)
 }
