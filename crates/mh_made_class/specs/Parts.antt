@@ -19,8 +19,12 @@ unfoldable pub code : List PlacedSite → List ℕ
 code ps = flat_map instruction ps ++ 0xB1 ∷ []
 
 -- the contents of a Code attribute: an operand stack of two slots, no local variables, the code, no exceptions and no attributes
+abbrev pub contents_of : List ℕ → List ℕ
+contents_of bytes = u2 2 ++ u2 0 ++ u4 (length bytes) ++ bytes ++ u2 0 ++ u2 0
+
+-- the same with the code of the call sites
 unfoldable pub code_contents : List PlacedSite → List ℕ
-code_contents ps = u2 2 ++ u2 0 ++ u4 (length (code ps)) ++ code ps ++ u2 0 ++ u2 0
+code_contents ps = contents_of (code ps)
 
 -- the front of the methods: there is one, public and static; its name and its descriptor, and one attribute
 abbrev pub method_front : List ℕ

@@ -1,7 +1,7 @@
-ghost use Rattle.std.specs.Prelude.{◌≡◌, ◌<◌, ◌^◌, ◌++◌, IfOk, OnOk};
+ghost use Rattle.std.specs.Prelude.{◌≡◌, ◌<◌, ◌*◌, ◌^◌, ◌++◌, length, IfOk, OnOk};
 ghost use Rattle.mh_made_class.specs.Sites.{AreMakeable};
 ghost use Rattle.mh_made_class.specs.Constants.{pool_of};
-ghost use Rattle.mh_made_class.specs.File.{version, class_names, made_class};
+ghost use Rattle.mh_made_class.specs.File.{version, class_names, class_parts, made_class};
 ghost use Rattle.mh_made_class.specs.ReadBack.{ReadsBack};
 
 use crate::constants::{push_common, push_site};
@@ -52,6 +52,22 @@ fn push_pool(alloc: Global, file: &mut Vec<u8>, layout: &Layout<'_>) -> Result<(
     Ok(())
 }
 
+/// The parts of the class file, in order.
+fn push_parts(alloc: Global, file: &mut Vec<u8>, layout: &Layout<'_>) -> Result<(), NoMemory>
+    requires count { layout.now.count < 2 ^ 16 }
+    requires few { 7 * length layout.now.sites.items < 2 ^ 16 }
+    ensures { OnOk result
+        (file.new.items ≡ file.old.items
+        ++ class_parts layout.now.count layout.now.sites.items) }
+{
+    push_version(file)?;
+    push_pool(alloc, file, layout)?;
+    push_class_names(file)?;
+    push_u2(file, 0)?;
+    push_methods(alloc, file, &layout.sites)?;
+    push_class_attributes(alloc, file, &layout.sites)
+}
+
 #[tactic(auto, unfolding(crate::specs::File::made_class))]
 fn write_class(alloc: Global, sites: &MadeSites) -> Result<Vec<u8>, NoMemory>
     requires { AreMakeable sites.now }
@@ -59,12 +75,7 @@ fn write_class(alloc: Global, sites: &MadeSites) -> Result<Vec<u8>, NoMemory>
 {
     let layout = place(alloc, sites.as_slice())?;
     let mut file = Vec::new(alloc);
-    push_version(&mut file)?;
-    push_pool(alloc, &mut file, &layout)?;
-    push_class_names(&mut file)?;
-    push_u2(&mut file, 0)?;
-    push_methods(alloc, &mut file, &layout.sites)?;
-    push_class_attributes(alloc, &mut file, &layout.sites)?;
+    push_parts(alloc, &mut file, &layout)?;
     Ok(file)
 }
 

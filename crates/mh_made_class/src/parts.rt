@@ -2,7 +2,7 @@ ghost use Rattle.std.specs.Prelude.{◌≡◌, ◌<◌, ◌≤◌, ◌+◌, ◌*
 ghost use Rattle.std.specs.List.{flat_map};
 ghost use Rattle.mh_made_class.specs.Layout.{placed_arguments};
 ghost use Rattle.mh_made_class.specs.Constants.{u2};
-ghost use Rattle.mh_made_class.specs.Parts.{attribute, instruction, code, code_contents, method_front, methods, argument_index, bootstrap, bootstraps, class_attributes};
+ghost use Rattle.mh_made_class.specs.Parts.{attribute, instruction, code, contents_of, code_contents, method_front, methods, argument_index, bootstrap, bootstraps, class_attributes};
 
 use crate::layout::{Placed, PlacedArg, place_arguments};
 use crate::numbers::{push_u2, push_u4};
@@ -58,6 +58,21 @@ fn write_code(alloc: Global, sites: &[Placed<'_>]) -> Result<Vec<u8>, NoMemory>
     Ok(bytes)
 }
 
+/// The contents of a `Code` attribute with this code.
+fn push_code_contents(bytes: &mut Vec<u8>, code: &[u8]) -> Result<(), NoMemory>
+    requires { length code.now < 2 ^ 32 }
+    ensures is { OnOk result (bytes.new.items ≡ bytes.old.items ++ contents_of code.now) }
+    ensures len { OnOk result
+        (length bytes.new.items ≡ length bytes.old.items + length code.now + 12) }
+{
+    push_u2(bytes, MAX_STACK)?;
+    push_u2(bytes, 0)?;
+    push_u4(bytes, code.len())?;
+    bytes.extend_from_slice(code)?;
+    push_u2(bytes, 0)?;
+    push_u2(bytes, 0)
+}
+
 /// The contents of the `Code` attribute.
 #[tactic(auto, unfolding(crate::specs::Parts::code_contents))]
 fn write_code_contents(alloc: Global, sites: &[Placed<'_>]) -> Result<Vec<u8>, NoMemory>
@@ -67,12 +82,7 @@ fn write_code_contents(alloc: Global, sites: &[Placed<'_>]) -> Result<Vec<u8>, N
 {
     let code = write_code(alloc, sites)?;
     let mut bytes = Vec::new(alloc);
-    push_u2(&mut bytes, MAX_STACK)?;
-    push_u2(&mut bytes, 0)?;
-    push_u4(&mut bytes, code.len())?;
-    bytes.extend_from_slice(&code)?;
-    push_u2(&mut bytes, 0)?;
-    push_u2(&mut bytes, 0)?;
+    push_code_contents(&mut bytes, &code)?;
     Ok(bytes)
 }
 
