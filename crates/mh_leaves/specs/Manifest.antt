@@ -131,18 +131,22 @@ leaf_added table leaf =
     (provided (not (length table.leaves == most_leaves)) TooMany
     (Ok (with_leaf table leaf))))
 
+-- the leaf of an owner and a kind with these texts and a type, which lacks the receiver
+abbrev pub leaf_of : Bool → Texts → ClassId → Kind → MethodTy → Leaf
+leaf_of is_virtual texts owner kind t = record {
+  owner = owner;
+  name = texts.name;
+  descriptor = texts.descriptor;
+  is_virtual = is_virtual;
+  ty = handle_type is_virtual owner t;
+  kind = kind;
+}
+
 -- a leaf of an owner and a kind
 abbrev pub owned_leaf : LeafTable → Bool → Texts → ClassId → Kind → Result LeafTable ManifestKind
 owned_leaf table is_virtual texts owner kind =
     provided (has_known_classes table.classes texts.descriptor) UnknownClass
-    (provided_some (type_if_read (desc table.classes texts.descriptor)) BadDescriptor (λ t. leaf_added table (record {
-      owner = owner;
-      name = texts.name;
-      descriptor = texts.descriptor;
-      is_virtual = is_virtual;
-      ty = handle_type is_virtual owner t;
-      kind = kind;
-    })))
+    (provided_some (type_if_read (desc table.classes texts.descriptor)) BadDescriptor (λ t. leaf_added table (leaf_of is_virtual texts owner kind t)))
 
 -- the texts of a leaf's line are such as it may have
 abbrev pub is_leaf_text : Texts → List ℕ → Bool

@@ -6,7 +6,7 @@ ghost use Rattle.mh_values.specs.Descriptor.{desc};
 ghost use Rattle.mh_leaves.specs.Fault.{TellsManifest};
 ghost use Rattle.mh_leaves.specs.Find.{has_texts};
 ghost use Rattle.mh_leaves.specs.Reference.{texts_of};
-ghost use Rattle.mh_leaves.specs.Manifest.{manifest, kind_word, class_added, class_line, knows_name, knows_names, has_known_classes, type_if_read, handle_type, leaf_added, owned_leaf, is_leaf_text, leaf_line, three_tokens, five_tokens, is_virtual_word, tokens_meaning, line_meaning};
+ghost use Rattle.mh_leaves.specs.Manifest.{manifest, kind_word, class_added, class_line, knows_name, knows_names, has_known_classes, type_if_read, handle_type, leaf_added, leaf_of, owned_leaf, is_leaf_text, leaf_line, three_tokens, five_tokens, is_virtual_word, tokens_meaning, line_meaning};
 ghost use Rattle.mh_leaves.specs.declared.manifest.ManifestError.TheVariants.{NoMemory as WithoutMemory};
 
 use crate::kinds::{is_kind_word, is_well_typed, kind_among};
@@ -235,6 +235,31 @@ pub fn type_of(
     }
 }
 
+// The leaf of an owner and a kind with these texts and a type, which lacks the receiver.
+fn leaf_of(
+    alloc: Global,
+    is_virtual: bool,
+    texts: Reference<'_>,
+    owner: ClassId,
+    kind: Kind,
+    ty: MethodTy,
+) -> Result<Leaf, NoMemory>
+    ensures { IfOk result
+        (λ leaf. leaf ≡ leaf_of is_virtual (texts_of texts.entry) owner kind ty) }
+{
+    let ty = handle_type(alloc, is_virtual, owner, ty)?;
+    let name = copied(alloc, texts.name)?;
+    let descriptor = copied(alloc, texts.descriptor)?;
+    Ok(Leaf {
+        owner,
+        name,
+        descriptor,
+        is_virtual,
+        ty,
+        kind,
+    })
+}
+
 // Registers a leaf of an owner and a kind, and says what is wrong with it.
 fn read_owned(
     alloc: Global,
@@ -257,14 +282,7 @@ fn read_owned(
     let Some(ty) = type_of(alloc, leaves.classes(), texts.descriptor)? else {
         return Ok(Some(ManifestKind::BadDescriptor));
     };
-    let leaf = Leaf {
-        owner,
-        name: copied(alloc, texts.name)?,
-        descriptor: copied(alloc, texts.descriptor)?,
-        is_virtual,
-        ty: handle_type(alloc, is_virtual, owner, ty)?,
-        kind,
-    };
+    let leaf = leaf_of(alloc, is_virtual, texts, owner, kind, ty)?;
     add_leaf(alloc, leaves, leaf)
 }
 
