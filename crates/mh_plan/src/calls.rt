@@ -1,4 +1,4 @@
-ghost use Rattle.std.specs.Prelude.{◌≡◌, ◌≤◌, ◌^◌, [], length, map, IfOk, OnOk};
+ghost use Rattle.std.specs.Prelude.{◌≡◌, [], map, IfOk, OnOk};
 ghost use Rattle.mh_base.specs.Lines.{taken_or, built_from};
 ghost use Rattle.mh_plan.specs.Plan.{leaf_named, call_by, leaf_call, with_call, call_put, call_line, tokens_meaning, line_meaning};
 ghost use Rattle.mh_plan.specs.Fault.{Tells};
@@ -152,7 +152,6 @@ pub(crate) fn read_lines(
     leaves: &Leaves,
     lines: &[&[u8]],
 ) -> Result<Seq<ThreadCalls>, PlanError>
-    requires { length lines.now ≤ 2 ^ 31 }
     ensures { Tells result
         (built_from (line_meaning leaves.now) 1 [] (map (λ l. l.now) lines.now)) }
 {
@@ -162,7 +161,7 @@ pub(crate) fn read_lines(
         if let Some(kind) = read_line(alloc, leaves, &mut threads, line)? {
             return Err(PlanError::Fault(LineFault { line: number, kind }));
         }
-        number += 1;
+        number = number.checked_add(1).ok_or(NoMemory)?;
     }
     Ok(Seq::from_vec(threads))
 }

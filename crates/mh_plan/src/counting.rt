@@ -1,4 +1,4 @@
-ghost use Rattle.std.specs.Prelude.{◌≡◌, ◌==◌, ◌+◌, ◌<◌, ◌≤◌, ◌^◌, length, map, option_map, IfOk};
+ghost use Rattle.std.specs.Prelude.{◌≡◌, map, option_map, IfOk};
 ghost use Rattle.std.specs.List.{list_all};
 ghost use Rattle.mh_base.specs.Lines.{taken_or, built_from};
 ghost use Rattle.mh_leaves.specs.Reference.{texts_of};
@@ -17,7 +17,7 @@ const MOST_THREADS: u32 = 64;
 const MOST_CALLS: u32 = 10000;
 
 /// How many threads and calls there are.
-#[derive(Clone, Copy, Debug, PartialEq, Eq)]
+#[derive(Clone, Copy)]
 pub(crate) struct Counts {
     pub threads: u32,
     pub calls: u32,
@@ -164,7 +164,6 @@ impl Counts {
 
 /// Looks at the form of each line, and at how many threads and calls there are.
 pub(crate) fn check_lines(alloc: Global, lines: &[&[u8]]) -> Result<Counts, PlanError>
-    requires { length lines.now ≤ 2 ^ 31 }
     ensures { Tells result (built_from line_counted 1 none_counted (map (λ l. l.now) lines.now)) }
 {
     let mut counts = Counts {
@@ -176,7 +175,7 @@ pub(crate) fn check_lines(alloc: Global, lines: &[&[u8]]) -> Result<Counts, Plan
         if let Some(kind) = counts.add_line(alloc, line)? {
             return Err(PlanError::Fault(LineFault { line: number, kind }));
         }
-        number += 1;
+        number = number.checked_add(1).ok_or(NoMemory)?;
     }
     Ok(counts)
 }

@@ -1,4 +1,4 @@
-ghost use Rattle.std.specs.Prelude.{◌≡◌, ◌<◌, ◌≤◌, ◌^◌, length, map, IfOk};
+ghost use Rattle.std.specs.Prelude.{◌≡◌, map, IfOk};
 ghost use Rattle.mh_plan.specs.Plan.{plan_of, plan};
 ghost use Rattle.mh_plan.specs.Fault.{Tells, TellsPlan};
 ghost use Rattle.mh_plan.specs.Results.{AreCallsOf};
@@ -12,7 +12,6 @@ use std::alloc::Global;
 
 // The calls of a plan's lines.
 fn read_all(alloc: Global, leaves: &Leaves, lines: &[&[u8]]) -> Result<Plan, PlanError>
-    requires { length lines.now ≤ 2 ^ 31 }
     ensures { Tells result (plan_of leaves.now (map (λ l. l.now) lines.now)) }
 {
     check_lines(alloc, lines)?;
@@ -20,9 +19,9 @@ fn read_all(alloc: Global, leaves: &Leaves, lines: &[&[u8]]) -> Result<Plan, Pla
 }
 
 /// Reads a plan of calls of these leaves, or gives the faulty line that counts. Its calls can then be
-/// made: nothing of them has to be tested when they run.
+/// made: nothing of them has to be tested when they run. A line that no `u32` can number is want of
+/// memory.
 pub fn read_plan(alloc: Global, bytes: &[u8], leaves: &Leaves) -> Result<Plan, PlanError>
-    requires { length bytes.now < 2 ^ 31 }
     ensures meaning { TellsPlan result (plan bytes.now leaves.now) }
     ensures calls { IfOk result (AreCallsOf leaves.now) }
 {
