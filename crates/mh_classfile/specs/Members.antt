@@ -46,6 +46,12 @@ attribute short pool = do
 abbrev pub attributes : ClassKind → List Slot → ℕ → Part (Unit {0})
 attributes short pool n = rows (attribute short pool) n
 
+-- attributes that are passed over, behind their number
+abbrev pub counted_attributes : ClassKind → List Slot → Part (Unit {0})
+counted_attributes short pool = do
+  count ← number short 2
+  attributes short pool count
+
 -- the code of a method: its length, from 1 to 65,535, and so many bytes
 unfoldable pub code_bytes : List Slot → Method → ℕ → List Site → Part (List Site)
 code_bytes pool method room so_far = do
@@ -60,8 +66,7 @@ unfoldable pub code_tail : List Slot → Part (Unit {0})
 code_tail pool = do
   exceptions ← number BadCode 2
   handlers ← rows (passed 8) exceptions
-  count ← number BadCode 2
-  attributes BadCode pool count
+  counted_attributes BadCode pool
 
 -- the contents of a Code attribute; the call sites are found behind those before it
 unfoldable pub code_contents : List Slot → Method → ℕ → List Site → Part (List Site)
@@ -104,8 +109,7 @@ member pool = do
 unfoldable pub field : List Slot → Part (Unit {0})
 field pool = do
   names ← member pool
-  count ← number Truncated 2
-  attributes Truncated pool count
+  counted_attributes Truncated pool
 
 -- a method; its call sites are found behind those before it
 unfoldable pub method : List Slot → ℕ → List Site → Part (List Site)
@@ -129,13 +133,18 @@ interface pool = do
   index ← named_index Truncated pool kinds.Class
   done tt
 
--- the flags of a class, its name, its superclass, which may be none, and its interfaces
-unfoldable pub class_names : List Slot → Part (Unit {0})
-class_names pool = do
-  flags ← number Truncated 2
-  this ← named_index Truncated pool kinds.Class
+-- the superclass of a class, which may be none, and its interfaces
+abbrev pub supertypes : List Slot → Part (Unit {0})
+supertypes pool = do
   at ← here
   super ← number Truncated 2
   is_class ← verdict (names_or_none pool kinds.Class super at)
   interfaces ← number Truncated 2
   rows (interface pool) interfaces
+
+-- the flags of a class, its name and its supertypes
+unfoldable pub class_names : List Slot → Part (Unit {0})
+class_names pool = do
+  flags ← number Truncated 2
+  this ← named_index Truncated pool kinds.Class
+  supertypes pool

@@ -4,7 +4,7 @@ ghost use Rattle.mh_class_bytes.specs.Format.{Finds, Reads, reads};
 ghost use Rattle.mh_class_pool.specs.Answers.{Gives};
 ghost use Rattle.mh_class_pool.specs.declared.fault.ClassKind.TheVariants.{BadCode};
 ghost use Rattle.mh_classfile.specs.Code.{passed, code_sites};
-ghost use Rattle.mh_classfile.specs.Members.{between, rows, named_index, passed_contents, attribute, attributes, code_bytes, code_tail, code_contents, code_attribute};
+ghost use Rattle.mh_classfile.specs.Members.{between, rows, named_index, passed_contents, attribute, attributes, counted_attributes, code_bytes, code_tail, code_contents, code_attribute};
 
 use crate::code::{pass, read_sites};
 use crate::site::{Method, Sites};
@@ -54,7 +54,7 @@ fn pass_attribute(
 }
 
 /// Passes so many attributes.
-pub fn pass_attributes(
+fn pass_attributes(
     short: ClassKind,
     pool: &Pool<'_>,
     count: u16,
@@ -68,6 +68,20 @@ pub fn pass_attributes(
         pass_attribute(short, pool, cursor)?;
     }
     Ok(())
+}
+
+/// Passes attributes, behind their number.
+pub fn pass_counted_attributes(
+    short: ClassKind,
+    pool: &Pool<'_>,
+    cursor: &mut Cursor<'_>,
+) -> Result<(), ClassFault>
+    ensures reads { Reads (λ x. x) result cursor.new
+        (reads (counted_attributes short pool.now) cursor.old) }
+    ensures moves { Moves cursor.old cursor.new }
+{
+    let count = u2(cursor, short)?;
+    pass_attributes(short, pool, count, cursor)
 }
 
 /// Passes so many exception entries, each of 8 bytes.
@@ -146,8 +160,7 @@ fn pass_code_tail(pool: &Pool<'_>, cursor: &mut Cursor<'_>) -> Result<(), ClassF
     let kind = ClassKind::BadCode;
     let handlers = u2(cursor, kind)?;
     pass_handlers(handlers, cursor)?;
-    let count = u2(cursor, kind)?;
-    pass_attributes(kind, pool, count, cursor)
+    pass_counted_attributes(kind, pool, cursor)
 }
 
 #[tactic(auto, unfolding(crate::specs::Members::code_contents))]

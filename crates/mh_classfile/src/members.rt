@@ -2,9 +2,9 @@ ghost use Rattle.std.specs.Prelude.{◌≡◌, [], false};
 ghost use Rattle.mh_class_bytes.specs.Bytes.{Moves};
 ghost use Rattle.mh_class_bytes.specs.Format.{Reads, reads, repeated};
 ghost use Rattle.mh_class_pool.specs.Answers.{Gives};
-ghost use Rattle.mh_classfile.specs.Members.{rows, method_attribute, member, field, method, members, interface, class_names};
+ghost use Rattle.mh_classfile.specs.Members.{rows, method_attribute, member, field, method, members, interface, supertypes, class_names};
 
-use crate::attributes::{pass_attributes, pass_contents, read_code, read_index};
+use crate::attributes::{pass_contents, pass_counted_attributes, read_code, read_index};
 use crate::site::{Method, Sites};
 use mh_class_bytes::Cursor;
 use mh_class_pool::{ClassError, ClassFault, ClassKind, Kind, Pool, check_name_or_none, u2};
@@ -78,8 +78,7 @@ fn pass_field(pool: &Pool<'_>, cursor: &mut Cursor<'_>) -> Result<(), ClassFault
     ensures moves { Moves cursor.old cursor.new }
 {
     let _names = read_member(pool, cursor)?;
-    let count = u2(cursor, ClassKind::Truncated)?;
-    pass_attributes(ClassKind::Truncated, pool, count, cursor)
+    pass_counted_attributes(ClassKind::Truncated, pool, cursor)
 }
 
 fn pass_fields(pool: &Pool<'_>, count: u16, cursor: &mut Cursor<'_>) -> Result<(), ClassFault>
@@ -167,6 +166,18 @@ fn pass_interfaces(pool: &Pool<'_>, count: u16, cursor: &mut Cursor<'_>) -> Resu
     Ok(())
 }
 
+/// Passes the superclass of a class and its interfaces.
+fn pass_supertypes(pool: &Pool<'_>, cursor: &mut Cursor<'_>) -> Result<(), ClassFault>
+    ensures reads { Reads (λ x. x) result cursor.new (reads (supertypes pool.now) cursor.old) }
+    ensures moves { Moves cursor.old cursor.new }
+{
+    let at = cursor.at();
+    let superclass = u2(cursor, ClassKind::Truncated)?;
+    check_name_or_none(pool, Kind::Class, superclass, at)?;
+    let interfaces = u2(cursor, ClassKind::Truncated)?;
+    pass_interfaces(pool, interfaces, cursor)
+}
+
 /// Passes the flags of a class, its name, its superclass and its interfaces.
 #[tactic(auto, unfolding(crate::specs::Members::class_names))]
 pub fn pass_class_names(pool: &Pool<'_>, cursor: &mut Cursor<'_>) -> Result<(), ClassFault>
@@ -176,9 +187,5 @@ pub fn pass_class_names(pool: &Pool<'_>, cursor: &mut Cursor<'_>) -> Result<(), 
     let short = ClassKind::Truncated;
     let _flags = u2(cursor, short)?;
     let _this = read_index(short, pool, Kind::Class, cursor)?;
-    let at = cursor.at();
-    let superclass = u2(cursor, short)?;
-    check_name_or_none(pool, Kind::Class, superclass, at)?;
-    let interfaces = u2(cursor, short)?;
-    pass_interfaces(pool, interfaces, cursor)
+    pass_supertypes(pool, cursor)
 }
