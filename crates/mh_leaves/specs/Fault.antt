@@ -11,3 +11,9 @@ abbrev pub TellsManifest : Result LeafTable ManifestError → Result LeafTable (
 TellsManifest (Ok got) meaning = meaning ≡ Ok got
 TellsManifest (Err NoMemory) meaning = Unit {0}
 TellsManifest (Err (Fault fault)) meaning = meaning ≡ Err fault
+
+-- the same of a reader that adds to what is there
+abbrev pub TellsInto : LeafTable → Result (Unit {0}) ManifestError → Result LeafTable (LineFault ManifestKind) → Type 0
+TellsInto table (Ok unit) meaning = meaning ≡ Ok table
+TellsInto table (Err NoMemory) meaning = Unit {0}
+TellsInto table (Err (Fault fault)) meaning = meaning ≡ Err fault

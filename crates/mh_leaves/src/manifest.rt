@@ -1,9 +1,9 @@
 ghost use Rattle.std.specs.Prelude.{◌≡◌, ◌<◌, false, length, map, None, IfOk};
 ghost use Rattle.std.specs.List.{list_all, list_any};
-ghost use Rattle.mh_base.specs.Lines.{taken_or};
+ghost use Rattle.mh_base.specs.Lines.{taken_or, built_from};
 ghost use Rattle.mh_values.specs.Classes.{class_named};
 ghost use Rattle.mh_values.specs.Descriptor.{desc};
-ghost use Rattle.mh_leaves.specs.Fault.{TellsManifest};
+ghost use Rattle.mh_leaves.specs.Fault.{TellsManifest, TellsInto};
 ghost use Rattle.mh_leaves.specs.Find.{has_texts};
 ghost use Rattle.mh_leaves.specs.Reference.{texts_of};
 ghost use Rattle.mh_leaves.specs.Manifest.{manifest, kind_word, class_added, class_line, knows_name, knows_names, has_known_classes, type_if_read, handle_type, leaf_added, leaf_of, owned_leaf, is_leaf_text, leaf_line, three_tokens, five_tokens, is_virtual_word, tokens_meaning, line_meaning};
@@ -413,6 +413,21 @@ fn read_line(
     read_tokens(alloc, leaves, &tokens)
 }
 
+// Takes lines, numbered from 1, up to the first faulty one.
+fn read_lines(alloc: Global, leaves: &mut Leaves, lines: &[&[u8]]) -> Result<(), ManifestError>
+    ensures { TellsInto leaves.new result
+        (built_from line_meaning 1 leaves.old (map (λ l. l.now) lines.now)) }
+{
+    let mut number = 1u32;
+    for line in lines {
+        if let Some(kind) = read_line(alloc, leaves, line)? {
+            return Err(ManifestError::Fault(LineFault { line: number, kind }));
+        }
+        number = number.checked_add(1).ok_or(NoMemory)?;
+    }
+    Ok(())
+}
+
 /// Reads a manifest, or gives its first faulty line. A line that no `u32` can number is want of
 /// memory.
 pub fn read_manifest(alloc: Global, bytes: &[u8]) -> Result<Leaves, ManifestError>
@@ -420,12 +435,6 @@ pub fn read_manifest(alloc: Global, bytes: &[u8]) -> Result<Leaves, ManifestErro
 {
     let lines = split_at_byte(alloc, bytes, b'\n')?;
     let mut leaves = Leaves::new(alloc)?;
-    let mut number = 1u32;
-    for line in lines.iter() {
-        if let Some(kind) = read_line(alloc, &mut leaves, line)? {
-            return Err(ManifestError::Fault(LineFault { line: number, kind }));
-        }
-        number = number.checked_add(1).ok_or(NoMemory)?;
-    }
+    read_lines(alloc, &mut leaves, &lines)?;
     Ok(leaves)
 }
