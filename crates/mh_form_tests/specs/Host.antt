@@ -50,8 +50,11 @@ naming name out = record { params = []; fields = 1; names = name ∷ []; out = S
 abbrev pub two_links : FormBody
 two_links = record { params = []; fields = 1; names = Link 0 (0 ∷ []) ∷ Link 0 (0 ∷ []) ∷ []; out = Some 2 }
 
+-- the run of a leaf of the table by a body, which is a part of a second one, which is a part of a third
+abbrev pub nested_on : LeafTable → FormBody → FormBody → FormBody → ℕ → Slot → ℕ → Ran (Option Slot)
+nested_on table call link twice leaf arg n =
+    run_body twice (IsPart (run_body link (IsPart (run_body call (IsLeaf (called table (at leaf)) ∷ [])) ∷ [])) ∷ []) (arg ∷ []) n
+
 -- the run of a leaf of the table twice, below two parts
 abbrev pub nested : LeafTable → ℕ → List ℕ → Slot → ℕ → Ran (Option Slot)
-nested table leaf places arg n =
-    run_body two_links (IsPart (run_body (naming (Link 0 (0 ∷ [])) 1) (IsPart (run_body (naming (Call 0 places) 1) (IsLeaf (called table (at leaf)) ∷ [])) ∷ [])) ∷ [])
-    (arg ∷ []) n
+nested table leaf places arg n = nested_on table (naming (Call 0 places) 1) (naming (Link 0 (0 ∷ [])) 1) two_links leaf arg n

@@ -13,10 +13,6 @@ use mh_texts::{show_exc, show_value};
 use mh_values::{Classes, Num, Value};
 use std::alloc::Global;
 
-pub const NULL_POINTER: &str = "java/lang/NullPointerException s:";
-
-pub const CLASS_CAST: &str = "java/lang/ClassCastException s:";
-
 /// The built-in classes, and no leaf.
 fn no_leaves(alloc: Global) -> Result<Leaves, NoMemory>
     ensures { IfOk result (λ leaves. leaves ≡ nothing_registered) }

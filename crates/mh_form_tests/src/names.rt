@@ -1,12 +1,10 @@
-use crate::bodies::{CLASS_CAST, NULL_POINTER, gives, naming};
+use crate::bodies::{gives, naming};
 use mh_convert::{Conv, RetConv};
 use mh_form::{Field, Name, Slot};
 use mh_values::{ClassId, Exc, Num, Primitive, Ty, Value};
 use std::test::Fail;
 
 const INT: Ty = Ty::Prim(Primitive::I);
-
-const LONG: Ty = Ty::Prim(Primitive::J);
 
 const OBJECT: Ty = Ty::Class(ClassId::OBJECT);
 
@@ -17,11 +15,6 @@ const BOXING: Conv = Conv {
     to: INTEGER,
 };
 
-const UNBOXING: Conv = Conv {
-    from: OBJECT,
-    to: LONG,
-};
-
 const CASTING: Conv = Conv {
     from: OBJECT,
     to: INTEGER,
@@ -29,61 +22,44 @@ const CASTING: Conv = Conv {
 
 #[test]
 fn gets(rt: HostRuntime) -> Result<(), Fail> {
-    let alloc = rt.alloc();
-    let body = naming(alloc, Name::Get(0), 1)?;
-    assert!(rt; gives(alloc, &body, Field::Val(Slot::J(5)), Slot::I(0), "j:5")?);
+    let field = Field::Val(Slot::J(5));
+    let body = naming(rt.alloc(), Name::Get(0), 1)?;
+    assert!(rt; gives(rt.alloc(), &body, field, Slot::I(0), "j:5")?);
     Ok(())
 }
 
 #[test]
-fn converts(rt: HostRuntime) -> Result<(), Fail> {
-    let alloc = rt.alloc();
-    let body = naming(alloc, Name::Conv(0, 0), 1)?;
-    assert!(rt; gives(alloc, &body, Field::Conv(BOXING), Slot::I(7), "I:7")?);
-    let boxed = Slot::L(Value::Boxed(Num::I(7)));
-    assert!(rt; gives(alloc, &body, Field::Conv(UNBOXING), boxed, "j:7")?);
-    let null = Slot::L(Value::Null);
-    assert!(rt; gives(alloc, &body, Field::Conv(UNBOXING), null, NULL_POINTER)?);
+fn boxes(rt: HostRuntime) -> Result<(), Fail> {
+    let field = Field::Conv(BOXING);
+    let body = naming(rt.alloc(), Name::Conv(0, 0), 1)?;
+    assert!(rt; gives(rt.alloc(), &body, field, Slot::I(7), "I:7")?);
     Ok(())
 }
 
 #[test]
 fn casts(rt: HostRuntime) -> Result<(), Fail> {
-    let alloc = rt.alloc();
+    let field = Field::Conv(CASTING);
     let boxed = Slot::L(Value::Boxed(Num::I(7)));
-    let body = naming(alloc, Name::Cast(0, 0), 1)?;
-    assert!(rt; gives(alloc, &body, Field::Conv(CASTING), boxed, "I:7")?);
-    let boxed = Slot::L(Value::Boxed(Num::J(7)));
-    assert!(rt; gives(alloc, &body, Field::Conv(CASTING), boxed, CLASS_CAST)?);
+    let body = naming(rt.alloc(), Name::Cast(0, 0), 1)?;
+    assert!(rt; gives(rt.alloc(), &body, field, boxed, "I:7")?);
     Ok(())
 }
 
 #[test]
-fn converts_results(rt: HostRuntime) -> Result<(), Fail> {
-    let alloc = rt.alloc();
-    let body = naming(alloc, Name::Ret(0, Some(0)), 1)?;
-    assert!(rt; gives(alloc, &body, Field::Ret(RetConv::Keep), Slot::J(5), "j:5")?);
-    let discarding = Field::Ret(RetConv::Discard);
-    assert!(rt; gives(alloc, &body, discarding, Slot::J(5), "i:0")?);
-    let default = Field::Ret(RetConv::Default(LONG));
-    assert!(rt; gives(alloc, &body, default, Slot::I(5), "j:0")?);
-    let casting = Field::Ret(RetConv::Value(CASTING));
-    let boxed = Slot::L(Value::Boxed(Num::J(7)));
-    assert!(rt; gives(alloc, &body, casting, boxed, CLASS_CAST)?);
+fn keeps_results(rt: HostRuntime) -> Result<(), Fail> {
+    let field = Field::Ret(RetConv::Keep);
+    let body = naming(rt.alloc(), Name::Ret(0, Some(0)), 1)?;
+    assert!(rt; gives(rt.alloc(), &body, field, Slot::J(5), "j:5")?);
     Ok(())
 }
 
 #[test]
 fn raises(rt: HostRuntime) -> Result<(), Fail> {
-    let alloc = rt.alloc();
-    let exc = Exc::saying(alloc, ClassId::ARITHMETIC, b"/ by zero")?;
+    let exc = Exc::saying(rt.alloc(), ClassId::ARITHMETIC, b"/ by zero")?;
     let thrown = Slot::L(Value::Thrown(exc));
-    let body = naming(alloc, Name::Raise(0), 1)?;
+    let field = Field::Val(Slot::I(0));
     let wanted = "java/lang/ArithmeticException s:/\\sby\\szero";
-    assert!(rt; gives(alloc, &body, Field::Val(Slot::I(0)), thrown, wanted)?);
-    let null = Slot::L(Value::Null);
-    assert!(rt; gives(alloc, &body, Field::Val(Slot::I(0)), null, NULL_POINTER)?);
-    let boxed = Slot::L(Value::Boxed(Num::I(7)));
-    assert!(rt; gives(alloc, &body, Field::Val(Slot::I(0)), boxed, CLASS_CAST)?);
+    let body = naming(rt.alloc(), Name::Raise(0), 1)?;
+    assert!(rt; gives(rt.alloc(), &body, field, thrown, wanted)?);
     Ok(())
 }
