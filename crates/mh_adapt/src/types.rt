@@ -21,7 +21,8 @@ pub(crate) fn bind_type<'t>(
     v: &Value,
 ) -> Result<MethodTy, CheckError>
     ensures shaped { IsShaped t.now }
-    ensures tells { Tells result (bind_row w.now.leaves.now.classes t.now.ty t.now.weight pos v.now) }
+    ensures tells { Tells result (bind_row w.now.leaves.now.classes t.now.ty t.now.weight pos
+        v.now) }
 {
     check_bind(alloc, t.ty(), t.weight(), pos, v, w.classes())
 }

@@ -112,7 +112,8 @@ fn read_rest<'b>(
     total: usize,
     mut cursor: Cursor<'b>,
 ) -> Result<ClassView<'b>, ClassError>
-    ensures { Yields (λ v. v) result (class_read (class_rest pool.entry sites.sites total) cursor.entry) }
+    ensures { Yields (λ v. v) result
+        (class_read (class_rest pool.entry sites.sites total) cursor.entry) }
 {
     let found = read_class_attributes(alloc, &pool, &mut cursor)?;
     let bootstraps = methods_or_none(alloc, found);
