@@ -25,7 +25,7 @@ fn read(alloc: Global, manifest: &[u8]) -> Result<Told, NoMemory> {
 }
 
 /// Manifests, and how each is read.
-const MANIFESTS: [(&str, Told); 20] = [
+static MANIFESTS: [(&str, Told); 20] = [
     ("", Told::Leaves(0)),
     ("# none\n\nclass a java/lang/Object\n", Told::Leaves(0)),
     (
@@ -129,7 +129,7 @@ fn at_most_1024_classes_are_declared(rt: HostRuntime) -> Result<(), Fail> {
 }
 
 /// The word of a leaf, its count of longs, and how its manifest is read.
-const LEAVES_OF_LONGS: [(&str, u32, Told); 3] = [
+static LEAVES_OF_LONGS: [(&str, u32, Told); 3] = [
     ("static", 126, Told::Leaves(1)),
     ("virtual", 126, Told::Leaves(1)),
     ("static", 127, Told::Fault(1, BadDescriptor)),
@@ -152,7 +152,7 @@ type Row = (
     Result<LeafId, Missing>,
 );
 
-const FOUND: [Row; 8] = [
+static FOUND: [Row; 8] = [
     ("a", "f", "(II)I", Any, Ok(LeafId(0))),
     ("a", "f", "(II)I", Static, Ok(LeafId(0))),
     ("a", "f", "(I)I", Virtual, Ok(LeafId(1))),

@@ -27,7 +27,7 @@ const INTS: Ty = Ty::Array(Comp::Prim(Primitive::I));
 const STRINGS: Ty = Ty::Array(Comp::Class(ClassId::STRING));
 
 /// Two types, and whether values of the first are converted to the second.
-const ALLOWED: [(Ty, Ty, bool); 22] = [
+static ALLOWED: [(Ty, Ty, bool); 22] = [
     (Z, Z, true),
     (I, J, true),
     (J, I, false),
@@ -98,7 +98,7 @@ fn left_of(converted: Result<Value, Exc>) -> Kept {
 }
 
 /// Two types, a value of the first, and what it becomes at the second.
-const CONVERTED: [(Ty, Ty, Kept, Kept); 16] = [
+static CONVERTED: [(Ty, Ty, Kept, Kept); 16] = [
     (Z, Z, Prim(Num::Z(true)), Prim(Num::Z(true))),
     (I, J, Prim(Num::I(-5)), Prim(Num::J(-5))),
     (I, OBJECT, Prim(Num::I(5)), Boxed(Num::I(5))),
@@ -144,7 +144,7 @@ fn gives_the_values_of_the_table(rt: HostRuntime) -> Result<(), Fail> {
 }
 
 /// A type, a value that is bound at it, and what is bound.
-const FITTED: [(Ty, Kept, Kept); 10] = [
+static FITTED: [(Ty, Kept, Kept); 10] = [
     (I, Boxed(Num::I(7)), Prim(Num::I(7))),
     (J, Boxed(Num::I(7)), Prim(Num::J(7))),
     (I, Boxed(Num::J(7)), CAST),
@@ -174,7 +174,7 @@ fn fits_bound_values(rt: HostRuntime) -> Result<(), Fail> {
 }
 
 /// Two result types, and how results of the first become those of the second.
-const RETURNED: [(Option<Ty>, Option<Ty>, Option<RetConv>); 5] = [
+static RETURNED: [(Option<Ty>, Option<Ty>, Option<RetConv>); 5] = [
     (None, None, Some(RetConv::Keep)),
     (Some(J), None, Some(RetConv::Discard)),
     (None, Some(J), Some(RetConv::Default(J))),

@@ -65,7 +65,7 @@ const TRUE: Seen = Is(Num::Z(true));
 const FALSE: Seen = Is(Num::Z(false));
 
 /// A kind, its arguments, and what it gives of them.
-const RUNS: [(Kind, &[Seen], Seen); 24] = [
+static RUNS: [(Kind, &[Seen], Seen); 24] = [
     (
         Kind::Iadd,
         &[Is(Num::I(i32::MAX)), Is(Num::I(1))],
@@ -234,7 +234,7 @@ fn a_virtual_leaf_does_not_run_on_null(rt: HostRuntime) -> Result<(), Fail> {
 }
 
 /// A kind, the type of a leaf, and whether the leaf may be of that kind.
-const KIND_TYPES: [(Kind, &[Ty], Option<Ty>, bool); 19] = [
+static KIND_TYPES: [(Kind, &[Ty], Option<Ty>, bool); 19] = [
     (Kind::Iadd, &[I, I], Some(I), true),
     (Kind::Iadd, &[I, J], Some(I), false),
     (Kind::Ladd, &[J, J], Some(J), true),

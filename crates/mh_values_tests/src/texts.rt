@@ -31,7 +31,7 @@ fn first_wrong(alloc: Global, rows: &[(&str, &str)]) -> Result<Option<usize>, No
 }
 
 /// Numbers: primitive and boxed, at the edges of their types.
-const NUMBERS: [(&str, &str); 16] = [
+static NUMBERS: [(&str, &str); 16] = [
     ("z:true", "z:true"),
     ("Z:false", "Z:false"),
     ("z:True", "bad"),
@@ -51,7 +51,7 @@ const NUMBERS: [(&str, &str); 16] = [
 ];
 
 /// Texts: escapes, and characters by their numbers.
-const TEXTS: [(&str, &str); 14] = [
+static TEXTS: [(&str, &str); 14] = [
     ("s:", "s:"),
     ("s:a,b", "s:a\\cb"),
     ("s:\\s\\c\\n\\\\", "s:\\s\\c\\n\\\\"),
@@ -69,7 +69,7 @@ const TEXTS: [(&str, &str); 14] = [
 ];
 
 /// References: null, objects and exceptions.
-const REFERENCES: [(&str, &str); 12] = [
+static REFERENCES: [(&str, &str); 12] = [
     ("null", "null"),
     ("nul", "bad"),
     ("o:java/lang/Object#0", "o:java/lang/Object#0"),
@@ -88,7 +88,7 @@ const REFERENCES: [(&str, &str); 12] = [
 ];
 
 /// Arrays: their components, their items, and commas in them.
-const ARRAYS: [(&str, &str); 12] = [
+static ARRAYS: [(&str, &str); 12] = [
     ("a:I[]", "a:I[]"),
     ("a:J[j:1,j:-2]", "a:J[j:1,j:-2]"),
     ("a:I[j:1]", "bad"),
@@ -131,7 +131,7 @@ fn text_of(alloc: Global, count: usize, last: char) -> Result<Str, NoMemory> {
 
 /// The count of characters `a`, the last character, and the last five bytes of the printed text
 /// and its length.
-const CUT: [(usize, char, &str, usize); 3] = [
+static CUT: [(usize, char, &str, usize); 3] = [
     (1023, 'b', "aaaab", 1024),
     (1024, 'b', "aa...", 1027),
     (1023, ' ', "a\\...", 1027),
@@ -181,7 +181,7 @@ fn reads(
 }
 
 /// Texts have at most 4096 characters, and arrays at most 254 items.
-const LIMITS: [((&str, &str, &str), usize); 2] = [
+static LIMITS: [((&str, &str, &str), usize); 2] = [
     (("s:", "a", ""), 4096),
     (("a:I[i:0", ",i:1", "]"), 253),
 ];

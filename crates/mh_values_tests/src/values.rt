@@ -9,7 +9,7 @@ use std::alloc::Global;
 use std::test::Fail;
 
 /// The built-in classes by their numbers, each with the name of its superclass.
-const PARENTS: [(&str, &str); 28] = [
+static PARENTS: [(&str, &str); 28] = [
     ("java/lang/Object", ""),
     ("java/lang/Number", "java/lang/Object"),
     ("java/lang/Integer", "java/lang/Number"),
@@ -92,7 +92,7 @@ fn built_in_classes_stand_below_their_superclasses(rt: HostRuntime) -> Result<()
 }
 
 /// The classes that have a constant, and their names.
-const CONSTANTS: [(ClassId, &str); 21] = [
+static CONSTANTS: [(ClassId, &str); 21] = [
     (ClassId::OBJECT, "java/lang/Object"),
     (ClassId::INTEGER, "java/lang/Integer"),
     (ClassId::LONG, "java/lang/Long"),
@@ -190,7 +190,7 @@ fn refusal(alloc: Global, text: &str) -> Result<Option<DescriptorError>, NoMemor
 }
 
 /// Method descriptors, and what is wrong with each.
-const REFUSALS: [(&str, Option<DescriptorError>); 6] = [
+static REFUSALS: [(&str, Option<DescriptorError>); 6] = [
     ("(I[[J)V", Some(DescriptorError::Unsupported { at: 2 })),
     (
         "(Lno/Such;)V",
@@ -258,7 +258,7 @@ fn types_are_read_one_by_one(rt: HostRuntime) -> Result<(), Fail> {
 const THROWABLES: Ty = Ty::Array(Comp::Class(ClassId::THROWABLE));
 
 /// The components of an array, a type, and whether the array has it.
-const ARRAYS: [(Comp, Ty, bool); 3] = [
+static ARRAYS: [(Comp, Ty, bool); 3] = [
     (Comp::Prim(Primitive::I), OBJECT, true),
     (Comp::Class(ClassId::ERROR), THROWABLES, true),
     (Comp::Prim(Primitive::I), THROWABLES, false),
