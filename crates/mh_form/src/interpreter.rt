@@ -1,4 +1,4 @@
-ghost use Rattle.std.specs.Prelude.{◌≡◌, ◌≢◌, ◌++◌, ◌∷◌, [], if◌then◌else◌, IfOk};
+ghost use Rattle.std.specs.Prelude.{◌≡◌, ◌≢◌, ◌++◌, ◌∷◌, [], if◌then◌else◌, IfOk, OnOk};
 ghost use Rattle.mh_values.specs.declared.value.Value.TheVariants.{Thrown};
 ghost use Rattle.mh_values.specs.Computation.{Stuck, after, found, guarded};
 ghost use Rattle.mh_form.specs.declared.name.Name.TheVariants.{Link};
@@ -236,21 +236,18 @@ struct Progress {
     calls: Calls,
 }
 
-/// A run under way after one more name, which filled its slot.
-fn advance(progress: Progress, slot: Slot, more: Calls) -> Result<Progress, NoMemory>
-    ensures { IfOk result
-        (λ r. r ≡ record {
-          slots = progress.slots ++ slot ∷ [];
-          calls = progress.calls ++ more;
+/// Notes in a run under way that one more name filled its slot.
+fn advance(progress: &mut Progress, slot: Slot, more: Calls) -> Result<(), NoMemory>
+    ensures { OnOk result
+        (progress.new ≡ record {
+          slots = progress.old.slots ++ slot ∷ [];
+          calls = progress.old.calls ++ more;
         }) }
 {
-    let Progress {
-        mut slots,
-        mut calls,
-    } = progress;
-    calls.append(more)?;
-    slots.push(slot)?;
-    Ok(Progress { slots, calls })
+    if !more.is_empty() {
+        progress.calls.append(more)?;
+    }
+    progress.slots.push(slot)
 }
 
 /// The end of a run whose names all filled their slots, with the result at a place.
@@ -290,7 +287,7 @@ pub fn run<'t>(
         match step(alloc, bound, leaves, name, &progress.slots, count)? {
             Stepped::Filled(slot, more) => {
                 count = raised(count, &more);
-                progress = advance(progress, slot, more)?;
+                advance(&mut progress, slot, more)?;
             }
             Stepped::Ended(exc, more) => {
                 let last = Ran {

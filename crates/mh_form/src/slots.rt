@@ -1,6 +1,6 @@
 //! Slots by their place, and what a slot holds.
 
-ghost use Rattle.std.specs.Prelude.{◌≡◌, ◌≢◌, ◌++◌, ◌∷◌, IfOk, None, Some, [], take};
+ghost use Rattle.std.specs.Prelude.{◌≡◌, ◌≢◌, ◌++◌, ◌∷◌, IfOk, OnOk, None, Some, [], take};
 ghost use Rattle.mh_values.specs.Computation.{Stuck, Threw, raised};
 ghost use Rattle.mh_form.specs.declared.slot.Slot.{Slot};
 ghost use Rattle.mh_form.specs.Run.{picked, ran_of_run, ran_of_step, result_at};
@@ -19,14 +19,12 @@ pub(crate) fn raised(n: u32, calls: &Calls) -> u32
     ((n as u64 + calls.len() as u64 % 0x1_0000_0000) % 0x1_0000_0000) as u32
 }
 
-/// Slots with a copy of one more.
-fn with_copy(alloc: Global, slots: Slots, slot: &Slot) -> Result<Slots, NoMemory>
-    ensures { IfOk result (λ xs. xs ≡ slots ++ slot.now ∷ []) }
+/// Puts a copy of a slot at the end of slots.
+fn push_copy(alloc: Global, slots: &mut Slots, slot: &Slot) -> Result<(), NoMemory>
+    ensures { OnOk result (slots.new ≡ slots.old ++ slot.now ∷ []) }
 {
     let copy = slot.copy(alloc)?;
-    let mut xs = slots;
-    xs.push(copy)?;
-    Ok(xs)
+    slots.push(copy)
 }
 
 /// Copies of the slots at these places.
@@ -40,7 +38,7 @@ pub(crate) fn pick(alloc: Global, slots: &Slots, places: &Operands) -> Result<Sl
         if at >= slots.len() {
             unreachable!()
         }
-        xs = with_copy(alloc, xs, slots.get(at))?;
+        push_copy(alloc, &mut xs, slots.get(at))?;
     }
     Ok(xs)
 }
@@ -71,7 +69,7 @@ pub(crate) fn first(alloc: Global, slots: &Slots, count: u32) -> Result<Slots, N
     let mut xs = Seq::new(alloc);
     for slot in slots.as_slice() {
         if xs.len() < count as usize {
-            xs = with_copy(alloc, xs, slot)?;
+            push_copy(alloc, &mut xs, slot)?;
         }
     }
     Ok(xs)
