@@ -190,36 +190,30 @@ fn answer_stop<S: Sink>(alloc: Global, sink: &mut S, stop: Stop<'_>) -> TopAnswe
             answer_line(alloc, sink, REFUSED, line)
         }
         Stop::Place(name, at, kind) => {
-            answer_line(
-                alloc,
-                sink,
-                REFUSED,
-                &[
-                    b"refused ",
-                    name.as_bytes(),
-                    b" at ",
-                    Buffer::new().format(at).as_bytes(),
-                    b" ",
-                    kind.as_bytes(),
-                    b"\n",
-                ],
-            )
+            let mut digits = Buffer::new();
+            let pieces: &[&[u8]] = &[
+                b"refused ",
+                name.as_bytes(),
+                b" at ",
+                digits.format(at).as_bytes(),
+                b" ",
+                kind.as_bytes(),
+                b"\n",
+            ];
+            answer_line(alloc, sink, REFUSED, pieces)
         }
         Stop::Fault(name, line, kind) => {
-            answer_line(
-                alloc,
-                sink,
-                REFUSED,
-                &[
-                    b"refused ",
-                    name.as_bytes(),
-                    b" line ",
-                    Buffer::new().format(line).as_bytes(),
-                    b" ",
-                    kind.as_bytes(),
-                    b"\n",
-                ],
-            )
+            let mut digits = Buffer::new();
+            let pieces: &[&[u8]] = &[
+                b"refused ",
+                name.as_bytes(),
+                b" line ",
+                digits.format(line).as_bytes(),
+                b" ",
+                kind.as_bytes(),
+                b"\n",
+            ];
+            answer_line(alloc, sink, REFUSED, pieces)
         }
     }
 }
