@@ -9,7 +9,7 @@ use Rattle.mh_edit.specs.declared.key.Key.{Key}
 use Rattle.mh_edit.specs.Applied.{applied}
 use Rattle.mh_edit.specs.Fit.{fits}
 use Rattle.mh_handle.specs.declared.error.HandleError.{HandleError}
-use Rattle.mh_handle.specs.declared.grow.Growth.{Growth}
+use Rattle.mh_handle.specs.declared.growth.Growth.{Growth}
 use Rattle.mh_handle.specs.Grows.{GainsPart, Grows}
 use Rattle.mh_handle.specs.Stands.{HandleView, Stands, handle_body}
 use Rattle.mh_adapt.specs.Parts.{AddsPart}

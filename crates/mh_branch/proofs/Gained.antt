@@ -3,7 +3,7 @@ use Rattle.std.proofs.Common.{◌∙◌, Result, Ok, Err, IfOk}
 use Rattle.mh_values.specs.declared.class.ClassId.{ClassId}
 use Rattle.mh_values.specs.declared.types.MethodTy.{MethodTy}
 use Rattle.mh_handle.specs.declared.error.HandleError.{HandleError}
-use Rattle.mh_handle.specs.declared.grow.Growth.{Growth}
+use Rattle.mh_handle.specs.declared.growth.Growth.{Growth}
 use Rattle.mh_handle.specs.Grows.{Grows, base_handle}
 use Rattle.mh_handle.specs.Stands.{HandleView}
 use Rattle.mh_branch.specs.Growths.{HasBranches, HasHandler, IsCatch, IsGuard}

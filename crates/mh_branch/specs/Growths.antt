@@ -10,7 +10,7 @@ use Rattle.mh_form.specs.declared.field.Field.TheVariants as field
 use Rattle.mh_form.specs.Erasure.{basic_of, shape_of}
 use Rattle.mh_edit.specs.declared.key.Key.{Key}
 use Rattle.mh_edit.specs.declared.key.Key.TheVariants as key
-use Rattle.mh_handle.specs.declared.grow.Growth.{Growth}
+use Rattle.mh_handle.specs.declared.growth.Growth.{Growth}
 use Rattle.mh_branch.specs.declared.growths.Parts.{Parts}
 use Rattle.mh_handle.specs.Grows.{IsPartOf}
 use Rattle.mh_handle.specs.Recipe.{at_some}

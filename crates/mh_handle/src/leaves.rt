@@ -6,7 +6,7 @@ ghost use Rattle.mh_handle.specs.Stands.{Stands};
 ghost use Rattle.mh_handle.specs.Works.{IsReady, GoesOn, Makes, IsAccepted};
 
 use crate::error::HandleError;
-use crate::grow::{Growth, one_field};
+use crate::growth::{Growth, one_field};
 use crate::handle::Handle;
 use crate::work::Work;
 use mh_base::{Copied, Seq};

@@ -2,27 +2,27 @@
 #![tactic(auto)]
 
 mod answer;
+mod copies;
+mod equality;
 mod error;
 mod form;
-mod grow;
+mod growth;
 mod handle;
 mod hash;
 mod invoke;
-mod keep;
 mod leaves;
 mod pass;
 mod recipe;
 mod retyped;
-mod same;
 mod seat;
-mod seen;
+mod seen_forms;
 mod table;
 mod work;
 
 pub use answer::Answer;
 pub use error::{EditError, HandleError};
 pub use form::Form;
-pub use grow::{Growth, one_field};
+pub use growth::{Growth, one_field};
 pub use handle::{Handle, MethodTys};
 pub use leaves::leaf;
 pub use pass::FormPass;

@@ -9,7 +9,7 @@ use crate::error::EditError;
 use crate::form::Form;
 use crate::recipe::Recipe;
 use crate::seat::FormSeat;
-use crate::seen::SeenForms;
+use crate::seen_forms::SeenForms;
 use mh_base::NoMemory;
 use mh_edit::Key;
 use mh_form::FormBody;

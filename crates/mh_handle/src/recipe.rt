@@ -2,8 +2,8 @@ ghost use Rattle.std.specs.Prelude.{◌≡◌, ◌<◌, ◌++◌, ◌∷◌, [],
 ghost use mathlib.Core.Logic.{◌↔◌};
 ghost use Rattle.mh_handle.specs.Hashes.{hash_of};
 
+use crate::equality::{Same, are_same};
 use crate::hash::{Hashed, mix};
-use crate::same::{Same, are_same};
 use mh_base::{Copied, NoMemory, Seq};
 use mh_edit::Key;
 use std::alloc::Global;

@@ -1,7 +1,7 @@
 use Rattle.std.proofs.Common.{ap, ◌∙◌, arith, map, ◌++◌, ◌∷◌, []}
 use Rattle.std.proofs.lemmas.List.{length-map}
 use Rattle.mh_handle.proofs.Asked.{indexed-add, mapped-push, read-is}
-use Rattle.mh_handle.proofs.seen.SeenForms.add.Goals as goal
+use Rattle.mh_handle.proofs.seen_forms.SeenForms.add.Goals as goal
 
 pub invariant_of-self-2 : goal.invariant_of-self-2
 invariant_of-self-2 c =

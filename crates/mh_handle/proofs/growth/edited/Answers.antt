@@ -4,7 +4,7 @@ use Rattle.mh_edit.specs.Fit.{is_nothing}
 use Rattle.mh_edit.proofs.Made.{made-applied}
 use Rattle.mh_handle.specs.Form.{body_of}
 use Rattle.mh_handle.proofs.Recipes.{body_of-snoc}
-use Rattle.mh_handle.proofs.grow.edited.Goals as goal
+use Rattle.mh_handle.proofs.growth.edited.Goals as goal
 
 pub invariant_of-result : goal.invariant_of-result
 invariant_of-result g c =

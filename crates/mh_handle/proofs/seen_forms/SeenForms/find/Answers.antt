@@ -3,7 +3,7 @@ use Rattle.std.proofs.lemmas.List.{length-map}
 use Rattle.mh_setonce.proofs.Nodes.{name_at}
 use Rattle.mh_handle.specs.Hashes.{hash_of}
 use Rattle.mh_handle.proofs.Asked.{sought-first, sought-after, before-low, read-is}
-use Rattle.mh_handle.proofs.seen.SeenForms.find.Goals as goal
+use Rattle.mh_handle.proofs.seen_forms.SeenForms.find.Goals as goal
 
 pub loop-place-init : goal.loop-place-init
 loop-place-init c =
