@@ -1,4 +1,4 @@
-ghost use Rattle.std.specs.Prelude.{◌≡◌, ◌≢◌, ◌++◌, ◌∷◌, [], IfOk, None, Some, map};
+ghost use Rattle.std.specs.Prelude.{◌≡◌, ◌≢◌, ◌++◌, ◌∷◌, [], IfOk, OnOk, None, Some, map};
 ghost use Rattle.mh_form.specs.Erasure.{all_typed, basic_of, basic_ret_of, erased, shape_of, typed};
 
 use crate::{Basic, BasicRet, Shape, Slot, Slots};
@@ -57,14 +57,12 @@ pub fn erase(value: Value) -> Slot
 /// How many slots a run mostly puts behind its arguments, at most.
 const ROOM_FOR_NAMES: usize = 8;
 
-/// Slots with a copy of one more value as a slot.
-fn with_erased(alloc: Global, slots: Slots, value: &Value) -> Result<Slots, NoMemory>
-    ensures { IfOk result (λ xs. xs ≡ slots ++ erased value.now ∷ []) }
+/// Puts a copy of a value at the end of slots, as a slot.
+fn push_erased(alloc: Global, slots: &mut Slots, value: &Value) -> Result<(), NoMemory>
+    ensures { OnOk result (slots.new ≡ slots.old ++ erased value.now ∷ []) }
 {
     let copy = value.copy(alloc)?;
-    let mut xs = slots;
-    xs.push(erase(copy))?;
-    Ok(xs)
+    slots.push(erase(copy))
 }
 
 /// Copies of values as slots, with room for those of a few names.
@@ -74,7 +72,7 @@ pub fn erase_all(alloc: Global, values: &Items) -> Result<Slots, NoMemory>
     let room = values.len().saturating_add(ROOM_FOR_NAMES);
     let mut slots = Seq::from_vec(Vec::with_capacity(alloc, room)?);
     for value in values.as_slice() {
-        slots = with_erased(alloc, slots, value)?;
+        push_erased(alloc, &mut slots, value)?;
     }
     Ok(slots)
 }
