@@ -1,7 +1,7 @@
 -- A part runs as its handle does, before the handle that it is a part of or behind it.
 use Rattle.std.proofs.Common.{◌≡◌, sym, subst, ap, ap₂, ◌∙◌, ℕ, ◌<◌, ◌^◌, List, take, drop, map, Option}
 use Rattle.std.specs.Prelude.{option_to_list}
-use Rattle.std.specs.declared.boxed.Box.{Box}
+use Rattle.std.specs.declared.sync.Arc.{Arc}
 use Rattle.std.specs.declared.alloc.Global.{Global}
 use Rattle.mh_values.specs.declared.value.Value.{Value}
 use Rattle.mh_values.specs.Computation.{Ran, and_then, spliced}
@@ -19,7 +19,7 @@ use Rattle.mh_edit.specs.Law.{returned, slots_of_result}
 use Rattle.mh_handle.specs.Stands.{HandleView, Stands, handle_body, handle_run}
 use Rattle.mh_handle.proofs.Erasing.{part-map, part-then, result-then, spliced-map}
 
-module _ (table : LeafTable) (h g : HandleView) (a b : Tree) (part : Box Bound Global) (st : Stands table h a) (sp : Stands table g b) (body : part.value.body.now ≡ handle_body g) (fields : part.value.fields.items ≡ g.fields) where
+module _ (table : LeafTable) (h g : HandleView) (a b : Tree) (part : Arc Bound Global) (st : Stands table h a) (sp : Stands table g b) (body : part.value.body.now ≡ handle_body g) (fields : part.value.fields.items ≡ g.fields) where
   part-runs : (args : List Value) (n : ℕ) → HaveTypes table.classes args g.ty.params → n < 2 ^ 32 → run_bound table part.value (map erased args) n ≡ erased_ran (mean table b args n)
   part-runs args n have low = ap (λ run. run (map erased args) n) (ap₂ (run_on table) body fields) ∙ sp.runs args n have low
 

@@ -11,7 +11,7 @@ ghost use Rattle.mh_handle.specs.Works.{IsReady, GoesOn, IsAccepted};
 ghost use Rattle.mh_astype.specs.Use.{IsUse, MakesBy, used_as, use_row, use_keys};
 
 use crate::conversions::{convert_fields, convert_key, is_trivial};
-use mh_base::Seq;
+use mh_base::{Seq, Shared};
 use mh_handle::{Growth, Handle, HandleError, Work};
 use mh_tree::check_astype;
 use mh_values::{MethodTy, is_same_method_type};
@@ -67,7 +67,7 @@ fn used<'t, R: Wait>(
 {
     if is_trivial(&ty, h.ty(), w.leaves.classes()) {
         let weight = 1 + h.weight();
-        Ok(h.retyped(ty, weight))
+        Ok(h.retyped(Shared::new(alloc, ty)?, weight))
     } else {
         converted(w, rt, alloc, h, ty)
     }

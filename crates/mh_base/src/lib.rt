@@ -2,13 +2,17 @@
 #![tactic(auto)]
 
 mod copied;
+mod frozen;
 mod lines;
 mod memory;
 mod seq;
+mod shared;
 mod split;
 
 pub use copied::Copied;
+pub use frozen::Frozen;
 pub use lines::{LineFault, is_passed, is_plain};
 pub use memory::NoMemory;
 pub use seq::Seq;
+pub use shared::Shared;
 pub use split::{split_at_byte, split_once};

@@ -3,7 +3,7 @@ use Rattle.std.proofs.Common.{◌≡◌, refl, sym, subst, ap, ◌∙◌, ℕ, �
 use Rattle.std.specs.Prelude.{IsTrue}
 use Rattle.std.proofs.lemmas.List.{length-map, take-map}
 use Rattle.std.proofs.lemmas.Bool.{le-leb}
-use Rattle.std.specs.declared.boxed.Box.{Box}
+use Rattle.std.specs.declared.sync.Arc.{Arc}
 use Rattle.std.specs.declared.alloc.Global.{Global}
 use Rattle.mh_values.specs.declared.class.Class.{Class}
 use Rattle.mh_values.specs.declared.class.ClassId.{ClassId}
@@ -85,8 +85,8 @@ catch-stands table h t class u m body handler body_field handler_field are stand
     let row : catch_row table.classes body.ty body.weight class handler.ty handler.weight ≡ Ok h.ty = given ∙ ap Ok (sym grows.typed) in
     let parts = catch_row-parts table.classes body.ty body.weight class handler.ty handler.weight h.ty row in
     let own : h.ty ≡ body.ty = parts.3 in
-    let body_box : Box Bound Global = body_part.0 in
-    let handler_box : Box Bound Global = handler_part.0 in
+    let body_box : Arc Bound Global = body_part.0 in
+    let handler_box : Arc Bound Global = handler_part.0 in
     let fields : h.fields ≡ field.Part body_box ∷ field.Class class ∷ field.Part handler_box ∷ [] =
     grows.fielded ∙ (λ i. body_part.1 i ∷ field.Class class ∷ handler_part.1 i ∷ []) in
     let kept = length handler.ty.params - 1 in

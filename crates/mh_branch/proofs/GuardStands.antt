@@ -3,7 +3,7 @@ use Rattle.std.proofs.Common.{◌≡◌, refl, sym, subst, ap, ◌∙◌, ℕ, �
 use Rattle.std.specs.Prelude.{option_to_list, IsTrue}
 use Rattle.std.proofs.lemmas.List.{length-map, take-map}
 use Rattle.std.proofs.lemmas.Bool.{le-leb}
-use Rattle.std.specs.declared.boxed.Box.{Box}
+use Rattle.std.specs.declared.sync.Arc.{Arc}
 use Rattle.std.specs.declared.alloc.Global.{Global}
 use Rattle.mh_values.specs.declared.types.MethodTy.{MethodTy}
 use Rattle.mh_values.specs.declared.value.Value.{Value}
@@ -69,9 +69,9 @@ pub guard-stands :
 guard-stands table h c t e u test body other test_field body_field other_field tests stands others test_part body_part other_part row grows =
     let parts = guard_row-parts test.ty test.weight body.ty body.weight other.ty other.weight u row in
     let own : h.ty ≡ body.ty = grows.typed ∙ parts.3 in
-    let test_box : Box Bound Global = test_part.0 in
-    let body_box : Box Bound Global = body_part.0 in
-    let other_box : Box Bound Global = other_part.0 in
+    let test_box : Arc Bound Global = test_part.0 in
+    let body_box : Arc Bound Global = body_part.0 in
+    let other_box : Arc Bound Global = other_part.0 in
     let fields : h.fields ≡ field.Part test_box ∷ field.Part body_box ∷ field.Part other_box ∷ [] =
     grows.fielded ∙ (λ i. test_part.1 i ∷ body_part.1 i ∷ other_part.1 i ∷ []) in
     let alike : other.ty ≡ body.ty = same_method_type-is other.ty body.ty parts.0 in

@@ -2,7 +2,7 @@
 use Rattle.std.proofs.Common.{◌≡◌, subst, Some, ℕ, ◌+◌, ◌-◌, ◌≤◌, List, [], ◌∷◌, ◌++◌, sym, ap, ◌∙◌, length, map, take, drop, arith}
 use Rattle.std.specs.Prelude.{slice_get}
 use Rattle.std.specs.List.{range_with_len}
-use Rattle.std.specs.declared.boxed.Box.{Box}
+use Rattle.std.specs.declared.sync.Arc.{Arc}
 use Rattle.std.specs.declared.alloc.Global.{Global}
 use Rattle.std.proofs.lemmas.List.{map-append, length-map}
 use Rattle.mh_values.specs.Computation.{Refines, and_then, found, spliced}
@@ -28,7 +28,7 @@ use Rattle.mh_edit.proofs.Edited.{run-edited}
 
 -- a field that holds a part is run as that part
 pub run-part :
-    (leaves : LeafTable) (senses : List Sense) (part : Box Bound Global) (f : ℕ) (xs : List Slot) (n : ℕ) →
+    (leaves : LeafTable) (senses : List Sense) (part : Arc Bound Global) (f : ℕ) (xs : List Slot) (n : ℕ) →
     slice_get senses f ≡ Some (sense leaves (field.Part part)) →
     run_field senses f xs n ≡ run_bound leaves part.value xs n
 run-part leaves senses part f xs n there =
@@ -36,7 +36,7 @@ run-part leaves senses part f xs n there =
 
 -- a part runs on arguments from a position on, and its result stands for what was taken out
 run-parted :
-    (old : FormBody) (pos count : ℕ) (basics : List Basic) (ret : BasicRet) (made : ℕ) (leaves : LeafTable) (fields : List Field) (part : Box Bound Global)
+    (old : FormBody) (pos count : ℕ) (basics : List Basic) (ret : BasicRet) (made : ℕ) (leaves : LeafTable) (fields : List Field) (part : Arc Bound Global)
     (args : List Slot) (n : ℕ) →
     length fields ≡ old.fields →
     pos + taken_by ret ≤ length old.params →

@@ -3,7 +3,7 @@ use Rattle.std.proofs.Common.{◌≡◌, refl, subst, Bool, true, false, Option,
 use Rattle.std.specs.Prelude.{slice_get, if◌then◌else◌}
 use Rattle.std.specs.List.{range_with_len}
 use Rattle.std.proofs.Math.Seq.{take-append_seam}
-use Rattle.std.specs.declared.boxed.Box.{Box}
+use Rattle.std.specs.declared.sync.Arc.{Arc}
 use Rattle.std.specs.declared.alloc.Global.{Global}
 use Rattle.mh_values.specs.declared.class.ClassId.{ClassId}
 use Rattle.mh_values.specs.declared.value.Value.TheVariants as value
@@ -71,7 +71,7 @@ picked-front args more m long =
 
 -- one of two parts
 run-selected :
-    (leaves : LeafTable) (senses : List Sense) (t e : Box Bound Global) (b : Bool) (xs : List Slot) (n : ℕ) →
+    (leaves : LeafTable) (senses : List Sense) (t e : Arc Bound Global) (b : Bool) (xs : List Slot) (n : ℕ) →
     slice_get senses 1 ≡ Some (sense leaves (field.Part t)) →
     slice_get senses 2 ≡ Some (sense leaves (field.Part e)) →
     run_field senses (if b then 1 else 2) xs n ≡ run_bound leaves (if b then t.value else e.value) xs n
@@ -105,7 +105,7 @@ law-GuardRoot shape test old fits leaves c t e args n long =
 
 -- a part that is guarded by a class and a handler
 run-guarded :
-    (leaves : LeafTable) (senses : List Sense) (t : Box Bound Global) (c : ClassId) (h : Box Bound Global) (kept : ℕ) (xs : List Slot) (n : ℕ) →
+    (leaves : LeafTable) (senses : List Sense) (t : Arc Bound Global) (c : ClassId) (h : Arc Bound Global) (kept : ℕ) (xs : List Slot) (n : ℕ) →
     slice_get senses 0 ≡ Some (sense leaves (field.Part t)) →
     slice_get senses 2 ≡ Some (sense leaves (field.Part h)) →
     guarded_field senses 0 (is_caught leaves.classes c) 2 kept xs n

@@ -1,6 +1,6 @@
 -- What each key does to the run of a body.
 use Rattle.std.specs.Prelude.{ℕ, ◌+◌, ◌-◌, ◌≡◌, List, [], ◌∷◌, ◌++◌, Option, Some, None, take, drop, length, map, slice_get, if◌then◌else◌}
-use Rattle.std.specs.declared.boxed.Box.{Box}
+use Rattle.std.specs.declared.sync.Arc.{Arc}
 use Rattle.std.specs.declared.alloc.Global.{Global}
 use Rattle.mh_values.specs.declared.class.ClassId.{ClassId}
 use Rattle.mh_values.specs.declared.types.Comp.{Comp}
@@ -84,7 +84,7 @@ ThrowRootLaw new =
 -- a test on the first arguments, and then one of two parts on all
 abbrev pub GuardRootLaw : List Basic → BasicRet → ℕ → FormBody → Type 0
 GuardRootLaw params ret test new =
-    (table : LeafTable) (c t e : Box Bound Global) (args : List Slot) (n : ℕ) →
+    (table : LeafTable) (c t e : Arc Bound Global) (args : List Slot) (n : ℕ) →
     length args ≡ length params →
     Refines
     (and_then (filled (run_bound table c.value (take test args) n)) n
@@ -94,7 +94,7 @@ GuardRootLaw params ret test new =
 -- a part on all arguments; where it throws an exception of the class or below it, the handler on that and the first arguments
 abbrev pub CatchRootLaw : List Basic → BasicRet → ℕ → FormBody → Type 0
 CatchRootLaw params ret kept new =
-    (table : LeafTable) (t : Box Bound Global) (c : ClassId) (h : Box Bound Global) (args : List Slot) (n : ℕ) →
+    (table : LeafTable) (t : Arc Bound Global) (c : ClassId) (h : Arc Bound Global) (args : List Slot) (n : ℕ) →
     length args ≡ length params →
     Refines
     (returned ret
@@ -131,7 +131,7 @@ PermuteLaw count reorder old new =
 -- a part on its arguments, and then the old body with the result in their place, or without them where it is void
 abbrev pub CollectLaw : ℕ → ℕ → BasicRet → FormBody → FormBody → Type 0
 CollectLaw pos put ret old new =
-    (table : LeafTable) (fields : List Field) (part : Box Bound Global) (args : List Slot) (n : ℕ) →
+    (table : LeafTable) (fields : List Field) (part : Arc Bound Global) (args : List Slot) (n : ℕ) →
     length fields ≡ old.fields →
     length args + taken_by ret ≡ length old.params + put →
     Refines
@@ -142,7 +142,7 @@ CollectLaw pos put ret old new =
 -- a part on arguments from a position on, and then the old body with the result put in there, or with nothing put in where it is void
 abbrev pub FoldLaw : ℕ → ℕ → BasicRet → FormBody → FormBody → Type 0
 FoldLaw pos count ret old new =
-    (table : LeafTable) (fields : List Field) (part : Box Bound Global) (args : List Slot) (n : ℕ) →
+    (table : LeafTable) (fields : List Field) (part : Arc Bound Global) (args : List Slot) (n : ℕ) →
     length fields ≡ old.fields →
     length args + taken_by ret ≡ length old.params →
     Refines
@@ -153,7 +153,7 @@ FoldLaw pos count ret old new =
 -- the old body, and then a part on its result, if any
 abbrev pub FilterReturnLaw : BasicRet → FormBody → FormBody → Type 0
 FilterReturnLaw ret old new =
-    (table : LeafTable) (fields : List Field) (part : Box Bound Global) (args : List Slot) (n : ℕ) →
+    (table : LeafTable) (fields : List Field) (part : Arc Bound Global) (args : List Slot) (n : ℕ) →
     length fields ≡ old.fields →
     length args ≡ length old.params →
     Refines

@@ -2,7 +2,7 @@
 use Rattle.std.proofs.Common.{◌≡◌, refl, ap, ◌∙◌, ℕ, ◌<◌, List, ◌∷◌, Option, Some, map, length}
 use Rattle.std.specs.Prelude.{slice_get, slice_index_or}
 use Rattle.std.specs.Option.{option_map}
-use Rattle.std.specs.declared.boxed.Box.{Box}
+use Rattle.std.specs.declared.sync.Arc.{Arc}
 use Rattle.std.specs.declared.alloc.Global.{Global}
 use Rattle.std.proofs.lemmas.Option.{slice_get-map, slice_get_read}
 use Rattle.mh_values.specs.Computation.{Stuck, found}
@@ -24,7 +24,7 @@ senses_of-items table (more_of-Field f rest) = ap (λ s. sense table f ∷ s) (s
 
 -- a part stands for its own run
 pub sense-Part :
-    (table : LeafTable) (b : Box Bound Global) → sense table (Part b) ≡ IsPart (run_bound table b.value)
+    (table : LeafTable) (b : Arc Bound Global) → sense table (Part b) ≡ IsPart (run_bound table b.value)
 sense-Part table b =
     ap (λ s. IsPart (run_body b.value.body.now s))
     (senses_of-items table (hidden-the_row-Field-0 b.value.fields) ∙ ap (map (sense table)) (items_hidden-the_row-Field-0 b.value.fields))
@@ -49,7 +49,7 @@ field_of-at kind table fields f e low is =
     field_of-found kind table fields f e (slice_get_read fields (length fields) f e refl low is)
 
 pub run_field-part :
-    (table : LeafTable) (fields : List Field) (f : ℕ) (e : Field) (b : Box Bound Global) (slots : List Slot) (n : ℕ) →
+    (table : LeafTable) (fields : List Field) (f : ℕ) (e : Field) (b : Arc Bound Global) (slots : List Slot) (n : ℕ) →
     f < length fields →
     e ≡ slice_index_or fields f e →
     e ≡ Part b →
@@ -63,7 +63,7 @@ pub run_field-none :
     (table : LeafTable) (fields : List Field) (f : ℕ) (e : Field) (slots : List Slot) (n : ℕ) →
     f < length fields →
     e ≡ slice_index_or fields f e →
-    ((x : Box Bound Global) → e ≡ Part x → ⊥) →
+    ((x : Arc Bound Global) → e ≡ Part x → ⊥) →
     run_field (map (sense table) fields) f slots n ≡ Stuck
 run_field-none table fields f e slots n low is none =
     ap (λ o. found o (λ p. p slots n)) (field_of-at part_of table fields f e low is ∙ no_part table e none)

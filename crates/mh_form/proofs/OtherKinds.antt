@@ -1,6 +1,6 @@
 -- What a field stands for is of no other kind than the field.
 use Rattle.std.proofs.Common.{◌≡◌, refl, sym, ap, ◌∙◌, None}
-use Rattle.std.specs.declared.boxed.Box.{Box}
+use Rattle.std.specs.declared.sync.Arc.{Arc}
 use Rattle.std.specs.declared.alloc.Global.{Global}
 use Rattle.mh_values.specs.declared.class.ClassId.{ClassId}
 use Rattle.mh_values.specs.declared.types.Comp.{Comp as Component}
@@ -33,7 +33,7 @@ no_leaf table (Conv x) h = refl
 no_leaf table (Ret x) h = refl
 no_leaf table (Comp x) h = refl
 
-pub no_part : (table : LeafTable) (e : Field) → ((x : Box Bound Global) → e ≡ Part x → ⊥) → part_of (sense table e) ≡ None
+pub no_part : (table : LeafTable) (e : Field) → ((x : Arc Bound Global) → e ≡ Part x → ⊥) → part_of (sense table e) ≡ None
 no_part table (Val x) h = refl
 no_part table (Leaf x) h = refl
 no_part table (Part' p b s r) h =

@@ -9,7 +9,7 @@ ghost use Rattle.mh_form.specs.Slots.{checked_array, filled, item_in, made_array
 use crate::convert::{end, fill, slot_or_throw};
 use crate::outcome::Stepped;
 use crate::{Slot, Slots, all_typed, erase};
-use mh_base::{Copied, NoMemory, Seq};
+use mh_base::{Copied, Frozen, NoMemory, Seq};
 use mh_values::{Cell, Cells, ClassId, Classes, Comp, Exc, Items, Ty, Tys, Value};
 use std::alloc::Global;
 use std::mem;
@@ -61,6 +61,7 @@ fn items_of(alloc: Global, values: Items) -> Result<Option<Cells>, NoMemory>
         };
         items.push(item)?;
     }
+    let items = Frozen::of(alloc, items)?;
     Ok(Some(items))
 }
 

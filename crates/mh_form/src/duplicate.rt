@@ -5,20 +5,16 @@ ghost use Rattle.mh_form.specs.Run.{run_bound, sense};
 use crate::{Bound, Field, Fields};
 use mh_base::{Copied, NoMemory};
 use std::alloc::Global;
+use std::sync::Arc;
 
-/// A copy of a field. Its boxes and vectors are new, so it is not equal to its source as a value;
-/// it stands for the same.
-#[cycle(copy)]
+/// A copy of a field, which stands for the same. A part is shared, so its copy takes no memory.
 pub fn copy_field<'t>(alloc: Global, field: &Field<'t>) -> Result<Field<'t>, NoMemory>
     ensures { (table : LeafTable) → IfOk result (λ copy. sense table copy ≡ sense table field.now) }
 {
     match field {
         Field::Val(slot) => Ok(Field::Val(slot.copy(alloc)?)),
         Field::Leaf(leaf) => Ok(Field::Leaf(*leaf)),
-        Field::Part(part) => {
-            let part = Box::new(alloc, copy_bound(alloc, part)?)?;
-            Ok(Field::Part(part))
-        }
+        Field::Part(part) => Ok(Field::Part(Arc::try_clone(part)?)),
         Field::Class(class) => Ok(Field::Class(*class)),
         Field::Conv(conv) => Ok(Field::Conv(*conv)),
         Field::Ret(conv) => Ok(Field::Ret(*conv)),
@@ -27,7 +23,6 @@ pub fn copy_field<'t>(alloc: Global, field: &Field<'t>) -> Result<Field<'t>, NoM
 }
 
 /// A copy of a body with its fields: the same body, and copies of the fields.
-#[cycle(copy)]
 pub fn copy_bound<'t>(alloc: Global, bound: &Bound<'t>) -> Result<Bound<'t>, NoMemory>
     ensures same { (table : LeafTable) →
         IfOk result (λ copy. run_bound table copy ≡ run_bound table bound.now) }
@@ -42,7 +37,6 @@ pub fn copy_bound<'t>(alloc: Global, bound: &Bound<'t>) -> Result<Bound<'t>, NoM
 }
 
 /// Copies of fields, in their order.
-#[cycle(copy)]
 pub fn copy_fields<'t>(alloc: Global, fields: &[Field<'t>]) -> Result<Fields<'t>, NoMemory>
     ensures { (table : LeafTable) → IfOk result
         (λ copies. map (sense table) copies.items ≡ map (sense table) fields.now) }

@@ -1,6 +1,8 @@
 use crate::{FormBody, Slot};
 use mh_convert::{Conv, RetConv};
 use mh_values::{ClassId, Comp, LeafId};
+use std::alloc::Global;
+use std::sync::Arc;
 
 /// What a form finds in a field. All that handles of one form differ in stands in their fields.
 #[derive(Drop)]
@@ -11,7 +13,7 @@ pub enum Field<'t> {
     /// A leaf to call.
     Leaf(LeafId),
     /// A body with fields of its own: that of a filter, a combiner, a test, a branch or a handler.
-    Part(Box<Bound<'t>>),
+    Part(Arc<Bound<'t>, Global>),
     /// The class of the exceptions that are handled.
     Class(ClassId),
     /// The conversion of an argument.

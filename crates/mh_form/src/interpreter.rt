@@ -98,7 +98,7 @@ fn handle_exception(
             calls,
         }),
         SlotOutcome::Throw(exc) => {
-            if !leaves.classes().subclass(exc.class, guard.class) {
+            if !leaves.classes().subclass(exc.class(), guard.class) {
                 return Ok(Ran {
                     outcome: SlotOutcome::Throw(exc),
                     calls,

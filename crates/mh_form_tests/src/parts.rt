@@ -10,6 +10,7 @@ use mh_form::{Bound, Field, FormBody, Name, Operands, Ran, Slot, run};
 use mh_leaves::{Leaves, read_manifest};
 use mh_values::LeafId;
 use std::alloc::Global;
+use std::sync::Arc;
 use std::test::Fail;
 
 /// The leaves `tick`, which gives the count of leaf calls before it, and `div`.
@@ -70,7 +71,7 @@ fn on_part<'t>(
         ≡ run_of body.now (IsPart (run_bound leaves.now part.entry) ∷ [])) }
 {
     let mut fields = Vec::new(alloc);
-    fields.push(Field::Part(Box::new(alloc, part)?))?;
+    fields.push(Field::Part(Arc::new(alloc, part)?))?;
     Ok(Bound { body, fields })
 }
 

@@ -1,6 +1,6 @@
 -- How a handle grows by an edit of its form, and what it is as a part of another handle.
 use Rattle.std.specs.Prelude.{◌≡◌, ℕ, ◌+◌, List, [], ◌∷◌, ◌++◌, None, Result, IfOk}
-use Rattle.std.specs.declared.boxed.Box.{Box}
+use Rattle.std.specs.declared.sync.Arc.{Arc}
 use Rattle.std.specs.declared.alloc.Global.{Global}
 use Rattle.mh_values.specs.declared.types.MethodTy.{MethodTy}
 use Rattle.mh_form.specs.declared.field.Bound.{Bound}
@@ -35,7 +35,7 @@ GrowsBy old by made = IfOk made (λ new. Grows old new by.ty by.weight by.sides 
 
 -- the field holds the handle's form, bound to the handle's fields
 abbrev pub IsPartOf : HandleView → Field → Type 0
-IsPartOf h f = (part : Box Bound Global) × (f ≡ field.Part part) × (part.value.body.now ≡ handle_body h) × (part.value.fields.items ≡ h.fields)
+IsPartOf h f = (part : Arc Bound Global) × (f ≡ field.Part part) × (part.value.body.now ≡ handle_body h) × (part.value.fields.items ≡ h.fields)
 
 -- the new handle weighs one more, and has no side part more
 pub record GainsNode (old new : HandleView) : Type 0 where

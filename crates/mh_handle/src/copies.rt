@@ -7,7 +7,7 @@ ghost use Rattle.mh_handle.specs.Works.{GoesOn};
 
 use crate::handle::Handle;
 use crate::work::Work;
-use mh_base::{Copied, NoMemory};
+use mh_base::NoMemory;
 use mh_form::{Bound, copy_fields};
 use std::alloc::Global;
 
@@ -26,7 +26,7 @@ impl<'t> Handle<'t> {
     {
         let _leaves = w.leaves;
         Ok(Handle {
-            ty: self.ty.copy(alloc)?,
+            ty: self.ty.share()?,
             weight: self.weight,
             sides: self.sides.copy()?,
             form: self.form,

@@ -11,12 +11,12 @@ use crate::error::HandleError;
 use crate::form::Form;
 use crate::handle::{Handle, MethodTys};
 use crate::work::Work;
-use mh_base::{NoMemory, Seq};
+use mh_base::{NoMemory, Seq, Shared};
 use mh_edit::Key;
 use mh_form::{Bound, Field, Fields};
 use mh_values::MethodTy;
 use std::alloc::Global;
-use std::sync::Wait;
+use std::sync::{Arc, Wait};
 
 /// What a combinator adds to the handle that it adapts: the key of the edit with the fields that it
 /// adds, and the types that its side parts hold; and the type and the weight of the new handle.
@@ -57,6 +57,7 @@ fn edited<'t, R: Wait>(
         fields: more_fields,
     } = by;
     let (fields, sides) = joined(fields, more_fields, sides, more_sides)?;
+    let ty = Shared::new(alloc, ty)?;
     let form = w.edit(rt, alloc, form, key)?;
     Ok(Handle {
         ty,
@@ -135,7 +136,7 @@ impl<'t> Handle<'t> {
         let mut holds = Seq::new(alloc);
         holds.push(ty)?;
         holds.append(sides)?;
-        Ok((Field::Part(Box::new(alloc, bound)?), holds))
+        Ok((Field::Part(Arc::new(alloc, bound)?), holds))
     }
 }
 

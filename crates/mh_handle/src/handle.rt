@@ -4,21 +4,21 @@ ghost use Rattle.mh_handle.specs.Stands.{IsShaped};
 
 use crate::form::Form;
 use crate::table::FormTable;
-use mh_base::Seq;
+use mh_base::{Seq, Shared};
 use mh_form::{Bound, Fields};
 use mh_values::MethodTy;
 use std::alloc::Global;
 use std::marker::Model;
 
 /// A list of method types.
-pub type MethodTys = Seq<MethodTy>;
+pub type MethodTys = Seq<Shared<MethodTy>>;
 
 /// A method handle (`java.lang.invoke.MethodHandle`): a form with the fields that it runs on, its
 /// type, the weight of the tree of combinators that it was made by, and the types of its side
 /// parts. Handles of equal recipes share one form.
 #[derive(Drop)]
 pub struct Handle<'t> {
-    pub(crate) ty: MethodTy,
+    pub(crate) ty: Shared<MethodTy>,
     pub(crate) weight: u32,
     pub(crate) sides: MethodTys,
     pub(crate) form: &'t Form,
@@ -56,7 +56,7 @@ impl<'t> Handle<'t> {
         ensures ty { result.now ≡ self.now.ty }
         ensures shaped { IsShaped self.now }
     {
-        &self.ty
+        self.ty.get()
     }
 
     /// The number of nodes of its tree, at most 256.

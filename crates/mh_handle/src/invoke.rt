@@ -41,7 +41,7 @@ impl<'t> Handle<'t> {
         answer_of(
             alloc,
             &self.bound,
-            self.ty.ret,
+            self.ty.get().ret,
             self.form.recipe().len(),
             leaves,
             args,

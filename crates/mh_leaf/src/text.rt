@@ -1,7 +1,7 @@
 ghost use Rattle.std.specs.Prelude.{◌≡◌, ◌++◌, ◌≤◌, option_copied, sum_by, IfOk, pos};
 ghost use Rattle.mh_leaf.specs.Outcome.{characters_of, joined, text, units_of, measured};
 
-use mh_base::{NoMemory, Seq};
+use mh_base::{Frozen, NoMemory, Seq};
 use mh_values::{ClassId, Exc, Num, Outcome, Value};
 use std::alloc::Global;
 
@@ -31,7 +31,8 @@ fn text(alloc: Global, front: &[char], back: &[char]) -> Result<Outcome, NoMemor
     }
     let mut chars = Vec::from_slice(alloc, front)?;
     chars.extend_from_slice(back)?;
-    Ok(Outcome::Return(Some(Value::Text(Seq::from_vec(chars)))))
+    let text = Frozen::of(alloc, Seq::from_vec(chars))?;
+    Ok(Outcome::Return(Some(Value::Text(text))))
 }
 
 /// `concat`: the texts of two arguments joined.

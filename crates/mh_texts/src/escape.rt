@@ -3,7 +3,7 @@ ghost use Rattle.mh_texts.specs.Literal.{Reads};
 ghost use Rattle.mh_texts.specs.Text.{is_graphic, hex_value, behind_backslash, one_digit_more, within_braces, step, text_of};
 
 use crate::LiteralError;
-use mh_base::Seq;
+use mh_base::{Frozen, Seq};
 use mh_values::Str;
 use std::alloc::Global;
 
@@ -116,7 +116,7 @@ pub(crate) fn read_text(alloc: Global, bytes: &[u8]) -> Result<Str, LiteralError
         escape = next;
     }
     if matches!(escape, Escape::Outside) && text.len() <= MOST_CHARACTERS {
-        Ok(text)
+        Ok(Frozen::of(alloc, text)?)
     } else {
         Err(LiteralError::Bad)
     }

@@ -6,7 +6,7 @@ ghost use Rattle.mh_texts.specs.Literal.{bool_of, number_of, has_own_literal, ob
 
 use crate::escape::read_text;
 use crate::number::{read_int, read_long, read_unsigned};
-use mh_base::{NoMemory, Seq, split_at_byte, split_once};
+use mh_base::{Frozen, NoMemory, Seq, split_at_byte, split_once};
 use mh_values::{Cell, Cells, ClassId, Classes, Comp, Exc, Num, Ty, Value, is_item_of, read_type};
 use std::alloc::{AllocError, Global};
 use std::error::Error;
@@ -185,7 +185,7 @@ fn read_items(
         }
         items.push(item)?;
     }
-    Ok(items)
+    Ok(Frozen::of(alloc, items)?)
 }
 
 /// The items between the brackets.
@@ -198,7 +198,7 @@ fn read_listed(
     ensures { Reads result (listed classes.now component text.now) }
 {
     if text.is_empty() {
-        return Ok(Seq::new(alloc));
+        return Ok(Frozen::new());
     }
     let texts = split_at_byte(alloc, text, b',')?;
     read_items(alloc, classes, component, &texts)

@@ -178,7 +178,7 @@ fn push_exception(bytes: &mut Vec<u8>, classes: &Classes, exc: &Exc) -> Result<(
         ≡ bytes.old.items ++ exception_text classes.now exc.now) }
 {
     push(bytes, b"x:")?;
-    push_name(bytes, classes.name(exc.class))
+    push_name(bytes, classes.name(exc.class()))
 }
 
 /// Writes `null`.

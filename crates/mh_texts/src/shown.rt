@@ -1,10 +1,11 @@
 ghost use Rattle.std.specs.Prelude.{◌≡◌, IfOk};
+ghost use Rattle.std.specs.Option.{option_copied};
 ghost use Rattle.mh_texts.specs.Printed.{said_text, cause_text, shown_value, shown_type, shown_exception};
 ghost use Rattle.mh_texts.specs.Text.{cut, escaped, shown_text};
 
 use crate::printed::{cut, push_chars, push_method_type, push_name, push_value};
 use mh_base::NoMemory;
-use mh_values::{Cause, ClassId, Classes, Exc, MethodTy, Str, Value};
+use mh_values::{Cause, ClassId, Classes, Exc, MethodTy, Value};
 use std::alloc::Global;
 
 /// A text as it is printed: with its escapes, and cut behind 1,024 characters, followed by `...`.
@@ -48,25 +49,25 @@ fn show_said(
     alloc: Global,
     classes: &Classes,
     class: ClassId,
-    message: &Str,
+    message: &[char],
 ) -> Result<Vec<u8>, NoMemory>
     ensures { IfOk result (λ shown. shown.items ≡ said_text classes.now class message.now) }
 {
     let mut said = show_name(alloc, classes.name(class))?;
     said.extend_from_slice(b" s:")?;
-    let message = show_text(alloc, message.as_slice())?;
+    let message = show_text(alloc, message)?;
     said.extend_from_slice(&message)?;
     Ok(said)
 }
 
 /// What stands behind an exception that has a cause.
-fn show_cause(alloc: Global, classes: &Classes, cause: &Option<Cause>) -> Result<Vec<u8>, NoMemory>
-    ensures { IfOk result (λ shown. shown.items ≡ cause_text classes.now cause.now) }
+fn show_cause(alloc: Global, classes: &Classes, cause: Option<&Cause>) -> Result<Vec<u8>, NoMemory>
+    ensures { IfOk result (λ shown. shown.items ≡ cause_text classes.now (option_copied cause.entry)) }
 {
     let mut shown = Vec::new(alloc);
     if let Some(cause) = cause {
         shown.extend_from_slice(b" cause ")?;
-        let said = show_said(alloc, classes, cause.class, &cause.message)?;
+        let said = show_said(alloc, classes, cause.class, cause.message.as_slice())?;
         shown.extend_from_slice(&said)?;
     }
     Ok(shown)
@@ -77,8 +78,8 @@ fn show_cause(alloc: Global, classes: &Classes, cause: &Option<Cause>) -> Result
 pub fn show_exc(alloc: Global, exc: &Exc, classes: &Classes) -> Result<Vec<u8>, NoMemory>
     ensures { IfOk result (λ shown. shown.items ≡ shown_exception classes.now exc.now) }
 {
-    let mut shown = show_said(alloc, classes, exc.class, &exc.message)?;
-    let cause = show_cause(alloc, classes, &exc.cause)?;
+    let mut shown = show_said(alloc, classes, exc.class(), exc.message())?;
+    let cause = show_cause(alloc, classes, exc.cause())?;
     shown.extend_from_slice(&cause)?;
     Ok(shown)
 }

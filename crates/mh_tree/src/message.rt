@@ -2,11 +2,11 @@ ghost use Rattle.std.specs.Prelude.{◌≡◌, ◌++◌, OnOk, IfOk, flat_map};
 ghost use Rattle.mh_values.specs.TypeText.{primitive_text, class_text, component_text, type_text, return_text, method_type_text};
 ghost use Rattle.mh_tree.specs.Rows.{mismatch};
 
-use mh_base::{NoMemory, Seq};
-use mh_values::{ClassId, Classes, Comp, Exc, MethodTy, Primitive, Str, Ty};
+use mh_base::{Frozen, NoMemory, Seq};
+use mh_values::{ClassId, Classes, Comp, Exc, ExcParts, MethodTy, Primitive, Ty};
 use std::alloc::Global;
 
-fn push_ascii(text: &mut Str, bytes: &[u8]) -> Result<(), NoMemory>
+fn push_ascii(text: &mut Seq<char>, bytes: &[u8]) -> Result<(), NoMemory>
     ensures { OnOk result (text.new ≡ text.old ++ bytes.now) }
 {
     for byte in bytes {
@@ -15,7 +15,7 @@ fn push_ascii(text: &mut Str, bytes: &[u8]) -> Result<(), NoMemory>
     Ok(())
 }
 
-fn push_primitive(text: &mut Str, primitive: Primitive) -> Result<(), NoMemory>
+fn push_primitive(text: &mut Seq<char>, primitive: Primitive) -> Result<(), NoMemory>
     ensures { OnOk result (text.new ≡ text.old ++ primitive_text primitive) }
 {
     match primitive {
@@ -25,7 +25,7 @@ fn push_primitive(text: &mut Str, primitive: Primitive) -> Result<(), NoMemory>
     }
 }
 
-fn push_class(text: &mut Str, class: ClassId, classes: &Classes) -> Result<(), NoMemory>
+fn push_class(text: &mut Seq<char>, class: ClassId, classes: &Classes) -> Result<(), NoMemory>
     ensures { OnOk result (text.new ≡ text.old ++ class_text classes.now class) }
 {
     push_ascii(text, b"L")?;
@@ -33,7 +33,7 @@ fn push_class(text: &mut Str, class: ClassId, classes: &Classes) -> Result<(), N
     push_ascii(text, b";")
 }
 
-fn push_component(text: &mut Str, component: Comp, classes: &Classes) -> Result<(), NoMemory>
+fn push_component(text: &mut Seq<char>, component: Comp, classes: &Classes) -> Result<(), NoMemory>
     ensures { OnOk result (text.new ≡ text.old ++ component_text classes.now component) }
 {
     match component {
@@ -42,7 +42,7 @@ fn push_component(text: &mut Str, component: Comp, classes: &Classes) -> Result<
     }
 }
 
-fn push_type(text: &mut Str, ty: Ty, classes: &Classes) -> Result<(), NoMemory>
+fn push_type(text: &mut Seq<char>, ty: Ty, classes: &Classes) -> Result<(), NoMemory>
     ensures { OnOk result (text.new ≡ text.old ++ type_text classes.now ty) }
 {
     match ty {
@@ -55,7 +55,7 @@ fn push_type(text: &mut Str, ty: Ty, classes: &Classes) -> Result<(), NoMemory>
     }
 }
 
-fn push_types(text: &mut Str, types: &[Ty], classes: &Classes) -> Result<(), NoMemory>
+fn push_types(text: &mut Seq<char>, types: &[Ty], classes: &Classes) -> Result<(), NoMemory>
     ensures { OnOk result (text.new ≡ text.old ++ flat_map (type_text classes.now) types.now) }
 {
     for ty in types {
@@ -64,7 +64,7 @@ fn push_types(text: &mut Str, types: &[Ty], classes: &Classes) -> Result<(), NoM
     Ok(())
 }
 
-fn push_return(text: &mut Str, ret: Option<Ty>, classes: &Classes) -> Result<(), NoMemory>
+fn push_return(text: &mut Seq<char>, ret: Option<Ty>, classes: &Classes) -> Result<(), NoMemory>
     ensures { OnOk result (text.new ≡ text.old ++ return_text classes.now ret) }
 {
     match ret {
@@ -73,7 +73,7 @@ fn push_return(text: &mut Str, ret: Option<Ty>, classes: &Classes) -> Result<(),
     }
 }
 
-fn push_method_type(text: &mut Str, ty: &MethodTy, classes: &Classes) -> Result<(), NoMemory>
+fn push_method_type(text: &mut Seq<char>, ty: &MethodTy, classes: &Classes) -> Result<(), NoMemory>
     ensures { OnOk result (text.new ≡ text.old ++ method_type_text classes.now ty.now) }
 {
     push_ascii(text, b"(")?;
@@ -96,9 +96,13 @@ pub fn mismatch(
     push_method_type(&mut message, t, classes)?;
     push_ascii(&mut message, b" want ")?;
     push_method_type(&mut message, asked, classes)?;
-    Ok(Exc {
-        class: ClassId::WRONG_METHOD_TYPE,
-        message,
-        cause: None,
-    })
+    let message = Frozen::of(alloc, message)?;
+    Exc::of(
+        alloc,
+        ExcParts {
+            class: ClassId::WRONG_METHOD_TYPE,
+            message,
+            cause: None,
+        },
+    )
 }

@@ -43,7 +43,7 @@ fn host(alloc: Global) -> Result<Leaves, NoMemory> {
 
 /// Whether an exception is of the class, with the message.
 fn is_exception(exc: &Exc, class: ClassId, message: &str) -> bool {
-    exc.class == class && exc.message.as_slice().iter().copied().eq(message.chars())
+    exc.class() == class && exc.message().iter().copied().eq(message.chars())
 }
 
 /// Whether it is the exception of a refusal that is wanted.

@@ -13,3 +13,5 @@ pub mod Same
 pub mod Slots
 pub mod Spelling
 pub mod TypeText
+pub mod Exc
+pub mod Kept

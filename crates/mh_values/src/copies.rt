@@ -1,3 +1,4 @@
+use crate::value::ExcKept;
 use crate::{Cause, Cell, ClassId, Exc, LeafCall, MethodTy, Num, Ty, Value};
 use mh_base::{Copied, NoMemory};
 use std::alloc::Global;
@@ -39,16 +40,18 @@ impl Copied for Cause {
 }
 
 impl Copied for Exc {
-    fn copy(&self, alloc: Global) -> Result<Exc, NoMemory> {
-        let cause = match &self.cause {
-            None => None,
-            Some(cause) => Some(cause.copy(alloc)?),
-        };
-        Ok(Exc {
-            class: self.class,
-            message: self.message.copy()?,
-            cause,
-        })
+    fn copy(&self, _alloc: Global) -> Result<Exc, NoMemory> {
+        match &self.kept {
+            ExcKept::Bare(class) => Ok(Exc {
+                kept: ExcKept::Bare(*class),
+            }),
+            ExcKept::Said(parts) => {
+                let parts = parts.share()?;
+                Ok(Exc {
+                    kept: ExcKept::Said(parts),
+                })
+            }
+        }
     }
 }
 

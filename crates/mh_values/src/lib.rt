@@ -29,5 +29,5 @@ pub use typing::{
     slots,
 };
 pub use value::{
-    Calls, Cause, Cell, Cells, Exc, Items, LeafCall, LeafId, Num, Outcome, Str, Value,
+    Calls, Cause, Cell, Cells, Exc, ExcParts, Items, LeafCall, LeafId, Num, Outcome, Str, Value,
 };

@@ -108,7 +108,7 @@ pub fn is_item_of(component: Comp, item: &Cell, classes: &Classes) -> bool
             Cell::Boxed(number) => classes.subclass(number.primitive().wrapper(), class),
             Cell::Text(_) => classes.subclass(ClassId::STRING, class),
             Cell::Object(own, _) => classes.subclass(*own, class),
-            Cell::Thrown(exc) => classes.subclass(exc.class, class),
+            Cell::Thrown(exc) => classes.subclass(exc.class(), class),
             Cell::Null => true,
         },
     }
@@ -140,7 +140,7 @@ fn has_class(v: &Value, class: ClassId, classes: &Classes) -> bool
         Value::Boxed(number) => classes.subclass(number.primitive().wrapper(), class),
         Value::Text(_) => classes.subclass(ClassId::STRING, class),
         Value::Object(own, _) => classes.subclass(*own, class),
-        Value::Thrown(exc) => classes.subclass(exc.class, class),
+        Value::Thrown(exc) => classes.subclass(exc.class(), class),
         Value::Array(own, items) => {
             class == ClassId::OBJECT && are_items_of(*own, items.as_slice(), classes)
         }

@@ -1,5 +1,6 @@
 use crate::{ClassId, Comp};
-use mh_base::Seq;
+use mh_base::{Frozen, Seq, Shared};
+use std::marker::Model;
 
 /// A number of a primitive type.
 #[derive(Clone, Copy, Debug, PartialEq, Eq)]
@@ -10,7 +11,7 @@ pub enum Num {
 }
 
 /// A text, as its characters; at most 4,096 of them in a value.
-pub type Str = Seq<char>;
+pub type Str = Frozen<char>;
 
 /// The cause of an exception.
 #[derive(Debug, Drop)]
@@ -19,12 +20,36 @@ pub struct Cause {
     pub message: Str,
 }
 
-/// An exception: its class, its message, and what it was caused by.
+/// What an exception says: its class, its message, and what it was caused by.
 #[derive(Debug, Drop)]
-pub struct Exc {
+pub struct ExcParts {
     pub class: ClassId,
     pub message: Str,
     pub cause: Option<Cause>,
+}
+
+/// What is kept of an exception: its class alone, or all that it says, with several owners.
+#[derive(Debug, Drop)]
+pub(crate) enum ExcKept {
+    Bare(ClassId),
+    Said(Shared<ExcParts>),
+}
+
+/// An exception. A copy shares what it says, so it takes no memory. Contracts see its class, its
+/// message, and what it was caused by.
+#[derive(Debug, Drop)]
+pub struct Exc {
+    pub(crate) kept: ExcKept,
+}
+
+impl Model for Exc {
+    ghost use Rattle.mh_values.specs.Exc.{ExcView};
+
+    ghost Value = { ExcView };
+
+    ghost use Rattle.mh_values.specs.Kept.{kept_exc};
+
+    ghost view = { λ e. kept_exc e.kept };
 }
 
 /// An item of an array: the values that are no arrays, so no value holds itself.
@@ -39,7 +64,7 @@ pub enum Cell {
 }
 
 /// The items of an array, at most 254.
-pub type Cells = Seq<Cell>;
+pub type Cells = Frozen<Cell>;
 
 /// A value that a leaf takes or gives: a number, a boxed number, a text, an object of a class with
 /// a number of its own, an exception, an array, or null.

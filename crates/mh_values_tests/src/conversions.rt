@@ -1,4 +1,4 @@
-use mh_base::Seq;
+use mh_base::Frozen;
 use mh_convert::{Conv, RetConv, conversion, convert, fit, misfit, ret_conversion};
 use mh_values::{ClassId, Classes, Comp, Exc, Num, Primitive, Ty, Value, has_type};
 use std::alloc::Global;
@@ -82,7 +82,7 @@ fn value(alloc: Global, given: Kept) -> Value {
         Prim(number) => Value::Prim(number),
         Boxed(number) => Value::Boxed(number),
         Null => Value::Null,
-        Text => Value::Text(Seq::new(alloc)),
+        Text => Value::Text(Frozen::new()),
         Thrown(class) => Value::Thrown(Exc::bare(alloc, class)),
     }
 }
@@ -93,7 +93,7 @@ fn left_of(converted: Result<Value, Exc>) -> Kept {
         Ok(Value::Boxed(number)) => Boxed(number),
         Ok(Value::Null) => Null,
         Ok(_) => Text,
-        Err(exc) => Thrown(exc.class),
+        Err(exc) => Thrown(exc.class()),
     }
 }
 

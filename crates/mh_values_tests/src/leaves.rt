@@ -1,4 +1,4 @@
-use mh_base::{NoMemory, Seq};
+use mh_base::{Frozen, NoMemory, Seq};
 use mh_leaf::{Kind, Leaf, is_kind_type, kind_does, lacks_receiver, leaf_does, throws_exceptions};
 use mh_values::{ClassId, Classes, Exc, Items, MethodTy, Num, Outcome, Primitive, Ty, Value};
 use std::alloc::Global;
@@ -34,7 +34,7 @@ use Seen::{Is, Nothing, Null, Object, Text, Thrown};
 fn value(alloc: Global, seen_as: Seen) -> Value {
     match seen_as {
         Is(number) => Value::Prim(number),
-        Text => Value::Text(Seq::new(alloc)),
+        Text => Value::Text(Frozen::new()),
         Object => Value::Object(ClassId::OBJECT, 0),
         Thrown(class) => Value::Thrown(Exc::bare(alloc, class)),
         Null | Nothing => Value::Null,
@@ -56,7 +56,7 @@ fn seen_of(outcome: &Outcome) -> Seen {
         Outcome::Return(Some(Value::Text(_))) => Text,
         Outcome::Return(Some(Value::Null)) => Null,
         Outcome::Return(Some(_)) => Object,
-        Outcome::Throw(exc) => Thrown(exc.class),
+        Outcome::Throw(exc) => Thrown(exc.class()),
     }
 }
 
@@ -140,7 +140,8 @@ fn each_kind_does_what_the_table_says(rt: HostRuntime) -> Result<(), Fail> {
 }
 
 fn text(alloc: Global, content: &[char]) -> Result<Value, NoMemory> {
-    Ok(Value::Text(Seq::from_vec(Vec::from_slice(alloc, content)?)))
+    let characters = Seq::from_vec(Vec::from_slice(alloc, content)?);
+    Ok(Value::Text(Frozen::of(alloc, characters)?))
 }
 
 fn two(alloc: Global, first: Value, second: Value) -> Result<Items, NoMemory> {
@@ -156,7 +157,7 @@ fn is_text(outcome: &Option<Outcome>, want: &[char]) -> bool {
 
 fn says(outcome: &Option<Outcome>, class: ClassId, word: &[char]) -> bool {
     match outcome {
-        Some(Outcome::Throw(exc)) => exc.class == class && exc.message.as_slice() == word,
+        Some(Outcome::Throw(exc)) => exc.class() == class && exc.message() == word,
         _ => false,
     }
 }

@@ -1,6 +1,8 @@
-use mh_base::{NoMemory, Seq};
+use mh_base::{Frozen, NoMemory, Seq};
 use mh_texts::{LiteralError, read_literal, show_exc, show_text, show_type, show_value};
-use mh_values::{Cause, ClassId, Classes, DescriptorError, Exc, Str, Value, read_descriptor};
+use mh_values::{
+    Cause, ClassId, Classes, DescriptorError, Exc, ExcParts, Str, Value, read_descriptor,
+};
 use std::alloc::Global;
 use std::test::Fail;
 
@@ -126,7 +128,7 @@ fn text_of(alloc: Global, count: usize, last: char) -> Result<Str, NoMemory> {
         text.push('a')?;
     }
     text.push(last)?;
-    Ok(text)
+    Frozen::of(alloc, text)
 }
 
 /// The count of characters `a`, the last character, and the last five bytes of the printed text
@@ -198,14 +200,17 @@ fn literals_have_limits(rt: HostRuntime) -> Result<(), Fail> {
 /// An exception without a message, and its cause with one.
 fn caused(alloc: Global) -> Result<Exc, NoMemory> {
     let message = text_of(alloc, 2, ' ')?;
-    Ok(Exc {
-        class: ClassId(14),
-        message: Seq::new(alloc),
-        cause: Some(Cause {
-            class: ClassId::ARITHMETIC,
-            message,
-        }),
-    })
+    Exc::of(
+        alloc,
+        ExcParts {
+            class: ClassId(14),
+            message: Frozen::new(),
+            cause: Some(Cause {
+                class: ClassId::ARITHMETIC,
+                message,
+            }),
+        },
+    )
 }
 
 /// Whether an exception with a cause is printed with both messages.

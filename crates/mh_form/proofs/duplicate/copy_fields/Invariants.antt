@@ -1,8 +1,8 @@
 use Rattle.std.proofs.Common.{◌≡◌, take, map}
 use Rattle.mh_leaf.specs.LeafTable.{LeafTable}
 use Rattle.mh_form.specs.Run.{sense}
-use Rattle.mh_form.proofs.duplicate.+copy.Given as goal
+use Rattle.mh_form.proofs.duplicate.copy_fields.Given as goal
 
-abbrev pub invariant-copy_fields-loop-field : goal.invariant-copy_fields-loop-field
-invariant-copy_fields-loop-field l =
+abbrev pub invariant-loop-field : goal.invariant-loop-field
+invariant-loop-field l =
     (table : LeafTable) → map (sense table) l.copies.items ≡ map (sense table) (take l.field-index l.fields)
