@@ -54,7 +54,8 @@ bind-stands table h h' t place v w p u row at fitting fit_key grows st =
     let one : HaveTypes table.classes (w ∷ []) (take 1 (drop place h.ty.params)) =
     subst (HaveTypes table.classes (w ∷ [])) (sym (one-taken h.ty.params place p at)) (fit-typed table.classes v w p fitting, tt) in
     let old : (args : List Value) → HaveTypes table.classes args u.params → HaveTypes table.classes (whole args) h.ty.params =
-    λ args have. types-splice table.classes args (w ∷ []) h.ty.params [] place 1 (omega (arith, inside)) (subst (λ (m : MethodTy). HaveTypes table.classes args m.params) made have) one in
+    λ args have. types-splice table.classes args (w ∷ []) h.ty.params [] place 1 (omega (arith, inside))
+        (subst (λ (m : MethodTy). HaveTypes table.classes args m.params) made have) one in
     let means : (args : List Value) (n : ℕ) → mean table (tree.Bind t place v) args n ≡ mean table t (whole args) n =
     λ args n. let run : Value → Done = λ x. mean table t (spliced place 0 (x ∷ []) args) n in
     ap (λ c. known c (λ ty. found (slice_get ty.params place) (λ q. fitted (fit table.classes v q) run))) st.typed
@@ -71,13 +72,16 @@ bind-stands table h h' t place v w p u row at fitting fit_key grows st =
     let g = length-spliced place 1 [] h.ty.params (omega (arith, inside)) in
     omega (arith, a, c, d, e, f, g) in
     stands-grown table h h' t (tree.Bind t place v) u (1 + h.weight) [] (key.Bind place) (field.Val (erased w) ∷ []) grows st (record {
-      typed = ap (λ c. with_type c (λ ty. bind_row table.classes ty (weight t) place v)) st.typed ∙ (ap (λ k. bind_row table.classes h.ty k place v) (sym st.weighed) ∙ row);
+      typed = ap (λ c. with_type c (λ ty. bind_row table.classes ty (weight t) place v)) st.typed ∙
+          (ap (λ k. bind_row table.classes h.ty k place v) (sym st.weighed) ∙ row);
       weighed = ap (λ k. 1 + k) st.weighed;
       holds = sym (append-nil (sides table t));
       keyed = refl;
       fielded = refl;
-      shaped = ap (spliced place 1 []) st.shaped ∙ (sym (spliced-map basic_of place 1 [] h.ty.params) ∙ ap (λ (m : MethodTy). map basic_of m.params) (sym made));
-      begun = made-reframed body (spliced place 1 [] body.params) (name.Get body.fields ∷ []) (places place 0 ((length body.params - 1) ∷ []) (length body.params - (place + 1))) 1 st.begun;
+      shaped = ap (spliced place 1 []) st.shaped ∙ (sym (spliced-map basic_of place 1 [] h.ty.params) ∙ ap (λ (m : MethodTy). map basic_of m.params)
+          (sym made));
+      begun = made-reframed body (spliced place 1 [] body.params) (name.Get body.fields ∷ []) (places place 0 ((length body.params - 1) ∷ [])
+          (length body.params - (place + 1))) 1 st.begun;
       runs = λ args n have low.
           let m : map erased (whole args) ≡ spliced place 0 (erased w ∷ []) (map erased args) = spliced-map erased place 0 (w ∷ []) args in
           let runs : run_on table body h.fields (spliced place 0 (erased w ∷ []) (map erased args)) n ≢ Stuck =
@@ -86,6 +90,9 @@ bind-stands table h h' t place v w p u row at fitting fit_key grows st =
           ∙ (ap (λ xs. run_on table body h.fields xs n) (sym m)
           ∙ (st.runs (whole args) n (old args have) low ∙ ap erased_ran (sym (means args n))));
       returns = λ args n have.
-          subst (λ r. Returns table.classes r u.ret) (sym (ap (λ c. known c (λ ty. found (slice_get ty.params place) (λ q. fitted (fit table.classes v q) (λ x. mean table t (spliced place 0 (x ∷ []) args) n)))) st.typed))
+          subst (λ r. Returns table.classes r u.ret)
+              (sym (ap
+              (λ c. known c (λ ty. found (slice_get ty.params place) (λ q. fitted (fit table.classes v q) (λ x. mean table t (spliced place 0 (x ∷ []) args)
+              n)))) st.typed))
           (bind-sound table.classes (mean table t) h.ty h.weight place v u st.returns row args n have);
     })

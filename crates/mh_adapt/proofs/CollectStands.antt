@@ -42,8 +42,12 @@ use Rattle.mh_adapt.proofs.Parted.{DoesAs, stands-parted}
 abbrev pub collected : LeafTable → Tree → Tree → ℕ → ℕ → Body
 collected table a b place put args n = and_then (mean table b (part_of place put args) n) n (λ o k. mean table a (spliced place put (option_to_list o) args) k)
 
-module _ (table : LeafTable) (h g : HandleView) (a b : Tree) (place : ℕ) (f : Field) (u : MethodTy) (part : IsPartOf g f) (st : Stands table h a) (sp : Stands table g b) (gives : gives_at g.ty.ret place h.ty.params ≡ true) (made : u ≡ taking (spliced place (count_of g.ty.ret) g.ty.params h.ty.params) h.ty) where
-  pub collect-does : IsSound table.classes (collected table a b place (length g.ty.params)) u → (t : Tree) → ((args : List Value) (n : ℕ) → mean table t args n ≡ collected table a b place (length g.ty.params) args n) → DoesAs table h (collect_key place g.ty) f u t
+module _ (table : LeafTable) (h g : HandleView) (a b : Tree) (place : ℕ) (f : Field) (u : MethodTy) (part : IsPartOf g f) (st : Stands table h a)
+    (sp : Stands table g b) (gives : gives_at g.ty.ret place h.ty.params ≡ true) (made : u ≡ taking (spliced place (count_of g.ty.ret) g.ty.params h.ty.params)
+    h.ty) where
+  pub collect-does : IsSound table.classes (collected table a b place (length g.ty.params)) u → (t : Tree) →
+      ((args : List Value) (n : ℕ) → mean table t args n ≡ collected table a b place (length g.ty.params) args n) →
+      DoesAs table h (collect_key place g.ty) f u t
   collect-does sound t means =
       let put = length g.ty.params in
       let body = collected table a b place put in
@@ -53,14 +57,18 @@ module _ (table : LeafTable) (h g : HandleView) (a b : Tree) (place : ℕ) (f : 
       let ret = basic_ret_of g.ty.ret in
       let params = spliced place (count_of g.ty.ret) g.ty.params h.ty.params in
       let law : CollectLaw place put ret old new =
-      subst (λ c. CollectLaw place c ret old new) (length-map g.ty.params basic_of) (law-applied k old (collect-fits h.ty.params place (map basic_of g.ty.params) g.ty.ret old gives (made-fits old st.begun) st.shaped)) in
-      let runs : (args : List Value) (n : ℕ) → HaveTypes table.classes args u.params → n < 2 ^ 32 → run_on table new (h.fields ++ f ∷ []) (map erased args) n ≡ erased_ran (body args n) =
+      subst (λ c. CollectLaw place c ret old new) (length-map g.ty.params basic_of)
+          (law-applied k old (collect-fits h.ty.params place (map basic_of g.ty.params) g.ty.ret old gives (made-fits old st.begun) st.shaped)) in
+      let runs : (args : List Value) (n : ℕ) → HaveTypes table.classes args u.params → n < 2 ^ 32 →
+          run_on table new (h.fields ++ f ∷ []) (map erased args) n ≡ erased_ran (body args n) =
       λ args n have low.
       let have' : HaveTypes table.classes args params = subst (λ (m : MethodTy). HaveTypes table.classes args m.params) made have in
       let within = gives_at-within g.ty.ret place h.ty.params gives in
       let taken = gives_at-taken g.ty.ret place h.ty.params gives in
-      let first = first-runs table h g a b part.0 st sp part.2 part.3 args n place put put low (types-part table.classes args h.ty.params g.ty.params place (count_of g.ty.ret) within have')
-      (λ o given. types-splice table.classes args (option_to_list o) h.ty.params g.ty.params place (count_of g.ty.ret) within have' (subst (HaveTypes table.classes (option_to_list o)) (sym taken) given)) in
+      let first = first-runs table h g a b part.0 st sp part.2 part.3 args n place put put low (types-part table.classes args h.ty.params g.ty.params place
+          (count_of g.ty.ret) within have')
+      (λ o given. types-splice table.classes args (option_to_list o) h.ty.params g.ty.params place (count_of g.ty.ret) within have'
+          (subst (HaveTypes table.classes (option_to_list o)) (sym taken) given)) in
       let well : erased_ran (body args n) ≢ Stuck = returns-runs table.classes (body args n) u.ret (sound args n have) in
       let long : length (map erased args) + taken_by ret ≡ length old.params + put =
       omega (
@@ -77,7 +85,9 @@ module _ (table : LeafTable) (h g : HandleView) (a b : Tree) (place : ℕ) (f : 
       record {
         fielded = refl;
         shaped = parted-shape h.ty.params g.ty.params place g.ty.ret old.params st.shaped ∙ ap (λ (m : MethodTy). map basic_of m.params) (sym made);
-        begun = made-reframed old new.params (name.Link old.fields (range_with_len place (length (map basic_of g.ty.params))) ∷ []) (places place (length (map basic_of g.ty.params)) (given ret (length old.params + length (map basic_of g.ty.params) - taken_by ret)) (length old.params - (place + taken_by ret))) 1 st.begun;
+        begun = made-reframed old new.params (name.Link old.fields (range_with_len place (length (map basic_of g.ty.params))) ∷ [])
+            (places place (length (map basic_of g.ty.params)) (given ret (length old.params + length (map basic_of g.ty.params) - taken_by ret))
+            (length old.params - (place + taken_by ret))) 1 st.begun;
         runs = λ args n have low. runs args n have low ∙ ap erased_ran (sym (means args n));
         returns = λ args n have. subst (λ r. Returns table.classes r u.ret) (sym (means args n)) (sound args n have);
       }
@@ -97,4 +107,5 @@ collect-stands table h h' g a b place f u row part grows st sp =
     let means : (args : List Value) (n : ℕ) → mean table t args n ≡ collected table a b place (length g.ty.params) args n =
     λ args n. ap (λ c. collected table a b place (arity_of c) args n) sp.typed in
     stands-parted table h h' g a b t (λ ty m part k. collect_row ty m place part k) (collect_key place) u f
-    (record { typed = refl; weighed = refl; holds = refl; keyed = refl }) row grows st sp (collect-does table h g a b place f u part st sp q.0 q.1 sound t means)
+    (record { typed = refl; weighed = refl; holds = refl; keyed = refl }) row grows st sp (collect-does table h g a b place f u part st sp q.0 q.1 sound t
+        means)

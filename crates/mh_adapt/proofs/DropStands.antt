@@ -47,7 +47,8 @@ drop-stands table h h' t place types u row fit_key grows st =
     let q = drop_row-parts h.ty h.weight place types u row in
     let inside : place ≤ length h.ty.params = at_most place (length h.ty.params) q.0 in
     let old : (args : List Value) → HaveTypes table.classes args u.params → HaveTypes table.classes (spliced place put [] args) h.ty.params =
-    λ args have. types-splice table.classes args [] h.ty.params types place 0 inside (subst (λ (m : MethodTy). HaveTypes table.classes args m.params) q.1 have) tt in
+    λ args have. types-splice table.classes args [] h.ty.params types place 0 inside (subst (λ (m : MethodTy). HaveTypes table.classes args m.params) q.1 have)
+        tt in
     let law : AddLaw place put body new = subst (λ c. AddLaw place c body new) (length-map types basic_of) (law-applied k body fit_key) in
     let size : (args : List Value) → HaveTypes table.classes args u.params → length (map erased args) ≡ length body.params + put =
     λ args have.
@@ -64,8 +65,10 @@ drop-stands table h h' t place types u row fit_key grows st =
       holds = sym (append-nil (sides table t));
       keyed = refl;
       fielded = refl;
-      shaped = ap (spliced place 0 (map basic_of types)) st.shaped ∙ (sym (spliced-map basic_of place 0 types h.ty.params) ∙ ap (λ (m : MethodTy). map basic_of m.params) (sym q.1));
-      begun = made-reframed body (spliced place 0 (map basic_of types) body.params) [] (places place (length (map basic_of types)) [] (length body.params - (place + 0))) 0 st.begun;
+      shaped = ap (spliced place 0 (map basic_of types)) st.shaped ∙ (sym (spliced-map basic_of place 0 types h.ty.params) ∙
+          ap (λ (m : MethodTy). map basic_of m.params) (sym q.1));
+      begun = made-reframed body (spliced place 0 (map basic_of types) body.params) [] (places place (length (map basic_of types)) []
+          (length body.params - (place + 0))) 0 st.begun;
       runs = λ args n have low.
           let m : map erased (spliced place put [] args) ≡ spliced place put [] (map erased args) = spliced-map erased place put [] args in
           let runs : run_on table body h.fields (spliced place put [] (map erased args)) n ≢ Stuck =

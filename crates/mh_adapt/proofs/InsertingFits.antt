@@ -48,7 +48,8 @@ module _ (classes : List Class) (h : HandleView) (place : ℕ) (v : Value) (u : 
   pub bind-shaped : IsShaped h → HasShape (applied (key.Bind place) (handle_body h)) u
   bind-shaped shaped =
       ap (spliced place 1 []) shaped.params
-      ∙ (sym (spliced-map basic_of place 1 [] h.ty.params) ∙ ap (λ (m : MethodTy). map basic_of m.params) (sym (bind_row-parts classes h.ty h.weight place v u row).4))
+      ∙ (sym (spliced-map basic_of place 1 [] h.ty.params) ∙ ap (λ (m : MethodTy). map basic_of m.params)
+          (sym (bind_row-parts classes h.ty h.weight place v u row).4))
 
 -- ---- Drop
 
@@ -59,7 +60,8 @@ module _ (h : HandleView) (place : ℕ) (types : List Ty) (u : MethodTy) (row : 
   pub drop-shaped : HasShape (applied (key.Add place (map basic_of types)) (handle_body h)) u
   drop-shaped =
       ap (spliced place 0 (map basic_of types)) shaped.params
-      ∙ (sym (spliced-map basic_of place 0 types h.ty.params) ∙ ap (λ (m : MethodTy). map basic_of m.params) (sym (drop_row-parts h.ty h.weight place types u row).1))
+      ∙ (sym (spliced-map basic_of place 0 types h.ty.params) ∙ ap (λ (m : MethodTy). map basic_of m.params)
+          (sym (drop_row-parts h.ty h.weight place types u row).1))
 
 -- ---- Permute
 
@@ -69,7 +71,8 @@ same_basic-itself basic.I = refl
 same_basic-itself basic.J = refl
 
 -- what names types names their basic types
-each-named : (params : List Ty) (reorder : List ℕ) (types : List Ty) → names_types params reorder types ≡ true → names_each (map basic_of params) reorder (map basic_of types) ≡ true
+each-named : (params : List Ty) (reorder : List ℕ) (types : List Ty) → names_types params reorder types ≡ true →
+    names_each (map basic_of params) reorder (map basic_of types) ≡ true
 each-named params [] [] named = refl
 each-named params [] (t ∷ types) named = absurd cc
 each-named params (i ∷ reorder) [] named = absurd cc
@@ -77,10 +80,12 @@ each-named params (i ∷ reorder) (t ∷ types) named =
     let q = both (is_same_return (slice_get params i) (Some t)) (names_types params reorder types) named in
     let at : slice_get params i ≡ Some t = same_return-is (slice_get params i) (Some t) q.0 in
     let here : is_basic_at (map basic_of params) i (basic_of t) ≡ true =
-    ap (λ o. option_map_or (is_same_basic (basic_of t)) o false) (slice_get-map basic_of params i ∙ ap (option_map basic_of) at) ∙ same_basic-itself (basic_of t) in
+    ap (λ o. option_map_or (is_same_basic (basic_of t)) o false) (slice_get-map basic_of params i ∙ ap (option_map basic_of) at) ∙
+        same_basic-itself (basic_of t) in
     both-true _ _ here (each-named params reorder types q.1)
 
-module _ (h : HandleView) (asked : MethodTy) (reorder : List ℕ) (u : MethodTy) (row : permute_row h.ty h.weight asked reorder ≡ Ok u) (shaped : IsShaped h) where
+module _ (h : HandleView) (asked : MethodTy) (reorder : List ℕ) (u : MethodTy) (row : permute_row h.ty h.weight asked reorder ≡ Ok u) (shaped : IsShaped h)
+    where
   pub permute-fits : IsTrue (fits (key.Permute (map basic_of asked.params) reorder) (handle_body h))
   permute-fits =
       let q = permute_row-parts h.ty h.weight asked reorder u row in

@@ -26,7 +26,8 @@ module _ (u : MethodTy) (t : HandleView) (k : Key) (f : HandleView) (by : Growth
   pub adds-shaped : IsSuited u t k → (applied by.key (handle_body t)).params ≡ map basic_of by.ty.params
   adds-shaped suited = ap (λ j. (applied j (handle_body t)).params) adds.key ∙ (suited.shaped ∙ ap (λ (m : MethodTy). map basic_of m.params) (sym adds.ty))
 
-  adds-grows : (h : HandleView) → Grows t h by.ty by.weight by.sides by.key by.fields.items → Grows t h u (1 + t.weight + f.weight) (f.ty ∷ f.sides) k (adds.fields.0 ∷ [])
+  adds-grows : (h : HandleView) → Grows t h by.ty by.weight by.sides by.key by.fields.items →
+      Grows t h u (1 + t.weight + f.weight) (f.ty ∷ f.sides) k (adds.fields.0 ∷ [])
   adds-grows h grows = record {
     typed = grows.typed ∙ adds.ty;
     weighed = grows.weighed ∙ adds.weight;

@@ -36,11 +36,13 @@ same_basic-itself basic.L = refl
 same_basic-itself basic.I = refl
 same_basic-itself basic.J = refl
 
-takes-given : (ret : Option Ty) (place : ℕ) (params : List Ty) → gives_at ret place params ≡ true → takes_result (map basic_of params) place (basic_ret_of ret) ≡ true
+takes-given : (ret : Option Ty) (place : ℕ) (params : List Ty) → gives_at ret place params ≡ true →
+    takes_result (map basic_of params) place (basic_ret_of ret) ≡ true
 takes-given None place params h = ap (nat_le place) (length-map params basic_of) ∙ h
 takes-given (Some r) place params h =
     let there : slice_get params place ≡ Some r = same_return-is (slice_get params place) (Some r) h in
-    ap (λ o. option_map_or (is_same_basic (basic_of r)) o false) (slice_get-map basic_of params place ∙ ap (option_map basic_of) there) ∙ same_basic-itself (basic_of r)
+    ap (λ o. option_map_or (is_same_basic (basic_of r)) o false) (slice_get-map basic_of params place ∙ ap (option_map basic_of) there) ∙
+        same_basic-itself (basic_of r)
 
 pub collect-fits :
     (params : List Ty) (place : ℕ) (basics : List Basic) (ret : Option Ty) (body : FormBody) →
@@ -62,7 +64,8 @@ fold-room t place c gives begins =
     let rest = begins_with-rest (drop place (folded t place c)) c.params begins in
     let room = gives-room c.ret place t.params gives in
     let all : length (folded t place c) + count_of c.ret ≡ length t.params + 0 = length-spliced place (count_of c.ret) [] t.params room in
-    let behind : length (folded t place c) - place ≡ length c.params + length rest.0 = sym (length-drop place (folded t place c)) ∙ (ap length rest.1 ∙ length-append c.params rest.0) in
+    let behind : length (folded t place c) - place ≡ length c.params + length rest.0 = sym (length-drop place (folded t place c)) ∙
+        (ap length rest.1 ∙ length-append c.params rest.0) in
     omega (arith, room, all, behind)
 
 pub fold-fits :
@@ -78,7 +81,8 @@ fold-fits t place c body gives begins begun shaped =
     let many : length body.params ≡ length t.params = ap length shaped ∙ length-map t.params basic_of in
     let fit : nat_le (place + length c.params + taken_by (basic_ret_of c.ret)) (length body.params) ≡ true = le-leb _ _ (omega (arith, room, taken, many)) in
     both-true (not (is_nothing body)) _ begun
-    (both-true (takes_result body.params place (basic_ret_of c.ret)) _ (ap (λ ps. takes_result ps place (basic_ret_of c.ret)) shaped ∙ takes-given c.ret place t.params gives) fit)
+    (both-true (takes_result body.params place (basic_ret_of c.ret)) _ (ap (λ ps. takes_result ps place (basic_ret_of c.ret)) shaped ∙
+        takes-given c.ret place t.params gives) fit)
 
 -- parameters put in for what a part's result takes the place of, erased
 pub parted-shape :

@@ -25,7 +25,8 @@ module _ (t f : HandleView) (shaped : IsShaped t) where
       let q = collect_row-parts t.ty t.weight place f.ty f.weight u row in
       record {
         fit = collect-fits t.ty.params place (map basic_of f.ty.params) f.ty.ret (handle_body t) q.0 made shaped.params;
-        shaped = parted-shape t.ty.params f.ty.params place f.ty.ret (handle_body t).params shaped.params ∙ ap (λ (m : MethodTy). map basic_of m.params) (sym q.1);
+        shaped = parted-shape t.ty.params f.ty.params place f.ty.ret (handle_body t).params shaped.params ∙ ap (λ (m : MethodTy). map basic_of m.params)
+            (sym q.1);
       }
 
   pub filter-suited : (place : ℕ) (u : MethodTy) → filter_row t.ty t.weight place f.ty f.weight ≡ Ok u → IsSuited u t (collect_key place f.ty)
@@ -35,7 +36,8 @@ module _ (t f : HandleView) (shaped : IsShaped t) where
         fit = collect-fits t.ty.params place (map basic_of f.ty.params) f.ty.ret (handle_body t) q.2 made shaped.params;
         shaped =
             parted-shape t.ty.params f.ty.params place f.ty.ret (handle_body t).params shaped.params
-            ∙ (ap (λ c. map basic_of (spliced place c f.ty.params t.ty.params)) (some-count f.ty.ret q.1) ∙ ap (λ (m : MethodTy). map basic_of m.params) (sym q.3));
+            ∙ (ap (λ c. map basic_of (spliced place c f.ty.params t.ty.params)) (some-count f.ty.ret q.1) ∙ ap (λ (m : MethodTy). map basic_of m.params)
+                (sym q.3));
       }
 
   pub fold-few : (place : ℕ) (u : MethodTy) → fold_row t.ty t.weight place f.ty f.weight ≡ Ok u → length f.ty.params ≤ 255

@@ -73,7 +73,8 @@ permute-stands table h h' t asked reorder u row fit_key grows st =
     let size : (args : List Value) → HaveTypes table.classes args u.params → length (map erased args) ≡ length basics =
     λ args have. length-map args erased ∙ (types-length table.classes args asked.params (own args have) ∙ sym (length-map asked.params basic_of)) in
     stands-grown table h h' t (tree.Permute t asked reorder) u (1 + h.weight) [] k [] grows st (record {
-      typed = ap (λ c. with_type c (λ ty. permute_row ty (weight t) asked reorder)) st.typed ∙ (ap (λ m. permute_row h.ty m asked reorder) (sym st.weighed) ∙ row);
+      typed = ap (λ c. with_type c (λ ty. permute_row ty (weight t) asked reorder)) st.typed ∙ (ap (λ m. permute_row h.ty m asked reorder) (sym st.weighed) ∙
+          row);
       weighed = ap (λ m. 1 + m) st.weighed;
       holds = sym (append-nil (sides table t));
       keyed = refl;

@@ -29,15 +29,18 @@ use Rattle.mh_astype.proofs.Using.{trivial, used-kept, used-stands}
 pub differs : (b : Bool) (own own' asked : MethodTy) → b ≡ false → b ≡ is_same_method_type own asked → own ≡ own' → is_same_method_type own' asked ≡ false
 differs b own own' asked unlike is e = sym (ap (λ o. is_same_method_type o asked) e) ∙ (sym is ∙ unlike)
 
-pub row-at : (cs classes : List Class) (own own' : MethodTy) (w w' : ℕ) (asked : MethodTy) → cs ≡ classes → own ≡ own' → w ≡ w' → astype_row cs own w asked ≡ astype_row classes own' w' asked
+pub row-at : (cs classes : List Class) (own own' : MethodTy) (w w' : ℕ) (asked : MethodTy) → cs ≡ classes → own ≡ own' → w ≡ w' →
+    astype_row cs own w asked ≡ astype_row classes own' w' asked
 row-at cs classes own own' w w' asked c o e = ap₂ (λ (d : List Class) (t : MethodTy). astype_row d t w asked) c o ∙ ap (λ n. astype_row classes own' n asked) e
 
-pub row-of-other : (classes : List Class) (own : MethodTy) (w : ℕ) (asked : MethodTy) → is_same_method_type own asked ≡ false → astype_row classes own w asked ≡ use_row classes own w asked
+pub row-of-other : (classes : List Class) (own : MethodTy) (w : ℕ) (asked : MethodTy) → is_same_method_type own asked ≡ false →
+    astype_row classes own w asked ≡ use_row classes own w asked
 row-of-other classes own w asked other = sym (ap (λ b. cond b (Ok own) (astype_row classes own w asked)) other)
 
 -- the type that was found is the one that was asked for
 pub found-row : (classes : List Class) (own : MethodTy) (w : ℕ) (asked u : MethodTy) → astype_row classes own w asked ≡ Ok u → astype_row classes own w u ≡ Ok u
-found-row classes own w asked u row = let P : MethodTy → Type 0 = λ a. astype_row classes own w a ≡ Ok u in subst P (sym (astype_row-parts classes own w asked u row).2) row
+found-row classes own w asked u row = let P : MethodTy → Type 0 = λ a. astype_row classes own w a ≡ Ok u in
+    subst P (sym (astype_row-parts classes own w asked u row).2) row
 
 pub used-obeys :
     (row : Checked) (classes : List Class) (asked : MethodTy) (old : HandleView) (r : Result Handle HandleError) →
@@ -70,7 +73,8 @@ use-other classes own asked u h (Ok new) other row used = record {
 }
 use-other classes own asked u h (Err e) other row used = used
 
-pub refused-makes : (recipe keys : List Key) (pass : PassView) (e : CheckError) (r : Result Handle HandleError) → IsErrAnd r (λ x. x ≡ of_check e) → MakesBy recipe keys pass pass r
+pub refused-makes : (recipe keys : List Key) (pass : PassView) (e : CheckError) (r : Result Handle HandleError) → IsErrAnd r (λ x. x ≡ of_check e) →
+    MakesBy recipe keys pass pass r
 refused-makes recipe keys pass e (Ok h) is = absurd is
 refused-makes recipe [] pass check.NoMemory (Err x) is = subst (λ v. MakesBy recipe [] pass pass (Err v)) (sym is) refl
 refused-makes recipe [] pass (check.Refused e) (Err x) is = subst (λ v. MakesBy recipe [] pass pass (Err v)) (sym is) refl
@@ -79,7 +83,8 @@ refused-makes recipe (k ∷ keys) pass (check.Refused e) (Err x) is = subst (λ 
 
 pub used-makes :
     (classes : List Class) (own : MethodTy) (w : ℕ) (asked u : MethodTy) (recipe : List Key) (old new : PassView) (r : Result Handle HandleError) →
-    is_same_method_type own asked ≡ false → astype_row classes own w asked ≡ Ok u → MakesBy recipe (convert_keys classes u own) old new r → MakesBy recipe (use_keys classes own asked) old new r
+    is_same_method_type own asked ≡ false → astype_row classes own w asked ≡ Ok u → MakesBy recipe (convert_keys classes u own) old new r →
+        MakesBy recipe (use_keys classes own asked) old new r
 used-makes classes own w asked u recipe old new r other row m =
     let keys : convert_keys classes u own ≡ use_keys classes own asked =
     ap (λ a. convert_keys classes a own) (astype_row-parts classes own w asked u row).2 ∙ sym (ap (λ b. cond b [] (convert_keys classes asked own)) other) in
@@ -95,7 +100,8 @@ asked-stands table asked u old t r are other row st used =
 
 pub used-retyped :
     (cs classes : List Class) (own : MethodTy) (w : ℕ) (asked : MethodTy) (old new : HandleView) (b : Bool) →
-    b ≡ true → b ≡ trivial cs asked own → cs ≡ classes → own ≡ old.ty → w ≡ old.weight → new ≡ record old { ty = asked; weight = 1 + w } → IsUsedAs classes asked old new
+    b ≡ true → b ≡ trivial cs asked own → cs ≡ classes → own ≡ old.ty → w ≡ old.weight → new ≡ record old { ty = asked; weight = 1 + w } →
+        IsUsedAs classes asked old new
 used-retyped cs classes own w asked old new b true-is is c o weight made =
     let kept : trivial classes asked old.ty ≡ true = sym (ap₂ (λ (d : List Class) (t : MethodTy). trivial d asked t) c o) ∙ (sym is ∙ true-is) in
     let P : HandleView → Type 0 = λ h. IsUsedAs classes asked old h in

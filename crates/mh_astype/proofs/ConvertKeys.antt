@@ -75,7 +75,8 @@ trivial classes asked own = are_trivial classes asked.params own.params && is_tr
 abbrev pub convert_key : List Class → MethodTy → MethodTy → Key
 convert_key classes asked own = Convert (entries_of classes asked.params own.params) (ret_entry_of classes own.ret asked.ret)
 
-pub keys-changed : (classes : List Class) (asked own : MethodTy) → trivial classes asked own ≡ false → convert_keys classes asked own ≡ convert_key classes asked own ∷ []
+pub keys-changed : (classes : List Class) (asked own : MethodTy) → trivial classes asked own ≡ false →
+    convert_keys classes asked own ≡ convert_key classes asked own ∷ []
 keys-changed classes asked own is = ap (λ b. cond b [] (convert_key classes asked own ∷ [])) is
 
 pub keys-kept : (classes : List Class) (asked own : MethodTy) → trivial classes asked own ≡ true → convert_keys classes asked own ≡ []

@@ -14,7 +14,8 @@ use Rattle.mh_handle.specs.Recipe.{convert_keys}
 use Rattle.mh_astype.specs.Calls.{AsksBy}
 use Rattle.mh_astype.proofs.Using.{trivial, convert_key, keys-changed}
 
-module _ (classes : List Class) (asked own : MethodTy) (recipe : List Key) (key : Key) (old new : PassView) (is : trivial classes asked own ≡ false) (k : key ≡ convert_key classes asked own) where
+module _ (classes : List Class) (asked own : MethodTy) (recipe : List Key) (key : Key) (old new : PassView) (is : trivial classes asked own ≡ false)
+    (k : key ≡ convert_key classes asked own) where
   at-key : (r : Result Answer EditError) → AsksBy recipe (key ∷ []) old new r → AsksBy recipe (convert_keys classes asked own) old new r
   at-key r h =
       let P : List Key → Type 0 = λ ks. AsksBy recipe ks old new r in
@@ -23,7 +24,8 @@ module _ (classes : List Class) (asked own : MethodTy) (recipe : List Key) (key 
   pub asks-edited : (f : Bor FormView) (a : Answer) → Edits (recipe ++ key ∷ []) old new (Ok f) → AsksBy recipe (convert_keys classes asked own) old new (Ok a)
   asks-edited f a e = at-key (Ok a) ((f.now, e.0, e.1, e.3), e.2)
 
-  pub asks-without-memory : (f : Bor FormView) → Edits (recipe ++ key ∷ []) old new (Ok f) → AsksBy recipe (convert_keys classes asked own) old new (Err NoMemory)
+  pub asks-without-memory : (f : Bor FormView) → Edits (recipe ++ key ∷ []) old new (Ok f) →
+      AsksBy recipe (convert_keys classes asked own) old new (Err NoMemory)
   asks-without-memory f e = at-key (Err NoMemory) (inr (f.now, e.0, e.1, e.3), e.2)
 
   pub asks-refused : (e : EditError) → Edits (recipe ++ key ∷ []) old new (Err e) → AsksBy recipe (convert_keys classes asked own) old new (Err e)
@@ -37,14 +39,16 @@ asks-nothing recipe (k ∷ keys) pass = (inl refl, inl refl)
 -- the same where the refusal is handed on
 pub asks-error :
     (classes : List Class) (asked own : MethodTy) (recipe : List Key) (key : Key) (old new : PassView) (e : EditError) (r : Result Answer EditError) →
-    trivial classes asked own ≡ false → key ≡ convert_key classes asked own → Edits (recipe ++ key ∷ []) old new (Err e) → IsErrAnd r (λ x. x ≡ e) → AsksBy recipe (convert_keys classes asked own) old new r
+    trivial classes asked own ≡ false → key ≡ convert_key classes asked own → Edits (recipe ++ key ∷ []) old new (Err e) → IsErrAnd r (λ x. x ≡ e) →
+        AsksBy recipe (convert_keys classes asked own) old new r
 asks-error classes asked own recipe key old new e (Ok a) is k edits h = absurd h
 asks-error classes asked own recipe key old new e (Err x) is k edits h =
     subst (λ v. AsksBy recipe (convert_keys classes asked own) old new (Err v)) (sym h) (asks-refused classes asked own recipe key old new is k e edits)
 
 pub asks-late :
     (classes : List Class) (asked own : MethodTy) (recipe : List Key) (key : Key) (old new : PassView) (f : Bor FormView) (r : Result Answer EditError) →
-    trivial classes asked own ≡ false → key ≡ convert_key classes asked own → Edits (recipe ++ key ∷ []) old new (Ok f) → IsErrAnd r (λ x. x ≡ NoMemory) → AsksBy recipe (convert_keys classes asked own) old new r
+    trivial classes asked own ≡ false → key ≡ convert_key classes asked own → Edits (recipe ++ key ∷ []) old new (Ok f) → IsErrAnd r (λ x. x ≡ NoMemory) →
+        AsksBy recipe (convert_keys classes asked own) old new r
 asks-late classes asked own recipe key old new f (Ok a) is k edits h = absurd h
 asks-late classes asked own recipe key old new f (Err x) is k edits h =
     subst (λ v. AsksBy recipe (convert_keys classes asked own) old new (Err v)) (sym h) (asks-without-memory classes asked own recipe key old new is k f edits)

@@ -20,4 +20,5 @@ pub ints-more :
 ints-more xs xs' ts ts' n more typed have classes =
     let one : HaveTypes classes (value.Prim (num.I n) ∷ []) (ty.Prim primitive.I ∷ []) = (refl, tt) in
     subst (λ v. HaveTypes classes v ts') (sym more)
-    (subst (HaveTypes classes (xs ++ value.Prim (num.I n) ∷ [])) (sym typed) (types-join classes xs (value.Prim (num.I n) ∷ []) ts (ty.Prim primitive.I ∷ []) (have classes) one))
+    (subst (HaveTypes classes (xs ++ value.Prim (num.I n) ∷ [])) (sym typed) (types-join classes xs (value.Prim (num.I n) ∷ []) ts (ty.Prim primitive.I ∷ [])
+        (have classes) one))

@@ -54,14 +54,19 @@ spends-none numbers old new same = record {
   ready = λ rest ready. subst (λ (w : Work). IsReady w rest) (sym same) (ready-less old (numbers + rest) rest (omega arith) ready);
 }
 
-pub spends-one-of-two : (recipe : List Key) (old new : Work) (r : Result Handle HandleError) → GoesOn old new → Makes recipe old.pass.now new.pass.now r → Spends 2 old new
-spends-one-of-two recipe old new r goes makes = spends-room 2 old new goes (one-room old.pass.now new.pass.now (made-room recipe old.pass.now new.pass.now r makes))
+pub spends-one-of-two : (recipe : List Key) (old new : Work) (r : Result Handle HandleError) → GoesOn old new → Makes recipe old.pass.now new.pass.now r →
+    Spends 2 old new
+spends-one-of-two recipe old new r goes makes =
+    spends-room 2 old new goes (one-room old.pass.now new.pass.now (made-room recipe old.pass.now new.pass.now r makes))
 
-pub spends-used : (recipe keys : List Key) (old new : Work) (r : Result Handle HandleError) → GoesOn old new → MakesBy recipe keys old.pass.now new.pass.now r → Spends 2 old new
-spends-used recipe keys old new r goes makes = spends-room 2 old new goes (one-room old.pass.now new.pass.now (used-room recipe keys old.pass.now new.pass.now r makes))
+pub spends-used : (recipe keys : List Key) (old new : Work) (r : Result Handle HandleError) → GoesOn old new → MakesBy recipe keys old.pass.now new.pass.now r →
+    Spends 2 old new
+spends-used recipe keys old new r goes makes =
+    spends-room 2 old new goes (one-room old.pass.now new.pass.now (used-room recipe keys old.pass.now new.pass.now r makes))
 
 -- the first pass over a table may draw more numbers than any test
-pub ready-first : (w : Work) (seat : SeatView) (numbers : ℕ) → w.pass.now ≡ pass_at w.forms.now seat → seat ≡ seat_at 0 → numbers ≤ 8589934592 → IsReady w numbers
+pub ready-first : (w : Work) (seat : SeatView) (numbers : ℕ) → w.pass.now ≡ pass_at w.forms.now seat → seat ≡ seat_at 0 → numbers ≤ 8589934592 →
+    IsReady w numbers
 ready-first w seat numbers pass first few = record {
   of_table = ap (λ (p : PassView). p.cells) pass;
   room = omega (arith, few, ap (λ (p : PassView). p.seat.room) pass, ap (λ (s : SeatView). s.room) first);

@@ -25,7 +25,8 @@ made-room recipe old new (Err handle.NoMemory) makes = drawn-room recipe old new
 made-room recipe old new (Err (handle.FormsFull drawn)) makes = omega (arith, makes.1.room)
 made-room recipe old new (Err (handle.Refused e)) makes = same-room old.seat new.seat (ap (λ (p : PassView). p.seat) makes)
 
-pub spends-made : (recipe : List Key) (old new : Work) (r : Result Handle HandleError) → GoesOn old new → Makes recipe old.pass.now new.pass.now r → Spends 1 old new
+pub spends-made : (recipe : List Key) (old new : Work) (r : Result Handle HandleError) → GoesOn old new → Makes recipe old.pass.now new.pass.now r →
+    Spends 1 old new
 spends-made recipe old new r goes makes =
     let room = made-room recipe old.pass.now new.pass.now r makes in
     record {

@@ -29,12 +29,14 @@ use Rattle.mh_handle.proofs.Limits.{limited-low}
 use Rattle.mh_branch.specs.Growths.{gather_keys}
 use Rattle.mh_branch.proofs.GatherStands.{gather-stands}
 
-pub gather-array : (classes : List Class) (t : MethodTy) (weight : ℕ) (array : Option Ty) (count : ℕ) (u : MethodTy) → gather_row classes t weight array count ≡ Ok u → (c : Comp) × (component_of array ≡ Some c)
+pub gather-array : (classes : List Class) (t : MethodTy) (weight : ℕ) (array : Option Ty) (count : ℕ) (u : MethodTy) →
+    gather_row classes t weight array count ≡ Ok u → (c : Comp) × (component_of array ≡ Some c)
 gather-array classes t weight array count u row =
     let parts = gather_row-parts classes t weight array count u row in
     (parts.0, parts.1)
 
-pub gather-light : (classes : List Class) (t : MethodTy) (weight : ℕ) (array : Option Ty) (count : ℕ) (u : MethodTy) → gather_row classes t weight array count ≡ Ok u → 1 + weight ≤ 256
+pub gather-light : (classes : List Class) (t : MethodTy) (weight : ℕ) (array : Option Ty) (count : ℕ) (u : MethodTy) →
+    gather_row classes t weight array count ≡ Ok u → 1 + weight ≤ 256
 gather-light classes t weight array count u row =
     let made : Comp → MethodTy = λ c. taking (spliced (length t.params - 1) 1 (replicate count (item_type c)) t.params) t in
     let within : Comp → Checked = λ c. limited (codes "gather") (1 + weight) (made c) in
@@ -55,7 +57,8 @@ gather-makes array count c k recipe old new r some is makes =
     subst (λ ks. Makes (recipe ++ ks) old new r) keys makes
 
 pub gather-answers :
-    (table : LeafTable) (h : HandleView) (array : Option Ty) (count : ℕ) (c : Comp) (u : MethodTy) (k : Key) (sides : List MethodTy) (fields : List Field) (r : Result HandleView HandleError) (t : Tree) →
+    (table : LeafTable) (h : HandleView) (array : Option Ty) (count : ℕ) (c : Comp) (u : MethodTy) (k : Key) (sides : List MethodTy) (fields : List Field)
+        (r : Result HandleView HandleError) (t : Tree) →
     AreClasses table.classes →
     gather_row table.classes h.ty h.weight array count ≡ Ok u →
     component_of array ≡ Some c →

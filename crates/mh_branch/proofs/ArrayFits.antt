@@ -55,7 +55,8 @@ spread-fits t weight array count c u body row some begun shaped =
     let within : nat_le count (length (map basic_of t.params)) ≡ true = ap (nat_le count) many ∙ last.0 in
     let basics : list_all (is_same_basic b) (drop (length (map basic_of t.params) - count) (map basic_of t.params)) ≡ true =
     ap (λ n. list_all (is_same_basic b) (drop (n - count) (map basic_of t.params))) many
-    ∙ (ap (list_all (is_same_basic b)) (drop-map basic_of (length t.params - count) t.params) ∙ one_basic (item_type c) (drop (length t.params - count) t.params) all) in
+    ∙ (ap (list_all (is_same_basic b)) (drop-map basic_of (length t.params - count) t.params) ∙
+        one_basic (item_type c) (drop (length t.params - count) t.params) all) in
     let ends : ends_with body.params count b ≡ true = ap (λ ps. ends_with ps count b) shaped ∙ both-true _ _ within basics in
     both-true (not (is_nothing body)) (ends_with body.params count b) (ap not begun) ends
 
@@ -79,5 +80,6 @@ gather-fits classes t weight array count u b body row begun shaped =
     ap (λ o. option_map_or (is_same_basic basic.L) o false) (slice_get-map basic_of t.params place ∙ ap (option_map basic_of) last.1)
     ∙ takes_reference classes parts.0 last.0 last.2 in
     let ends : is_basic_at body.params (length body.params - 1) basic.L ≡ true =
-    ap (λ ps. is_basic_at ps (length ps - 1) basic.L) shaped ∙ (ap (λ n. is_basic_at (map basic_of t.params) (n - 1) basic.L) (length-map t.params basic_of) ∙ at) in
+    ap (λ ps. is_basic_at ps (length ps - 1) basic.L) shaped ∙ (ap (λ n. is_basic_at (map basic_of t.params) (n - 1) basic.L) (length-map t.params basic_of) ∙
+        at) in
     both-true (not (is_nothing body)) (is_basic_at body.params (length body.params - 1) basic.L) (ap not begun) ends

@@ -39,7 +39,8 @@ module _ (c t e : HandleView) (u : MethodTy) (row : guard_row c.ty c.weight t.ty
   limits =
       let weight = 1 + c.weight + t.weight + e.weight in
       let within = limited (codes "guard") weight t.ty in
-      let q = provided-parts (is_same_method_type e.ty t.ty && is_same_return c.ty.ret (Some boolean_type) && begins_with_types t.ty.params c.ty.params) (illegal (codes "guard")) within u row in
+      let q = provided-parts (is_same_method_type e.ty t.ty && is_same_return c.ty.ret (Some boolean_type) && begins_with_types t.ty.params c.ty.params)
+          (illegal (codes "guard")) within u row in
       limited-low (codes "guard") weight t.ty u q.1
 
   pub guard-few : length c.ty.params ≤ 254
@@ -79,7 +80,8 @@ module _ (c t e : HandleView) (u : MethodTy) (row : guard_row c.ty c.weight t.ty
         })
     guard-answers table (Err x) a b d g tests stands others = g
 
-module _ (classes : List Class) (t : HandleView) (class : ClassId) (h : HandleView) (u : MethodTy) (row : catch_row classes t.ty t.weight class h.ty h.weight ≡ Ok u) where
+module _ (classes : List Class) (t : HandleView) (class : ClassId) (h : HandleView) (u : MethodTy) (row : catch_row classes t.ty t.weight class h.ty
+    h.weight ≡ Ok u) where
   target : u ≡ t.ty
   target = (catch_row-parts classes t.ty t.weight class h.ty h.weight u row).3
 

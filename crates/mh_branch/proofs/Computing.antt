@@ -17,7 +17,8 @@ use Rattle.mh_form.specs.Slots.{filled, none_as_zero}
 use Rattle.mh_form.proofs.Refines.{refines-after}
 use Rattle.mh_handle.proofs.Erasing.{erased-after, raised-low}
 
-refines-erased-after : (calls : List LeafCall) (r : Done) (s : Ran (Option Slot)) → Refines (erased_ran r) s → Refines (erased_ran (after calls r)) (after calls s)
+refines-erased-after : (calls : List LeafCall) (r : Done) (s : Ran (Option Slot)) → Refines (erased_ran r) s →
+    Refines (erased_ran (after calls r)) (after calls s)
 refines-erased-after calls r s h =
     let P : Ran (Option Slot) → Type 0 = λ v. Refines v (after calls s) in
     subst P (sym (erased-after calls r)) (refines-after calls (erased_ran r) s h)
@@ -26,7 +27,8 @@ pub and_then-erased :
     (classes : List Class) (r : Done) (n : ℕ) (ret : Option Ty) (run : Slot → ℕ → Ran (Option Slot)) (next : Option Value → ℕ → Done) →
     Returns classes r ret →
     n < 2 ^ 32 →
-    ((v : Option Value) (k : ℕ) → HaveTypes classes (option_to_list v) (option_to_list ret) → k < 2 ^ 32 → Refines (erased_ran (next v k)) (run (none_as_zero (erased_option v)) k)) →
+    ((v : Option Value) (k : ℕ) → HaveTypes classes (option_to_list v) (option_to_list ret) → k < 2 ^ 32 →
+        Refines (erased_ran (next v k)) (run (none_as_zero (erased_option v)) k)) →
     Refines (erased_ran (and_then r n next)) (and_then (filled (erased_ran r)) n run)
 and_then-erased classes (Gave v calls) n ret run next h low more =
     refines-erased-after calls (next v (raised n calls)) (run (none_as_zero (erased_option v)) (raised n calls))
@@ -34,7 +36,8 @@ and_then-erased classes (Gave v calls) n ret run next h low more =
 and_then-erased classes (Threw e calls) n ret run next h low more = refl
 and_then-erased classes Stuck n ret run next h low more = absurd h
 
-caught-erased : (b : Bool) (calls : List LeafCall) (e : Exc) (r : Done) (s : Ran (Option Slot)) → (b ≡ true → Refines (erased_ran r) s) → Refines (erased_ran (cond b (after calls r) (Threw e calls))) (cond b (after calls s) (Threw e calls))
+caught-erased : (b : Bool) (calls : List LeafCall) (e : Exc) (r : Done) (s : Ran (Option Slot)) → (b ≡ true → Refines (erased_ran r) s) →
+    Refines (erased_ran (cond b (after calls r) (Threw e calls))) (cond b (after calls s) (Threw e calls))
 caught-erased true calls e r s h = refines-erased-after calls r s (h refl)
 caught-erased false calls e r s h = refl
 

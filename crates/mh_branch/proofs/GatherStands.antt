@@ -52,7 +52,8 @@ map-same b [] = refl
 map-same b (x ∷ xs) = ap (λ ys. b ∷ ys) (map-same b xs)
 
 -- the array of values of its items' type, erased
-array-erased : (classes : List Class) (c : Comp) (count : ℕ) (vs : List Value) → length vs ≡ count → HaveTypes classes vs (replicate count (item_type c)) → made_array classes c (map erased vs) ≡ slot_or_throw (array_of c vs)
+array-erased : (classes : List Class) (c : Comp) (count : ℕ) (vs : List Value) → length vs ≡ count → HaveTypes classes vs (replicate count (item_type c)) →
+    made_array classes c (map erased vs) ≡ slot_or_throw (array_of c vs)
 array-erased classes c count vs long have =
     let types : map (λ (s : Slot). item_type c) (map erased vs) ≡ replicate count (item_type c) =
     map-same (item_type c) (map erased vs) ∙ ap (λ n. replicate n (item_type c)) (length-map vs erased ∙ long) in
@@ -97,32 +98,41 @@ gather-stands table h h' t array count c u are st row some grows =
     let arity : length old.params ≡ length h.ty.params = ap length st.shaped ∙ length-map h.ty.params basic_of in
     let typed : type_of table gather ≡ Ok u = (λ i. with_type (st.typed i) (λ m. gather_row table.classes m (sym st.weighed i) array count)) ∙ row in
     let sound : IsSound table.classes (mean table gather) u =
-    subst (λ o. IsSound table.classes (λ args n. found (component_of array) (λ d. or_throw (array_of d (part_of (arity_of o - 1) count args)) (λ v. mean table t (spliced (arity_of o - 1) count (v ∷ []) args) n))) u) (sym st.typed)
+    subst (λ o. IsSound table.classes (λ args n. found (component_of array) (λ d. or_throw (array_of d (part_of (arity_of o - 1) count args))
+        (λ v. mean table t (spliced (arity_of o - 1) count (v ∷ []) args) n))) u) (sym st.typed)
     (gather-sound table.classes are (mean table t) h.ty h.weight array count u st.returns row) in
-    let runs : (args : List Value) (n : ℕ) → HaveTypes table.classes args u.params → n < 2 ^ 32 → run_on table new (h.fields ++ field.Comp c ∷ []) (map erased args) n ≡ erased_ran (mean table gather args n) =
+    let runs : (args : List Value) (n : ℕ) → HaveTypes table.classes args u.params → n < 2 ^ 32 →
+        run_on table new (h.fields ++ field.Comp c ∷ []) (map erased args) n ≡ erased_ran (mean table gather args n) =
     λ args n have low.
     let have' : HaveTypes table.classes args params = subst (λ (m : MethodTy). HaveTypes table.classes args m.params) made have in
     let behind : place ≤ length h.ty.params = omega arith in
     let vs = part_of place count args in
-    let mine : HaveTypes table.classes vs items = subst (λ m. HaveTypes table.classes (part_of place m args) items) many (types-part table.classes args h.ty.params items place 1 behind have') in
+    let mine : HaveTypes table.classes vs items = subst (λ m. HaveTypes table.classes (part_of place m args) items) many
+        (types-part table.classes args h.ty.params items place 1 behind have') in
     let slots = map erased args in
     let run : Slot → ℕ → Ran (Option Slot) = λ s k. run_on table old h.fields (spliced place count (s ∷ []) slots) k in
     let next : Value → Done = λ v. mean table t (spliced place count (v ∷ []) args) n in
     let each : (v : Value) → has_type table.classes v (ty.Array c) ≡ true → run (erased v) n ≡ erased_ran (next v) =
     λ v given.
     let one : HaveTypes table.classes (v ∷ []) (take 1 (drop place h.ty.params)) =
-    subst (HaveTypes table.classes (v ∷ [])) (sym (one-taken h.ty.params place last.0 last.1)) (value-below table.classes are (ty.Array c) last.0 below v given, tt) in
+    subst (HaveTypes table.classes (v ∷ [])) (sym (one-taken h.ty.params place last.0 last.1)) (value-below table.classes are (ty.Array c) last.0 below v given,
+        tt) in
     let put = types-splice table.classes args (v ∷ []) h.ty.params items place 1 behind have' one in
-    let whole : HaveTypes table.classes (spliced place count (v ∷ []) args) h.ty.params = subst (λ m. HaveTypes table.classes (spliced place m (v ∷ []) args) h.ty.params) many put in
+    let whole : HaveTypes table.classes (spliced place count (v ∷ []) args) h.ty.params =
+        subst (λ m. HaveTypes table.classes (spliced place m (v ∷ []) args) h.ty.params) many put in
     ap (λ xs. run_on table old h.fields xs n) (sym (spliced-map erased place count (v ∷ []) args)) ∙ st.runs (spliced place count (v ∷ []) args) n whole low in
     let gathering : and_then (made_array table.classes c (take count (drop place slots))) n run ≡ erased_ran (or_throw (array_of c vs) next) =
-    ap (λ r. and_then r n run) (ap (made_array table.classes c) (sym (part-map erased place count args)) ∙ array-erased table.classes c count vs (types-length table.classes vs items mine ∙ many) mine)
+    ap (λ r. and_then r n run) (ap (made_array table.classes c) (sym (part-map erased place count args)) ∙ array-erased table.classes c count vs
+        (types-length table.classes vs items mine ∙ many) mine)
     ∙ array-then table.classes (array_of c vs) (ty.Array c) n run next (array-converts table.classes are c count vs mine) each in
     let means : mean table gather args n ≡ or_throw (array_of c vs) next =
-    ap (λ o. found (component_of array) (λ d. or_throw (array_of d (part_of (arity_of o - 1) count args)) (λ v. mean table t (spliced (arity_of o - 1) count (v ∷ []) args) n))) st.typed
+    ap (λ o. found (component_of array) (λ d. or_throw (array_of d (part_of (arity_of o - 1) count args))
+        (λ v. mean table t (spliced (arity_of o - 1) count (v ∷ []) args) n))) st.typed
     ∙ ap (λ o. found o (λ d. or_throw (array_of d vs) next)) some in
-    let law_run : and_then (made_array table.classes c (take count (drop (length old.params - 1) slots))) n (λ s k. run_on table old h.fields (spliced (length old.params - 1) count (s ∷ []) slots) k) ≡ erased_ran (mean table gather args n) =
-    ap (λ m. and_then (made_array table.classes c (take count (drop (m - 1) slots))) n (λ s k. run_on table old h.fields (spliced (m - 1) count (s ∷ []) slots) k)) arity
+    let law_run : and_then (made_array table.classes c (take count (drop (length old.params - 1) slots))) n
+        (λ s k. run_on table old h.fields (spliced (length old.params - 1) count (s ∷ []) slots) k) ≡ erased_ran (mean table gather args n) =
+    ap (λ m. and_then (made_array table.classes c (take count (drop (m - 1) slots))) n (λ s k. run_on table old h.fields (spliced (m - 1) count (s ∷ []) slots)
+        k)) arity
     ∙ (gathering ∙ sym (ap erased_ran means)) in
     let runs_well : erased_ran (mean table gather args n) ≢ Stuck = returns-runs table.classes (mean table gather args n) u.ret (sound args n have) in
     let long : length slots + 1 ≡ length old.params + count =

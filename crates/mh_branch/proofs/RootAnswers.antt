@@ -32,20 +32,24 @@ use Rattle.mh_branch.proofs.RootStands.{constant-stands, identity-stands, throw-
 pub constant-some : (classes : List Class) (t : Option Ty) (v : Value) (u : MethodTy) → constant_row classes t v ≡ Ok u → t ≡ None → ⊥
 constant-some classes t v u row none = let parts = constant_row-parts classes t v u row in let some = parts.2 in cc
 
-pub constant-fits : (classes : List Class) (t : Option Ty) (v : Value) (u : MethodTy) (r : Ty) → constant_row classes t v ≡ Ok u → t ≡ Some r → (w : Value) × (fit classes v r ≡ Ok w)
+pub constant-fits : (classes : List Class) (t : Option Ty) (v : Value) (u : MethodTy) (r : Ty) → constant_row classes t v ≡ Ok u → t ≡ Some r →
+    (w : Value) × (fit classes v r ≡ Ok w)
 constant-fits classes t v u r row is =
     let parts = constant_row-parts classes t v u row in
     let same : Some parts.0 ≡ Some r = sym parts.2 ∙ is in
     let r' : parts.0 ≡ r = cc in
     (parts.1, subst (λ p. fit classes v p ≡ Ok parts.1) r' parts.3)
 
-pub constant-makes : (table : LeafTable) (t : Option Ty) (v : Value) (r : Ty) (b : Basic) (old new : PassView) (res : Result HandleView HandleError) → t ≡ Some r → b ≡ basic_of r → Makes (key.ConstRoot b ∷ []) old new res → Makes (recipe table (tree.Constant t v)) old new res
+pub constant-makes : (table : LeafTable) (t : Option Ty) (v : Value) (r : Ty) (b : Basic) (old new : PassView) (res : Result HandleView HandleError) →
+    t ≡ Some r → b ≡ basic_of r → Makes (key.ConstRoot b ∷ []) old new res → Makes (recipe table (tree.Constant t v)) old new res
 constant-makes table t v r b old new res is basic makes =
-    let keys : key.ConstRoot b ∷ [] ≡ at_some t (λ p. key.ConstRoot (basic_of p)) = ap (λ x. key.ConstRoot x ∷ []) basic ∙ sym (ap (λ o. at_some o (λ p. key.ConstRoot (basic_of p))) is) in
+    let keys : key.ConstRoot b ∷ [] ≡ at_some t (λ p. key.ConstRoot (basic_of p)) = ap (λ x. key.ConstRoot x ∷ []) basic ∙
+        sym (ap (λ o. at_some o (λ p. key.ConstRoot (basic_of p))) is) in
     subst (λ ks. Makes ks old new res) keys makes
 
 pub constant-answers :
-    (table : LeafTable) (t : Option Ty) (v : Value) (u : MethodTy) (r : Ty) (w : Value) (s : Slot) (b : Basic) (sides : List MethodTy) (fields : List Field) (res : Result HandleView HandleError) →
+    (table : LeafTable) (t : Option Ty) (v : Value) (u : MethodTy) (r : Ty) (w : Value) (s : Slot) (b : Basic) (sides : List MethodTy) (fields : List Field)
+        (res : Result HandleView HandleError) →
     constant_row table.classes t v ≡ Ok u →
     t ≡ Some r →
     fit table.classes v r ≡ Ok w →
@@ -74,13 +78,16 @@ identity-none u (Some t) none row = cc
 pub identity-some : (t : Option Ty) (u : MethodTy) → identity_row t ≡ Ok u → t ≡ None → ⊥
 identity-some t u row none = identity-none u t none row
 
-pub identity-makes : (table : LeafTable) (t : Option Ty) (r : Ty) (b : Basic) (old new : PassView) (res : Result HandleView HandleError) → t ≡ Some r → b ≡ basic_of r → Makes (key.IdentityRoot b ∷ []) old new res → Makes (recipe table (tree.Identity t)) old new res
+pub identity-makes : (table : LeafTable) (t : Option Ty) (r : Ty) (b : Basic) (old new : PassView) (res : Result HandleView HandleError) → t ≡ Some r →
+    b ≡ basic_of r → Makes (key.IdentityRoot b ∷ []) old new res → Makes (recipe table (tree.Identity t)) old new res
 identity-makes table t r b old new res is basic makes =
-    let keys : key.IdentityRoot b ∷ [] ≡ at_some t (λ p. key.IdentityRoot (basic_of p)) = ap (λ x. key.IdentityRoot x ∷ []) basic ∙ sym (ap (λ o. at_some o (λ p. key.IdentityRoot (basic_of p))) is) in
+    let keys : key.IdentityRoot b ∷ [] ≡ at_some t (λ p. key.IdentityRoot (basic_of p)) = ap (λ x. key.IdentityRoot x ∷ []) basic ∙
+        sym (ap (λ o. at_some o (λ p. key.IdentityRoot (basic_of p))) is) in
     subst (λ ks. Makes ks old new res) keys makes
 
 pub identity-answers :
-    (table : LeafTable) (t : Option Ty) (u : MethodTy) (r : Ty) (b : Basic) (sides : List MethodTy) (fields : List Field) (res : Result HandleView HandleError) →
+    (table : LeafTable) (t : Option Ty) (u : MethodTy) (r : Ty) (b : Basic) (sides : List MethodTy) (fields : List Field) (res : Result HandleView HandleError)
+        →
     identity_row t ≡ Ok u →
     t ≡ Some r →
     b ≡ basic_of r →
@@ -101,14 +108,17 @@ identity-answers table t u r b sides fields (Err e) row is basic none empty g = 
 -- ---- throws
 
 -- the basic return type of what throws
-pub throw-ret : (classes : List Class) (ret : Option Ty) (class : ClassId) (u : MethodTy) (s : Shape) → throw_row classes ret class ≡ Ok u → s ≡ shape_of u → s.ret ≡ basic_ret_of ret
+pub throw-ret : (classes : List Class) (ret : Option Ty) (class : ClassId) (u : MethodTy) (s : Shape) → throw_row classes ret class ≡ Ok u → s ≡ shape_of u →
+    s.ret ≡ basic_ret_of ret
 throw-ret classes ret class u s row is = ap (λ (x : Shape). x.ret) is ∙ ap (λ (m : MethodTy). basic_ret_of m.ret) (throw_row-parts classes ret class u row).1
 
-pub throw-makes : (ret : Option Ty) (b : BasicRet) (old new : PassView) (res : Result HandleView HandleError) → b ≡ basic_ret_of ret → Makes (key.ThrowRoot b ∷ []) old new res → Makes (key.ThrowRoot (basic_ret_of ret) ∷ []) old new res
+pub throw-makes : (ret : Option Ty) (b : BasicRet) (old new : PassView) (res : Result HandleView HandleError) → b ≡ basic_ret_of ret →
+    Makes (key.ThrowRoot b ∷ []) old new res → Makes (key.ThrowRoot (basic_ret_of ret) ∷ []) old new res
 throw-makes ret b old new res is makes = subst (λ x. Makes (key.ThrowRoot x ∷ []) old new res) is makes
 
 pub throw-answers :
-    (table : LeafTable) (ret : Option Ty) (class : ClassId) (u : MethodTy) (b : BasicRet) (sides : List MethodTy) (fields : List Field) (res : Result HandleView HandleError) →
+    (table : LeafTable) (ret : Option Ty) (class : ClassId) (u : MethodTy) (b : BasicRet) (sides : List MethodTy) (fields : List Field)
+        (res : Result HandleView HandleError) →
     AreClasses table.classes →
     throw_row table.classes ret class ≡ Ok u →
     b ≡ basic_ret_of ret →

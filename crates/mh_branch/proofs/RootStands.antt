@@ -48,7 +48,8 @@ constant-stands table h t v u r w row some fits grows =
     let params : h.ty.params ≡ [] = ap (λ (m : MethodTy). m.params) parts.4 in
     let gives : (args : List Value) (n : ℕ) → mean table (tree.Constant t v) args n ≡ giving w =
     λ args n. ap (λ o. found o (λ p. fitted (fit table.classes v p) giving)) some ∙ ap (λ o. fitted o giving) fits in
-    let runs : (args : List Value) (n : ℕ) → HaveTypes table.classes args h.ty.params → run_on table constant_body h.fields (map erased args) n ≡ Gave (Some (erased w)) [] =
+    let runs : (args : List Value) (n : ℕ) → HaveTypes table.classes args h.ty.params → run_on table constant_body h.fields (map erased args) n ≡ Gave
+        (Some (erased w)) [] =
     λ args n have.
     no_arguments table.classes args (λ xs. run_on table constant_body h.fields xs n ≡ Gave (Some (erased w)) [])
     (subst (HaveTypes table.classes args) params have) (ap (λ fs. run_on table constant_body fs [] n) grows.fielded) in
@@ -62,7 +63,8 @@ constant-stands table h t v u r w row some fits grows =
     no_arguments classes (v ∷ args) P have p = absurd have
 
 -- the one argument, and its slot
-one_argument : (classes : List Class) (p : Ty) (args : List Value) → HaveTypes classes args (p ∷ []) → (v : Value) × (args ≡ v ∷ []) × (has_type classes v p ≡ true)
+one_argument : (classes : List Class) (p : Ty) (args : List Value) → HaveTypes classes args (p ∷ []) → (v : Value) × (args ≡ v ∷ [])
+    × (has_type classes v p ≡ true)
 one_argument classes p [] have = absurd have
 one_argument classes p (v ∷ []) have = (v, refl, have.0)
 one_argument classes p (v ∷ w ∷ args) have = absurd have.1
@@ -80,7 +82,8 @@ identity-stands table h t u r row some grows =
     let is : parts.0 ≡ r = cc in
     let params : h.ty.params ≡ r ∷ [] = ap (λ (m : MethodTy). m.params) parts.2 ∙ ap (λ p. p ∷ []) is in
     let body = identity_body (basic_of r) in
-    let does : (args : List Value) (n : ℕ) → HaveTypes table.classes args h.ty.params → erased_ran (mean table (tree.Identity t) args n) ≡ run_on table body h.fields (map erased args) n =
+    let does : (args : List Value) (n : ℕ) → HaveTypes table.classes args h.ty.params → erased_ran (mean table (tree.Identity t) args n) ≡ run_on table body
+        h.fields (map erased args) n =
     λ args n have.
     let one = one_argument table.classes r args (subst (HaveTypes table.classes args) params have) in
     ap (λ vs. erased_ran (found (slice_get vs 0) giving)) one.1
@@ -111,15 +114,18 @@ throw-stands table h ret class u are row grows =
     let parts = throw_row-parts table.classes ret class h.ty typed in
     let body = throw_body (basic_ret_of ret) in
     let params : h.ty.params ≡ ty.Class class ∷ [] = ap (λ (m : MethodTy). m.params) parts.1 in
-    let does : (args : List Value) (n : ℕ) → HaveTypes table.classes args h.ty.params → Refines (erased_ran (mean table (tree.Throw ret class) args n)) (run_on table body h.fields (map erased args) n) =
+    let does : (args : List Value) (n : ℕ) → HaveTypes table.classes args h.ty.params → Refines (erased_ran (mean table (tree.Throw ret class) args n))
+        (run_on table body h.fields (map erased args) n) =
     λ args n have.
     let one = one_argument table.classes (ty.Class class) args (subst (HaveTypes table.classes args) params have) in
     let raises : erased_ran (mean table (tree.Throw ret class) args n) ≡ raised_slot (erased one.0) =
     ap (λ vs. erased_ran (found (slice_get vs 0) thrown)) one.1 ∙ thrown-erased table.classes class one.0 one.2 in
     let ran : run_on table body [] (erased one.0 ∷ []) n ≡ run_on table body h.fields (map erased args) n =
     sym (ap (λ fs. run_on table body fs (erased one.0 ∷ []) n) grows.fielded) ∙ ap (λ vs. run_on table body h.fields (map erased vs) n) (sym one.1) in
-    let law : Refines (raised_slot (erased one.0)) (run_on table body [] (erased one.0 ∷ []) n) = law-ThrowRoot (basic_ret_of ret) nothing table (erased one.0) n in
+    let law : Refines (raised_slot (erased one.0)) (run_on table body [] (erased one.0 ∷ []) n) = law-ThrowRoot (basic_ret_of ret) nothing table (erased one.0)
+        n in
     refines-trans _ _ _ (refines-is _ _ raises) (refines-trans _ _ _ law (refines-is _ _ ran)) in
-    stands-rooted table h (tree.Throw ret class) body (throw-sound table.classes are ret class h.ty typed) typed grows.weighed grows.made grows.holds (ap body_of grows.made)
+    stands-rooted table h (tree.Throw ret class) body (throw-sound table.classes are ret class h.ty typed) typed grows.weighed grows.made grows.holds
+        (ap body_of grows.made)
     (ap length grows.fielded) (sym (ap (map basic_of) params)) refl
     (λ args n have low. does args n have)

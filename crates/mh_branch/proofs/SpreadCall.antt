@@ -77,7 +77,8 @@ module _
         (weight : ℕ) (sides : List MethodTy) (k : Key) (fields : List Field) (r : Result Handle HandleError) →
         IsAccepted r → IfOk r (λ h. Grows used h s.own weight sides k fields) → Obeys (spread_use_row classes t.ty t.weight array count) r
     call-obeys weight sides k fields r accepted grows =
-        grown-obeys (spread_use_row classes t.ty t.weight array count) used s.own weight sides k fields r (spreading-row classes t.ty t.weight array count s found) accepted grows
+        grown-obeys (spread_use_row classes t.ty t.weight array count) used s.own weight sides k fields r (spreading-row classes t.ty t.weight array count s
+            found) accepted grows
 
     pub call-sides :
         (weight : ℕ) (sides : List MethodTy) (k : Key) (fields : List Field) (r : Result Handle HandleError) →
@@ -93,7 +94,8 @@ module _
         IsAccepted r →
         MakesBoth t.form.recipe (item_keys classes t.ty array count) (spread_keys array count) old new r
     call-makes b old mid new r is first second accepted =
-        let keys : use_keys classes t.ty s.asked ≡ item_keys classes t.ty array count = keys-are classes t.ty t.weight array count s.component s.asked found.component found.asked in
+        let keys : use_keys classes t.ty s.asked ≡ item_keys classes t.ty array count = keys-are classes t.ty t.weight array count s.component s.asked
+            found.component found.asked in
         let own : key.Spread count b ∷ [] ≡ spread_keys array count =
         ap (λ x. key.Spread count x ∷ []) is ∙ sym (ap (λ o. at_some o (λ c. key.Spread count (basic_of (item_type c)))) found.component) in
         let whole : used.form.recipe ++ key.Spread count b ∷ [] ≡ (t.form.recipe ++ item_keys classes t.ty array count) ++ spread_keys array count =
@@ -115,7 +117,8 @@ module _
     call-stands table b weight sides fields (Ok h) a same are is w none no_fields g st =
         let whole : used_as t.ty s.asked a ≡ items_used_as t.ty array count a =
         ap (λ m. used_as t.ty m a) found.asked ∙ sym (ap (λ o. option_map_or (λ c. used_as t.ty (taking_items t.ty c count) a) o a) found.component) in
-        spread-stands table used h (items_used_as t.ty array count a) array count s.component s.own are (subst (λ x. Stands table used x) whole st) row found.component (record {
+        spread-stands table used h (items_used_as t.ty array count a) array count s.component s.own are (subst (λ x. Stands table used x) whole st) row
+            found.component (record {
           typed = g.typed;
           weighed = g.weighed ∙ ap (λ n. 1 + n) w;
           holds = g.holds ∙ ap (λ x. used.sides ++ x) none;

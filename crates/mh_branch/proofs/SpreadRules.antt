@@ -49,20 +49,23 @@ module _ (classes : List Class) (t : MethodTy) (weight : ℕ) (array : Option Ty
       at-use s.component s.asked is.component is.within is.asked
       ∙ (ap (λ r. with_type r (λ a. spread_row a (use_weight t weight s.asked) array count)) is.used ∙ is.own)
 
-  pub spreading-refused : (e : CheckError) (r : Result Handle HandleError) → TellsSpreading classes t weight array count (Err e) → IsErrAnd r (λ x. x ≡ of_check e) → Obeys (spread_use_row classes t weight array count) r
+  pub spreading-refused : (e : CheckError) (r : Result Handle HandleError) → TellsSpreading classes t weight array count (Err e) →
+      IsErrAnd r (λ x. x ≡ of_check e) → Obeys (spread_use_row classes t weight array count) r
   spreading-refused e (Ok h) tells is = absurd is
   spreading-refused check.NoMemory (Err x) tells is = subst (λ v. Obeys (spread_use_row classes t weight array count) (Err v)) (sym is) tt
   spreading-refused (check.Refused e) (Err x) tells is = subst (λ v. Obeys (spread_use_row classes t weight array count) (Err v)) (sym is) tells
 
   -- an error of the use, where the use is not refused
-  pub used-error : (u asked : MethodTy) (e : HandleError) (r : Result Handle HandleError) → spread_use_row classes t weight array count ≡ Ok u → use_row classes t weight asked ≡ Ok asked
+  pub used-error : (u asked : MethodTy) (e : HandleError) (r : Result Handle HandleError) → spread_use_row classes t weight array count ≡ Ok u →
+      use_row classes t weight asked ≡ Ok asked
       → Obeys (use_row classes t weight asked) (Err e) → IsErrAnd r (λ x. x ≡ e) → Obeys (spread_use_row classes t weight array count) r
   used-error u asked e (Ok h) row used obeys is = absurd is
   used-error u asked NoMemory (Err x) row used obeys is = subst (λ v. Obeys (spread_use_row classes t weight array count) (Err v)) (sym is) tt
   used-error u asked (FormsFull drawn) (Err x) row used obeys is = subst (λ v. Obeys (spread_use_row classes t weight array count) (Err v)) (sym is) (u, row)
   used-error u asked (Refused e) (Err x) row used obeys is = let both : ◌≡◌ {A = Checked} (Ok asked) (Err e) = sym used ∙ obeys in absurd cc
 
-  pub keys-are : (c : Comp) (asked : MethodTy) → component_of array ≡ Some c → asked ≡ taking_items t c count → use_keys classes t asked ≡ item_keys classes t array count
+  pub keys-are : (c : Comp) (asked : MethodTy) → component_of array ≡ Some c → asked ≡ taking_items t c count →
+      use_keys classes t asked ≡ item_keys classes t array count
   keys-are c asked some is = ap (use_keys classes t) is ∙ sym (ap (λ o. option_map_or (λ d. use_keys classes t (taking_items t d count)) o []) some)
 
 pub goes_on-both : (a b c : Work) → GoesOn a b → GoesOn b c → GoesOn a c
@@ -84,15 +87,19 @@ room-left recipe [] old mid g room made = subst (λ (p : PassView). 1 ≤ p.seat
 room-left recipe (k ∷ keys) old mid g room made = left-after (recipe ++ k ∷ keys) old mid room made.2
 
 -- an error before the first edit was made, or by it
-pub makes-first : (recipe keys keys' more : List Key) (old new : PassView) (e : HandleError) (r : Result Handle HandleError) → keys ≡ keys' → MakesBy recipe keys old new (Err e) → IsErrAnd r (λ x. x ≡ e) → (row : Checked) (u : MethodTy) → row ≡ Ok u → Obeys row (Err e) → MakesBoth recipe keys' more old new r
+pub makes-first : (recipe keys keys' more : List Key) (old new : PassView) (e : HandleError) (r : Result Handle HandleError) → keys ≡ keys' →
+    MakesBy recipe keys old new (Err e) → IsErrAnd r (λ x. x ≡ e) → (row : Checked) (u : MethodTy) → row ≡ Ok u → Obeys row (Err e) →
+    MakesBoth recipe keys' more old new r
 makes-first recipe keys keys' more old new e (Ok h) same made is row u typed obeys = absurd is
 makes-first recipe keys keys' more old new NoMemory (Err x) same made is row u typed obeys =
     subst (λ v. MakesBoth recipe keys' more old new (Err v)) (sym is) (inl (subst (λ ks. MakesBy recipe ks old new (Err NoMemory)) same made))
 makes-first recipe keys keys' more old new (FormsFull drawn) (Err x) same made is row u typed obeys =
     subst (λ v. MakesBoth recipe keys' more old new (Err v)) (sym is) (inl (subst (λ ks. MakesBy recipe ks old new (Err (FormsFull drawn))) same made))
-makes-first recipe keys keys' more old new (Refused e) (Err x) same made is row u typed obeys = let both : ◌≡◌ {A = Checked} (Ok u) (Err e) = sym typed ∙ obeys in absurd cc
+makes-first recipe keys keys' more old new (Refused e) (Err x) same made is row u typed obeys = let both : ◌≡◌ {A = Checked} (Ok u) (Err e) =
+    sym typed ∙ obeys in absurd cc
 
-pub makes-second : (recipe keys more : List Key) (old mid new : PassView) (g : Handle) (r : Result Handle HandleError) → MakesBy recipe keys old mid (Ok g) → Makes ((recipe ++ keys) ++ more) mid new r
+pub makes-second : (recipe keys more : List Key) (old mid new : PassView) (g : Handle) (r : Result Handle HandleError) → MakesBy recipe keys old mid (Ok g) →
+    Makes ((recipe ++ keys) ++ more) mid new r
     → IsAccepted r → MakesBoth recipe keys more old new r
 makes-second recipe keys more old mid new g (Ok h) first second accepted = (mid, g, first, second)
 makes-second recipe keys more old mid new g (Err NoMemory) first second accepted = inr (mid, g, first, second)
@@ -100,8 +107,10 @@ makes-second recipe keys more old mid new g (Err (FormsFull drawn)) first second
 makes-second recipe keys more old mid new g (Err (Refused e)) first second accepted = absurd accepted
 
 -- want of memory before any edit
-pub makes-none : (recipe keys more : List Key) (pass : PassView) (e : CheckError) (r : Result Handle HandleError) → IsErrAnd r (λ x. x ≡ of_check e) → MakesBoth recipe keys more pass pass r
+pub makes-none : (recipe keys more : List Key) (pass : PassView) (e : CheckError) (r : Result Handle HandleError) → IsErrAnd r (λ x. x ≡ of_check e) →
+    MakesBoth recipe keys more pass pass r
 makes-none recipe keys more pass e (Ok h) is = absurd is
 makes-none recipe [] more pass check.NoMemory (Err x) is = subst (λ v. MakesBoth recipe [] more pass pass (Err v)) (sym is) (inl refl)
-makes-none recipe (k ∷ keys) more pass check.NoMemory (Err x) is = subst (λ v. MakesBoth recipe (k ∷ keys) more pass pass (Err v)) (sym is) (inl (refl, inl refl))
+makes-none recipe (k ∷ keys) more pass check.NoMemory (Err x) is = subst (λ v. MakesBoth recipe (k ∷ keys) more pass pass (Err v)) (sym is)
+    (inl (refl, inl refl))
 makes-none recipe keys more pass (check.Refused e) (Err x) is = subst (λ v. MakesBoth recipe keys more pass pass (Err v)) (sym is) refl

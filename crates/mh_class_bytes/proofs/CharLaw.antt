@@ -38,7 +38,8 @@ char_bytes-small : (u : ℕ) → u < 2 ^ 16 → char_bytes u ≡ unit_bytes u
 char_bytes-small u h = ap (flat_map unit_bytes) (units_of-small u h) ∙ flat_map-cons unit_bytes u [] ∙ append-nil (unit_bytes u)
 
 char_bytes-joined : (u v : ℕ) → (is_high u && is_low v) ≡ true → char_bytes (joined u v) ≡ unit_bytes u ++ unit_bytes v
-char_bytes-joined u v h = ap (flat_map unit_bytes) (units_of-joined u v h) ∙ flat_map-cons unit_bytes u (v ∷ []) ∙ ap (λ (x : List ℕ). unit_bytes u ++ x) (flat_map-cons unit_bytes v [] ∙ append-nil (unit_bytes v))
+char_bytes-joined u v h = ap (flat_map unit_bytes) (units_of-joined u v h) ∙ flat_map-cons unit_bytes u (v ∷ []) ∙ ap (λ (x : List ℕ). unit_bytes u ++ x)
+    (flat_map-cons unit_bytes v [] ∙ append-nil (unit_bytes v))
 
 -- ---- what is found
 
@@ -48,7 +49,8 @@ Finds at bytes (Ok cs) = bytes ≡ spelled cs
 Finds at bytes (Err place) = (k : ℕ) × (place ≡ at + k) × IsLoneAt bytes k
 
 -- behind a character
-after_char : (at n c : ℕ) (bytes : List ℕ) (r : Result (List ℕ) ℕ) → (c < 0x110000) × (is_half c ≡ false) → length (char_bytes c) ≡ n → Finds (at + n) bytes r → Finds at (char_bytes c ++ bytes) (behind (c ∷ []) r)
+after_char : (at n c : ℕ) (bytes : List ℕ) (r : Result (List ℕ) ℕ) → (c < 0x110000) × (is_half c ≡ false) → length (char_bytes c) ≡ n → Finds (at + n) bytes r →
+    Finds at (char_bytes c ++ bytes) (behind (c ∷ []) r)
 after_char at n c bytes (Ok cs) h len f = ap (λ (x : List ℕ). char_bytes c ++ x) f ∙ sym (flat_map-cons char_bytes c cs)
 after_char at n c bytes (Err place) h len f =
     let l = f.2 in (
@@ -67,7 +69,8 @@ after_char at n c bytes (Err place) h len f =
     )
   where
     take-both : (n : ℕ) (front rest : List ℕ) (k : ℕ) → length front ≡ n → take (n + k) (front ++ rest) ≡ front ++ take k rest
-    take-both n front rest k e = take-add n k (front ++ rest) ∙ ap (λ (x : List ℕ). x ++ take k (drop n (front ++ rest))) (take_at front rest n e) ∙ ap (λ (x : List ℕ). front ++ take k x) (drop_at front rest n e)
+    take-both n front rest k e = take-add n k (front ++ rest) ∙ ap (λ (x : List ℕ). x ++ take k (drop n (front ++ rest))) (take_at front rest n e) ∙
+        ap (λ (x : List ℕ). front ++ take k x) (drop_at front rest n e)
 
     drop-both : (n : ℕ) (front rest : List ℕ) (k : ℕ) → length front ≡ n → drop (n + k) (front ++ rest) ≡ drop k rest
     drop-both n front rest k e = sym (drop-drop k n (front ++ rest)) ∙ ap (drop k) (drop_at front rest n e)
@@ -76,8 +79,10 @@ half_range : (u : ℕ) → is_half u ≡ true → (0xD800 ≤ u) × (u < 0xE000)
 half_range u h = (grind (arith, nat_tests), grind (arith, nat_tests))
 
 -- a half by itself
-lone : (at u : ℕ) (rest : List ℕ) → is_half u ≡ true → ((low : ℕ) (more : List ℕ) → is_high u ≡ true → is_low low ≡ true → ¬ (rest ≡ unit_bytes low ++ more)) → Finds at (unit_bytes u ++ rest) (Err at)
-lone at u rest h alone = (0, omega arith, record { chars = []; whole = tt; before = refl; half = u; rest = rest; is_half = half_range u h; here = refl; alone = alone })
+lone : (at u : ℕ) (rest : List ℕ) → is_half u ≡ true → ((low : ℕ) (more : List ℕ) → is_high u ≡ true → is_low low ≡ true → ¬ (rest ≡ unit_bytes low ++ more)) →
+    Finds at (unit_bytes u ++ rest) (Err at)
+lone at u rest h alone = (0, omega arith, record { chars = []; whole = tt; before = refl; half = u; rest = rest; is_half = half_range u h; here = refl; alone =
+    alone })
 
 low_small : (v : ℕ) → is_low v ≡ true → v < 2 ^ 16
 low_small v h = grind (arith, nat_tests)
@@ -95,33 +100,43 @@ not_a_pair u v low apart hu hl e = absurd (go (is_high u) (is_low v) hu (ap is_l
     go false b p q r = absurd cc
 
 found-last : (at u : ℕ) → u < 2 ^ 16 → (t : Bool) → is_half u ≡ t → Finds at (flat_map unit_bytes (u ∷ [])) (cond t (Err at) (Ok (u ∷ [])))
-found-last at u h true e = rw flat_map-cons (lone at u [] e (λ low more hu hl same. absurd (omega (arith, ap length same, length-append (unit_bytes low) more, unit_bytes-some low))))
+found-last at u h true e =
+    rw flat_map-cons (lone at u [] e (λ low more hu hl same. absurd (omega (arith, ap length same, length-append (unit_bytes low) more, unit_bytes-some low))))
 found-last at u h false e = flat_map-cons unit_bytes u [] ∙ ap (λ (x : List ℕ). x ++ []) (sym (char_bytes-small u h)) ∙ sym (flat_map-cons char_bytes u [])
 
-found-apart : (at u v : ℕ) (units : List ℕ) → u < 2 ^ 16 → v < 2 ^ 16 → (is_high u && is_low v) ≡ false → (r : Result (List ℕ) ℕ) → Finds (at + length (unit_bytes u)) (flat_map unit_bytes (v ∷ units)) r
+found-apart : (at u v : ℕ) (units : List ℕ) → u < 2 ^ 16 → v < 2 ^ 16 → (is_high u && is_low v) ≡ false → (r : Result (List ℕ) ℕ) →
+    Finds (at + length (unit_bytes u)) (flat_map unit_bytes (v ∷ units)) r
     → (t : Bool) → is_half u ≡ t → Finds at (unit_bytes u ++ flat_map unit_bytes (v ∷ units)) (cond t (Err at) (behind (u ∷ []) r))
-found-apart at u v units hu hv apart r f true e = lone at u (flat_map unit_bytes (v ∷ units)) e (λ low more high is_low same. not_a_pair u v low apart high is_low (same_unit v low (flat_map unit_bytes units) more hv (low_small low is_low) (sym (flat_map-cons unit_bytes v units) ∙ same)))
+found-apart at u v units hu hv apart r f true e = lone at u (flat_map unit_bytes (v ∷ units)) e (λ low more high is_low same. not_a_pair u v low apart high
+    is_low (same_unit v low (flat_map unit_bytes units) more hv (low_small low is_low) (sym (flat_map-cons unit_bytes v units) ∙ same)))
 found-apart at u v units hu hv apart r f false e =
     let b = char_bytes-small u hu in
-    subst (λ (x : List ℕ). Finds at (x ++ flat_map unit_bytes (v ∷ units)) (behind (u ∷ []) r)) b (after_char at (length (unit_bytes u)) u (flat_map unit_bytes (v ∷ units)) r (omega arith, e) (ap length b) f)
+    subst (λ (x : List ℕ). Finds at (x ++ flat_map unit_bytes (v ∷ units)) (behind (u ∷ []) r)) b (after_char at (length (unit_bytes u)) u
+        (flat_map unit_bytes (v ∷ units)) r (omega arith, e) (ap length b) f)
 
-found-two : (at u v : ℕ) (units : List ℕ) → u < 2 ^ 16 → v < 2 ^ 16 → (r s : Result (List ℕ) ℕ) → Finds (at + 6) (flat_map unit_bytes units) s → Finds (at + length (unit_bytes u)) (flat_map unit_bytes (v ∷ units)) r
-    → (t : Bool) → (is_high u && is_low v) ≡ t → Finds at (flat_map unit_bytes (u ∷ v ∷ units)) (cond t (behind (joined u v ∷ []) s) (cond (is_half u) (Err at) (behind (u ∷ []) r)))
+found-two : (at u v : ℕ) (units : List ℕ) → u < 2 ^ 16 → v < 2 ^ 16 → (r s : Result (List ℕ) ℕ) → Finds (at + 6) (flat_map unit_bytes units) s →
+    Finds (at + length (unit_bytes u)) (flat_map unit_bytes (v ∷ units)) r
+    → (t : Bool) → (is_high u && is_low v) ≡ t →
+        Finds at (flat_map unit_bytes (u ∷ v ∷ units)) (cond t (behind (joined u v ∷ []) s) (cond (is_half u) (Err at) (behind (u ∷ []) r)))
 found-two at u v units hu hv r s g f true e =
     let b = char_bytes-joined u v e in
     let hl = high_low u v e in
-    let len : length (char_bytes (joined u v)) ≡ 6 = omega (arith, ap length b, length-append (unit_bytes u) (unit_bytes v), long_half u hl.0, long_half v hl.1) in
+    let len : length (char_bytes (joined u v)) ≡ 6 = omega (arith, ap length b, length-append (unit_bytes u) (unit_bytes v), long_half u hl.0, long_half v hl.1)
+        in
     let whole : char_bytes (joined u v) ++ flat_map unit_bytes units ≡ flat_map unit_bytes (u ∷ v ∷ units) =
     ap (λ (x : List ℕ). x ++ flat_map unit_bytes units) b ∙ append_assoc (unit_bytes u) (unit_bytes v) (flat_map unit_bytes units)
     ∙ ap (λ (x : List ℕ). unit_bytes u ++ x) (sym (flat_map-cons unit_bytes v units)) ∙ sym (flat_map-cons unit_bytes u (v ∷ units)) in
-    subst (λ (x : List ℕ). Finds at x (behind (joined u v ∷ []) s)) whole (after_char at 6 (joined u v) (flat_map unit_bytes units) s (grind (arith, nat_tests), grind (arith, nat_tests)) len g)
-found-two at u v units hu hv r s g f false e = subst (λ (x : List ℕ). Finds at x (cond (is_half u) (Err at) (behind (u ∷ []) r))) (sym (flat_map-cons unit_bytes u (v ∷ units))) (found-apart at u v units hu hv e r f (is_half u) refl)
+    subst (λ (x : List ℕ). Finds at x (behind (joined u v ∷ []) s)) whole (after_char at 6 (joined u v) (flat_map unit_bytes units) s
+        (grind (arith, nat_tests), grind (arith, nat_tests)) len g)
+found-two at u v units hu hv r s g f false e = subst (λ (x : List ℕ). Finds at x (cond (is_half u) (Err at) (behind (u ∷ []) r)))
+    (sym (flat_map-cons unit_bytes u (v ∷ units))) (found-apart at u v units hu hv e r f (is_half u) refl)
 
 pub found : (at : ℕ) (units : List ℕ) → AreUnits units → Finds at (flat_map unit_bytes units) (chars_from at units)
 unfolding chars_from
 found at [] h = refl
 found at (u ∷ []) h = found-last at u h.0 (is_half u) refl
-found at (u ∷ v ∷ units) h = found-two at u v units h.0 h.1.0 (chars_from (at + length (unit_bytes u)) (v ∷ units)) (chars_from (at + 6) units) (found (at + 6) units h.1.1) (found (at + length (unit_bytes u)) (v ∷ units) h.1) (is_high u && is_low v) refl
+found at (u ∷ v ∷ units) h = found-two at u v units h.0 h.1.0 (chars_from (at + length (unit_bytes u)) (v ∷ units)) (chars_from (at + 6) units)
+    (found (at + 6) units h.1.1) (found (at + length (unit_bytes u)) (v ∷ units) h.1) (is_high u && is_low v) refl
 
 -- What the search in a text finds.
 pub chars_law : (bytes : List ℕ) → IsSound bytes → Finds 0 bytes (chars_of bytes)

@@ -33,7 +33,8 @@ alone u = go (is_half u)
     go false = refl
 
 -- the first character as it is shown, and the rest
-shown-first : (bytes : List ℕ) → Begins bytes → shown (units_from 0 bytes) ≡ unwrap_or (first_char bytes) 0xFFFD ∷ shown (units_from 0 (drop (first_len bytes) bytes))
+shown-first : (bytes : List ℕ) → Begins bytes → shown (units_from 0 bytes) ≡ unwrap_or (first_char bytes) 0xFFFD ∷ shown
+    (units_from 0 (drop (first_len bytes) bytes))
 shown-first bytes (pair v us e t f l r s w) = rw (e, f, ← r) (shown-pair (value bytes) v us t)
 shown-first bytes (apart v us e t f l r s w) = rw (e, f, ← r) (shown-apart (value bytes) v us t ∙ ap (λ (c : ℕ). c ∷ shown (v ∷ us)) (alone (value bytes)))
 shown-first bytes (last e f l r s w) = rw (e, f, ← r) (shown-last (value bytes) ∙ ap (λ (c : ℕ). c ∷ shown []) (alone (value bytes)))
@@ -47,7 +48,8 @@ chars-pair : (at u v : ℕ) (us : List ℕ) → (is_high u && is_low v) ≡ true
 unfolding chars_from
 chars-pair at u v us h = rw h refl
 
-chars-apart : (at u v : ℕ) (us : List ℕ) → (is_high u && is_low v) ≡ false → chars_from at (u ∷ v ∷ us) ≡ told (as_char u) at (chars_from (at + length (unit_bytes u)) (v ∷ us))
+chars-apart : (at u v : ℕ) (us : List ℕ) → (is_high u && is_low v) ≡ false →
+    chars_from at (u ∷ v ∷ us) ≡ told (as_char u) at (chars_from (at + length (unit_bytes u)) (v ∷ us))
 unfolding chars_from
 chars-apart at u v us h = rw h (go (is_half u) (chars_from (at + length (unit_bytes u)) (v ∷ us)))
   where
@@ -68,7 +70,8 @@ unfolding chars_from
 chars-nil at = refl
 
 -- the first character, and the rest
-chars-first : (bytes : List ℕ) (at : ℕ) → Begins bytes → chars_from at (units_from 0 bytes) ≡ told (first_char bytes) at (chars_from (at + first_len bytes) (units_from 0 (drop (first_len bytes) bytes)))
+chars-first : (bytes : List ℕ) (at : ℕ) → Begins bytes → chars_from at (units_from 0 bytes) ≡ told (first_char bytes) at
+    (chars_from (at + first_len bytes) (units_from 0 (drop (first_len bytes) bytes)))
 chars-first bytes at (pair v us e t f l r s w) = rw (e, f, ← r, ← l) (chars-pair at (value bytes) v us t)
 chars-first bytes at (apart v us e t f l r s w) = rw (e, f, ← r, ← l) (chars-apart at (value bytes) v us t)
 chars-first bytes at (last e f l r s w) = rw (e, f, ← r, ← l) (chars-last at (value bytes))
@@ -101,10 +104,12 @@ pub record IsShowing (bytes : List ℕ) (at : ℕ) (found : List ℕ) : Type 0 w
   pub place : IsAt bytes at
   pub so_far : found ++ shown (units_from 0 (drop at bytes)) ≡ shown_text bytes
 
-pub showing-next : (bytes : List ℕ) (at : ℕ) (found : List ℕ) → IsShowing bytes at found → at < length bytes → IsShowing bytes (at + first_len (drop at bytes)) (found ++ unwrap_or (first_char (drop at bytes)) 0xFFFD ∷ [])
+pub showing-next : (bytes : List ℕ) (at : ℕ) (found : List ℕ) → IsShowing bytes at found → at < length bytes →
+    IsShowing bytes (at + first_len (drop at bytes)) (found ++ unwrap_or (first_char (drop at bytes)) 0xFFFD ∷ [])
 showing-next bytes at found s lt =
     let c = unwrap_or (first_char (drop at bytes)) 0xFFFD in
-    let step = shown-first (drop at bytes) (is_at-next bytes at s.place lt) ∙ ap (λ (b : List ℕ). c ∷ shown (units_from 0 b)) (drop-drop (first_len (drop at bytes)) at bytes) in
+    let step = shown-first (drop at bytes) (is_at-next bytes at s.place lt) ∙ ap (λ (b : List ℕ). c ∷ shown (units_from 0 b))
+        (drop-drop (first_len (drop at bytes)) at bytes) in
     let rest = shown (units_from 0 (drop (at + first_len (drop at bytes)) bytes)) in
     record { place = is_at-more bytes at s.place lt; so_far = append_assoc found (c ∷ []) rest ∙ ap (λ (x : List ℕ). found ++ x) (sym step) ∙ s.so_far }
 
@@ -113,7 +118,8 @@ at_end bytes at le = nil_from_length (drop at bytes) (omega (arith, length-drop 
 
 pub showing-done : (bytes : List ℕ) (at : ℕ) (found : List ℕ) → IsShowing bytes at found → length bytes ≤ at → found ≡ shown_text bytes
 showing-done bytes at found s le =
-    sym (append-nil found) ∙ ap (λ (x : List ℕ). found ++ x) (sym (ap (λ (b : List ℕ). shown (units_from 0 b)) (at_end bytes at le) ∙ ap shown units_in-nil ∙ shown-nil)) ∙ s.so_far
+    sym (append-nil found) ∙ ap (λ (x : List ℕ). found ++ x) (sym (ap (λ (b : List ℕ). shown (units_from 0 b)) (at_end bytes at le) ∙ ap shown units_in-nil ∙
+        shown-nil)) ∙ s.so_far
 
 pub record IsDecoding (bytes : List ℕ) (at : ℕ) (found : List ℕ) : Type 0 where
   pub place : IsAt bytes at
@@ -123,17 +129,22 @@ behind-behind : (a b : List ℕ) (r : Result (List ℕ) ℕ) → behind a (behin
 behind-behind a b (Ok cs) = ap (λ (x : List ℕ). Ok x) (sym (append_assoc a b cs))
 behind-behind a b (Err at) = refl
 
-chars-next : (bytes : List ℕ) (at : ℕ) → IsAt bytes at → at < length bytes → chars_from at (units_from 0 (drop at bytes)) ≡ told (first_char (drop at bytes)) at (chars_from (at + first_len (drop at bytes)) (units_from 0 (drop (at + first_len (drop at bytes)) bytes)))
+chars-next : (bytes : List ℕ) (at : ℕ) → IsAt bytes at → at < length bytes → chars_from at (units_from 0 (drop at bytes)) ≡ told (first_char (drop at bytes)) at
+    (chars_from (at + first_len (drop at bytes)) (units_from 0 (drop (at + first_len (drop at bytes)) bytes)))
 chars-next bytes at i lt =
-    chars-first (drop at bytes) at (is_at-next bytes at i lt) ∙ ap (λ (b : List ℕ). told (first_char (drop at bytes)) at (chars_from (at + first_len (drop at bytes)) (units_from 0 b))) (drop-drop (first_len (drop at bytes)) at bytes)
+    chars-first (drop at bytes) at (is_at-next bytes at i lt) ∙
+        ap (λ (b : List ℕ). told (first_char (drop at bytes)) at (chars_from (at + first_len (drop at bytes)) (units_from 0 b)))
+        (drop-drop (first_len (drop at bytes)) at bytes)
 
-pub decoding-next : (bytes : List ℕ) (at : ℕ) (found : List ℕ) (c : ℕ) → IsDecoding bytes at found → at < length bytes → first_char (drop at bytes) ≡ Some c → IsDecoding bytes (at + first_len (drop at bytes)) (found ++ c ∷ [])
+pub decoding-next : (bytes : List ℕ) (at : ℕ) (found : List ℕ) (c : ℕ) → IsDecoding bytes at found → at < length bytes → first_char (drop at bytes) ≡ Some c →
+    IsDecoding bytes (at + first_len (drop at bytes)) (found ++ c ∷ [])
 decoding-next bytes at found c d lt h =
     let rest = chars_from (at + first_len (drop at bytes)) (units_from 0 (drop (at + first_len (drop at bytes)) bytes)) in
     let step = chars-next bytes at d.place lt ∙ ap (λ (o : Option ℕ). told o at rest) h in
     record { place = is_at-more bytes at d.place lt; so_far = sym (behind-behind found (c ∷ []) rest) ∙ ap (behind found) (sym step) ∙ d.so_far }
 
-pub decoding-stops : (bytes : List ℕ) (at : ℕ) (found : List ℕ) → IsDecoding bytes at found → at < length bytes → first_char (drop at bytes) ≡ None → chars_of bytes ≡ Err at
+pub decoding-stops : (bytes : List ℕ) (at : ℕ) (found : List ℕ) → IsDecoding bytes at found → at < length bytes → first_char (drop at bytes) ≡ None →
+    chars_of bytes ≡ Err at
 decoding-stops bytes at found d lt h =
     let rest = chars_from (at + first_len (drop at bytes)) (units_from 0 (drop (at + first_len (drop at bytes)) bytes)) in
     let step = chars-next bytes at d.place lt ∙ ap (λ (o : Option ℕ). told o at rest) h in

@@ -10,15 +10,18 @@ use Rattle.mh_class_bytes.specs.Bytes.{skip, number_at, bytes_at}
 use Rattle.mh_class_bytes.specs.Format.{Format, number, run, here, verdict, check, refuse, done, choose, blame, part, ◌>>=◌, Spells, reads, or_fault, blamed, cut}
 use Rattle.mh_class_bytes.proofs.FormatParts.{okr, cut_front}
 
-fits : (n : ℕ) (p : Position) (text rest : List ℕ) → p.at ≤ length p.bytes → drop p.at p.bytes ≡ text ++ rest → length text ≡ n → ltb (length p.bytes) (p.at + n) ≡ false
+fits : (n : ℕ) (p : Position) (text rest : List ℕ) → p.at ≤ length p.bytes → drop p.at p.bytes ≡ text ++ rest → length text ≡ n →
+    ltb (length p.bytes) (p.at + n) ≡ false
 fits n p text rest le split len = le-ltb _ _ (omega (arith, ap length split, length-append text rest, length-drop p.at p.bytes))
 
-run_again : {K : Type 0} (kind : K) (n : ℕ) (p : Position) (text rest : List ℕ) → p.at ≤ length p.bytes → drop p.at p.bytes ≡ text ++ rest → length text ≡ n → or_fault kind (bytes_at n p) ≡ Ok (text, skip n p)
+run_again : {K : Type 0} (kind : K) (n : ℕ) (p : Position) (text rest : List ℕ) → p.at ≤ length p.bytes → drop p.at p.bytes ≡ text ++ rest → length text ≡ n →
+    or_fault kind (bytes_at n p) ≡ Ok (text, skip n p)
 run_again {K = K} kind n p text rest le split len =
     let t : take n (drop p.at p.bytes) ≡ text = ap (take n) split ∙ take_at text rest n len in
     rw (fits n p text rest le split len) (ap (λ (x : List ℕ). okr K (x, skip n p)) t)
 
-number_again : {K : Type 0} (kind : K) (n : ℕ) (p : Position) (text rest : List ℕ) → p.at ≤ length p.bytes → drop p.at p.bytes ≡ text ++ rest → length text ≡ n → or_fault kind (number_at n p) ≡ Ok (big_number n text, skip n p)
+number_again : {K : Type 0} (kind : K) (n : ℕ) (p : Position) (text rest : List ℕ) → p.at ≤ length p.bytes → drop p.at p.bytes ≡ text ++ rest → length text ≡ n
+    → or_fault kind (number_at n p) ≡ Ok (big_number n text, skip n p)
 number_again {K = K} kind n p text rest le split len =
     let t : big_number n (drop p.at p.bytes) ≡ big_number n text = ap (big_number n) split ∙ big_from-append n text rest (omega (arith, len)) in
     rw (fits n p text rest le split len) (ap (λ (x : ℕ). okr K (x, skip n p)) t)
@@ -36,11 +39,14 @@ split_len : (p : Position) (text rest : List ℕ) → p.at ≤ length p.bytes �
 split_len p text rest le split = omega (arith, ap length split, length-append text rest, length-drop p.at p.bytes)
 
 -- What is spelled at a position is read there, whatever follows it.
-pub complete : {K A : Type 0} (f : Format K A) (p : Position) (x : A) (text rest : List ℕ) → p.at ≤ length p.bytes → drop p.at p.bytes ≡ text ++ rest → Spells f p.at text x → reads f p ≡ Ok (x, skip (length text) p)
+pub complete : {K A : Type 0} (f : Format K A) (p : Position) (x : A) (text rest : List ℕ) → p.at ≤ length p.bytes → drop p.at p.bytes ≡ text ++ rest →
+    Spells f p.at text x → reads f p ≡ Ok (x, skip (length text) p)
 complete {K = K} (number kind n) p x text rest le split s =
-    number_again kind n p text rest le split s.0 ∙ ap (λ (v : ℕ). okr K (v, skip n p)) (sym s.1) ∙ ap (λ (m : Position). okr K (x, m)) (same_place p n (length text) (sym s.0))
+    number_again kind n p text rest le split s.0 ∙ ap (λ (v : ℕ). okr K (v, skip n p)) (sym s.1) ∙ ap (λ (m : Position). okr K (x, m))
+        (same_place p n (length text) (sym s.0))
 complete {K = K} (run kind n) p x text rest le split s =
-    run_again kind n p text rest le split s.0 ∙ ap (λ (v : List ℕ). okr K (v, skip n p)) (sym s.1) ∙ ap (λ (m : Position). okr K (x, m)) (same_place p n (length text) (sym s.0))
+    run_again kind n p text rest le split s.0 ∙ ap (λ (v : List ℕ). okr K (v, skip n p)) (sym s.1) ∙ ap (λ (m : Position). okr K (x, m))
+        (same_place p n (length text) (sym s.0))
 complete {K = K} here p x text rest le split s = ap (λ (v : ℕ). okr K (v, p)) (sym s.1) ∙ ap (λ (m : Position). okr K (x, m)) (no_bytes p text s.0)
 complete {K = K} (verdict (Ok v)) p x text rest le split s = ap (λ (m : Position). okr K (tt, m)) (no_bytes p text s.0)
 complete {K = K} (verdict (Err d)) p x text rest le split s = absurd (cc s.1)
@@ -56,7 +62,8 @@ complete {K = K} (part short n left f) p x text rest le split s =
     let in_bytes = split_len p text rest le split in
     let inside : drop p.at (take (p.at + n) p.bytes) ≡ text ++ [] = cut_front n p ∙ ap (take n) split ∙ take_at text rest n s.0 ∙ sym (append-nil text) in
     let second = complete f (cut (p.at + n) p) x text [] (omega (arith, s.0, length-take-le (p.at + n) p.bytes (omega (arith, s.0)))) inside s.1 in
-    let third : reads f (cut (p.at + n) p) ≡ Ok (x, skip n (cut (p.at + n) p)) = second ∙ ap (λ (m : Position). okr K (x, m)) (same_place (cut (p.at + n) p) (length text) n s.0) in
+    let third : reads f (cut (p.at + n) p) ≡ Ok (x, skip n (cut (p.at + n) p)) =
+        second ∙ ap (λ (m : Position). okr K (x, m)) (same_place (cut (p.at + n) p) (length text) n s.0) in
     let same : eqb (p.at + n) (p.at + n) ≡ true = grind (arith, nat_tests) in
     rw (first, third, same) (ap (λ (m : Position). okr K (x, m)) (same_place p n (length text) (sym s.0)))
 complete {K = K} (f >>= g) p x text rest le split s =
@@ -67,7 +74,8 @@ complete {K = K} (f >>= g) p x text rest le split s =
     let first = complete f p y t1 (t2 ++ rest) le split1 s.4 in
     let m = skip (length t1) p in
     let le2 : m.at ≤ length m.bytes = split_len p t1 (t2 ++ rest) le split1 in
-    let split2 : drop m.at m.bytes ≡ t2 ++ rest = sym (drop-drop (length t1) p.at p.bytes) ∙ ap (drop (length t1)) split1 ∙ drop_at t1 (t2 ++ rest) (length t1) refl in
+    let split2 : drop m.at m.bytes ≡ t2 ++ rest = sym (drop-drop (length t1) p.at p.bytes) ∙ ap (drop (length t1)) split1 ∙ drop_at t1 (t2 ++ rest) (length t1)
+        refl in
     let second = complete (g y) m x t2 rest le2 split2 s.5 in
     let len : p.at + length t1 + length t2 ≡ p.at + length text = omega (arith, ap length s.3, length-append t1 t2) in
     rw first (second ∙ ap (λ (k : ℕ). okr K (x, at_place k)) len)

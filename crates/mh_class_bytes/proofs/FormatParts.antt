@@ -25,10 +25,13 @@ blamed_ok place kind (Ok x) y e = e
 blamed_ok place kind (Err d) y e = absurd cc
 
 -- the run of bytes at a position
-pub run_at : {K : Type 0} (kind : K) (n : ℕ) (p : Position) (y : List ℕ × Position) → or_fault kind (bytes_at n p) ≡ Ok y → (p.at + n ≤ length p.bytes) × (y.0 ≡ take n (drop p.at p.bytes)) × (y.1 ≡ skip n p)
+pub run_at : {K : Type 0} (kind : K) (n : ℕ) (p : Position) (y : List ℕ × Position) → or_fault kind (bytes_at n p) ≡ Ok y → (p.at + n ≤ length p.bytes)
+    × (y.0 ≡ take n (drop p.at p.bytes)) × (y.1 ≡ skip n p)
 run_at {K = K} kind n p y e = go (ltb (length p.bytes) (p.at + n)) refl e
   where
-    go : (b : Bool) → ltb (length p.bytes) (p.at + n) ≡ b → or_fault {K = K} {X = List ℕ} kind (cond b (Err (record { at = p.at })) (Ok (take n (drop p.at p.bytes), skip n p))) ≡ Ok y → (p.at + n ≤ length p.bytes) × (y.0 ≡ take n (drop p.at p.bytes)) × (y.1 ≡ skip n p)
+    go : (b : Bool) → ltb (length p.bytes) (p.at + n) ≡ b →
+        or_fault {K = K} {X = List ℕ} kind (cond b (Err (record { at = p.at })) (Ok (take n (drop p.at p.bytes), skip n p))) ≡ Ok y →
+        (p.at + n ≤ length p.bytes) × (y.0 ≡ take n (drop p.at p.bytes)) × (y.1 ≡ skip n p)
     go true t h = absurd cc
     go false t h = (ltb-false _ _ t, ap (λ (z : Reading K (List ℕ)). val z) (sym h), ap (λ (z : Reading K (List ℕ)). pos z) (sym h))
       where
@@ -40,10 +43,13 @@ run_at {K = K} kind n p y e = go (ltb (length p.bytes) (p.at + n)) refl e
         pos (Ok z) = z.1
         pos (Err d) = p
 
-pub number_run : {K : Type 0} (kind : K) (n : ℕ) (p : Position) (y : ℕ × Position) → or_fault kind (number_at n p) ≡ Ok y → (p.at + n ≤ length p.bytes) × (y.0 ≡ big_number n (drop p.at p.bytes)) × (y.1 ≡ skip n p)
+pub number_run : {K : Type 0} (kind : K) (n : ℕ) (p : Position) (y : ℕ × Position) → or_fault kind (number_at n p) ≡ Ok y → (p.at + n ≤ length p.bytes)
+    × (y.0 ≡ big_number n (drop p.at p.bytes)) × (y.1 ≡ skip n p)
 number_run {K = K} kind n p y e = go (ltb (length p.bytes) (p.at + n)) refl e
   where
-    go : (b : Bool) → ltb (length p.bytes) (p.at + n) ≡ b → or_fault {K = K} {X = ℕ} kind (cond b (Err (record { at = p.at })) (Ok (big_number n (drop p.at p.bytes), skip n p))) ≡ Ok y → (p.at + n ≤ length p.bytes) × (y.0 ≡ big_number n (drop p.at p.bytes)) × (y.1 ≡ skip n p)
+    go : (b : Bool) → ltb (length p.bytes) (p.at + n) ≡ b →
+        or_fault {K = K} {X = ℕ} kind (cond b (Err (record { at = p.at })) (Ok (big_number n (drop p.at p.bytes), skip n p))) ≡ Ok y →
+        (p.at + n ≤ length p.bytes) × (y.0 ≡ big_number n (drop p.at p.bytes)) × (y.1 ≡ skip n p)
     go true t h = absurd cc
     go false t h = (ltb-false _ _ t, ap (λ (z : Reading K ℕ). val z) (sym h), ap (λ (z : Reading K ℕ). pos z) (sym h))
       where
@@ -73,10 +79,12 @@ pub front_len : (n : ℕ) (p : Position) → p.at + n ≤ length p.bytes → len
 front_len n p le = length-take-le n (drop p.at p.bytes) (omega (arith, length-drop p.at p.bytes))
 
 -- what takes n bytes
-pub taken : {K A : Type 0} (f : Format K A) (p : Position) (x : A) (q : Position) (n : ℕ) → p.at + n ≤ length p.bytes → Spells f p.at (front n p) x → q ≡ skip n p → Stands f p x q
+pub taken : {K A : Type 0} (f : Format K A) (p : Position) (x : A) (q : Position) (n : ℕ) → p.at + n ≤ length p.bytes → Spells f p.at (front n p) x →
+    q ≡ skip n p → Stands f p x q
 taken f p x q n le s e =
     let len = front_len n p le in
-    record { text = front n p; rest = drop n (drop p.at p.bytes); split = sym (take-append-drop n (drop p.at p.bytes)); within = omega (arith, len); spells = s; after = e ∙ ap (λ (m : ℕ). skip m p) (sym len) }
+    record { text = front n p; rest = drop n (drop p.at p.bytes); split = sym (take-append-drop n (drop p.at p.bytes)); within = omega (arith, len); spells =
+        s; after = e ∙ ap (λ (m : ℕ). skip m p) (sym len) }
 
 -- what takes no bytes
 pub nothing : {K A : Type 0} (f : Format K A) (p : Position) (x : A) (q : Position) → p.at ≤ length p.bytes → Spells f p.at [] x → q ≡ p → Stands f p x q
@@ -88,10 +96,13 @@ nothing f p x q le s e =
     at_place : ℕ → Position
     at_place m = record { bytes = p.bytes; at = m }
 
-pub two_parts : {K A B : Type 0} (f : Format K A) (g : A → Format K B) (p : Position) (y : A) (x : B) (q : Position) (t1 r1 : List ℕ) → drop p.at p.bytes ≡ t1 ++ r1 → Spells f p.at t1 y → Stands (g y) (skip (length t1) p) x q → Stands (f >>= g) p x q
+pub two_parts : {K A B : Type 0} (f : Format K A) (g : A → Format K B) (p : Position) (y : A) (x : B) (q : Position) (t1 r1 : List ℕ) →
+    drop p.at p.bytes ≡ t1 ++ r1 → Spells f p.at t1 y → Stands (g y) (skip (length t1) p) x q → Stands (f >>= g) p x q
 two_parts f g p y x q t1 r1 split s t =
-    let r1-is : drop (p.at + length t1) p.bytes ≡ r1 = sym (drop-drop (length t1) p.at p.bytes) ∙ ap (drop (length t1)) split ∙ drop_at t1 r1 (length t1) refl in
-    let whole : drop p.at p.bytes ≡ (t1 ++ t.text) ++ t.rest = split ∙ ap (λ (r : List ℕ). t1 ++ r) (sym r1-is ∙ t.split) ∙ sym (append_assoc t1 t.text t.rest) in
+    let r1-is : drop (p.at + length t1) p.bytes ≡ r1 = sym (drop-drop (length t1) p.at p.bytes) ∙ ap (drop (length t1)) split ∙ drop_at t1 r1 (length t1) refl
+        in
+    let whole : drop p.at p.bytes ≡ (t1 ++ t.text) ++ t.rest = split ∙ ap (λ (r : List ℕ). t1 ++ r) (sym r1-is ∙ t.split) ∙ sym (append_assoc t1 t.text t.rest)
+        in
     let len : p.at + length t1 + length t.text ≡ p.at + length (t1 ++ t.text) = omega (arith, length-append t1 t.text) in
     record {
       text = t1 ++ t.text;
@@ -105,17 +116,20 @@ two_parts f g p y x q t1 r1 split s t =
     at_place : ℕ → Position
     at_place m = record { bytes = p.bytes; at = m }
 
-pub filled_ok : {K A : Type 0} (left : K) (end : Position) (y : A × Position) (x : A) (q : Position) → filled left end y ≡ Ok (x, q) → (y.1.at ≡ end.at) × (y.0 ≡ x) × (end ≡ q)
+pub filled_ok : {K A : Type 0} (left : K) (end : Position) (y : A × Position) (x : A) (q : Position) → filled left end y ≡ Ok (x, q) → (y.1.at ≡ end.at)
+    × (y.0 ≡ x) × (end ≡ q)
 filled_ok {K = K} {A = A} left end y x q e = go (eqb y.1.at end.at) refl e
   where
-    go : (b : Bool) → eqb y.1.at end.at ≡ b → cond {A = Reading K A} b (Ok (y.0, end)) (fault y.1.at left) ≡ Ok (x, q) → (y.1.at ≡ end.at) × (y.0 ≡ x) × (end ≡ q)
+    go : (b : Bool) → eqb y.1.at end.at ≡ b → cond {A = Reading K A} b (Ok (y.0, end)) (fault y.1.at left) ≡ Ok (x, q) → (y.1.at ≡ end.at) × (y.0 ≡ x)
+        × (end ≡ q)
     go true t h = let k = ok_pair K y.0 end x q h in (eqb-true _ _ t, k.0, k.1)
     go false t h = absurd cc
 
 pub cut_front : (n : ℕ) (p : Position) → drop p.at (take (p.at + n) p.bytes) ≡ front n p
 cut_front n p = drop-take p.at n p.bytes
 
-pub whole_part : (n : ℕ) (p : Position) (text rest : List ℕ) → p.at + n ≤ length p.bytes → front n p ≡ text ++ rest → p.at + length text ≡ p.at + n → front n p ≡ text
+pub whole_part : (n : ℕ) (p : Position) (text rest : List ℕ) → p.at + n ≤ length p.bytes → front n p ≡ text ++ rest → p.at + length text ≡ p.at + n →
+    front n p ≡ text
 whole_part n p text rest le split len =
     let total : length (text ++ rest) ≡ n = ap length (sym split) ∙ front_len n p le in
     let none : rest ≡ [] = nil_from_length rest (omega (arith, total, length-append text rest)) in

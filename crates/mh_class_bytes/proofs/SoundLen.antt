@@ -29,7 +29,8 @@ sound_from-unit (b ∷ bytes) k h =
     rw h (grind (arith, nat_tests, skip))
 
 -- one turn of the check
-pub sound_step : (bytes : List ℕ) (at len total : ℕ) → len ≡ unit_len (drop at bytes) → at + sound_from 0 (drop at bytes) ≡ total → 0 < len → (at + len) + sound_from 0 (drop (at + len) bytes) ≡ total
+pub sound_step : (bytes : List ℕ) (at len total : ℕ) → len ≡ unit_len (drop at bytes) → at + sound_from 0 (drop at bytes) ≡ total → 0 < len →
+    (at + len) + sound_from 0 (drop (at + len) bytes) ≡ total
 sound_step bytes at len total is h pos =
     let k = len - 1 in
     let ek : unit_len (drop at bytes) ≡ suc k = omega arith in
@@ -46,14 +47,17 @@ pub sound_from-nil : sound_from 0 [] ≡ 0
 unfolding sound_from
 sound_from-nil = refl
 
-pub sound_end : (bytes : List ℕ) (at : ℕ) → at ≤ length bytes → length bytes ≤ at → at + sound_from 0 (drop at bytes) ≡ sound_from 0 bytes → sound_from 0 bytes ≡ length bytes
+pub sound_end : (bytes : List ℕ) (at : ℕ) → at ≤ length bytes → length bytes ≤ at → at + sound_from 0 (drop at bytes) ≡ sound_from 0 bytes →
+    sound_from 0 bytes ≡ length bytes
 sound_end bytes at le ge h =
     let e : drop at bytes ≡ [] = nil_from_length (drop at bytes) (omega (arith, length-drop at bytes)) in
     let z : sound_from 0 (drop at bytes) ≡ 0 = rw e sound_from-nil in
     omega arith
 
 -- one byte that is a unit by itself
-pub sound_plain : (bytes : List ℕ) (at total : ℕ) → at < length bytes → 1 ≤ get_or bytes at 0 → get_or bytes at 0 ≤ 0x7F → at + sound_from 0 (drop at bytes) ≡ total → (at + 1) + sound_from 0 (drop (at + 1) bytes) ≡ total
+pub sound_plain : (bytes : List ℕ) (at total : ℕ) → at < length bytes → 1 ≤ get_or bytes at 0 → get_or bytes at 0 ≤ 0x7F →
+    at + sound_from 0 (drop at bytes) ≡ total → (at + 1) + sound_from 0 (drop (at + 1) bytes) ≡ total
 sound_plain bytes at total lt low high h =
-    let one : unit_len (drop at bytes) ≡ 1 = ap unit_len (drop-cons bytes at 0 lt) ∙ len_1 (get_or bytes at 0) (drop (suc at) bytes) (omega arith) (omega arith) in
+    let one : unit_len (drop at bytes) ≡ 1 = ap unit_len (drop-cons bytes at 0 lt) ∙ len_1 (get_or bytes at 0) (drop (suc at) bytes) (omega arith) (omega arith)
+        in
     sound_step bytes at 1 total (sym one) h (omega arith)

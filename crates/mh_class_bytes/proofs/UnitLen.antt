@@ -16,7 +16,8 @@ pub record IsFront (bytes : List ℕ) (len : ℕ) : Type 0 where
 abbrev len_by : Bool → Bool → Bool → ℕ
 len_by t1 t2 t3 = cond t1 1 (cond t2 2 (cond t3 3 0))
 
-three_ways : (t1 t2 t3 : Bool) → 0 < len_by t1 t2 t3 → ((t1 ≡ true) × (len_by t1 t2 t3 ≡ 1)) ⊎ (((t2 ≡ true) × (len_by t1 t2 t3 ≡ 2)) ⊎ ((t3 ≡ true) × (len_by t1 t2 t3 ≡ 3)))
+three_ways : (t1 t2 t3 : Bool) → 0 < len_by t1 t2 t3 → ((t1 ≡ true) × (len_by t1 t2 t3 ≡ 1)) ⊎ (((t2 ≡ true) × (len_by t1 t2 t3 ≡ 2))
+    ⊎ ((t3 ≡ true) × (len_by t1 t2 t3 ≡ 3)))
 three_ways true t2 t3 h = inl (refl, refl)
 three_ways false true t3 h = inr (inl (refl, refl))
 three_ways false false true h = inr (inr (refl, refl))
@@ -43,8 +44,10 @@ is_two a b h = (grind (arith, nat_tests), grind (arith, nat_tests), grind (arith
 short_zero : (a b : ℕ) → two_test a b ≡ true → 64 * (a - 0xC0) + (b - 0x80) < 0x80 → 64 * (a - 0xC0) + (b - 0x80) ≡ 0
 short_zero a b h k = grind (arith, nat_tests)
 
-is_three : (a b c : ℕ) → three_test a b c ≡ true → (0xE0 ≤ a) × (a < 0xF0) × (0x80 ≤ b) × (b < 0xC0) × (0x80 ≤ c) × (c < 0xC0) × (0x800 ≤ 4096 * (a - 0xE0) + 64 * (b - 0x80) + (c - 0x80))
-is_three a b c h = (grind (arith, nat_tests), grind (arith, nat_tests), grind (arith, nat_tests), grind (arith, nat_tests), grind (arith, nat_tests), grind (arith, nat_tests), grind (arith, nat_tests))
+is_three : (a b c : ℕ) → three_test a b c ≡ true → (0xE0 ≤ a) × (a < 0xF0) × (0x80 ≤ b) × (b < 0xC0) × (0x80 ≤ c) × (c < 0xC0)
+    × (0x800 ≤ 4096 * (a - 0xE0) + 64 * (b - 0x80) + (c - 0x80))
+is_three a b c h = (grind (arith, nat_tests), grind (arith, nat_tests), grind (arith, nat_tests), grind (arith, nat_tests), grind (arith, nat_tests), grind
+    (arith, nat_tests), grind (arith, nat_tests))
 
 front_1 : (a : ℕ) (rest : List ℕ) → (ltb 0 a && ltb a 0x80) ≡ true → IsFront (a ∷ rest) 1
 front_1 a rest h =
@@ -59,11 +62,13 @@ front_2 a rest h =
     let p = a - 0xC0 in
     let q = get_or rest 0 0 - 0x80 in
     let s = second rest (omega arith) in
-    let range : (64 * p + q ≡ 0) ⊎ (0x80 ≤ 64 * p + q) = elim (cases_lt (64 * p + q) 0x80) [ inl lt ↦ inl (short_zero a (get_or rest 0 0) h lt) | inr le ↦ inr le ] in
+    let range : (64 * p + q ≡ 0) ⊎ (0x80 ≤ 64 * p + q) = elim (cases_lt (64 * p + q) 0x80) [ inl lt ↦ inl (short_zero a (get_or rest 0 0) h lt) | inr le ↦ inr
+        le ] in
     let e = unit_bytes-2 p q (omega arith) (omega arith) range in
     let pa : 0xC0 + p ≡ a = omega arith in
     let qb : 0x80 + q ≡ get_or rest 0 0 = omega arith in
-    let whole : unit_bytes (64 * p + q) ≡ a ∷ take 1 rest = e ∙ ap (λ (x : ℕ). x ∷ (0x80 + q) ∷ []) pa ∙ ap (λ (y : ℕ). a ∷ y ∷ []) qb ∙ ap (λ (ys : List ℕ). a ∷ ys) (sym s.0) in
+    let whole : unit_bytes (64 * p + q) ≡ a ∷ take 1 rest = e ∙ ap (λ (x : ℕ). x ∷ (0x80 + q) ∷ []) pa ∙ ap (λ (y : ℕ). a ∷ y ∷ []) qb ∙
+        ap (λ (ys : List ℕ). a ∷ ys) (sym s.0) in
     record { unit = 64 * p + q; small = omega arith; len_is = sym (ap length e); front = sym whole; within = omega (arith, s.1) }
 
 front_3 : (a : ℕ) (rest : List ℕ) → three_test a (get_or rest 0 0) (get_or rest 1 0) ≡ true → IsFront (a ∷ rest) 3
@@ -77,7 +82,8 @@ front_3 a rest h =
     let pa : 0xE0 + p ≡ a = omega arith in
     let qb : 0x80 + q ≡ get_or rest 0 0 = omega arith in
     let rc : 0x80 + r ≡ get_or rest 1 0 = omega arith in
-    let whole : unit_bytes (4096 * p + 64 * q + r) ≡ a ∷ take 2 rest = e ∙ ap (λ (x : ℕ). x ∷ (0x80 + q) ∷ (0x80 + r) ∷ []) pa ∙ ap (λ (y : ℕ). a ∷ y ∷ (0x80 + r) ∷ []) qb ∙ ap (λ (z : ℕ). a ∷ get_or rest 0 0 ∷ z ∷ []) rc ∙ ap (λ (ys : List ℕ). a ∷ ys) (sym s.0) in
+    let whole : unit_bytes (4096 * p + 64 * q + r) ≡ a ∷ take 2 rest = e ∙ ap (λ (x : ℕ). x ∷ (0x80 + q) ∷ (0x80 + r) ∷ []) pa ∙
+        ap (λ (y : ℕ). a ∷ y ∷ (0x80 + r) ∷ []) qb ∙ ap (λ (z : ℕ). a ∷ get_or rest 0 0 ∷ z ∷ []) rc ∙ ap (λ (ys : List ℕ). a ∷ ys) (sym s.0) in
     record { unit = 4096 * p + 64 * q + r; small = omega arith; len_is = sym (ap length e); front = sym whole; within = omega (arith, s.1) }
 
 -- A unit that is found is spelled there.
@@ -103,7 +109,8 @@ len_2 : (a b : ℕ) (rest : List ℕ) → 0xC2 ≤ a → a < 0xE0 → 0x80 ≤ b
 unfolding unit_len
 len_2 a b rest h1 h2 h3 h4 = grind (arith, nat_tests)
 
-len_3 : (a b c : ℕ) (rest : List ℕ) → 0xE0 ≤ a → a < 0xF0 → 0x80 ≤ b → b < 0xC0 → 0x80 ≤ c → c < 0xC0 → 0x800 ≤ 4096 * (a - 0xE0) + 64 * (b - 0x80) → unit_len (a ∷ b ∷ c ∷ rest) ≡ 3
+len_3 : (a b c : ℕ) (rest : List ℕ) → 0xE0 ≤ a → a < 0xF0 → 0x80 ≤ b → b < 0xC0 → 0x80 ≤ c → c < 0xC0 → 0x800 ≤ 4096 * (a - 0xE0) + 64 * (b - 0x80) →
+    unit_len (a ∷ b ∷ c ∷ rest) ≡ 3
 unfolding unit_len
 len_3 a b c rest h1 h2 h3 h4 h5 h6 h7 = grind (arith, nat_tests)
 
@@ -116,9 +123,11 @@ complete_2 : (p q : ℕ) (rest : List ℕ) → q < 64 → p < 32 → 0x80 ≤ 64
 complete_2 p q rest hq hp big =
     rw (unit_bytes-2 p q hq hp (inr big)) (len_2 (0xC0 + p) (0x80 + q) rest (omega arith) (omega arith) (omega arith) (omega arith))
 
-complete_3 : (p q r : ℕ) (rest : List ℕ) → p < 16 → q < 64 → r < 64 → 0x800 ≤ 4096 * p + 64 * q + r → unit_len (unit_bytes (4096 * p + 64 * q + r) ++ rest) ≡ length (unit_bytes (4096 * p + 64 * q + r))
+complete_3 : (p q r : ℕ) (rest : List ℕ) → p < 16 → q < 64 → r < 64 → 0x800 ≤ 4096 * p + 64 * q + r →
+    unit_len (unit_bytes (4096 * p + 64 * q + r) ++ rest) ≡ length (unit_bytes (4096 * p + 64 * q + r))
 complete_3 p q r rest hp hq hr big =
-    rw (unit_bytes-3 p q r hp hq hr big) (len_3 (0xE0 + p) (0x80 + q) (0x80 + r) rest (omega arith) (omega arith) (omega arith) (omega arith) (omega arith) (omega arith) (omega arith))
+    rw (unit_bytes-3 p q r hp hq hr big) (len_3 (0xE0 + p) (0x80 + q) (0x80 + r) rest (omega arith) (omega arith) (omega arith) (omega arith) (omega arith)
+        (omega arith) (omega arith))
 
 -- A unit that is spelled is found, whatever follows it.
 pub unit_len-complete : (u : ℕ) (rest : List ℕ) → u < 2 ^ 16 → unit_len (unit_bytes u ++ rest) ≡ length (unit_bytes u)

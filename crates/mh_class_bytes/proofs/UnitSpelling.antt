@@ -16,7 +16,8 @@ unit_bytes-2 p q hq hp (inr big) =
     let mq : (64 * p + q) % 64 ≡ q = omega arith in
     grind (arith, nat_tests)
 
-pub unit_bytes-3 : (p q r : ℕ) → p < 16 → q < 64 → r < 64 → 0x800 ≤ 4096 * p + 64 * q + r → unit_bytes (4096 * p + 64 * q + r) ≡ (0xE0 + p) ∷ (0x80 + q) ∷ (0x80 + r) ∷ []
+pub unit_bytes-3 : (p q r : ℕ) → p < 16 → q < 64 → r < 64 → 0x800 ≤ 4096 * p + 64 * q + r → unit_bytes (4096 * p + 64 * q + r) ≡ (0xE0 + p) ∷ (0x80 + q) ∷
+    (0x80 + r) ∷ []
 unit_bytes-3 p q r hp hq hr big =
     let d1 : (4096 * p + 64 * q + r) / 4096 ≡ p = omega arith in
     let d2 : (4096 * p + 64 * q + r) / 64 ≡ 64 * p + q = omega arith in
@@ -27,10 +28,12 @@ unit_bytes-3 p q r hp hq hr big =
 value_1 : (u : ℕ) → 0 < u → u < 0x80 → unit_value (length (unit_bytes u)) (unit_bytes u) ≡ u
 value_1 u h k = rw (unit_bytes-1 u h k) refl
 
-value_2 : (p q : ℕ) → q < 64 → p < 32 → (64 * p + q ≡ 0) ⊎ (0x80 ≤ 64 * p + q) → unit_value (length (unit_bytes (64 * p + q))) (unit_bytes (64 * p + q)) ≡ 64 * p + q
+value_2 : (p q : ℕ) → q < 64 → p < 32 → (64 * p + q ≡ 0) ⊎ (0x80 ≤ 64 * p + q) → unit_value (length (unit_bytes (64 * p + q))) (unit_bytes (64 * p + q)) ≡ 64 *
+    p + q
 value_2 p q hq hp range = rw (unit_bytes-2 p q hq hp range) (omega arith)
 
-value_3 : (p q r : ℕ) → p < 16 → q < 64 → r < 64 → 0x800 ≤ 4096 * p + 64 * q + r → unit_value (length (unit_bytes (4096 * p + 64 * q + r))) (unit_bytes (4096 * p + 64 * q + r)) ≡ 4096 * p + 64 * q + r
+value_3 : (p q r : ℕ) → p < 16 → q < 64 → r < 64 → 0x800 ≤ 4096 * p + 64 * q + r →
+    unit_value (length (unit_bytes (4096 * p + 64 * q + r))) (unit_bytes (4096 * p + 64 * q + r)) ≡ 4096 * p + 64 * q + r
 value_3 p q r hp hq hr big = rw (unit_bytes-3 p q r hp hq hr big) (omega arith)
 
 -- The value of a unit's spelling is the unit.

@@ -44,7 +44,8 @@ Spells (refuse place kind) at bytes x = ⊥
 Spells (choose b f g) at bytes x = MatchBool b (Spells f at bytes x) (Spells g at bytes x)
 Spells (blame place kind f) at bytes x = Spells f at bytes x
 Spells (part short n left f) at bytes x = (length bytes ≡ n) × Spells f at bytes x
-Spells (◌>>=◌ {A = X} f g) at bytes x = (y : X) × (front : List ℕ) × (rest : List ℕ) × (bytes ≡ front ++ rest) × Spells f at front y × Spells (g y) (at + length front) rest x
+Spells (◌>>=◌ {A = X} f g) at bytes x = (y : X) × (front : List ℕ) × (rest : List ℕ) × (bytes ≡ front ++ rest) × Spells f at front y
+    × Spells (g y) (at + length front) rest x
 
 -- a value, or the first condition that does not hold
 abbrev pub Checked : Type 0 → Type 0 → Type 0

@@ -18,12 +18,14 @@ unfolding each
 each-nil f = refl
 
 -- one that passes
-pub each_next : {X : Type 0} (f : X → Verdict) (xs : List X) (i : ℕ) (d : X) (total : Verdict) → i < length xs → f (get_or xs i d) ≡ Ok tt → each f (drop i xs) ≡ total → each f (drop (i + 1) xs) ≡ total
+pub each_next : {X : Type 0} (f : X → Verdict) (xs : List X) (i : ℕ) (d : X) (total : Verdict) → i < length xs → f (get_or xs i d) ≡ Ok tt →
+    each f (drop i xs) ≡ total → each f (drop (i + 1) xs) ≡ total
 each_next f xs i d total lt h so_far =
     rw add-one (sym (each-cons f (get_or xs i d) (drop (suc i) xs) h) ∙ sym (ap (each f) (drop-cons xs i d lt)) ∙ so_far)
 
 -- one that does not
-pub each_stops : {X : Type 0} (f : X → Verdict) (xs : List X) (i : ℕ) (d : X) (total : Verdict) (e : Fault ClassKind) → i < length xs → f (get_or xs i d) ≡ Err e → each f (drop i xs) ≡ total → total ≡ Err e
+pub each_stops : {X : Type 0} (f : X → Verdict) (xs : List X) (i : ℕ) (d : X) (total : Verdict) (e : Fault ClassKind) → i < length xs →
+    f (get_or xs i d) ≡ Err e → each f (drop i xs) ≡ total → total ≡ Err e
 each_stops f xs i d total e lt h so_far =
     sym so_far ∙ ap (each f) (drop-cons xs i d lt) ∙ each-stop f (get_or xs i d) (drop (suc i) xs) e h
 

@@ -37,13 +37,15 @@ unfolding at_start entry utf8 utf8_bytes sound_from unit_len
 zero_byte = refl
 
 -- a Long takes the indexes 1 and 2
-two_indexes : reads (pool_of 3) (at_start (5 ∷ 0 ∷ 0 ∷ 0 ∷ 1 ∷ 0 ∷ 0 ∷ 0 ∷ 2 ∷ [])) ≡ Ok (None ∷ Some (0, entries.Long 1 2) ∷ None ∷ [], record { bytes = 5 ∷ 0 ∷ 0 ∷ 0 ∷ 1 ∷ 0 ∷ 0 ∷ 0 ∷ 2 ∷ []; at = 9 })
+two_indexes : reads (pool_of 3) (at_start (5 ∷ 0 ∷ 0 ∷ 0 ∷ 1 ∷ 0 ∷ 0 ∷ 0 ∷ 2 ∷ [])) ≡ Ok (None ∷ Some (0, entries.Long 1 2) ∷ None ∷ [], record { bytes =
+    5 ∷ 0 ∷ 0 ∷ 0 ∷ 1 ∷ 0 ∷ 0 ∷ 0 ∷ 2 ∷ []; at = 9 })
 unfolding at_start entry contents numeric repeated
 two_indexes = refl
 
 -- the texts `m` and `I`, a name and type of them, a class `m`, and a method
 some_pool : List Slot
-some_pool = None ∷ Some (10, entries.Utf8 (109 ∷ [])) ∷ Some (14, entries.Utf8 (73 ∷ [])) ∷ Some (18, entries.NameAndType 1 2) ∷ Some (23, entries.Class 1) ∷ Some (26, entries.Methodref 4 3) ∷ []
+some_pool = None ∷ Some (10, entries.Utf8 (109 ∷ [])) ∷ Some (14, entries.Utf8 (73 ∷ [])) ∷ Some (18, entries.NameAndType 1 2) ∷ Some (23, entries.Class 1) ∷
+    Some (26, entries.Methodref 4 3) ∷ []
 
 no_index : names some_pool kinds.Utf8 0 7 ≡ fault 7 BadIndex
 unfolding some_pool

@@ -25,7 +25,8 @@ any_index true p q e h = go (or_fault Truncated (number_at 1 p)) h
     rest : ℕ → Position → Reading ClassKind Entry
     rest tag m = reads (choose (eqb tag 1) utf8 (contents tag p.at)) m
 
-    go : (r : Reading ClassKind ℕ) → and_then r (λ x. and_then (tested (is_wide_tag x.0) p.at x.1) (λ y. rest x.0 y.1)) ≡ Ok (e, q) → and_then r (λ x. rest x.0 x.1) ≡ Ok (e, q)
+    go : (r : Reading ClassKind ℕ) → and_then r (λ x. and_then (tested (is_wide_tag x.0) p.at x.1) (λ y. rest x.0 y.1)) ≡ Ok (e, q) →
+        and_then r (λ x. rest x.0 x.1) ≡ Ok (e, q)
     go (Err f) k = absurd cc
     go (Ok x) k = again (is_wide_tag x.0) x.1 k
       where
@@ -39,24 +40,29 @@ left count n h = grind (arith, nat_tests)
 full : (count n : ℕ) → count ≤ n → leb count n ≡ true
 full count n h = grind (arith, nat_tests)
 
-pub step : (count : ℕ) (slots : List Slot) (p q : Position) (e : Entry) → length slots < count → reads (entry (eqb (length slots + 1) count)) p ≡ Ok (e, q) → reads (next_slots count slots) p ≡ Ok (slots ++ indexes_of p.at e, q)
+pub step : (count : ℕ) (slots : List Slot) (p q : Position) (e : Entry) → length slots < count → reads (entry (eqb (length slots + 1) count)) p ≡ Ok (e, q) →
+    reads (next_slots count slots) p ≡ Ok (slots ++ indexes_of p.at e, q)
 step count slots p q e lt h = rw (left count (length slots) lt, h) refl
 
-pub step-err : (count : ℕ) (slots : List Slot) (p : Position) (f : Fault ClassKind) → length slots < count → reads (entry (eqb (length slots + 1) count)) p ≡ Err f → reads (next_slots count slots) p ≡ Err f
+pub step-err : (count : ℕ) (slots : List Slot) (p : Position) (f : Fault ClassKind) → length slots < count →
+    reads (entry (eqb (length slots + 1) count)) p ≡ Err f → reads (next_slots count slots) p ≡ Err f
 step-err count slots p f lt h = rw (left count (length slots) lt, h) refl
 
 pub idle : (count : ℕ) (slots : List Slot) (p : Position) → count ≤ length slots → reads (next_slots count slots) p ≡ Ok (slots, p)
 idle count slots p le = rw (full count (length slots) le) refl
 
-here : (bytes : List ℕ) (p q : Position) (e : Entry) → p.bytes ≡ bytes → reads (entry false) p ≡ Ok (e, q) → reads (entry false) (record { bytes = bytes; at = p.at }) ≡ Ok (e, q)
+here : (bytes : List ℕ) (p q : Position) (e : Entry) → p.bytes ≡ bytes → reads (entry false) p ≡ Ok (e, q) →
+    reads (entry false) (record { bytes = bytes; at = p.at }) ≡ Ok (e, q)
 here bytes p q e same h = subst (λ (b : List ℕ). reads (entry false) (record { bytes = b; at = p.at }) ≡ Ok (e, q)) same h
 
-pub slot_here : (bytes : List ℕ) (p q : Position) (e : Entry) → p.bytes ≡ bytes → 0 < p.at → reads (entry false) p ≡ Ok (e, q) → slot_at bytes p.at ≡ Some (p.at, e)
+pub slot_here : (bytes : List ℕ) (p q : Position) (e : Entry) → p.bytes ≡ bytes → 0 < p.at → reads (entry false) p ≡ Ok (e, q) →
+    slot_at bytes p.at ≡ Some (p.at, e)
 slot_here bytes p q e same pos h =
     let k : eqb p.at 0 ≡ false = grind (arith, nat_tests) in
     rw (k, here bytes p q e same h) refl
 
-pub stand_push : (bytes places : List ℕ) (at : ℕ) → Stand bytes places → (0 < at → is_ok (reads (entry false) (record { bytes = bytes; at = at })) ≡ true) → Stand bytes (places ++ at ∷ [])
+pub stand_push : (bytes places : List ℕ) (at : ℕ) → Stand bytes places → (0 < at → is_ok (reads (entry false) (record { bytes = bytes; at = at })) ≡ true) →
+    Stand bytes (places ++ at ∷ [])
 stand_push bytes places at s h = record {
   each = λ k lt pos. elim (cases_lt k (length places)) [
     | inl below ↦
@@ -69,5 +75,6 @@ stand_push bytes places at s h = record {
   ];
 }
 
-pub stand_here : (bytes places : List ℕ) (p q : Position) (e : Entry) → p.bytes ≡ bytes → reads (entry false) p ≡ Ok (e, q) → Stand bytes places → Stand bytes (places ++ p.at ∷ [])
+pub stand_here : (bytes places : List ℕ) (p q : Position) (e : Entry) → p.bytes ≡ bytes → reads (entry false) p ≡ Ok (e, q) → Stand bytes places →
+    Stand bytes (places ++ p.at ∷ [])
 stand_here bytes places p q e same h s = stand_push bytes places p.at s (λ _. rw (here bytes p q e same h) refl)

@@ -31,7 +31,9 @@ starts start count pos = record {
 }
 
 -- what is read next, where an index is left
-next : (start p q : Position) (places : List ℕ) (count n : ℕ) (e : Entry) → n ≡ length places → length places < count → reads (entry (eqb (n + 1) count)) p ≡ Ok (e, q) → reads (next_slots count (map (slot_at start.bytes) places)) p ≡ Ok (map (slot_at start.bytes) places ++ indexes_of p.at e, q)
+next : (start p q : Position) (places : List ℕ) (count n : ℕ) (e : Entry) → n ≡ length places → length places < count →
+    reads (entry (eqb (n + 1) count)) p ≡ Ok (e, q) → reads (next_slots count (map (slot_at start.bytes) places)) p ≡ Ok
+    (map (slot_at start.bytes) places ++ indexes_of p.at e, q)
 next start p q places count n e k lt h =
     let len : length (map (slot_at start.bytes) places) ≡ n = length-map places (slot_at start.bytes) ∙ sym k in
     step count (map (slot_at start.bytes) places) p q e (omega (arith, len)) (subst (λ (m : ℕ). reads (entry (eqb (m + 1) count)) p ≡ Ok (e, q)) (sym len) h)
@@ -39,16 +41,19 @@ next start p q places count n e k lt h =
 onward : (start p q : Position) → Moves start p → Moves p q → Moves start q
 onward start p q m k = record { bytes = k.bytes ∙ m.bytes; onward = omega (arith, m.onward, k.onward) }
 
-pub next_narrow : (start p q : Position) (places : List ℕ) (count n : ℕ) (e : Entry) → IsReading start p places count → n ≡ length places → length places < count → reads (entry (eqb (n + 1) count)) p ≡ Ok (e, q) → is_wide e ≡ false → Moves p q
+pub next_narrow : (start p q : Position) (places : List ℕ) (count n : ℕ) (e : Entry) → IsReading start p places count → n ≡ length places →
+    length places < count → reads (entry (eqb (n + 1) count)) p ≡ Ok (e, q) → is_wide e ≡ false → Moves p q
     → IsReading start q (places ++ p.at ∷ []) count
 next_narrow start p q places count n e r k lt h w m =
     let f = map (slot_at start.bytes) places in
     let any = any_index (eqb (n + 1) count) p q e h in
     let more = r.most - 1 in
     let em : r.most ≡ suc more = omega (arith, r.enough) in
-    let so_far : reads (repeated (next_slots count) (suc more) f) p ≡ reads (pool_of count) start = subst (λ (j : ℕ). reads (repeated (next_slots count) j f) p ≡ reads (pool_of count) start) em r.so_far in
+    let so_far : reads (repeated (next_slots count) (suc more) f) p ≡ reads (pool_of count) start =
+        subst (λ (j : ℕ). reads (repeated (next_slots count) j f) p ≡ reads (pool_of count) start) em r.so_far in
     let s = slot_here start.bytes p q e r.moves.bytes r.inside any in
-    let pushed : map (slot_at start.bytes) (places ++ p.at ∷ []) ≡ f ++ Some (p.at, e) ∷ [] = map_push (slot_at start.bytes) places p.at ∙ ap (λ (x : Slot). f ++ x ∷ []) s in
+    let pushed : map (slot_at start.bytes) (places ++ p.at ∷ []) ≡ f ++ Some (p.at, e) ∷ [] = map_push (slot_at start.bytes) places p.at ∙
+        ap (λ (x : Slot). f ++ x ∷ []) s in
     let indexes : indexes_of p.at e ≡ Some (p.at, e) ∷ [] = rw w refl in
     let all : f ++ indexes_of p.at e ≡ map (slot_at start.bytes) (places ++ p.at ∷ []) = ap (λ (x : List Slot). f ++ x) indexes ∙ sym pushed in
     let stepped = sym (repeated-step (next_slots count) more f (f ++ indexes_of p.at e) p q (next start p q places count n e k lt h)) ∙ so_far in
@@ -61,19 +66,24 @@ next_narrow start p q places count n e r k lt h w m =
       stand = stand_here start.bytes places p q e r.moves.bytes any r.stand;
     }
 
-pub next_wide : (start p q : Position) (places : List ℕ) (count n : ℕ) (e : Entry) → IsReading start p places count → n ≡ length places → length places < count → reads (entry (eqb (n + 1) count)) p ≡ Ok (e, q) → is_wide e ≡ true → Moves p q
+pub next_wide : (start p q : Position) (places : List ℕ) (count n : ℕ) (e : Entry) → IsReading start p places count → n ≡ length places → length places < count
+    → reads (entry (eqb (n + 1) count)) p ≡ Ok (e, q) → is_wide e ≡ true → Moves p q
     → IsReading start q ((places ++ p.at ∷ []) ++ 0 ∷ []) count
 next_wide start p q places count n e r k lt h w m =
     let f = map (slot_at start.bytes) places in
     let any = any_index (eqb (n + 1) count) p q e h in
     let more = r.most - 1 in
     let em : r.most ≡ suc more = omega (arith, r.enough) in
-    let so_far : reads (repeated (next_slots count) (suc more) f) p ≡ reads (pool_of count) start = subst (λ (j : ℕ). reads (repeated (next_slots count) j f) p ≡ reads (pool_of count) start) em r.so_far in
+    let so_far : reads (repeated (next_slots count) (suc more) f) p ≡ reads (pool_of count) start =
+        subst (λ (j : ℕ). reads (repeated (next_slots count) j f) p ≡ reads (pool_of count) start) em r.so_far in
     let s = slot_here start.bytes p q e r.moves.bytes r.inside any in
-    let pushed : map (slot_at start.bytes) (places ++ p.at ∷ []) ≡ f ++ Some (p.at, e) ∷ [] = map_push (slot_at start.bytes) places p.at ∙ ap (λ (x : Slot). f ++ x ∷ []) s in
-    let both : map (slot_at start.bytes) ((places ++ p.at ∷ []) ++ 0 ∷ []) ≡ (f ++ Some (p.at, e) ∷ []) ++ None ∷ [] = map_push (slot_at start.bytes) (places ++ p.at ∷ []) 0 ∙ ap (λ (x : List Slot). x ++ None ∷ []) pushed in
+    let pushed : map (slot_at start.bytes) (places ++ p.at ∷ []) ≡ f ++ Some (p.at, e) ∷ [] = map_push (slot_at start.bytes) places p.at ∙
+        ap (λ (x : Slot). f ++ x ∷ []) s in
+    let both : map (slot_at start.bytes) ((places ++ p.at ∷ []) ++ 0 ∷ []) ≡ (f ++ Some (p.at, e) ∷ []) ++ None ∷ [] =
+        map_push (slot_at start.bytes) (places ++ p.at ∷ []) 0 ∙ ap (λ (x : List Slot). x ++ None ∷ []) pushed in
     let indexes : indexes_of p.at e ≡ Some (p.at, e) ∷ None ∷ [] = rw w refl in
-    let all : f ++ indexes_of p.at e ≡ map (slot_at start.bytes) ((places ++ p.at ∷ []) ++ 0 ∷ []) = ap (λ (x : List Slot). f ++ x) indexes ∙ sym (append_assoc f (Some (p.at, e) ∷ []) (None ∷ [])) ∙ sym both in
+    let all : f ++ indexes_of p.at e ≡ map (slot_at start.bytes) ((places ++ p.at ∷ []) ++ 0 ∷ []) = ap (λ (x : List Slot). f ++ x) indexes ∙
+        sym (append_assoc f (Some (p.at, e) ∷ []) (None ∷ [])) ∙ sym both in
     let stepped = sym (repeated-step (next_slots count) more f (f ++ indexes_of p.at e) p q (next start p q places count n e k lt h)) ∙ so_far in
     record {
       moves = onward start p q r.moves m;
@@ -84,17 +94,21 @@ next_wide start p q places count n e r k lt h w m =
       stand = stand_push start.bytes (places ++ p.at ∷ []) 0 (stand_here start.bytes places p q e r.moves.bytes any r.stand) (λ lt. absurd (omega arith));
     }
 
-pub stops : (start p : Position) (places : List ℕ) (count n : ℕ) (f : Fault ClassKind) → IsReading start p places count → n ≡ length places → length places < count → reads (entry (eqb (n + 1) count)) p ≡ Err f → reads (pool_of count) start ≡ Err f
+pub stops : (start p : Position) (places : List ℕ) (count n : ℕ) (f : Fault ClassKind) → IsReading start p places count → n ≡ length places →
+    length places < count → reads (entry (eqb (n + 1) count)) p ≡ Err f → reads (pool_of count) start ≡ Err f
 stops start p places count n f r k lt h =
     let slots = map (slot_at start.bytes) places in
     let len : length slots ≡ n = length-map places (slot_at start.bytes) ∙ sym k in
     let more = r.most - 1 in
     let em : r.most ≡ suc more = omega (arith, r.enough) in
-    let so_far : reads (repeated (next_slots count) (suc more) slots) p ≡ reads (pool_of count) start = subst (λ (j : ℕ). reads (repeated (next_slots count) j slots) p ≡ reads (pool_of count) start) em r.so_far in
-    let here : reads (next_slots count slots) p ≡ Err f = step-err count slots p f (omega (arith, len)) (subst (λ (m : ℕ). reads (entry (eqb (m + 1) count)) p ≡ Err f) (sym len) h) in
+    let so_far : reads (repeated (next_slots count) (suc more) slots) p ≡ reads (pool_of count) start =
+        subst (λ (j : ℕ). reads (repeated (next_slots count) j slots) p ≡ reads (pool_of count) start) em r.so_far in
+    let here : reads (next_slots count slots) p ≡ Err f =
+        step-err count slots p f (omega (arith, len)) (subst (λ (m : ℕ). reads (entry (eqb (m + 1) count)) p ≡ Err f) (sym len) h) in
     sym so_far ∙ repeated-err (next_slots count) more slots p f here
 
-pub all_read : (start p : Position) (places : List ℕ) (count : ℕ) → IsReading start p places count → count ≤ length places → reads (pool_of count) start ≡ Ok (map (slot_at start.bytes) places, p)
+pub all_read : (start p : Position) (places : List ℕ) (count : ℕ) → IsReading start p places count → count ≤ length places →
+    reads (pool_of count) start ≡ Ok (map (slot_at start.bytes) places, p)
 all_read start p places count r le =
     let slots = map (slot_at start.bytes) places in
     sym r.so_far ∙ repeated_idle (next_slots count) r.most slots p (idle count slots p (omega (arith, length-map places (slot_at start.bytes))))

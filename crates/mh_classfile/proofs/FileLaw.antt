@@ -69,7 +69,8 @@ file_sound room bytes c e =
     let same : b.0.0 ≡ c = ok_is b.0.0 c b.2 in
     subst (λ (d : Class). Spells f 0 bytes d) same (subst (λ (t : List ℕ). Spells f 0 t b.0.0) whole s.spells)
 
-pub is_found : {V : Type 0} (view : V → Class) (room : ℕ) (bytes : List ℕ) (r : Result V ClassError) → Yields view r (class_or_fault room bytes) → IfOk r (λ v. IsClassFile room bytes (view v))
+pub is_found : {V : Type 0} (view : V → Class) (room : ℕ) (bytes : List ℕ) (r : Result V ClassError) → Yields view r (class_or_fault room bytes) →
+    IfOk r (λ v. IsClassFile room bytes (view v))
 is_found view room bytes (Ok v) given = file_sound room bytes (view v) given
 is_found view room bytes (Err e) given = tt
 

@@ -19,9 +19,11 @@ is_local opcode = within 21 25 opcode || within 54 58 opcode || opcode == 169
 -- how many bytes an instruction of fixed length takes, with its opcode; 0 for the others
 abbrev pub fixed_len : ℕ → ℕ
 fixed_len opcode =
-    if nat_le opcode 15 || within 26 53 opcode || within 59 131 opcode || within 133 152 opcode || within 172 177 opcode || within 190 191 opcode || within 194 195 opcode then 1
+    if nat_le opcode 15 || within 26 53 opcode || within 59 131 opcode || within 133 152 opcode || within 172 177 opcode || within 190 191 opcode || within 194
+        195 opcode then 1
     else (if opcode == 16 || opcode == 18 || is_local opcode || opcode == 188 then 2
-    else (if opcode == 17 || within 19 20 opcode || opcode == 132 || within 153 168 opcode || within 178 184 opcode || opcode == 187 || opcode == 189 || within 192 193 opcode || within 198 199 opcode then 3
+    else (if opcode == 17 || within 19 20 opcode || opcode == 132 || within 153 168 opcode || within 178 184 opcode || opcode == 187 || opcode == 189 || within
+        192 193 opcode || within 198 199 opcode then 3
     else (if opcode == 197 then 4
     else (if opcode == 185 || within 200 201 opcode then 5
     else 0))))

@@ -18,7 +18,8 @@ use Rattle.mh_values.specs.HasType.{primitive_of, wrapper_of, is_same_primitive,
 use Rattle.mh_values.proofs.SameTypes.{same_primitive-is}
 use Rattle.mh_values.proofs.BelowTypes.{class_cast-below, null_pointer-below, value-below, type_below-itself}
 use Rattle.mh_convert.specs.Conversion.{widens, serves_as, can, widened, widened_value, boxed, cast, unboxed, conv, fit, is_trivial}
-pub use Rattle.mh_convert.proofs.TypedConversions.{cast-throws, cast-typed, conv-throws, conv-typed, fit-typed, if_err, if_ok, unboxed-throws, unboxed-typed, widened-typed}
+pub use Rattle.mh_convert.proofs.TypedConversions.{cast-throws, cast-typed, conv-throws, conv-typed, fit-typed, if_err, if_ok, unboxed-throws, unboxed-typed,
+    widened-typed}
 
 -- ---- what changes nothing
 
@@ -41,11 +42,13 @@ same_prim classes p q (value.Prim n) h k =
     ap value.Prim (same_number n q (subst P (same_primitive-is p q h) k))
 same_prim classes p q v h k = absurd cc
 
-kept : (classes : List Class) → AreClasses classes → (s t : Ty) (v : Value) → is_type_below classes s t ≡ true → has_type classes v s ≡ true → cast classes v t ≡ Ok v
+kept : (classes : List Class) → AreClasses classes → (s t : Ty) (v : Value) → is_type_below classes s t ≡ true → has_type classes v s ≡ true →
+    cast classes v t ≡ Ok v
 kept classes are s t v h k = ap (λ (b : Bool). cond b (Ok v) (Err (bare class_cast_class))) (value-below classes are s t h v k)
 
 -- a trivial conversion changes nothing
-pub trivial-keeps : (classes : List Class) → AreClasses classes → (s t : Ty) (v : Value) → is_trivial classes s t ≡ true → has_type classes v s ≡ true → conv classes s t v ≡ Ok v
+pub trivial-keeps : (classes : List Class) → AreClasses classes → (s t : Ty) (v : Value) → is_trivial classes s t ≡ true → has_type classes v s ≡ true →
+    conv classes s t v ≡ Ok v
 trivial-keeps classes are (ty.Prim p) (ty.Prim q) v h k = ap Ok (same_prim classes p q v h k)
 trivial-keeps classes are (ty.Class c) (ty.Class d) v h k = kept classes are (ty.Class c) (ty.Class d) v h k
 trivial-keeps classes are (ty.Array c) (ty.Class d) v h k = kept classes are (ty.Array c) (ty.Class d) v h k

@@ -32,7 +32,8 @@ chosen true r s P f g = f refl
 chosen false r s P f g = g refl
 
 -- a widened number has the type that it was widened to
-pub widened-typed : (classes : List Class) (n : Num) (q : Primitive) → serves_as (primitive_of n) q ≡ true → has_type classes (value.Prim (widened n q)) (ty.Prim q) ≡ true
+pub widened-typed : (classes : List Class) (n : Num) (q : Primitive) → serves_as (primitive_of n) q ≡ true →
+    has_type classes (value.Prim (widened n q)) (ty.Prim q) ≡ true
 widened-typed classes (num.I n) primitive.J h = refl
 widened-typed classes (num.Z b) primitive.Z h = refl
 widened-typed classes (num.I n) primitive.I h = refl
@@ -54,9 +55,11 @@ pub cast-typed : (classes : List Class) (v w : Value) (t : Ty) → cast classes 
 cast-typed classes v w t h =
     let q = if_ok (has_type classes v t) v w (bare class_cast_class) h in subst (λ x. has_type classes x t ≡ true) q.1 q.0
 
-pub cast-throws : (classes : List Class) → AreClasses classes → (v : Value) (t : Ty) (e : Exc) → cast classes v t ≡ Err e → is_subclass classes e.class throwable_class ≡ true
+pub cast-throws : (classes : List Class) → AreClasses classes → (v : Value) (t : Ty) (e : Exc) → cast classes v t ≡ Err e →
+    is_subclass classes e.class throwable_class ≡ true
 cast-throws classes are v t e h =
-    subst (λ (x : Exc). is_subclass classes x.class throwable_class ≡ true) (if_err (has_type classes v t) v (bare class_cast_class) e h) (class_cast-below classes are)
+    subst (λ (x : Exc). is_subclass classes x.class throwable_class ≡ true) (if_err (has_type classes v t) v (bare class_cast_class) e h)
+        (class_cast-below classes are)
 
 -- ---- unboxing
 
@@ -66,10 +69,12 @@ unboxed-typed classes (value.Boxed n) w q h =
     subst (λ x. has_type classes x (ty.Prim q) ≡ true) r.1 (widened-typed classes n q r.0)
 unboxed-typed classes v w q h = absurd cc
 
-thrown_is : (classes : List Class) (d e : Exc) → is_subclass classes d.class throwable_class ≡ true → ◌≡◌ {A = Result Value Exc} (Err d) (Err e) → is_subclass classes e.class throwable_class ≡ true
+thrown_is : (classes : List Class) (d e : Exc) → is_subclass classes d.class throwable_class ≡ true → ◌≡◌ {A = Result Value Exc} (Err d) (Err e) →
+    is_subclass classes e.class throwable_class ≡ true
 thrown_is classes d e below h = subst (λ (x : Exc). is_subclass classes x.class throwable_class ≡ true) (same_exc d e h) below
 
-pub unboxed-throws : (classes : List Class) → AreClasses classes → (v : Value) (q : Primitive) (e : Exc) → unboxed v q ≡ Err e → is_subclass classes e.class throwable_class ≡ true
+pub unboxed-throws : (classes : List Class) → AreClasses classes → (v : Value) (q : Primitive) (e : Exc) → unboxed v q ≡ Err e →
+    is_subclass classes e.class throwable_class ≡ true
 unboxed-throws classes are value.Null q e h = thrown_is classes (bare null_pointer_class) e (null_pointer-below classes are) h
 unboxed-throws classes are (value.Boxed n) q e h =
     let d = if_err (serves_as (primitive_of n) q) (value.Prim (widened n q)) (bare class_cast_class) e h in
@@ -84,21 +89,24 @@ fit-typed classes v w t h = cast-typed classes v w t h
 
 -- ---- conversions
 
-prim-typed : (classes : List Class) (v w : Value) (p q : Primitive) → serves_as p q ≡ true → has_type classes v (ty.Prim p) ≡ true → ◌≡◌ {A = Result Value Exc} (Ok (widened_value v q)) (Ok w) → has_type classes w (ty.Prim q) ≡ true
+prim-typed : (classes : List Class) (v w : Value) (p q : Primitive) → serves_as p q ≡ true → has_type classes v (ty.Prim p) ≡ true →
+    ◌≡◌ {A = Result Value Exc} (Ok (widened_value v q)) (Ok w) → has_type classes w (ty.Prim q) ≡ true
 prim-typed classes (value.Prim n) w p q allowed typed h =
     let P : Primitive → Type 0 = λ r. serves_as r q ≡ true in
     subst (λ x. has_type classes x (ty.Prim q) ≡ true) (same_value (value.Prim (widened n q)) w h)
     (widened-typed classes n q (subst P (sym (same_primitive-is (primitive_of n) p typed)) allowed))
 prim-typed classes v w p q allowed typed h = absurd cc
 
-boxed-typed : (classes : List Class) (v w : Value) (p : Primitive) (c : ClassId) → is_subclass classes (wrapper_of p) c ≡ true → has_type classes v (ty.Prim p) ≡ true → ◌≡◌ {A = Result Value Exc} (Ok (boxed v)) (Ok w) → has_type classes w (ty.Class c) ≡ true
+boxed-typed : (classes : List Class) (v w : Value) (p : Primitive) (c : ClassId) → is_subclass classes (wrapper_of p) c ≡ true →
+    has_type classes v (ty.Prim p) ≡ true → ◌≡◌ {A = Result Value Exc} (Ok (boxed v)) (Ok w) → has_type classes w (ty.Class c) ≡ true
 boxed-typed classes (value.Prim n) w p c allowed typed h =
     let P : Primitive → Type 0 = λ r. is_subclass classes (wrapper_of r) c ≡ true in
     subst (λ x. has_type classes x (ty.Class c) ≡ true) (same_value (value.Boxed n) w h)
     (subst P (sym (same_primitive-is (primitive_of n) p typed)) allowed)
 boxed-typed classes v w p c allowed typed h = absurd cc
 
-pub conv-typed : (classes : List Class) (s t : Ty) (v w : Value) → can classes s t ≡ true → has_type classes v s ≡ true → conv classes s t v ≡ Ok w → has_type classes w t ≡ true
+pub conv-typed : (classes : List Class) (s t : Ty) (v w : Value) → can classes s t ≡ true → has_type classes v s ≡ true → conv classes s t v ≡ Ok w →
+    has_type classes w t ≡ true
 conv-typed classes (ty.Prim p) (ty.Prim q) v w allowed typed h = prim-typed classes v w p q allowed typed h
 conv-typed classes (ty.Prim p) (ty.Class c) v w allowed typed h = boxed-typed classes v w p c allowed typed h
 conv-typed classes (ty.Prim p) (ty.Array c) v w allowed typed h = absurd cc
@@ -109,7 +117,8 @@ conv-typed classes s t v w allowed typed h = cast-typed classes v w t h
 prim-throws : (classes : List Class) (v : Value) (e : Exc) → ◌≡◌ {A = Result Value Exc} (Ok v) (Err e) → is_subclass classes e.class throwable_class ≡ true
 prim-throws classes v e h = absurd cc
 
-pub conv-throws : (classes : List Class) → AreClasses classes → (s t : Ty) (v : Value) (e : Exc) → conv classes s t v ≡ Err e → is_subclass classes e.class throwable_class ≡ true
+pub conv-throws : (classes : List Class) → AreClasses classes → (s t : Ty) (v : Value) (e : Exc) → conv classes s t v ≡ Err e →
+    is_subclass classes e.class throwable_class ≡ true
 conv-throws classes are (ty.Prim p) (ty.Prim q) v e h = prim-throws classes (widened_value v q) e h
 conv-throws classes are (ty.Prim p) t v e h = prim-throws classes (boxed v) e h
 conv-throws classes are s (ty.Prim q) v e h = unboxed-throws classes are v q e h

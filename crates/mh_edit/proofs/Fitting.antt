@@ -26,7 +26,8 @@ below a b h = ltb-true a b h
 pub same-number : (a b : ℕ) → IsTrue (a == b) → a ≡ b
 same-number a b h = eqb-true a b h
 
-inside : (params : List Basic) (place : ℕ) (b : Basic) (o : Option Basic) → slice_get params place ≡ o → IsTrue (option_map_or (is_same_basic b) o false) → place < length params
+inside : (params : List Basic) (place : ℕ) (b : Basic) (o : Option Basic) → slice_get params place ≡ o → IsTrue (option_map_or (is_same_basic b) o false) →
+    place < length params
 inside params place b None is h = absurd cc
 inside params place b (Some c) is h = slice_get_within params place c is
 

@@ -35,7 +35,8 @@ law-applied (FilterReturn ret) body h = law-FilterReturn ret body
 law-applied (Convert es ret) body h = law-Convert es ret body (same-number _ _ (second-true _ _ h))
 law-applied (Spread count b) body h = law-Spread count b body (has-last body.params count b (second-true _ _ h))
 law-applied (Gather count b) body h =
-    let last : length body.params - 1 < length body.params = is-parameter body.params (length body.params - 1) basic.L (second-true (not (is_nothing body)) _ h) in law-Gather count b body (omega arith)
+    let last : length body.params - 1 < length body.params = is-parameter body.params (length body.params - 1) basic.L (second-true (not (is_nothing body)) _ h)
+        in law-Gather count b body (omega arith)
 
 pub law-made :
     (key : Key) (body : FormBody) (r : Result FormBody NoMemory) →

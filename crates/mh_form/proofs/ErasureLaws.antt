@@ -52,7 +52,8 @@ class-erased classes (value.Array c items) t h other = refl
 class-erased classes value.Null t h other = refl
 
 -- what is typed has the type, and its erasure is the slot
-reference-typed : (classes : List Class) (t : Ty) (u v : Value) → ((p : Primitive) → t ≡ ty.Prim p → ⊥) → where_typed classes t u ≡ Some v → (has_type classes v t ≡ true) × (erased v ≡ slot.L u)
+reference-typed : (classes : List Class) (t : Ty) (u v : Value) → ((p : Primitive) → t ≡ ty.Prim p → ⊥) → where_typed classes t u ≡ Some v →
+    (has_type classes v t ≡ true) × (erased v ≡ slot.L u)
 reference-typed classes t u v other h =
     let q = where-some (has_type classes u t) u v h in
     subst (λ w. (has_type classes w t ≡ true) × (erased w ≡ slot.L u)) q.1 (q.0, class-erased classes u t q.0 other)

@@ -26,7 +26,8 @@ pub refines-and_then :
     ((a : A) (k : ℕ) → Refines (f a k) (g a k)) →
     Refines (and_then x n f) (and_then y n g)
 refines-and_then (Gave a calls) y n f g h fg =
-    subst (λ v. Refines (and_then (Gave a calls) n f) (and_then v n g)) h (refines-after calls (f a (raised n calls)) (g a (raised n calls)) (fg a (raised n calls)))
+    subst (λ v. Refines (and_then (Gave a calls) n f) (and_then v n g)) h (refines-after calls (f a (raised n calls)) (g a (raised n calls))
+        (fg a (raised n calls)))
 refines-and_then (Threw e calls) y n f g h fg = ap (λ v. and_then v n g) h
 refines-and_then Stuck y n f g h fg = tt
 

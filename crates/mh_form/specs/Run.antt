@@ -26,7 +26,8 @@ use Rattle.mh_form.specs.Slots.{called, filled, holds_one, is_caught, converted,
 abbrev pub Part : Type 0
 Part = List Slot → ℕ → Ran (Option Slot)
 
--- what a field stands for: a slot, a leaf, a part, the exceptions that a class takes, a conversion, a return conversion, or the making of arrays of a component type
+-- what a field stands for: a slot, a leaf, a part, the exceptions that a class takes, a conversion, a return conversion, or the making of arrays of a
+-- component type
 pub data Sense : Type 0 where
   IsSlot : Slot → Sense
   IsLeaf : Part → Sense

@@ -25,7 +25,8 @@ typed_ran-erased classes (Gave None calls) (Some t) h = absurd h
 typed_ran-erased classes Stuck t h = absurd h
 
 -- the run of a handle, typed, is the meaning of the tree that it stands for
-pub typed_run-stands : (table : LeafTable) (h : HandleView) (t : Tree) (args : List Value) (n : ℕ) → Stands table h t → HaveTypes table.classes args h.ty.params → n < 2 ^ 32
+pub typed_run-stands : (table : LeafTable) (h : HandleView) (t : Tree) (args : List Value) (n : ℕ) → Stands table h t → HaveTypes table.classes args h.ty.params
+    → n < 2 ^ 32
     → typed_ran table.classes h.ty.ret (handle_run table h (map erased args) n) ≡ mean table t args n
 typed_run-stands table h t args n st have low =
     ap (typed_ran table.classes h.ty.ret) (st.runs args n have low) ∙ typed_ran-erased table.classes (mean table t args n) h.ty.ret (st.returns args n have)
@@ -36,10 +37,13 @@ not-stuck classes (Threw x calls) t h = λ e. cc
 not-stuck classes Stuck t h = absurd h
 
 -- so the handle can be called
-pub typed_run-well_formed : (table : LeafTable) (h : HandleView) (t : Tree) (args : List Value) (n : ℕ) → Stands table h t → HaveTypes table.classes args h.ty.params → n < 2 ^ 32
+pub typed_run-well_formed : (table : LeafTable) (h : HandleView) (t : Tree) (args : List Value) (n : ℕ) → Stands table h t →
+    HaveTypes table.classes args h.ty.params → n < 2 ^ 32
     → typed_ran table.classes h.ty.ret (handle_run table h (map erased args) n) ≢ Stuck
-typed_run-well_formed table h t args n st have low e = not-stuck table.classes (mean table t args n) h.ty.ret (st.returns args n have) (sym (typed_run-stands table h t args n st have low) ∙ e)
+typed_run-well_formed table h t args n st have low e = not-stuck table.classes (mean table t args n) h.ty.ret (st.returns args n have)
+    (sym (typed_run-stands table h t args n st have low) ∙ e)
 
-pub answer-is : (ran ran' : Ran (Option Value)) (keys keys' : ℕ) (r : Result AnswerView NoMemory) → ran ≡ ran' → keys ≡ keys' → IfOk r (IsAnswer ran keys) → IfOk r (IsAnswer ran' keys')
+pub answer-is : (ran ran' : Ran (Option Value)) (keys keys' : ℕ) (r : Result AnswerView NoMemory) → ran ≡ ran' → keys ≡ keys' → IfOk r (IsAnswer ran keys) →
+    IfOk r (IsAnswer ran' keys')
 answer-is ran ran' keys keys' (Ok a) e k h = record { ran_is = h.ran_is ∙ e; keys_are = h.keys_are ∙ k }
 answer-is ran ran' keys keys' (Err x) e k h = h

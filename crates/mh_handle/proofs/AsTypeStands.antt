@@ -46,10 +46,12 @@ module _
 
     with-key :
         (number : ℕ) →
-        convert_keys table.classes asked h.ty ≡ Convert (entries_of table.classes asked.params h.ty.params) (ret_entry_of table.classes h.ty.ret asked.ret) ∷ [] →
+        convert_keys table.classes asked h.ty ≡ Convert (entries_of table.classes asked.params h.ty.params) (ret_entry_of table.classes h.ty.ret asked.ret) ∷ []
+            →
         Stands table
         (viewed number (Convert (entries_of table.classes asked.params h.ty.params) (ret_entry_of table.classes h.ty.ret asked.ret) ∷ [])
-        (h.fields ++ (map (λ d. field.Conv d) (convs_of table.classes asked.params h.ty.params) ++ ret_fields (ret_entry_of table.classes h.ty.ret asked.ret) (back table are asked u h t row st).0)))
+        (h.fields ++ (map (λ d. field.Conv d) (convs_of table.classes asked.params h.ty.params) ++ ret_fields (ret_entry_of table.classes h.ty.ret asked.ret)
+            (back table are asked u h t row st).0)))
         (AsType t asked)
     unfolding viewed
     with-key number is =
@@ -60,30 +62,39 @@ module _
         let made = converting es old in
         let fields = h.fields ++ (map (λ d. field.Conv d) convs ++ ret_fields re (back table are asked u h t row st).0) in
         let snoc : body_of (h.form.recipe ++ Convert es re ∷ []) ≡ applied (Convert es re) old = body_of-snoc h.form.recipe (Convert es re) in
-        let more : length (map (λ d. field.Conv d) convs) ≡ conv_count es = length-map convs (λ d. field.Conv d) ∙ count-convs table.classes asked.params h.ty.params in
-        let first : length fields ≡ length h.fields + length (map (λ d. field.Conv d) convs ++ ret_fields re (back table are asked u h t row st).0) = length-append h.fields (map (λ d. field.Conv d) convs ++ ret_fields re (back table are asked u h t row st).0) in
-        let second : length (map (λ d. field.Conv d) convs ++ ret_fields re (back table are asked u h t row st).0) ≡ length (map (λ d. field.Conv d) convs) + length (ret_fields re (back table are asked u h t row st).0) = length-append (map (λ d. field.Conv d) convs) (ret_fields re (back table are asked u h t row st).0) in
-        let third : (applied (Convert es re) old).fields ≡ (old.fields + conv_count es) + length (ret_fields re (back table are asked u h t row st).0) = returning-fields re (back table are asked u h t row st).0 made in
-        let begin : IsMade made = made-reframed old (conv_params es old.params) (conv_names es old.params old.fields 0) (conv_table es 0 (length old.params)) (conv_count es) st.begun in
+        let more : length (map (λ d. field.Conv d) convs) ≡ conv_count es = length-map convs (λ d. field.Conv d) ∙ count-convs table.classes asked.params
+            h.ty.params in
+        let first : length fields ≡ length h.fields + length (map (λ d. field.Conv d) convs ++ ret_fields re (back table are asked u h t row st).0) =
+            length-append h.fields (map (λ d. field.Conv d) convs ++ ret_fields re (back table are asked u h t row st).0) in
+        let second : length (map (λ d. field.Conv d) convs ++ ret_fields re (back table are asked u h t row st).0) ≡ length (map (λ d. field.Conv d) convs) +
+            length (ret_fields re (back table are asked u h t row st).0) =
+            length-append (map (λ d. field.Conv d) convs) (ret_fields re (back table are asked u h t row st).0) in
+        let third : (applied (Convert es re) old).fields ≡ (old.fields + conv_count es) + length (ret_fields re (back table are asked u h t row st).0) =
+            returning-fields re (back table are asked u h t row st).0 made in
+        let begin : IsMade made = made-reframed old (conv_params es old.params) (conv_names es old.params old.fields 0) (conv_table es 0 (length old.params))
+            (conv_count es) st.begun in
         record {
           typed = type table are asked u h t row st;
           weighed = ap (λ w. 1 + w) st.weighed;
           made = recipe-made (Convert es re ∷ []) is;
           holds = st.holds;
-          fielded = let e : length fields ≡ (applied (Convert es re) old).fields = omega (arith, first, second, third, more, st.fielded) in e ∙ sym (ap (λ b. b.fields) snoc);
+          fielded = let e : length fields ≡ (applied (Convert es re) old).fields = omega (arith, first, second, third, more, st.fielded) in
+              e ∙ sym (ap (λ b. b.fields) snoc);
           shaped =
               ap (λ b. b.params) snoc
               ∙ (returning-params re made
               ∙ (ap (conv_params es) st.shaped ∙ params-converted table.classes asked.params h.ty.params (allowed table are asked u h t row st)));
           begun = subst IsMade (sym snoc) (returning-made re made begin);
           runs = λ args n have low. ap (λ b. run_on table b fields (map erased args) n) snoc ∙ made-runs table are asked u h t row st args n have low;
-          well_formed = λ args n have low stuck. ends table are asked u h t row st args n have (sym (ap (λ b. run_on table b fields (map erased args) n) snoc ∙ made-runs table are asked u h t row st args n have low) ∙ stuck);
+          well_formed = λ args n have low stuck. ends table are asked u h t row st args n have (sym (ap (λ b. run_on table b fields (map erased args) n) snoc ∙
+              made-runs table are asked u h t row st args n have low) ∙ stuck);
           returns = sound table are asked u h t row st;
         }
 
     without-key :
         (number : ℕ) →
-        are_trivial table.classes asked.params h.ty.params ≡ true → is_trivial_ret table.classes h.ty.ret asked.ret ≡ true → convert_keys table.classes asked h.ty ≡ [] →
+        are_trivial table.classes asked.params h.ty.params ≡ true → is_trivial_ret table.classes h.ty.ret asked.ret ≡ true →
+            convert_keys table.classes asked h.ty ≡ [] →
         Stands table (viewed number [] h.fields) (AsType t asked)
     unfolding viewed
     without-key number params ret is =
@@ -96,8 +107,10 @@ module _
           fielded = st.fielded ∙ sym (ap (λ b. b.fields) same);
           shaped = ap (λ b. b.params) same ∙ (st.shaped ∙ params-kept table.classes asked.params h.ty.params (allowed table are asked u h t row st) params);
           begun = subst IsMade (sym same) st.begun;
-          runs = λ args n have low. ap (λ b. run_on table b h.fields (map erased args) n) same ∙ kept-runs table are asked u h t row st args n have low params ret;
-          well_formed = λ args n have low stuck. ends table are asked u h t row st args n have (sym (ap (λ b. run_on table b h.fields (map erased args) n) same ∙ kept-runs table are asked u h t row st args n have low params ret) ∙ stuck);
+          runs = λ args n have low. ap (λ b. run_on table b h.fields (map erased args) n) same ∙ kept-runs table are asked u h t row st args n have low params
+              ret;
+          well_formed = λ args n have low stuck. ends table are asked u h t row st args n have (sym (ap (λ b. run_on table b h.fields (map erased args) n) same
+              ∙ kept-runs table are asked u h t row st args n have low params ret) ∙ stuck);
           returns = sound table are asked u h t row st;
         }
 
@@ -110,21 +123,27 @@ module _
         let p = both (are_trivial table.classes asked.params h.ty.params) (is_trivial_ret table.classes h.ty.ret asked.ret) is in
         let keys : convert_keys table.classes asked h.ty ≡ [] =
         ap (λ b. cond b [] (Convert (entries_of table.classes asked.params h.ty.params) (ret_entry_of table.classes h.ty.ret asked.ret) ∷ [])) is in
-        let convs : map (λ d. field.Conv d) (convs_of table.classes asked.params h.ty.params) ≡ [] = ap (map (λ d. field.Conv d)) (none-converted table.classes asked.params h.ty.params p.0) in
+        let convs : map (λ d. field.Conv d) (convs_of table.classes asked.params h.ty.params) ≡ [] =
+            ap (map (λ d. field.Conv d)) (none-converted table.classes asked.params h.ty.params p.0) in
         let last : ret_fields_of table.classes h.ty.ret asked.ret ≡ [] =
         ap (λ b. cond b [] (map (λ c. field.Ret c) (option_to_list (ret_conversion_of table.classes h.ty.ret asked.ret)))) p.1 in
         let fields : convert_fields table.classes asked h.ty ≡ [] = ap₂ (λ (a b : List Field). a ++ b) convs last in
         subst (λ ks. Stands table (viewed number ks (h.fields ++ convert_fields table.classes asked h.ty)) (AsType t asked)) (sym keys)
-        (subst (λ fs. Stands table (viewed number [] fs) (AsType t asked)) (sym (ap (λ fs. h.fields ++ fs) fields ∙ append-nil h.fields)) (without-key number p.0 p.1 keys))
+        (subst (λ fs. Stands table (viewed number [] fs) (AsType t asked)) (sym (ap (λ fs. h.fields ++ fs) fields ∙ append-nil h.fields))
+            (without-key number p.0 p.1 keys))
     as-type number false is =
-        let keys : convert_keys table.classes asked h.ty ≡ Convert (entries_of table.classes asked.params h.ty.params) (ret_entry_of table.classes h.ty.ret asked.ret) ∷ [] =
+        let keys : convert_keys table.classes asked h.ty ≡ Convert (entries_of table.classes asked.params h.ty.params)
+            (ret_entry_of table.classes h.ty.ret asked.ret) ∷ [] =
         ap (λ b. cond b [] (Convert (entries_of table.classes asked.params h.ty.params) (ret_entry_of table.classes h.ty.ret asked.ret) ∷ [])) is in
         let fields : convert_fields table.classes asked h.ty
-        ≡ map (λ d. field.Conv d) (convs_of table.classes asked.params h.ty.params) ++ ret_fields (ret_entry_of table.classes h.ty.ret asked.ret) (back table are asked u h t row st).0 =
+        ≡ map (λ d. field.Conv d) (convs_of table.classes asked.params h.ty.params) ++ ret_fields (ret_entry_of table.classes h.ty.ret asked.ret)
+            (back table are asked u h t row st).0 =
         ap (λ fs. map (λ d. field.Conv d) (convs_of table.classes asked.params h.ty.params) ++ fs)
-        (ret-one (is_trivial_ret table.classes h.ty.ret asked.ret) (basic_ret_of asked.ret) (ret_conversion_of table.classes h.ty.ret asked.ret) (back table are asked u h t row st).0 (back table are asked u h t row st).1) in
+        (ret-one (is_trivial_ret table.classes h.ty.ret asked.ret) (basic_ret_of asked.ret) (ret_conversion_of table.classes h.ty.ret asked.ret)
+            (back table are asked u h t row st).0 (back table are asked u h t row st).1) in
         subst (λ ks. Stands table (viewed number ks (h.fields ++ convert_fields table.classes asked h.ty)) (AsType t asked)) (sym keys)
-        (subst (λ fs. Stands table (viewed number (Convert (entries_of table.classes asked.params h.ty.params) (ret_entry_of table.classes h.ty.ret asked.ret) ∷ []) (h.fields ++ fs)) (AsType t asked)) (sym fields)
+        (subst (λ fs. Stands table (viewed number (Convert (entries_of table.classes asked.params h.ty.params) (ret_entry_of table.classes h.ty.ret asked.ret) ∷
+            []) (h.fields ++ fs)) (AsType t asked)) (sym fields)
         (with-key number keys))
 
 pub astype-stands :
@@ -136,7 +155,8 @@ pub astype-stands :
 unfolding viewed
 astype-stands table are asked u old new t row used st =
     let P : HandleView → Type 0 = λ h. Stands table h (AsType t asked) in
-    let made : HandleView = viewed table are asked u old t row st new.form.number (convert_keys table.classes asked old.ty) (old.fields ++ convert_fields table.classes asked old.ty) in
+    let made : HandleView = viewed table are asked u old t row st new.form.number (convert_keys table.classes asked old.ty)
+        (old.fields ++ convert_fields table.classes asked old.ty) in
     let is : new ≡ made =
     λ i. record {
       ty = used.ty i;
@@ -146,4 +166,5 @@ astype-stands table are asked u old new t row used st =
       fields = used.fields i;
     } in
     subst P (sym is)
-    (as-type table are asked u old t row st new.form.number (are_trivial table.classes asked.params old.ty.params && is_trivial_ret table.classes old.ty.ret asked.ret) refl)
+    (as-type table are asked u old t row st new.form.number (are_trivial table.classes asked.params old.ty.params && is_trivial_ret table.classes old.ty.ret
+        asked.ret) refl)

@@ -40,7 +40,8 @@ none i j x y p q e = cc
 
 pub indexed-empty : (forms : List FormView) (newest before : List ℕ) → forms ≡ [] → newest ≡ replicate 4096 0 → before ≡ [] → AreIndexed forms newest before
 indexed-empty forms newest before f n b =
-    let index : IsIndex [] newest [] = subst (λ v. IsIndex [] v []) (sym n) (is_index-empty (replicate 4096 0) (length-replicate {A = ℕ} 4096 0) (zeros 4096)) in
+    let index : IsIndex [] newest [] = subst (λ v. IsIndex [] v []) (sym n) (is_index-empty (replicate 4096 0) (length-replicate {A = ℕ} 4096 0) (zeros 4096))
+        in
     subst (λ v. AreIndexed v newest before) (sym f) (subst (λ v. AreIndexed [] newest v) (sym b) (record { index = index; once = none }))
 
 pub indexed-more : (forms : List FormView) (newest before : List ℕ) (form : FormView) (place : ℕ) → AreIndexed forms newest before
@@ -130,7 +131,8 @@ sought-none forms recipe place so e i f at = so.lacks i f at (omega arith)
 -- a place and the one below it
 pub sought-after : (forms : List FormView) (newest before : List ℕ) (recipe : List Key) (k here place : ℕ) (form : FormView) → AreIndexed forms newest before
     → here ≡ suc k → Sought forms recipe here → slice_get forms k ≡ Some form → form.recipe ≢ recipe → place ≡ slice_index before k → Sought forms recipe place
-sought-after forms newest before recipe k here place form all e so at other is = sought-next forms newest before recipe k place form all (subst (Sought forms recipe) e so) at other is
+sought-after forms newest before recipe k here place form all e so at other is =
+    sought-next forms newest before recipe k place form all (subst (Sought forms recipe) e so) at other is
 
 pub before-low : (forms : List FormView) (newest before : List ℕ) (recipe : List Key) (k here place : ℕ) → AreIndexed forms newest before
     → here ≡ suc k → Sought forms recipe here → place ≡ slice_index before k → place < here

@@ -39,7 +39,8 @@ length-entries classes [] (t ∷ ts) h = absurd cc
 length-entries classes (s ∷ ss) [] h = absurd cc
 length-entries classes (s ∷ ss) (t ∷ ts) h = ap suc (length-entries classes ss ts (both (can classes s t) (can_all classes ss ts) h).1)
 
-count-one : (b : Bool) (c : Basic) (es : List (Option Basic)) (d : Conv) (ds : List Conv) → length ds ≡ conv_count es → length (cond b ds (d ∷ ds)) ≡ conv_count (cond b None (Some c) ∷ es)
+count-one : (b : Bool) (c : Basic) (es : List (Option Basic)) (d : Conv) (ds : List Conv) → length ds ≡ conv_count es →
+    length (cond b ds (d ∷ ds)) ≡ conv_count (cond b None (Some c) ∷ es)
 count-one true c es d ds h = h
 count-one false c es d ds h = let e : suc (length ds) ≡ conv_count es + 1 = omega arith in e
 
@@ -57,11 +58,13 @@ below-basic classes (ty.Array c) (ty.Class d) h = refl
 below-basic classes (ty.Array c) (ty.Array d) h = refl
 below-basic classes s t h = absurd cc
 
-param-one : (b : Bool) (c d : Basic) (es : List (Option Basic)) (cs ds : List Basic) → (b ≡ true → c ≡ d) → conv_params es cs ≡ ds → conv_params (cond b None (Some d) ∷ es) (c ∷ cs) ≡ d ∷ ds
+param-one : (b : Bool) (c d : Basic) (es : List (Option Basic)) (cs ds : List Basic) → (b ≡ true → c ≡ d) → conv_params es cs ≡ ds →
+    conv_params (cond b None (Some d) ∷ es) (c ∷ cs) ≡ d ∷ ds
 param-one true c d es cs ds same h = ap₂ (λ (x : Basic) (xs : List Basic). x ∷ xs) (same refl) h
 param-one false c d es cs ds same h = ap (λ xs. d ∷ xs) h
 
-pub params-converted : (classes : List Class) (ss ts : List Ty) → can_all classes ss ts ≡ true → conv_params (entries_of classes ss ts) (map basic_of ts) ≡ map basic_of ss
+pub params-converted : (classes : List Class) (ss ts : List Ty) → can_all classes ss ts ≡ true → conv_params (entries_of classes ss ts) (map basic_of ts) ≡ map
+    basic_of ss
 params-converted classes [] [] h = refl
 params-converted classes [] (t ∷ ts) h = absurd cc
 params-converted classes (s ∷ ss) [] h = absurd cc
@@ -84,7 +87,8 @@ pub some-is : (o : Option RetConv) → is_some o ≡ true → (c : RetConv) × (
 some-is None h = absurd cc
 some-is (Some c) h = (c, refl)
 
-pub ret-one : (b : Bool) (r : BasicRet) (o : Option RetConv) (c : RetConv) → o ≡ Some c → cond b [] (map (λ d. field.Ret d) (option_to_list o)) ≡ ret_fields (cond b Keep (New r)) c
+pub ret-one : (b : Bool) (r : BasicRet) (o : Option RetConv) (c : RetConv) → o ≡ Some c → cond b [] (map (λ d. field.Ret d) (option_to_list o)) ≡ ret_fields
+    (cond b Keep (New r)) c
 ret-one true r o c is = refl
 ret-one false r o c is = ap (λ p. map (λ d. field.Ret d) (option_to_list p)) is
 

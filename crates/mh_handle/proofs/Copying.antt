@@ -35,7 +35,8 @@ stands-copied table h h' t ty weight sides form same st =
       weighed = weight ∙ st.weighed;
       made = ap (λ (f : FormView). f.recipe) form ∙ st.made;
       holds = sides ∙ st.holds;
-      fielded = sym (length-map h'.fields (sense table)) ∙ (ap length same ∙ (length-map h.fields (sense table) ∙ (st.fielded ∙ ap (λ (b : FormBody). b.fields) (sym body))));
+      fielded = sym (length-map h'.fields (sense table)) ∙
+          (ap length same ∙ (length-map h.fields (sense table) ∙ (st.fielded ∙ ap (λ (b : FormBody). b.fields) (sym body))));
       shaped = ap (λ (b : FormBody). b.params) body ∙ (st.shaped ∙ ap (λ (m : MethodTy). map basic_of m.params) (sym ty));
       begun = subst IsMade (sym body) st.begun;
       runs = λ args n have low. run (map erased args) n ∙ st.runs args n (typed args have) low;

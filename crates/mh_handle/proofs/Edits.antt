@@ -16,7 +16,8 @@ lacks-before : (nodes nodes' : List FormView) (recipe : List Key) → StartsWith
 lacks-before nodes nodes' recipe more new i f at = new i f (ap (λ v. slice_get v i) more.1 ∙ slice_get-append_left nodes more.0 i f at)
 
 -- the form was asked for before
-pub edits-seen : (recipe : List Key) (pass : PassView) (form : Bor FormView) → Has recipe_of pass.asked recipe form.now → IsFormOf recipe pass.nodes form.now → Edits recipe pass pass (Ok form)
+pub edits-seen : (recipe : List Key) (pass : PassView) (form : Bor FormView) → Has recipe_of pass.asked recipe form.now → IsFormOf recipe pass.nodes form.now →
+    Edits recipe pass pass (Ok form)
 edits-seen recipe pass form has is = (has.2, inl ((has.0, has.1, refl), refl), inl refl, is)
 
 -- the chain shows it
@@ -25,12 +26,14 @@ pub edits-found :
     new ≡ record mid { asked = mid.asked ++ form.now ∷ [] } → IsFormOf recipe mid.nodes form.now → Edits recipe old new (Ok form)
 edits-found recipe old mid new form learns unseen asks is = (
   is.0.2,
-  inr (lacks-same old.asked old.asked recipe form.now.recipe unseen refl is.0.2, ap (λ (p : PassView). p.asked) asks ∙ ap (λ v. v ++ form.now ∷ []) learns.asked),
+  inr (lacks-same old.asked old.asked recipe form.now.recipe unseen refl is.0.2, ap (λ (p : PassView). p.asked) asks ∙
+      ap (λ v. v ++ form.now ∷ []) learns.asked),
   inl (ap (λ (p : PassView). p.seat) asks ∙ learns.seat),
   subst (λ (p : PassView). IsFormOf recipe p.nodes form.now) (sym asks) is,
 )
 
-module _ (recipe : List Key) (old mid new : PassView) (learns : Learns old mid) (unseen : Lacks recipe_of old.asked recipe) (unlearnt : Lacks recipe_of mid.nodes recipe) where
+module _ (recipe : List Key) (old mid new : PassView) (learns : Learns old mid) (unseen : Lacks recipe_of old.asked recipe)
+    (unlearnt : Lacks recipe_of mid.nodes recipe) where
   drawn : (number : ℕ) → Draws number mid.seat new.seat → Draws number old.seat new.seat
   drawn number d = subst (λ s. Draws number s new.seat) learns.seat d
 
@@ -46,6 +49,7 @@ module _ (recipe : List Key) (old mid new : PassView) (learns : Learns old mid) 
   )
   edits-made (Err NoMemory) m is = (
     (unseen, m.0 ∙ learns.asked),
-    ⊎_elim (λ (same : new.seat ≡ mid.seat). inl (same ∙ learns.seat)) (λ (d : (number : ℕ) × Draws number mid.seat new.seat). inr (d.0, drawn d.0 d.1, lacks)) m.1,
+    ⊎_elim (λ (same : new.seat ≡ mid.seat). inl (same ∙ learns.seat)) (λ (d : (number : ℕ) × Draws number mid.seat new.seat). inr (d.0, drawn d.0 d.1, lacks))
+        m.1,
   )
   edits-made (Err (FormsFull n)) m is = ((unseen, m.0 ∙ learns.asked), drawn n m.1, m.2, subst (λ v. Lacks recipe_of v recipe) (sym m.3) unlearnt)

@@ -16,7 +16,8 @@ use Rattle.mh_edit.specs.Applied.{given}
 use Rattle.mh_edit.specs.Law.{returned, slots_of_result}
 
 -- an operation on a list's places is one on the mapped list
-pub spliced-map : {A B : Type 0} (f : A → B) (place taken : ℕ) (given xs : List A) → map f (spliced place taken given xs) ≡ spliced place taken (map f given) (map f xs)
+pub spliced-map : {A B : Type 0} (f : A → B) (place taken : ℕ) (given xs : List A) → map f (spliced place taken given xs) ≡ spliced place taken (map f given)
+    (map f xs)
 spliced-map f place taken given xs =
     map-append f (take place xs) (given ++ drop (place + taken) xs)
     ∙ (ap (λ u. u ++ map f (given ++ drop (place + taken) xs)) (sym (take-map f place xs))
@@ -37,7 +38,8 @@ returns-runs classes (Threw x calls) t h = λ e. cc
 returns-runs classes Stuck t h = absurd h
 
 -- a result of a type is one of its basic type
-pub returned-erased : (classes : List Class) (r : Ran (Option Value)) (t : Option Ty) → Returns classes r t → returned (basic_ret_of t) (erased_ran r) ≡ erased_ran r
+pub returned-erased : (classes : List Class) (r : Ran (Option Value)) (t : Option Ty) → Returns classes r t →
+    returned (basic_ret_of t) (erased_ran r) ≡ erased_ran r
 returned-erased classes (Gave (Some v) calls) (Some t) h = refl
 returned-erased classes (Gave None calls) None h = refl
 returned-erased classes (Threw e calls) t h = refl
@@ -54,10 +56,12 @@ raised-low (c ∷ calls) n low =
 
 -- a part that stands for a tree, and what runs on its result
 pub part-then :
-    (classes : List Class) (r : Ran (Option Value)) (n : ℕ) (t : Option Ty) (run : List Slot → ℕ → Ran (Option Slot)) (mean : List Value → ℕ → Ran (Option Value)) →
+    (classes : List Class) (r : Ran (Option Value)) (n : ℕ) (t : Option Ty) (run : List Slot → ℕ → Ran (Option Slot)) (mean : List Value → ℕ →
+        Ran (Option Value)) →
     n < 2 ^ 32 →
     Returns classes r t →
-    ((o : Option Value) (k : ℕ) → HaveTypes classes (option_to_list o) (option_to_list t) → k < 2 ^ 32 → run (map erased (option_to_list o)) k ≡ erased_ran (mean (option_to_list o) k)) →
+    ((o : Option Value) (k : ℕ) → HaveTypes classes (option_to_list o) (option_to_list t) → k < 2 ^ 32 →
+        run (map erased (option_to_list o)) k ≡ erased_ran (mean (option_to_list o) k)) →
     and_then (filled (erased_ran r)) n (λ s k. run (given (basic_ret_of t) s) k) ≡ erased_ran (and_then r n (λ o k. mean (option_to_list o) k))
 part-then classes (Gave (Some v) calls) n (Some t) run mean low typed same =
     ap (after calls) (same (Some v) (raised n calls) (typed, tt) (raised-low calls n low)) ∙ sym (erased-after calls (mean (v ∷ []) (raised n calls)))
@@ -70,15 +74,18 @@ part-then classes Stuck n t run mean low typed same = absurd typed
 
 -- the same where the part runs last
 pub result-then :
-    (classes : List Class) (r : Ran (Option Value)) (n : ℕ) (t ret : Option Ty) (run : List Slot → ℕ → Ran (Option Slot)) (mean : List Value → ℕ → Ran (Option Value)) →
+    (classes : List Class) (r : Ran (Option Value)) (n : ℕ) (t ret : Option Ty) (run : List Slot → ℕ → Ran (Option Slot)) (mean : List Value → ℕ →
+        Ran (Option Value)) →
     n < 2 ^ 32 →
     Returns classes r t →
     ((o : Option Value) (k : ℕ) → HaveTypes classes (option_to_list o) (option_to_list t) → Returns classes (mean (option_to_list o) k) ret) →
-    ((o : Option Value) (k : ℕ) → HaveTypes classes (option_to_list o) (option_to_list t) → k < 2 ^ 32 → run (map erased (option_to_list o)) k ≡ erased_ran (mean (option_to_list o) k)) →
+    ((o : Option Value) (k : ℕ) → HaveTypes classes (option_to_list o) (option_to_list t) → k < 2 ^ 32 →
+        run (map erased (option_to_list o)) k ≡ erased_ran (mean (option_to_list o) k)) →
     and_then (erased_ran r) n (λ o k. returned (basic_ret_of ret) (run (slots_of_result o) k)) ≡ erased_ran (and_then r n (λ o k. mean (option_to_list o) k))
 result-then classes (Gave (Some v) calls) n (Some t) ret run mean low typed sound same =
     let k : ℕ = raised n calls in
-    ap (after calls) (ap (returned (basic_ret_of ret)) (same (Some v) k (typed, tt) (raised-low calls n low)) ∙ returned-erased classes (mean (v ∷ []) k) ret (sound (Some v) k (typed, tt)))
+    ap (after calls) (ap (returned (basic_ret_of ret)) (same (Some v) k (typed, tt) (raised-low calls n low)) ∙ returned-erased classes (mean (v ∷ []) k) ret
+        (sound (Some v) k (typed, tt)))
     ∙ sym (erased-after calls (mean (v ∷ []) k))
 result-then classes (Gave None calls) n None ret run mean low typed sound same =
     let k : ℕ = raised n calls in

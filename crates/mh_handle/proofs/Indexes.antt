@@ -49,10 +49,12 @@ module _ (hashes newest before : List ℕ) (m place : ℕ) (old : IsIndex hashes
       up = omega (arith, low, longer hashes m)
 
       cases : Dec (i < length hashes) → P (slice_index (hashes ++ m ∷ []) i)
-      cases (yes lt) = at_hash i (slice_index (hashes ++ m ∷ []) i) up (ℕ_discrete _ _) (λ ne. subst (λ k. i < slice_index newest k) (sym (same_place i lt)) (old.newer i lt))
+      cases (yes lt) = at_hash i (slice_index (hashes ++ m ∷ []) i) up (ℕ_discrete _ _) (λ ne. subst (λ k. i < slice_index newest k) (sym (same_place i lt))
+          (old.newer i lt))
       cases (no not) = at_hash i (slice_index (hashes ++ m ∷ []) i) up (ℕ_discrete _ _) (λ ne. absurd (ne (at-new hashes m i (omega (arith, longer hashes m)))))
 
-  pub newest_is-more : (k j : ℕ) → slice_index (set newest m (length hashes + 1)) k ≡ suc j → (j < length (hashes ++ m ∷ [])) × (slice_index (hashes ++ m ∷ []) j ≡ k)
+  pub newest_is-more : (k j : ℕ) → slice_index (set newest m (length hashes + 1)) k ≡ suc j → (j < length (hashes ++ m ∷ []))
+      × (slice_index (hashes ++ m ∷ []) j ≡ k)
   newest_is-more k j e = cases (ℕ_discrete k m)
     where
       cases : Dec (k ≡ m) → (j < length (hashes ++ m ∷ [])) × (slice_index (hashes ++ m ∷ []) j ≡ k)
@@ -64,7 +66,8 @@ module _ (hashes newest before : List ℕ) (m place : ℕ) (old : IsIndex hashes
           let h = old.newest_is k j (sym (other k ne) ∙ e) in
           (omega (arith, longer hashes m, h.0), same_place j h.0 ∙ h.1)
 
-  pub later-more : (i j : ℕ) → i < length (hashes ++ m ∷ []) → j < i → slice_index (hashes ++ m ∷ []) j ≡ slice_index (hashes ++ m ∷ []) i → j < slice_index (before ++ place ∷ []) i
+  pub later-more : (i j : ℕ) → i < length (hashes ++ m ∷ []) → j < i → slice_index (hashes ++ m ∷ []) j ≡ slice_index (hashes ++ m ∷ []) i →
+      j < slice_index (before ++ place ∷ []) i
   later-more i j low lower e = cases (dec_lt i (length hashes))
     where
       cases : Dec (i < length hashes) → j < slice_index (before ++ place ∷ []) i
@@ -81,7 +84,8 @@ module _ (hashes newest before : List ℕ) (m place : ℕ) (old : IsIndex hashes
           is' : i ≡ length hashes → slice_index newest m ≡ slice_index (before ++ place ∷ []) i
           is' last = sym is ∙ sym (at-new before place i (omega (arith, old.paired)))
 
-  pub before_is-more : (i k : ℕ) → i < length (hashes ++ m ∷ []) → slice_index (before ++ place ∷ []) i ≡ suc k → (k < i) × (slice_index (hashes ++ m ∷ []) k ≡ slice_index (hashes ++ m ∷ []) i)
+  pub before_is-more : (i k : ℕ) → i < length (hashes ++ m ∷ []) → slice_index (before ++ place ∷ []) i ≡ suc k →
+      (k < i) × (slice_index (hashes ++ m ∷ []) k ≡ slice_index (hashes ++ m ∷ []) i)
   before_is-more i k low e = cases (dec_lt i (length hashes))
     where
       cases : Dec (i < length hashes) → (k < i) × (slice_index (hashes ++ m ∷ []) k ≡ slice_index (hashes ++ m ∷ []) i)

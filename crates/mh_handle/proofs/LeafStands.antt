@@ -56,7 +56,8 @@ pub registered-typed : (table : LeafTable) → AreRegistered table → AreClasse
 registered-typed table all are = record {
   classes = are;
   leaves = λ l leaf at.
-      let is : IsLeafOf table.classes leaf = subst (IsLeafOf table.classes) (get_or_from_slice_get table.leaves l leaf leaf at) (all.leaves l leaf (slice_get_within table.leaves l leaf at)) in
+      let is : IsLeafOf table.classes leaf = subst (IsLeafOf table.classes) (get_or_from_slice_get table.leaves l leaf leaf at)
+          (all.leaves l leaf (slice_get_within table.leaves l leaf at)) in
       both-true (is_kind_type leaf.kind leaf.ty) (throws_exceptions table.classes leaf.kind) is.typed (throws table.classes are leaf.kind is.throws);
 }
 
@@ -68,7 +69,8 @@ row-of : (o : Option Leaf) (ty : MethodTy) → option_map (λ leaf. leaf.ty) o �
 row-of (Some leaf) ty e = let is : leaf.ty ≡ ty = cc in ap Ok is
 row-of None ty e = absurd cc
 
-called-erased : (table : LeafTable) (l : LeafId) (leaf : Leaf) (args : List Value) (n : ℕ) → slice_get table.leaves l.0 ≡ Some leaf → HaveTypes table.classes args leaf.ty.params
+called-erased : (table : LeafTable) (l : LeafId) (leaf : Leaf) (args : List Value) (n : ℕ) → slice_get table.leaves l.0 ≡ Some leaf →
+    HaveTypes table.classes args leaf.ty.params
     → called table l (map erased args) n ≡ erased_ran (leaf_mean table l args n)
 called-erased table l leaf args n at have =
     ap (λ o. found o (λ leaf. found (all_typed table.classes leaf.ty.params (map erased args)) (λ vs. erased_ran (leaf_mean table l vs n)))) at
@@ -93,7 +95,8 @@ leaf-stands table well l ty h is g =
       runs = λ args n have low.
           let does = called-erased table l leaf.0 args n leaf.1 (subst (λ (m : MethodTy). HaveTypes table.classes args m.params) (sym leaf.2) have) in
           let whole = ap (returned (basic_ret_of ty.ret)) does ∙ returned-erased table.classes (mean table (tree.Leaf l) args n) ty.ret (sound args n have) in
-          let size : length (map erased args) ≡ length (map basic_of ty.params) = length-map args erased ∙ (types-length table.classes args ty.params have ∙ sym (length-map ty.params basic_of)) in
+          let size : length (map erased args) ≡ length (map basic_of ty.params) = length-map args erased ∙ (types-length table.classes args ty.params have ∙
+              sym (length-map ty.params basic_of)) in
           refined (returned (basic_ret_of ty.ret) (called table l (map erased args) n)) (run_on table new (field.Leaf l ∷ []) (map erased args) n)
           (λ e. returns-runs table.classes (mean table (tree.Leaf l) args n) ty.ret (sound args n have) (sym whole ∙ e))
           (law table l (map erased args) n size)
@@ -102,7 +105,8 @@ leaf-stands table well l ty h is g =
     })
 
 -- what the call of a leaf answers
-pub leaf-answers : (table : LeafTable) → IsWellTyped table → (l : LeafId) (ty ty' : MethodTy) (s : Shape) (sides : List MethodTy) (fields : List Field) (r : Result HandleView HandleError)
+pub leaf-answers : (table : LeafTable) → IsWellTyped table → (l : LeafId) (ty ty' : MethodTy) (s : Shape) (sides : List MethodTy) (fields : List Field)
+    (r : Result HandleView HandleError)
     → type_of_leaf table l ≡ Some ty → ty' ≡ ty → s ≡ shape_of ty' → sides ≡ [] → fields ≡ field.Leaf l ∷ []
     → IfOk r (λ h. Grows base_handle h ty' 1 sides (key.LeafRoot s) fields) → IfOk r (λ h. Stands table h (tree.Leaf l))
 leaf-answers table well l ty ty' s sides fields (Ok h) is same shape none one g =

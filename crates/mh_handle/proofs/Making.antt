@@ -14,6 +14,7 @@ pub makes-refused : (recipe : List Key) (old new : PassView) (e : EditError) →
 makes-refused recipe old new edit.NoMemory h = (h.0.1, h.1)
 makes-refused recipe old new (edit.FormsFull drawn) h = h
 
-pub makes-error : (recipe : List Key) (old new : PassView) (e : EditError) (r : Result Handle HandleError) → Edits recipe old new (Err e) → IsErrAnd r (λ x. x ≡ of_edit e) → Makes recipe old new r
+pub makes-error : (recipe : List Key) (old new : PassView) (e : EditError) (r : Result Handle HandleError) → Edits recipe old new (Err e) →
+    IsErrAnd r (λ x. x ≡ of_edit e) → Makes recipe old new r
 makes-error recipe old new e (Ok h) edits is = absurd is
 makes-error recipe old new e (Err x) edits is = subst (λ v. Makes recipe old new (Err v)) (sym is) (makes-refused recipe old new e edits)

@@ -32,7 +32,8 @@ refusal-makes : (recipe : List Key) (pass : PassView) (e : CheckError) → Makes
 refusal-makes recipe pass check.NoMemory = (refl, inl refl)
 refusal-makes recipe pass (check.Refused e) = refl
 
-pub refused-makes : (recipe : List Key) (pass : PassView) (e : CheckError) (r : Result Handle HandleError) → IsErrAnd r (λ x. x ≡ of_check e) → Makes recipe pass pass r
+pub refused-makes : (recipe : List Key) (pass : PassView) (e : CheckError) (r : Result Handle HandleError) → IsErrAnd r (λ x. x ≡ of_check e) →
+    Makes recipe pass pass r
 refused-makes recipe pass e (Ok h) is = absurd is
 refused-makes recipe pass e (Err x) is = subst (λ v. Makes recipe pass pass (Err v)) (sym is) (refusal-makes recipe pass e)
 

@@ -44,20 +44,25 @@ learnt-later nodes nodes' asked more l i f at =
     let j = l i f at in
     (j.0, ap (λ v. slice_get v j.0) more.1 ∙ slice_get-append_left nodes more.0 j.0 f j.1)
 
-pub learnt-more : (nodes asked : List FormView) (form : FormView) (i : ℕ) → AreLearnt nodes asked → slice_get nodes i ≡ Some form → AreLearnt nodes (asked ++ form ∷ [])
-learnt-more nodes asked form i l here j f at = ⊎_elim (λ old. l j f old) (λ (q : (j ≡ length asked) × (form ≡ f)). (i, here ∙ ap Some q.1)) (at_push asked form j f at)
+pub learnt-more : (nodes asked : List FormView) (form : FormView) (i : ℕ) → AreLearnt nodes asked → slice_get nodes i ≡ Some form →
+    AreLearnt nodes (asked ++ form ∷ [])
+learnt-more nodes asked form i l here j f at = ⊎_elim (λ old. l j f old) (λ (q : (j ≡ length asked) × (form ≡ f)). (i, here ∙ ap Some q.1))
+    (at_push asked form j f at)
 
 -- the same of a call that adds the form, or leaves all as it was
-pub learnt-added : {A E : Type 0} (nodes asked asked' : List FormView) (form : FormView) (i : ℕ) (r : Result A E) → AreLearnt nodes asked → slice_get nodes i ≡ Some form
+pub learnt-added : {A E : Type 0} (nodes asked asked' : List FormView) (form : FormView) (i : ℕ) (r : Result A E) → AreLearnt nodes asked →
+    slice_get nodes i ≡ Some form
     → OnOk r (asked' ≡ asked ++ form ∷ []) → OnErr r (asked' ≡ asked) → AreLearnt nodes asked'
 learnt-added nodes asked asked' form i (Ok a) l here ok err = subst (AreLearnt nodes) (sym ok) (learnt-more nodes asked form i l here)
 learnt-added nodes asked asked' form i (Err e) l here ok err = subst (AreLearnt nodes) (sym err) l
 
-pub lacks-same : (asked asked' : List FormView) (recipe recipe' : List Key) → Lacks recipe_of asked recipe → asked' ≡ asked → recipe' ≡ recipe → Lacks recipe_of asked' recipe'
+pub lacks-same : (asked asked' : List FormView) (recipe recipe' : List Key) → Lacks recipe_of asked recipe → asked' ≡ asked → recipe' ≡ recipe →
+    Lacks recipe_of asked' recipe'
 lacks-same asked asked' recipe recipe' new a r = subst (λ v. Lacks recipe_of v recipe') (sym a) (subst (Lacks recipe_of asked) (sym r) new)
 
 -- of nodes with recipes of their own, one with a recipe is the only one
-pub form-of : (recipe : List Key) (nodes : List FormView) (form : FormView) → Distinct recipe_of nodes → Has recipe_of nodes recipe form → IsFormOf recipe nodes form
+pub form-of : (recipe : List Key) (nodes : List FormView) (form : FormView) → Distinct recipe_of nodes → Has recipe_of nodes recipe form →
+    IsFormOf recipe nodes form
 form-of recipe nodes form once has = (
   has,
   λ other h.

@@ -34,7 +34,8 @@ and-false true = refl
 and-false false = refl
 
 pub made-fits : (body : FormBody) → IsMade body → not (is_nothing body) ≡ true
-made-fits body made = ap not (ap (λ b. length body.params == 0 && (body.fields == 0 && b)) made ∙ (ap (λ b. length body.params == 0 && b) (and-false (body.fields == 0)) ∙ and-false (length body.params == 0)))
+made-fits body made = ap not (ap (λ b. length body.params == 0 && (body.fields == 0 && b)) made ∙
+    (ap (λ b. length body.params == 0 && b) (and-false (body.fields == 0)) ∙ and-false (length body.params == 0)))
 
 some-mapped : {A B : Type 0} (f : A → B) (o : Option A) → is_some (option_map f o) ≡ is_some o
 some-mapped f None = refl
@@ -43,16 +44,19 @@ some-mapped f (Some a) = refl
 pub suc-positive : (n : ℕ) → (suc n == 0) ≡ false
 suc-positive n = grind (arith, nat_tests)
 
-pub made-reframed : (body : FormBody) (params : List Basic) (before : List Name) (table : List ℕ) (more : ℕ) → IsMade body → IsMade (reframed body params before table more)
+pub made-reframed : (body : FormBody) (params : List Basic) (before : List Name) (table : List ℕ) (more : ℕ) → IsMade body →
+    IsMade (reframed body params before table more)
 made-reframed body params [] table more made =
     let to = place_by table (length params + 0) in
-    ap (λ n. n == 0 && not (is_some (option_map to body.out))) (length-map body.names (renamed to)) ∙ (ap (λ b. length body.names == 0 && not b) (some-mapped to body.out) ∙ made)
+    ap (λ n. n == 0 && not (is_some (option_map to body.out))) (length-map body.names (renamed to)) ∙
+        (ap (λ b. length body.names == 0 && not b) (some-mapped to body.out) ∙ made)
 made-reframed body params (x ∷ before) table more made =
     let to = place_by table (length params + length (x ∷ before)) in
     ap (λ b. b && not (is_some (option_map to body.out))) (suc-positive (length (before ++ map (renamed to) body.names)))
 
 -- what is to be shown of the tree that the edit is of, where the handle before it has these keys and side types
-pub record Suits (table : LeafTable) (h : HandleView) (keys : List Key) (held : List MethodTy) (t' : Tree) (ty : MethodTy) (weighs : ℕ) (more : List MethodTy) (k : Key) (fields : List Field) : Type 0 where
+pub record Suits (table : LeafTable) (h : HandleView) (keys : List Key) (held : List MethodTy) (t' : Tree) (ty : MethodTy) (weighs : ℕ) (more : List MethodTy)
+    (k : Key) (fields : List Field) : Type 0 where
   pub typed : type_of table t' ≡ Ok ty
   pub weighed : weighs ≡ weight t'
   pub holds : sides table t' ≡ held ++ more
@@ -66,7 +70,8 @@ pub record Suits (table : LeafTable) (h : HandleView) (keys : List Key) (held : 
   pub returns : IsSound table.classes (mean table t') ty
 
 pub stands-by :
-    (table : LeafTable) (h h' : HandleView) (keys : List Key) (held : List MethodTy) (t' : Tree) (ty : MethodTy) (weighs : ℕ) (more : List MethodTy) (k : Key) (fields : List Field) →
+    (table : LeafTable) (h h' : HandleView) (keys : List Key) (held : List MethodTy) (t' : Tree) (ty : MethodTy) (weighs : ℕ) (more : List MethodTy) (k : Key)
+        (fields : List Field) →
     Grows h h' ty weighs more k fields →
     h.form.recipe ≡ keys →
     h.sides ≡ held →
@@ -75,7 +80,8 @@ pub stands-by :
     Stands table h' t'
 stands-by table h h' keys held t' ty weighs more k fields g made holds fielded su =
     let body : handle_body h' ≡ applied k (handle_body h) = ap body_of g.made ∙ body_of-snoc h.form.recipe k in
-    let run : (args : List Value) (n : ℕ) → HaveTypes table.classes args h'.ty.params → n < 2 ^ 32 → handle_run table h' (map erased args) n ≡ erased_ran (mean table t' args n) =
+    let run : (args : List Value) (n : ℕ) → HaveTypes table.classes args h'.ty.params → n < 2 ^ 32 →
+        handle_run table h' (map erased args) n ≡ erased_ran (mean table t' args n) =
     λ args n have low.
     ap (λ b. run_on table b h'.fields (map erased args) n) body
     ∙ (ap (λ fs. run_on table (applied k (handle_body h)) fs (map erased args) n) g.fielded
@@ -86,7 +92,8 @@ stands-by table h h' keys held t' ty weighs more k fields g made holds fielded s
       weighed = g.weighed ∙ su.weighed;
       made = g.made ∙ (ap (λ r. r ++ k ∷ []) made ∙ sym su.keyed);
       holds = g.holds ∙ (ap (λ s. s ++ more) holds ∙ sym su.holds);
-      fielded = ap length g.fielded ∙ (length-append h.fields fields ∙ (ap (λ c. c + length fields) fielded ∙ (sym su.fielded ∙ ap (λ b. b.fields) (sym body))));
+      fielded =
+          ap length g.fielded ∙ (length-append h.fields fields ∙ (ap (λ c. c + length fields) fielded ∙ (sym su.fielded ∙ ap (λ b. b.fields) (sym body))));
       shaped = ap (λ b. b.params) body ∙ (su.shaped ∙ ap (λ (m : MethodTy). map basic_of m.params) (sym g.typed));
       begun = subst IsMade (sym body) su.begun;
       runs = run;
@@ -101,7 +108,8 @@ pub stands-grown :
     Stands table h t →
     Suits table h (recipe table t) (sides table t) t' ty weighs more k fields →
     Stands table h' t'
-stands-grown table h h' t t' ty weighs more k fields g st su = stands-by table h h' (recipe table t) (sides table t) t' ty weighs more k fields g st.made st.holds st.fielded su
+stands-grown table h h' t t' ty weighs more k fields g st su = stands-by table h h' (recipe table t) (sides table t) t' ty weighs more k fields g st.made
+    st.holds st.fielded su
 
 -- a handle that was made by a root
 pub stands-rooted :

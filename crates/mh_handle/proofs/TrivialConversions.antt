@@ -77,5 +77,6 @@ run-kept classes are s t Stuck n trivial returns = absurd returns
 pub or_throw-ok : (r : Result (List Value) Exc) (vs : List Value) (g : List Value → Done) → r ≡ Ok vs → or_throw r g ≡ g vs
 or_throw-ok r vs g is = ap (λ q. or_throw q g) is
 
-pub converts-ok : (classes : List Class) (r : Result (List Value) Exc) (vs : List Value) (ts : List Ty) → r ≡ Ok vs → ConvertAll classes r ts → HaveTypes classes vs ts
+pub converts-ok : (classes : List Class) (r : Result (List Value) Exc) (vs : List Value) (ts : List Ty) → r ≡ Ok vs → ConvertAll classes r ts →
+    HaveTypes classes vs ts
 converts-ok classes r vs ts is typed = subst (λ q. ConvertAll classes q ts) is typed

@@ -77,7 +77,8 @@ Edits recipe old new (Ok form) = (form.now.recipe ≡ recipe) × AsksFor form.no
 Edits recipe old new (Err NoMemory) = NotAsked recipe old new × DrawsAtMostOne recipe old new
 Edits recipe old new (Err (FormsFull drawn)) = NotAsked recipe old new × Draws drawn old.seat new.seat × (16384 < drawn) × Lacks recipe_of new.nodes recipe
 
--- what asking for a form answers that was not asked for before: what the edit does where the chain shows it, or memory is short; else the pass has not learnt it
+-- what asking for a form answers that was not asked for before: what the edit does where the chain shows it, or memory is short; else the pass has not learnt
+-- it
 abbrev pub AsksShown : {E : Type 0} → List Key → PassView → PassView → Result (Option (Bor FormView)) E → Type 0
 AsksShown recipe old new (Ok (Some form)) = Edits recipe old new (Ok form)
 AsksShown recipe old new (Ok None) = Learns old new × Lacks recipe_of new.nodes recipe

@@ -21,7 +21,8 @@ pub record GoesOn (old new : Work) : Type 0 where
   pub cells : new.pass.now.cells ≡ old.pass.now.cells
   pub learnt : StartsWith new.pass.now.nodes old.pass.now.nodes
 
--- what a call leaves of the pass that makes a handle by one edit, whose form is the one that the pass has learnt for this recipe; where no number is left it has learnt none, and a refusal by the rule leaves all as it was
+-- what a call leaves of the pass that makes a handle by one edit, whose form is the one that the pass has learnt for this recipe; where no number is left it
+-- has learnt none, and a refusal by the rule leaves all as it was
 abbrev pub Makes : List Key → PassView → PassView → Result Handle HandleError → Type 0
 Makes recipe old new (Ok h) = (h.form.recipe ≡ recipe) × AsksFor h.form old new × DrawsAtMostOne recipe old new × IsFormOf recipe new.nodes h.form
 Makes recipe old new (Err NoMemory) = (new.asked ≡ old.asked) × DrawsAtMostOne recipe old new

@@ -31,17 +31,20 @@ two-rooms old mid new first second = omega (arith, first, second)
 one-room : (old new : PassView) → old.seat.room ≤ new.seat.room + 1 → old.seat.room ≤ new.seat.room + 2
 one-room old new first = omega (arith, first)
 
-both-room : (recipe keys more : List Key) (old new : PassView) (r : Result Handle HandleError) → MakesBoth recipe keys more old new r → old.seat.room ≤ new.seat.room + 2
+both-room : (recipe keys more : List Key) (old new : PassView) (r : Result Handle HandleError) → MakesBoth recipe keys more old new r →
+    old.seat.room ≤ new.seat.room + 2
 both-room recipe keys more old new (Ok h) both =
     two-rooms old both.0 new (used-room recipe keys old both.0 (Ok both.1) both.2) (made-room ((recipe ++ keys) ++ more) both.0 new (Ok h) both.3)
 both-room recipe keys more old new (Err handle.NoMemory) both =
     ⊎_elim
     (λ one. one-room old new (used-room recipe keys old new (Err handle.NoMemory) one))
-    (λ two. two-rooms old two.0 new (used-room recipe keys old two.0 (Ok two.1) two.2) (made-room ((recipe ++ keys) ++ more) two.0 new (Err handle.NoMemory) two.3)) both
+    (λ two. two-rooms old two.0 new (used-room recipe keys old two.0 (Ok two.1) two.2) (made-room ((recipe ++ keys) ++ more) two.0 new (Err handle.NoMemory)
+        two.3)) both
 both-room recipe keys more old new (Err (handle.FormsFull drawn)) both =
     ⊎_elim
     (λ one. one-room old new (used-room recipe keys old new (Err (handle.FormsFull drawn)) one))
-    (λ two. two-rooms old two.0 new (used-room recipe keys old two.0 (Ok two.1) two.2) (made-room ((recipe ++ keys) ++ more) two.0 new (Err (handle.FormsFull drawn)) two.3)) both
+    (λ two. two-rooms old two.0 new (used-room recipe keys old two.0 (Ok two.1) two.2) (made-room ((recipe ++ keys) ++ more) two.0 new
+        (Err (handle.FormsFull drawn)) two.3)) both
 both-room recipe keys more old new (Err (handle.Refused e)) both = one-room old new (unchanged-room old new both)
 
 spends-room : (numbers : ℕ) (old new : Work) → GoesOn old new → old.pass.now.seat.room ≤ new.pass.now.seat.room + numbers → Spends numbers old new
@@ -71,13 +74,18 @@ spends-none numbers old new same = record {
   ready = λ rest ready. subst (λ (w : Work). IsReady w rest) (sym same) (ready-less old (numbers + rest) rest (omega arith) ready);
 }
 
-pub spends-one-of-two : (recipe : List Key) (old new : Work) (r : Result Handle HandleError) → GoesOn old new → Makes recipe old.pass.now new.pass.now r → Spends 2 old new
-spends-one-of-two recipe old new r goes makes = spends-room 2 old new goes (one-room old.pass.now new.pass.now (made-room recipe old.pass.now new.pass.now r makes))
+pub spends-one-of-two : (recipe : List Key) (old new : Work) (r : Result Handle HandleError) → GoesOn old new → Makes recipe old.pass.now new.pass.now r →
+    Spends 2 old new
+spends-one-of-two recipe old new r goes makes =
+    spends-room 2 old new goes (one-room old.pass.now new.pass.now (made-room recipe old.pass.now new.pass.now r makes))
 
-pub spends-used : (recipe keys : List Key) (old new : Work) (r : Result Handle HandleError) → GoesOn old new → MakesBy recipe keys old.pass.now new.pass.now r → Spends 2 old new
-spends-used recipe keys old new r goes makes = spends-room 2 old new goes (one-room old.pass.now new.pass.now (used-room recipe keys old.pass.now new.pass.now r makes))
+pub spends-used : (recipe keys : List Key) (old new : Work) (r : Result Handle HandleError) → GoesOn old new → MakesBy recipe keys old.pass.now new.pass.now r →
+    Spends 2 old new
+spends-used recipe keys old new r goes makes =
+    spends-room 2 old new goes (one-room old.pass.now new.pass.now (used-room recipe keys old.pass.now new.pass.now r makes))
 
-pub spends-both : (recipe keys more : List Key) (old new : Work) (r : Result Handle HandleError) → GoesOn old new → MakesBoth recipe keys more old.pass.now new.pass.now r → Spends 2 old new
+pub spends-both : (recipe keys more : List Key) (old new : Work) (r : Result Handle HandleError) → GoesOn old new →
+    MakesBoth recipe keys more old.pass.now new.pass.now r → Spends 2 old new
 spends-both recipe keys more old new r goes makes = spends-room 2 old new goes (both-room recipe keys more old.pass.now new.pass.now r makes)
 
 -- the first pass over a table may draw more numbers than any test

@@ -47,7 +47,8 @@ boolean_there classes [] h = absurd h
 boolean_there classes (v ∷ []) h = let b = is_boolean classes v h.0 in (b.0, ap (λ x. one_boolean (x ∷ [])) b.1)
 boolean_there classes (v ∷ w ∷ vs) h = absurd h.1
 
-pub one_there : (classes : List Class) (args : List Value) (t : Ty) → HaveTypes classes args (t ∷ []) → (v : Value) × (one_value args ≡ Some v) × (has_type classes v t ≡ true)
+pub one_there : (classes : List Class) (args : List Value) (t : Ty) → HaveTypes classes args (t ∷ []) → (v : Value) × (one_value args ≡ Some v)
+    × (has_type classes v t ≡ true)
 one_there classes [] t h = absurd h
 one_there classes (v ∷ []) t h = (v, refl, h.0)
 one_there classes (v ∷ w ∷ vs) t h = absurd h.1

@@ -28,20 +28,24 @@ use Rattle.mh_leaf.specs.declared.leaf.Kind.TheVariants as kind
 use Rattle.mh_leaf.specs.declared.leaf.Leaf.{Leaf}
 use Rattle.mh_leaf.proofs.ArgumentTypes.{is_boolean, ints_there, longs_there, boolean_there, one_there, two_there}
 use Rattle.mh_leaf.specs.Outcome.{returned, int, divided, characters_of, text, joined, measured, two_ints, two_longs, one_boolean, one_value, two_values, first_value, picked_value, kind_on, lacks_receiver, leaf_outcome, calls_of, ran_of, ran_of_some, leaf_run, int_type, long_type, boolean_type, string_type, is_type, returns_first, chooses, is_kind_type, throws_exceptions, is_well_typed}
-pub use Rattle.mh_leaf.proofs.SingleOutcomes.{Ends, divided-returns, first_of_more-ends, fixed, ints-end, joined-returns, mapped-ends, measured-returns, pick-ends, same-ends}
+pub use Rattle.mh_leaf.proofs.SingleOutcomes.{Ends, divided-returns, first_of_more-ends, fixed, ints-end, joined-returns, mapped-ends, measured-returns,
+    pick-ends, same-ends}
 
-pub kind-ends : (classes : List Class) → AreClasses classes → (k : Kind) (t : MethodTy) (args : List Value) (n : ℕ) → is_kind_type k t ≡ true → throws_exceptions classes k ≡ true → HaveTypes classes args t.params → Ends classes (kind_on k args n) t.ret
+pub kind-ends : (classes : List Class) → AreClasses classes → (k : Kind) (t : MethodTy) (args : List Value) (n : ℕ) → is_kind_type k t ≡ true →
+    throws_exceptions classes k ≡ true → HaveTypes classes args t.params → Ends classes (kind_on k args n) t.ret
 kind-ends classes are kind.Iadd t args n is throws have = fixed classes t _ _ args _ is have (ints-end classes _ int_type args (λ p calls. refl))
 kind-ends classes are kind.Isub t args n is throws have = fixed classes t _ _ args _ is have (ints-end classes _ int_type args (λ p calls. refl))
 kind-ends classes are kind.Imul t args n is throws have = fixed classes t _ _ args _ is have (ints-end classes _ int_type args (λ p calls. refl))
 kind-ends classes are kind.Idiv t args n is throws have =
     fixed classes t _ _ args _ is have (ints-end classes _ int_type args (λ p calls. divided-returns classes are p.0 p.1 calls))
 kind-ends classes are kind.Ladd t args n is throws have =
-    fixed classes t _ _ args _ is have (λ longs. let q = longs_there classes args longs in mapped-ends classes _ (two_longs args) q.0 (Some long_type) q.1 (λ calls. refl))
+    fixed classes t _ _ args _ is have (λ longs. let q = longs_there classes args longs in mapped-ends classes _ (two_longs args) q.0 (Some long_type) q.1
+        (λ calls. refl))
 kind-ends classes are kind.Ieq t args n is throws have = fixed classes t _ _ args _ is have (ints-end classes _ boolean_type args (λ p calls. refl))
 kind-ends classes are kind.Ilt t args n is throws have = fixed classes t _ _ args _ is have (ints-end classes _ boolean_type args (λ p calls. refl))
 kind-ends classes are kind.Not t args n is throws have =
-    fixed classes t _ _ args _ is have (λ one. let q = boolean_there classes args one in mapped-ends classes _ (one_boolean args) q.0 (Some boolean_type) q.1 (λ calls. refl))
+    fixed classes t _ _ args _ is have (λ one. let q = boolean_there classes args one in mapped-ends classes _ (one_boolean args) q.0 (Some boolean_type) q.1
+        (λ calls. refl))
 kind-ends classes are kind.Concat t args n is throws have =
     fixed classes t _ _ args _ is have (λ two.
     let q = two_there classes args string_type string_type two in
@@ -56,14 +60,16 @@ kind-ends classes are kind.First t args n is throws have =
     let q = both (nat_le 2 (length t.params)) (returns_first t) is in first_of_more-ends classes t.params t.ret args q.0 q.1 have
 kind-ends classes are kind.Pick t args n is throws have = pick-ends classes t.params t.ret args is have
 kind-ends classes are kind.Tick t args n is throws have =
-    (int (cast_signed w32 n), refl, λ calls. subst (λ r. Returns classes (ran_of (int (cast_signed w32 n)) calls) r) (sym (same_return-is t.ret (Some int_type) is)) refl)
+    (int (cast_signed w32 n), refl, λ calls. subst (λ r. Returns classes (ran_of (int (cast_signed w32 n)) calls) r)
+        (sym (same_return-is t.ret (Some int_type) is)) refl)
 kind-ends classes are kind.Note t args n is throws have =
     (Return None, refl, λ calls. subst (λ r. Returns classes (Gave None calls) r) (sym (same_return-is t.ret None is)) tt)
 kind-ends classes are (kind.Throw class) t args n is throws have = (Throw (bare class), refl, λ calls. throws)
 
 -- ---- leaves
 
-pub outcome-there : (classes : List Class) → AreClasses classes → (leaf : Leaf) (args : List Value) (n : ℕ) → is_well_typed classes leaf ≡ true → HaveTypes classes args leaf.ty.params → Ends classes (leaf_outcome leaf args n) leaf.ty.ret
+pub outcome-there : (classes : List Class) → AreClasses classes → (leaf : Leaf) (args : List Value) (n : ℕ) → is_well_typed classes leaf ≡ true →
+    HaveTypes classes args leaf.ty.params → Ends classes (leaf_outcome leaf args n) leaf.ty.ret
 outcome-there classes are leaf args n is have =
     let q = both (is_kind_type leaf.kind leaf.ty) (throws_exceptions classes leaf.kind) is in
     elim (lacks_receiver leaf args) as (λ b. Ends classes (cond b (Some (Throw (bare null_pointer_class))) (kind_on leaf.kind args n)) leaf.ty.ret) [
@@ -72,7 +78,8 @@ outcome-there classes are leaf args n is have =
     ]
 
 -- a leaf returns values of its return type
-pub leaf-returns : (classes : List Class) → AreClasses classes → (l : LeafId) (leaf : Leaf) (args : List Value) (n : ℕ) → is_well_typed classes leaf ≡ true → HaveTypes classes args leaf.ty.params → Returns classes (leaf_run l (Some leaf) args n) leaf.ty.ret
+pub leaf-returns : (classes : List Class) → AreClasses classes → (l : LeafId) (leaf : Leaf) (args : List Value) (n : ℕ) → is_well_typed classes leaf ≡ true →
+    HaveTypes classes args leaf.ty.params → Returns classes (leaf_run l (Some leaf) args n) leaf.ty.ret
 leaf-returns classes are l leaf args n is have =
     let q = outcome-there classes are leaf args n is have in
     subst (λ o. Returns classes (ran_of_some o (calls_of l leaf args)) leaf.ty.ret) (sym q.1) (q.2 (calls_of l leaf args))

@@ -31,24 +31,29 @@ use Rattle.mh_leaf.specs.Outcome.{returned, int, divided, characters_of, text, j
 
 -- ---- what single outcomes return
 
-pub divided-returns : (classes : List Class) → AreClasses classes → (a b : ℤ) (calls : List LeafCall) → Returns classes (ran_of (divided a b) calls) (Some int_type)
+pub divided-returns : (classes : List Class) → AreClasses classes → (a b : ℤ) (calls : List LeafCall) →
+    Returns classes (ran_of (divided a b) calls) (Some int_type)
 divided-returns classes are a (pos zero) calls = arithmetic-below classes are
 divided-returns classes are a (pos (suc b)) calls = refl
 divided-returns classes are a (negsuc b) calls = refl
 
 text-returns : (classes : List Class) → AreClasses classes → (s : List ℕ) (calls : List LeafCall) → Returns classes (ran_of (text s) calls) (Some string_type)
 text-returns classes are s calls =
-    elim (nat_lt 4096 (length s)) as (λ b. Returns classes (ran_of (cond b (Throw (saying internal_error_class (codes "string too long"))) (returned (value.Text s))) calls) (Some string_type)) [
+    elim (nat_lt 4096 (length s)) as
+        (λ b. Returns classes (ran_of (cond b (Throw (saying internal_error_class (codes "string too long"))) (returned (value.Text s))) calls)
+        (Some string_type)) [
       | true ↦ internal_error-below classes are
       | false ↦ is_subclass-itself classes string_class
     ]
 
-pub joined-returns : (classes : List Class) → AreClasses classes → (s t : Option (List ℕ)) (calls : List LeafCall) → Returns classes (ran_of (joined s t) calls) (Some string_type)
+pub joined-returns : (classes : List Class) → AreClasses classes → (s t : Option (List ℕ)) (calls : List LeafCall) →
+    Returns classes (ran_of (joined s t) calls) (Some string_type)
 joined-returns classes are (Some s) (Some t) calls = text-returns classes are (s ++ t) calls
 joined-returns classes are (Some s) None calls = class_cast-below classes are
 joined-returns classes are None t calls = class_cast-below classes are
 
-pub measured-returns : (classes : List Class) → AreClasses classes → (v : Value) (calls : List LeafCall) → Returns classes (ran_of (measured v) calls) (Some int_type)
+pub measured-returns : (classes : List Class) → AreClasses classes → (v : Value) (calls : List LeafCall) →
+    Returns classes (ran_of (measured v) calls) (Some int_type)
 measured-returns classes are (value.Text s) calls = refl
 measured-returns classes are value.Null calls = null_pointer-below classes are
 measured-returns classes are v calls = class_cast-below classes are
@@ -60,45 +65,54 @@ abbrev pub Ends : List Class → Option Outcome → Option Ty → Type 0
 Ends classes o ret = (outcome : Outcome) × (o ≡ Some outcome) × ((calls : List LeafCall) → Returns classes (ran_of outcome calls) ret)
 
 -- an outcome of what the arguments hold, for a leaf of a fixed type
-pub mapped-ends : {A : Type 0} (classes : List Class) (f : A → Outcome) (o : Option A) (a : A) (ret : Option Ty) → o ≡ Some a → ((calls : List LeafCall) → Returns classes (ran_of (f a) calls) ret) → Ends classes (option_map f o) ret
+pub mapped-ends : {A : Type 0} (classes : List Class) (f : A → Outcome) (o : Option A) (a : A) (ret : Option Ty) → o ≡ Some a →
+    ((calls : List LeafCall) → Returns classes (ran_of (f a) calls) ret) → Ends classes (option_map f o) ret
 mapped-ends classes f o a ret is returns = (f a, ap (option_map f) is, returns)
 
 -- a leaf with the only type that its kind allows
-pub fixed : (classes : List Class) (t : MethodTy) (params : List Ty) (ret : Ty) (args : List Value) (o : Option Outcome) → is_type t params ret ≡ true → HaveTypes classes args t.params → (HaveTypes classes args params → Ends classes o (Some ret)) → Ends classes o t.ret
+pub fixed : (classes : List Class) (t : MethodTy) (params : List Ty) (ret : Ty) (args : List Value) (o : Option Outcome) → is_type t params ret ≡ true →
+    HaveTypes classes args t.params → (HaveTypes classes args params → Ends classes o (Some ret)) → Ends classes o t.ret
 fixed classes t params ret args o is have ends =
     let e : t ≡ method_type params (Some ret) = same_method_type-is t (method_type params (Some ret)) is in
     subst (λ (m : MethodTy). Ends classes o m.ret) (sym e) (ends (subst (λ (m : MethodTy). HaveTypes classes args m.params) e have))
 
-pub ints-end : (classes : List Class) (f : ℤ × ℤ → Outcome) (ret : Ty) (args : List Value) → ((p : ℤ × ℤ) (calls : List LeafCall) → Returns classes (ran_of (f p) calls) (Some ret)) → HaveTypes classes args (int_type ∷ int_type ∷ []) → Ends classes (option_map f (two_ints args)) (Some ret)
+pub ints-end : (classes : List Class) (f : ℤ × ℤ → Outcome) (ret : Ty) (args : List Value) →
+    ((p : ℤ × ℤ) (calls : List LeafCall) → Returns classes (ran_of (f p) calls) (Some ret)) → HaveTypes classes args (int_type ∷ int_type ∷ []) →
+    Ends classes (option_map f (two_ints args)) (Some ret)
 ints-end classes f ret args returns have =
     let q = ints_there classes args have in mapped-ends classes f (two_ints args) q.0 (Some ret) q.1 (returns q.0)
 
 -- the first argument where the return type is that of the first parameter
-first-ends : (classes : List Class) (v : Value) (p : Ty) (o : Option Value) (ret : Option Ty) → o ≡ Some v → is_same_return (Some p) ret ≡ true → has_type classes v p ≡ true → Ends classes (option_map returned o) ret
+first-ends : (classes : List Class) (v : Value) (p : Ty) (o : Option Value) (ret : Option Ty) → o ≡ Some v → is_same_return (Some p) ret ≡ true →
+    has_type classes v p ≡ true → Ends classes (option_map returned o) ret
 first-ends classes v p o ret is same typed =
     mapped-ends classes returned o v ret is
     (λ calls. subst (λ r. Returns classes (Gave (Some v) calls) r) (same_return-is (Some p) ret same) typed)
 
-pub same-ends : (classes : List Class) (params : List Ty) (ret : Option Ty) (args : List Value) → (length params == 1) ≡ true → is_same_return (slice_get params 0) ret ≡ true → HaveTypes classes args params → Ends classes (option_map returned (one_value args)) ret
+pub same-ends : (classes : List Class) (params : List Ty) (ret : Option Ty) (args : List Value) → (length params == 1) ≡ true →
+    is_same_return (slice_get params 0) ret ≡ true → HaveTypes classes args params → Ends classes (option_map returned (one_value args)) ret
 same-ends classes [] ret args one same have = absurd cc
 same-ends classes (p ∷ []) ret args one same have =
     let q = one_there classes args p have in first-ends classes q.0 p (one_value args) ret q.1 same q.2
 same-ends classes (p ∷ q ∷ ps) ret args one same have = let e : length (p ∷ q ∷ ps) ≡ 1 = eqb-true (length (p ∷ q ∷ ps)) 1 one in absurd (omega (arith, e))
 
-pub first_of_more-ends : (classes : List Class) (params : List Ty) (ret : Option Ty) (args : List Value) → nat_le 2 (length params) ≡ true → is_same_return (slice_get params 0) ret ≡ true → HaveTypes classes args params → Ends classes (option_map returned (first_value args)) ret
+pub first_of_more-ends : (classes : List Class) (params : List Ty) (ret : Option Ty) (args : List Value) → nat_le 2 (length params) ≡ true →
+    is_same_return (slice_get params 0) ret ≡ true → HaveTypes classes args params → Ends classes (option_map returned (first_value args)) ret
 first_of_more-ends classes (p ∷ q ∷ ps) ret [] two same have = absurd have
 first_of_more-ends classes (p ∷ q ∷ ps) ret (v ∷ []) two same have = absurd have.1
 first_of_more-ends classes (p ∷ q ∷ ps) ret (v ∷ w ∷ vs) two same have = first-ends classes v p (Some v) ret refl same have.0
 first_of_more-ends classes (p ∷ []) ret args two same have = absurd cc
 first_of_more-ends classes [] ret args two same have = absurd cc
 
-picked-ends : (classes : List Class) (b : Bool) (v w : Value) (s t : Ty) (ret : Option Ty) → is_same_type s t ≡ true → is_same_return (Some t) ret ≡ true → has_type classes v s ≡ true → has_type classes w t ≡ true → Ends classes (option_map returned (picked_value (value.Prim (num.Z b) ∷ v ∷ w ∷ []))) ret
+picked-ends : (classes : List Class) (b : Bool) (v w : Value) (s t : Ty) (ret : Option Ty) → is_same_type s t ≡ true → is_same_return (Some t) ret ≡ true →
+    has_type classes v s ≡ true → has_type classes w t ≡ true → Ends classes (option_map returned (picked_value (value.Prim (num.Z b) ∷ v ∷ w ∷ []))) ret
 picked-ends classes true v w s t ret same ends v_typed w_typed =
     let typed : has_type classes v t ≡ true = subst (λ x. has_type classes v x ≡ true) (same_type-is s t same) v_typed in
     first-ends classes v t (Some v) ret refl ends typed
 picked-ends classes false v w s t ret same ends v_typed w_typed = first-ends classes w t (Some w) ret refl ends w_typed
 
-pub pick-ends : (classes : List Class) (params : List Ty) (ret : Option Ty) (args : List Value) → chooses params ret ≡ true → HaveTypes classes args params → Ends classes (option_map returned (picked_value args)) ret
+pub pick-ends : (classes : List Class) (params : List Ty) (ret : Option Ty) (args : List Value) → chooses params ret ≡ true → HaveTypes classes args params →
+    Ends classes (option_map returned (picked_value args)) ret
 pick-ends classes (c ∷ s ∷ t ∷ []) ret [] h have = absurd have
 pick-ends classes (c ∷ s ∷ t ∷ []) ret (u ∷ []) h have = absurd have.1
 pick-ends classes (c ∷ s ∷ t ∷ []) ret (u ∷ v ∷ []) h have = absurd have.1.1

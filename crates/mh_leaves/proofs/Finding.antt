@@ -16,7 +16,8 @@ Found = BTreeMap Key ℕ
 
 -- ---- a key whose number no text had
 
-no_key : (texts : Texts) (leaves : Found) (owner i j : ℕ) (o : Option ℕ) → AreByTexts texts leaves → (btree_map_len texts ≤ i) ⊎ (btree_map_len texts ≤ j) → get key_cmp leaves (owner, i, j) ≡ o → o ≡ None
+no_key : (texts : Texts) (leaves : Found) (owner i j : ℕ) (o : Option ℕ) → AreByTexts texts leaves → (btree_map_len texts ≤ i) ⊎ (btree_map_len texts ≤ j) →
+    get key_cmp leaves (owner, i, j) ≡ o → o ≡ None
 no_key texts leaves owner i j None by past is = refl
 no_key texts leaves owner i j (Some n) by past is =
     let within = by owner i j n is in
@@ -28,15 +29,18 @@ leaf_at-none : (leaves : Found) (owner : ℕ) (x : Option ℕ) → leaf_at leave
 leaf_at-none leaves owner None = refl
 leaf_at-none leaves owner (Some i) = refl
 
-past_name : (texts : Texts) (leaves : Found) (owner i : ℕ) (y : Option ℕ) → AreByTexts texts leaves → btree_map_len texts ≤ i → leaf_at leaves owner (Some i) y ≡ None
+past_name : (texts : Texts) (leaves : Found) (owner i : ℕ) (y : Option ℕ) → AreByTexts texts leaves → btree_map_len texts ≤ i →
+    leaf_at leaves owner (Some i) y ≡ None
 past_name texts leaves owner i None by past = refl
 past_name texts leaves owner i (Some j) by past = no_key texts leaves owner i j _ by (inl past) refl
 
-past_descriptor : (texts : Texts) (leaves : Found) (owner j : ℕ) (x : Option ℕ) → AreByTexts texts leaves → btree_map_len texts ≤ j → leaf_at leaves owner x (Some j) ≡ None
+past_descriptor : (texts : Texts) (leaves : Found) (owner j : ℕ) (x : Option ℕ) → AreByTexts texts leaves → btree_map_len texts ≤ j →
+    leaf_at leaves owner x (Some j) ≡ None
 past_descriptor texts leaves owner j None by past = refl
 past_descriptor texts leaves owner j (Some i) by past = no_key texts leaves owner i j _ by (inr past) refl
 
-pub leaf_at-grown : (old new : Texts) (leaves : Found) (owner : ℕ) (a b : List ℕ) → AreByTexts old leaves → AreGrown old new → leaf_at leaves owner (number_at new a) (number_at new b) ≡ leaf_at leaves owner (number_at old a) (number_at old b)
+pub leaf_at-grown : (old new : Texts) (leaves : Found) (owner : ℕ) (a b : List ℕ) → AreByTexts old leaves → AreGrown old new →
+    leaf_at leaves owner (number_at new a) (number_at new b) ≡ leaf_at leaves owner (number_at old a) (number_at old b)
 leaf_at-grown old new leaves owner a b by grown =
     elim (grown.numbers a) [
       | inl same_a ↦ elim (grown.numbers b) [
@@ -64,7 +68,8 @@ is_eq-nat_cmp : (x y : ℕ) → (x == y) ≡ is_eq (nat_cmp x y)
 is_eq-nat_cmp x y = grind (arith, nat_tests)
 
 key_test : (x y : Key) → is_at (key_cmp x) y ≡ ((x.0 == y.0 && x.1 == y.1) && x.2 == y.2)
-key_test x y = sym (both_tied _ _ _ (nat_cmp x.2 y.2) (both_tied _ _ (nat_cmp x.0 y.0) (nat_cmp x.1 y.1) (is_eq-nat_cmp x.0 y.0) (is_eq-nat_cmp x.1 y.1)) (is_eq-nat_cmp x.2 y.2))
+key_test x y = sym (both_tied _ _ _ (nat_cmp x.2 y.2) (both_tied _ _ (nat_cmp x.0 y.0) (nat_cmp x.1 y.1) (is_eq-nat_cmp x.0 y.0) (is_eq-nat_cmp x.1 y.1))
+    (is_eq-nat_cmp x.2 y.2))
 
 same_number : (texts : Texts) (a b : List ℕ) (i k : ℕ) → AreApart texts → number_at texts a ≡ Some i → number_at texts b ≡ Some k → bytes_eq a b ≡ (i == k)
 same_number texts a b i k apart is_a is_b =
@@ -88,7 +93,9 @@ and_false true = refl
 and_false false = refl
 
 -- whether a key is that of a leaf whose name and descriptor have these numbers
-written-at : (texts : Texts) (old new : Found) (owner i j n : ℕ) (name descriptor : List ℕ) → AreApart texts → number_at texts name ≡ Some i → number_at texts descriptor ≡ Some j → Writes old new (owner, i, j) n → (o : ℕ) (a b : List ℕ) (x y : Option ℕ) → number_at texts a ≡ x → number_at texts b ≡ y → leaf_at new o x y ≡ cond ((owner == o && bytes_eq name a) && bytes_eq descriptor b) (Some n) (leaf_at old o x y)
+written-at : (texts : Texts) (old new : Found) (owner i j n : ℕ) (name descriptor : List ℕ) → AreApart texts → number_at texts name ≡ Some i →
+    number_at texts descriptor ≡ Some j → Writes old new (owner, i, j) n → (o : ℕ) (a b : List ℕ) (x y : Option ℕ) → number_at texts a ≡ x →
+    number_at texts b ≡ y → leaf_at new o x y ≡ cond ((owner == o && bytes_eq name a) && bytes_eq descriptor b) (Some n) (leaf_at old o x y)
 written-at texts old new owner i j n name descriptor apart is_name is_descriptor writes o a b None y is_a is_b =
     sym (ap (λ t. cond ((owner == o && t) && bytes_eq descriptor b) (Some n) None) (unnumbered texts name a i is_name is_a)
     ∙ ap (λ t. cond (t && bytes_eq descriptor b) (Some n) None) (and_false (owner == o)))
@@ -97,10 +104,14 @@ written-at texts old new owner i j n name descriptor apart is_name is_descriptor
     ∙ ap (λ t. cond t (Some n) None) (and_false (owner == o && bytes_eq name a)))
 written-at texts old new owner i j n name descriptor apart is_name is_descriptor writes o a b (Some k) (Some l) is_a is_b =
     writes (o, k, l) ∙ ap (λ t. cond t (Some n) (get key_cmp old (o, k, l))) (key_test (owner, i, j) (o, k, l)
-    ∙ ap₂ (λ s t. (owner == o && s) && t) (sym (same_number texts name a i k apart is_name is_a)) (sym (same_number texts descriptor b j l apart is_descriptor is_b)))
+    ∙ ap₂ (λ s t. (owner == o && s) && t) (sym (same_number texts name a i k apart is_name is_a))
+        (sym (same_number texts descriptor b j l apart is_descriptor is_b)))
 
 -- one more leaf is found
-pub leaf_at-more : (before texts : Texts) (old new : Found) (owner i j n : ℕ) (name descriptor : List ℕ) → AreByTexts before old → AreGrown before texts → AreApart texts → number_at texts name ≡ Some i → number_at texts descriptor ≡ Some j → Writes old new (owner, i, j) n → (o : ℕ) (a b : List ℕ) → leaf_at new o (number_at texts a) (number_at texts b) ≡ cond ((owner == o && bytes_eq name a) && bytes_eq descriptor b) (Some n) (leaf_at old o (number_at before a) (number_at before b))
+pub leaf_at-more : (before texts : Texts) (old new : Found) (owner i j n : ℕ) (name descriptor : List ℕ) → AreByTexts before old → AreGrown before texts →
+    AreApart texts → number_at texts name ≡ Some i → number_at texts descriptor ≡ Some j → Writes old new (owner, i, j) n → (o : ℕ) (a b : List ℕ) →
+    leaf_at new o (number_at texts a) (number_at texts b) ≡ cond ((owner == o && bytes_eq name a) && bytes_eq descriptor b) (Some n)
+    (leaf_at old o (number_at before a) (number_at before b))
 leaf_at-more before texts old new owner i j n name descriptor by grown apart is_name is_descriptor writes o a b =
     written-at texts old new owner i j n name descriptor apart is_name is_descriptor writes o a b (number_at texts a) (number_at texts b) refl refl
     ∙ ap (cond ((owner == o && bytes_eq name a) && bytes_eq descriptor b) (Some n)) (leaf_at-grown before texts old o a b by grown)
@@ -111,7 +122,8 @@ both : (p q : Bool) → (p && q) ≡ true → (p ≡ true) × (q ≡ true)
 both true q h = (refl, h)
 both false q h = absurd cc
 
-by_texts-here : (texts : Texts) (i j k l : ℕ) (o owner : ℕ) → i < btree_map_len texts → j < btree_map_len texts → ((owner == o && i == k) && j == l) ≡ true → (k < btree_map_len texts) × (l < btree_map_len texts)
+by_texts-here : (texts : Texts) (i j k l : ℕ) (o owner : ℕ) → i < btree_map_len texts → j < btree_map_len texts → ((owner == o && i == k) && j == l) ≡ true →
+    (k < btree_map_len texts) × (l < btree_map_len texts)
 by_texts-here texts i j k l o owner name descriptor h =
     let p = both (owner == o && i == k) (j == l) h in
     let q = both (owner == o) (i == k) p.0 in
@@ -119,7 +131,8 @@ by_texts-here texts i j k l o owner name descriptor h =
     let same_j : j ≡ l = eqb-true j l p.1 in
     (omega (arith, name, same_i), omega (arith, descriptor, same_j))
 
-by_texts-written : (texts : Texts) (old new : Found) (owner i j n : ℕ) → AreByTexts texts old → i < btree_map_len texts → j < btree_map_len texts → Writes old new (owner, i, j) n → AreByTexts texts new
+by_texts-written : (texts : Texts) (old new : Found) (owner i j n : ℕ) → AreByTexts texts old → i < btree_map_len texts → j < btree_map_len texts →
+    Writes old new (owner, i, j) n → AreByTexts texts new
 by_texts-written texts old new owner i j n by name descriptor writes o k l m is =
     let test : is_at (key_cmp (owner, i, j)) (o, k, l) ≡ ((owner == o && i == k) && j == l) = key_test (owner, i, j) (o, k, l) in
     elim (cases_Bool ((owner == o && i == k) && j == l)) [
@@ -128,7 +141,9 @@ by_texts-written texts old new owner i j n by name descriptor writes o k l m is 
     ]
 
 -- the same where nothing may have been written
-pub by_texts-inserted : {T E : Type 0} (r : Result T E) (texts : Texts) (old new : Found) (owner i j n : ℕ) (name descriptor : List ℕ) → AreByTexts texts old → AreNumbered texts → number_at texts name ≡ Some i → number_at texts descriptor ≡ Some j → OnOk r (Updates key_cmp old new (owner, i, j) (Some n)) → OnErr r (IsUnchanged old new) → AreByTexts texts new
+pub by_texts-inserted : {T E : Type 0} (r : Result T E) (texts : Texts) (old new : Found) (owner i j n : ℕ) (name descriptor : List ℕ) → AreByTexts texts old →
+    AreNumbered texts → number_at texts name ≡ Some i → number_at texts descriptor ≡ Some j → OnOk r (Updates key_cmp old new (owner, i, j) (Some n)) →
+    OnErr r (IsUnchanged old new) → AreByTexts texts new
 by_texts-inserted (Ok x) texts old new owner i j n name descriptor by numbered is_name is_descriptor ok err =
     by_texts-written texts old new owner i j n by (numbered.below name i is_name) (numbered.below descriptor j is_descriptor) ok.0
 by_texts-inserted (Err e) texts old new owner i j n name descriptor by numbered is_name is_descriptor ok err =
@@ -140,7 +155,8 @@ leaf_at-unchanged old new o (Some k) None same = refl
 leaf_at-unchanged old new o (Some k) (Some l) same = ap (lookup (is_at (key_cmp (o, k, l)))) same
 
 -- the same leaves are found where nothing was written
-pub leaf_at-same : (before texts : Texts) (old new : Found) (o : ℕ) (a b : List ℕ) → AreByTexts before old → AreGrown before texts → IsUnchanged old new → leaf_at new o (number_at texts a) (number_at texts b) ≡ leaf_at old o (number_at before a) (number_at before b)
+pub leaf_at-same : (before texts : Texts) (old new : Found) (o : ℕ) (a b : List ℕ) → AreByTexts before old → AreGrown before texts → IsUnchanged old new →
+    leaf_at new o (number_at texts a) (number_at texts b) ≡ leaf_at old o (number_at before a) (number_at before b)
 leaf_at-same before texts old new o a b by grown same =
     leaf_at-unchanged old new o (number_at texts a) (number_at texts b) same ∙ leaf_at-grown before texts old o a b by grown
 

@@ -23,8 +23,10 @@ named_from-within : (n : ℕ) (classes : List Class) (name : List ℕ) (c : Clas
 named_from-within n [] name c h = absurd cc
 named_from-within n (x ∷ xs) name c h =
     let later : named_from (n + 1) xs name ≡ Some c → c.0 < n + suc (length xs) = λ k. omega (arith, named_from-within (n + 1) xs name c k) in
-    let here : Some (class_at n) ≡ Some c → c.0 < n + suc (length xs) = λ k. let e : n ≡ c.0 = ap (λ o. option_map_or (λ (d : ClassId). d.0) o 0) k in omega (arith, e) in
-    elim (bytes_eq x.name name) as (λ b. (if b then Some (class_at n) else named_from (n + 1) xs name) ≡ Some c → c.0 < n + suc (length xs)) [ true ↦ here | false ↦ later ] h
+    let here : Some (class_at n) ≡ Some c → c.0 < n + suc (length xs) = λ k. let e : n ≡ c.0 = ap (λ o. option_map_or (λ (d : ClassId). d.0) o 0) k in
+        omega (arith, e) in
+    elim (bytes_eq x.name name) as (λ b. (if b then Some (class_at n) else named_from (n + 1) xs name) ≡ Some c → c.0 < n + suc (length xs))
+        [ true ↦ here | false ↦ later ] h
 
 pub class_named-within : (classes : List Class) (name : List ℕ) (c : ClassId) → class_named classes name ≡ Some c → c.0 < length classes
 class_named-within classes name c h = omega (arith, named_from-within 0 classes name c h)
@@ -34,7 +36,8 @@ class_named-all classes name None is = tt
 class_named-all classes name (Some c) is = class_named-within classes name c (sym is)
 
 -- a superclass of the list is one of a longer list
-found-grown : (classes more : List Class) (a b : ClassId) (o : Option Class) → slice_get classes a.0 ≡ o → option_map_or (λ class. class.superclass) o None ≡ Some b → superclass_of (classes ++ more) a ≡ Some b
+found-grown : (classes more : List Class) (a b : ClassId) (o : Option Class) → slice_get classes a.0 ≡ o →
+    option_map_or (λ class. class.superclass) o None ≡ Some b → superclass_of (classes ++ more) a ≡ Some b
 found-grown classes more a b None is h = absurd cc
 found-grown classes more a b (Some z) is h =
     ap (λ o. option_map_or (λ class. class.superclass) o None) (slice_get-old classes more a.0 (slice_get_within classes a.0 z is) ∙ is) ∙ h
@@ -70,25 +73,31 @@ leaf-grown classes more leaf h = record {
 }
 
 -- a class more
-pub registered-class : (classes more new : List Class) (leaves : List Leaf) → AreRegistered (record { classes = classes; leaves = leaves }) → new ≡ classes ++ more → AreRegistered (record { classes = new; leaves = leaves })
+pub registered-class : (classes more new : List Class) (leaves : List Leaf) → AreRegistered (record { classes = classes; leaves = leaves }) →
+    new ≡ classes ++ more → AreRegistered (record { classes = new; leaves = leaves })
 registered-class classes more new leaves h pushed = rw pushed (record {
   few = h.few;
   leaves = λ k d within. leaf-grown classes more _ (h.leaves k d within);
 })
 
 -- a leaf more
-pub registered-leaf : (classes : List Class) (leaves new : List Leaf) (leaf : Leaf) → AreRegistered (record { classes = classes; leaves = leaves }) → IsLeafOf classes leaf → (length leaves ≡ most_leaves → ⊥) → new ≡ leaves ++ leaf ∷ [] → AreRegistered (record { classes = classes; leaves = new })
+pub registered-leaf : (classes : List Class) (leaves new : List Leaf) (leaf : Leaf) → AreRegistered (record { classes = classes; leaves = leaves }) →
+    IsLeafOf classes leaf → (length leaves ≡ most_leaves → ⊥) → new ≡ leaves ++ leaf ∷ [] → AreRegistered (record { classes = classes; leaves = new })
 registered-leaf classes leaves new leaf h is fewer pushed = rw pushed (record {
   few = omega (arith, h.few, fewer, length-append leaves (leaf ∷ []));
   leaves = All-push (IsLeafOf classes) leaves leaf h.leaves is;
 })
 
 -- the same where a class may not have been declared
-pub registered-declared : {T E : Type 0} (r : Result T E) (classes more new : List Class) (leaves : List Leaf) → AreRegistered (record { classes = classes; leaves = leaves }) → OnOk r (new ≡ classes ++ more) → OnErr r (new ≡ classes) → AreRegistered (record { classes = new; leaves = leaves })
+pub registered-declared : {T E : Type 0} (r : Result T E) (classes more new : List Class) (leaves : List Leaf) →
+    AreRegistered (record { classes = classes; leaves = leaves }) → OnOk r (new ≡ classes ++ more) → OnErr r (new ≡ classes) →
+    AreRegistered (record { classes = new; leaves = leaves })
 registered-declared (Ok x) classes more new leaves h ok err = registered-class classes more new leaves h ok
 registered-declared (Err e) classes more new leaves h ok err = rw err h
 
 -- the same where a leaf may not have been put behind the others
-pub registered-pushed : {T E : Type 0} (r : Result T E) (classes : List Class) (leaves new : List Leaf) (leaf : Leaf) → AreRegistered (record { classes = classes; leaves = leaves }) → IsLeafOf classes leaf → (length leaves ≡ most_leaves → ⊥) → OnOk r (new ≡ leaves ++ leaf ∷ []) → OnErr r (new ≡ leaves) → AreRegistered (record { classes = classes; leaves = new })
+pub registered-pushed : {T E : Type 0} (r : Result T E) (classes : List Class) (leaves new : List Leaf) (leaf : Leaf) →
+    AreRegistered (record { classes = classes; leaves = leaves }) → IsLeafOf classes leaf → (length leaves ≡ most_leaves → ⊥) →
+    OnOk r (new ≡ leaves ++ leaf ∷ []) → OnErr r (new ≡ leaves) → AreRegistered (record { classes = classes; leaves = new })
 registered-pushed (Ok x) classes leaves new leaf h is fewer ok err = registered-leaf classes leaves new leaf h is fewer ok
 registered-pushed (Err e) classes leaves new leaf h is fewer ok err = rw err h

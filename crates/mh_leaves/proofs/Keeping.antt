@@ -17,7 +17,8 @@ use Rattle.mh_leaves.proofs.Growing.{registered-declared, registered-leaf}
 use Rattle.mh_leaves.proofs.Once.{position-push, once-push}
 
 -- no leaf
-pub kept-nothing : (classes : List Class) (leaves : List Leaf) (index : Index) → leaves ≡ [] → ((o : ClassId) (a b : List ℕ) → found_at index o a b ≡ None) → AreKept classes leaves index
+pub kept-nothing : (classes : List Class) (leaves : List Leaf) (index : Index) → leaves ≡ [] → ((o : ClassId) (a b : List ℕ) → found_at index o a b ≡ None) →
+    AreKept classes leaves index
 kept-nothing classes leaves index none finds =
     subst (λ l. AreKept classes l index) (sym none) (record {
       registered = record { few = omega arith; leaves = λ k d within. absurd (omega (arith, within)) };
@@ -25,7 +26,8 @@ kept-nothing classes leaves index none finds =
     })
 
 -- a class more, or none
-pub kept-declared : {T E : Type 0} (r : Result T E) (classes more new : List Class) (leaves : List Leaf) (index : Index) → AreKept classes leaves index → OnOk r (new ≡ classes ++ more) → OnErr r (new ≡ classes) → AreKept new leaves index
+pub kept-declared : {T E : Type 0} (r : Result T E) (classes more new : List Class) (leaves : List Leaf) (index : Index) → AreKept classes leaves index →
+    OnOk r (new ≡ classes ++ more) → OnErr r (new ≡ classes) → AreKept new leaves index
 kept-declared r classes more new leaves index old ok err = record {
   registered = registered-declared r classes more new leaves old.registered ok err;
   indexed = old.indexed;
@@ -40,14 +42,17 @@ same_texts o p a b c d h =
     (same_class-is o p r.0, (bytes_eq-Decides a c).0 r.1, (bytes_eq-Decides b d).0 q.1)
 
 -- no leaf has texts that are those of a new one
-new_texts : (leaves : List Leaf) (leaf : Leaf) (o : ClassId) (a b : List ℕ) → list_any (has_texts leaf.owner leaf.name leaf.descriptor) leaves ≡ false → has_texts o a b leaf ≡ true → list_any (has_texts o a b) leaves ≡ false
+new_texts : (leaves : List Leaf) (leaf : Leaf) (o : ClassId) (a b : List ℕ) → list_any (has_texts leaf.owner leaf.name leaf.descriptor) leaves ≡ false →
+    has_texts o a b leaf ≡ true → list_any (has_texts o a b) leaves ≡ false
 new_texts leaves leaf o a b new h =
     let q = same_texts leaf.owner o leaf.name leaf.descriptor a b h in
     subst (λ p. list_any (has_texts p a b) leaves ≡ false) q.0
     (subst (λ c. list_any (has_texts leaf.owner c b) leaves ≡ false) q.1
     (subst (λ d. list_any (has_texts leaf.owner leaf.name d) leaves ≡ false) q.2 new))
 
-indexed-more : (leaves : List Leaf) (leaf : Leaf) (old new : Index) (n : ℕ) → IsIndexOf old leaves → list_any (has_texts leaf.owner leaf.name leaf.descriptor) leaves ≡ false → n ≡ length leaves → FindsOneMore old new leaf.owner leaf.name leaf.descriptor n → IsIndexOf new (leaves ++ leaf ∷ [])
+indexed-more : (leaves : List Leaf) (leaf : Leaf) (old new : Index) (n : ℕ) → IsIndexOf old leaves →
+    list_any (has_texts leaf.owner leaf.name leaf.descriptor) leaves ≡ false → n ≡ length leaves → FindsOneMore old new leaf.owner leaf.name leaf.descriptor n →
+    IsIndexOf new (leaves ++ leaf ∷ [])
 indexed-more leaves leaf old new n is fresh here finds = record {
   found = λ o a b.
       finds o a b ∙ ap₂ (λ k p. cond (has_texts o a b leaf) (Some k) p) here (is.found o a b)
@@ -55,7 +60,9 @@ indexed-more leaves leaf old new n is fresh here finds = record {
   once = λ o a b. once-push (has_texts o a b) leaves leaf (is.once o a b) (new_texts leaves leaf o a b fresh);
 }
 
-pub kept-more : (classes : List Class) (leaves new : List Leaf) (leaf read : Leaf) (before after : Index) (n : ℕ) → AreKept classes leaves before → IsLeafOf classes leaf → (length leaves ≡ most_leaves → ⊥) → list_any (has_texts leaf.owner leaf.name leaf.descriptor) leaves ≡ false → new ≡ leaves ++ leaf ∷ [] → n ≡ length leaves → read ≡ leaf → FindsOneMore before after read.owner read.name read.descriptor n → AreKept classes new after
+pub kept-more : (classes : List Class) (leaves new : List Leaf) (leaf read : Leaf) (before after : Index) (n : ℕ) → AreKept classes leaves before →
+    IsLeafOf classes leaf → (length leaves ≡ most_leaves → ⊥) → list_any (has_texts leaf.owner leaf.name leaf.descriptor) leaves ≡ false →
+    new ≡ leaves ++ leaf ∷ [] → n ≡ length leaves → read ≡ leaf → FindsOneMore before after read.owner read.name read.descriptor n → AreKept classes new after
 kept-more classes leaves new leaf read before after n old is fewer fresh pushed here same finds = record {
   registered = registered-leaf classes leaves new leaf old.registered is fewer pushed;
   indexed = subst (IsIndexOf after) (sym pushed) (indexed-more leaves leaf before after n old.indexed fresh here
@@ -63,7 +70,8 @@ kept-more classes leaves new leaf read before after n old is fewer fresh pushed 
 }
 
 -- a leaf that was put in and taken out again
-pub kept-same : (classes : List Class) (leaves new : List Leaf) (before after : Index) → AreKept classes leaves before → new ≡ leaves → FindsSame before after → AreKept classes new after
+pub kept-same : (classes : List Class) (leaves new : List Leaf) (before after : Index) → AreKept classes leaves before → new ≡ leaves → FindsSame before after →
+    AreKept classes new after
 kept-same classes leaves new before after old same finds =
     subst (λ l. AreKept classes l after) (sym same) (record {
       registered = old.registered;
@@ -71,6 +79,8 @@ kept-same classes leaves new before after old same finds =
     })
 
 -- the leaf that was put in is taken out again
-pub popped-pushed : (old pushed popped : List Leaf) (leaf : Leaf) (n : ℕ) → pushed ≡ old ++ leaf ∷ [] → popped ≡ take (n - 1) pushed → n ≡ length old + 1 → popped ≡ old
+pub popped-pushed : (old pushed popped : List Leaf) (leaf : Leaf) (n : ℕ) → pushed ≡ old ++ leaf ∷ [] → popped ≡ take (n - 1) pushed → n ≡ length old + 1 →
+    popped ≡ old
 popped-pushed old pushed popped leaf n put out counted =
-    out ∙ ap₂ take (let e : n - 1 ≡ length old = omega (arith, counted) in e) put ∙ take-append-le (length old) old (leaf ∷ []) (omega arith) ∙ take_all (length old) old (omega arith)
+    out ∙ ap₂ take (let e : n - 1 ≡ length old = omega (arith, counted) in e) put ∙ take-append-le (length old) old (leaf ∷ []) (omega arith) ∙
+        take_all (length old) old (omega arith)

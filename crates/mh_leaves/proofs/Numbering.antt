@@ -18,7 +18,8 @@ Texts = BTreeMap (Vec ℕ) ℕ
 
 -- ---- one key that is written
 
-other_entries : {K X : Type 0} (eq : K → K → Bool) (test : K → Bool) (old new : List (K × X)) → KeepsOthers eq test old new → (other : K → Bool) → IsKeyTest eq other → KeysApart test other → lookup other new ≡ lookup other old
+other_entries : {K X : Type 0} (eq : K → K → Bool) (test : K → Bool) (old new : List (K × X)) → KeepsOthers eq test old new → (other : K → Bool) →
+    IsKeyTest eq other → KeysApart test other → lookup other new ≡ lookup other old
 unfolding KeepsOthers
 other_entries eq test old new h = h
 
@@ -30,7 +31,8 @@ abbrev pub Writes : Texts → Texts → List ℕ → ℕ → Type 0
 Writes m n key v = UpdatesBy (λ (x y : Vec ℕ). slice_cmp nat_cmp x.items y.items) (λ k. slice_cmp nat_cmp key k.items) m n (Some v)
 
 number_at-other : (m n : Texts) (key text : List ℕ) (v : ℕ) → Writes m n key v → bytes_eq key text ≡ false → number_at n text ≡ number_at m text
-number_at-other m n key text v h e = other_entries _ _ _ _ h.3 _ (λ x y. (eq_by_cmp_equiv nat_list_cmp_total).congr text x.items y.items) (λ k. apart key text k.items e)
+number_at-other m n key text v h e = other_entries _ _ _ _ h.3 _ (λ x y. (eq_by_cmp_equiv nat_list_cmp_total).congr text x.items y.items)
+    (λ k. apart key text k.items e)
 
 -- ---- a new text
 
@@ -52,7 +54,8 @@ written-anew m n key text v h new here =
       | inr e ↦ inl (number_at-other m n key text v h e)
     ]
 
-pub grown-written : (m n : Texts) (key : List ℕ) (v : ℕ) → Writes m n key v → number_at m key ≡ None → v ≡ btree_map_len m → btree_map_len n ≡ btree_map_len m + 1 → AreGrown m n
+pub grown-written : (m n : Texts) (key : List ℕ) (v : ℕ) → Writes m n key v → number_at m key ≡ None → v ≡ btree_map_len m →
+    btree_map_len n ≡ btree_map_len m + 1 → AreGrown m n
 grown-written m n key v h new here more = record {
   numbers = λ text. written-anew m n key text v h new here;
   longer = omega (arith, more);
@@ -70,7 +73,8 @@ grown-unchanged m n same = record {
 }
 
 -- the two ways in which a text has a number after the call
-written_cases : (m n : Texts) (key text : List ℕ) (v k : ℕ) → Writes m n key v → number_at n text ≡ Some k → ((key ≡ text) × (k ≡ v)) ⊎ (number_at m text ≡ Some k)
+written_cases : (m n : Texts) (key text : List ℕ) (v k : ℕ) → Writes m n key v → number_at n text ≡ Some k → ((key ≡ text) × (k ≡ v))
+    ⊎ (number_at m text ≡ Some k)
 written_cases m n key text v k h is =
     elim (cases_Bool (bytes_eq key text)) [
       | inl e ↦
@@ -83,7 +87,8 @@ written_cases m n key text v k h is =
 not_below : (m : Texts) (a : List ℕ) (v : ℕ) → AreBelow m → v ≡ btree_map_len m → number_at m a ≡ Some v → ⊥
 not_below m a v below here is = omega (arith, below a v is, here)
 
-pub numbered-written : (m n : Texts) (key : List ℕ) (v : ℕ) → AreNumbered m → Writes m n key v → v ≡ btree_map_len m → btree_map_len n ≡ btree_map_len m + 1 → AreNumbered n
+pub numbered-written : (m n : Texts) (key : List ℕ) (v : ℕ) → AreNumbered m → Writes m n key v → v ≡ btree_map_len m → btree_map_len n ≡ btree_map_len m + 1 →
+    AreNumbered n
 numbered-written m n key v old h here more = record {
   apart = λ a b k at_a at_b.
       elim (written_cases m n key a v k h at_a) [

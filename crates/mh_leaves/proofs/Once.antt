@@ -45,7 +45,8 @@ none-both f g n (x ∷ xs) h =
     ap (λ b. cond (b && g x) (Some n) (position_from (λ y. f y && g y) (n + 1) xs)) here ∙ none-both f g (n + 1) xs later
 
 -- the item that passes the one test decides
-decided : (f g : Leaf → Bool) (n : ℕ) (xs : List Leaf) (k i : ℕ) (leaf : Leaf) → PassesOnce f xs → position_from f n xs ≡ Some i → i ≡ n + k → slice_get xs k ≡ Some leaf → position_from (λ x. f x && g x) n xs ≡ cond (g leaf) (Some i) None
+decided : (f g : Leaf → Bool) (n : ℕ) (xs : List Leaf) (k i : ℕ) (leaf : Leaf) → PassesOnce f xs → position_from f n xs ≡ Some i → i ≡ n + k →
+    slice_get xs k ≡ Some leaf → position_from (λ x. f x && g x) n xs ≡ cond (g leaf) (Some i) None
 decided f g n [] k i leaf once h at is = cc
 decided f g n (x ∷ xs) zero i leaf once h at is =
     let same : x ≡ leaf = cc in
@@ -70,7 +71,8 @@ decided f g n (x ∷ xs) (suc k) i leaf once h at is =
           ∙ decided f g (n + 1) xs k i leaf once.1 later (omega (arith, at)) is
     ]
 
-pub position-decided : (f g : Leaf → Bool) (xs : List Leaf) (i : ℕ) (leaf : Leaf) → PassesOnce f xs → position f xs ≡ Some i → slice_get xs i ≡ Some leaf → position (λ x. f x && g x) xs ≡ cond (g leaf) (Some i) None
+pub position-decided : (f g : Leaf → Bool) (xs : List Leaf) (i : ℕ) (leaf : Leaf) → PassesOnce f xs → position f xs ≡ Some i → slice_get xs i ≡ Some leaf →
+    position (λ x. f x && g x) xs ≡ cond (g leaf) (Some i) None
 position-decided f g xs i leaf once h is =
     position_from-zero (λ x. f x && g x) xs ∙ decided f g 0 xs i i leaf once (sym (position_from-zero f xs) ∙ h) (omega arith) is
 
@@ -85,12 +87,14 @@ abbrev pub or_else : {A : Type 0} → Option A → Option A → Option A
 or_else (Some a) other = Some a
 or_else None other = other
 
-position_from-push : {A : Type 0} (f : A → Bool) (n : ℕ) (xs : List A) (y : A) → position_from f n (xs ++ y ∷ []) ≡ or_else (position_from f n xs) (cond (f y) (Some (n + length xs)) None)
+position_from-push : {A : Type 0} (f : A → Bool) (n : ℕ) (xs : List A) (y : A) → position_from f n (xs ++ y ∷ []) ≡ or_else (position_from f n xs)
+    (cond (f y) (Some (n + length xs)) None)
 position_from-push f n [] y = ap (λ k. cond (f y) (Some k) None) (omega arith)
 position_from-push f n (x ∷ xs) y =
     let later : position_from f (n + 1) (xs ++ y ∷ []) ≡ or_else (position_from f (n + 1) xs) (cond (f y) (Some (n + suc (length xs))) None) =
     position_from-push f (n + 1) xs y ∙ ap (λ k. or_else (position_from f (n + 1) xs) (cond (f y) (Some k) None)) (omega arith) in
-    elim (f x) as (λ b. cond b (Some n) (position_from f (n + 1) (xs ++ y ∷ [])) ≡ or_else (cond b (Some n) (position_from f (n + 1) xs)) (cond (f y) (Some (n + suc (length xs))) None)) [
+    elim (f x) as (λ b. cond b (Some n) (position_from f (n + 1) (xs ++ y ∷ [])) ≡ or_else (cond b (Some n) (position_from f (n + 1) xs))
+        (cond (f y) (Some (n + suc (length xs))) None)) [
       | true ↦ refl
       | false ↦ later
     ]
@@ -104,9 +108,11 @@ not_some None h = refl
 not_some (Some a) h = cc
 
 -- the place of an item that is new
-pub position-push : {A : Type 0} (f : A → Bool) (xs : List A) (y : A) → (f y ≡ true → list_any f xs ≡ false) → position f (xs ++ y ∷ []) ≡ cond (f y) (Some (length xs)) (position f xs)
+pub position-push : {A : Type 0} (f : A → Bool) (xs : List A) (y : A) → (f y ≡ true → list_any f xs ≡ false) →
+    position f (xs ++ y ∷ []) ≡ cond (f y) (Some (length xs)) (position f xs)
 position-push f xs y new =
-    position_from-zero f (xs ++ y ∷ []) ∙ position_from-push f 0 xs y ∙ ap (λ o. or_else o (cond (f y) (Some (0 + length xs)) None)) (sym (position_from-zero f xs))
+    position_from-zero f (xs ++ y ∷ []) ∙ position_from-push f 0 xs y ∙ ap (λ o. or_else o (cond (f y) (Some (0 + length xs)) None))
+        (sym (position_from-zero f xs))
     ∙ elim (cases_Bool (f y)) [
       | inl e ↦
           ap (λ o. or_else o (cond (f y) (Some (0 + length xs)) None)) (not_some (position f xs) (position-any f xs ∙ new e))
@@ -135,6 +141,7 @@ once-push f (x ∷ xs) y once new = (
 )
 
 -- the place of the one item that passes the first test, where it passes both
-pub position-called : (f g : Leaf → Bool) (xs : List Leaf) (i : ℕ) (leaf : Leaf) (b : Bool) → PassesOnce f xs → Some i ≡ position f xs → i < length xs → leaf ≡ get_or xs i leaf → g leaf ≡ b → position (λ x. f x && g x) xs ≡ cond b (Some i) None
+pub position-called : (f g : Leaf → Bool) (xs : List Leaf) (i : ℕ) (leaf : Leaf) (b : Bool) → PassesOnce f xs → Some i ≡ position f xs → i < length xs →
+    leaf ≡ get_or xs i leaf → g leaf ≡ b → position (λ x. f x && g x) xs ≡ cond b (Some i) None
 position-called f g xs i leaf b once found within is test =
     position-decided f g xs i leaf once (sym found) (slice_get_read xs (length xs) i leaf refl within is) ∙ ap (λ t. cond t (Some i) None) test

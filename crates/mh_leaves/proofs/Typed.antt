@@ -28,7 +28,8 @@ throws classes kind.Pick h = tt
 throws classes kind.Tick h = tt
 throws classes kind.Note h = tt
 
-pub leaf-typed : (classes tested : List Class) (leaf : Leaf) → leaf.owner.0 < length classes → tested ≡ classes → is_well_typed tested leaf ≡ true → IsLeafOf classes leaf
+pub leaf-typed : (classes tested : List Class) (leaf : Leaf) → leaf.owner.0 < length classes → tested ≡ classes → is_well_typed tested leaf ≡ true →
+    IsLeafOf classes leaf
 leaf-typed classes tested leaf owner same typed =
     let is : is_well_typed classes leaf ≡ true = subst (λ cs. is_well_typed cs leaf ≡ true) same typed in
     let q = both (is_kind_type leaf.kind leaf.ty) (throws_exceptions classes leaf.kind) is in

@@ -121,7 +121,8 @@ handle_type false owner t = t
 
 -- whether some leaf has these three texts
 abbrev pub is_repeated : LeafTable → Texts → Bool
-is_repeated table texts = option_map_or (λ owner. list_any (has_texts owner texts.name texts.descriptor) table.leaves) (class_named table.classes texts.owner) false
+is_repeated table texts = option_map_or (λ owner. list_any (has_texts owner texts.name texts.descriptor) table.leaves) (class_named table.classes texts.owner)
+    false
 
 -- a leaf, where its handle's type has at most 254 slots and its kind allows the type
 abbrev pub leaf_added : LeafTable → Leaf → Result LeafTable ManifestKind

@@ -38,13 +38,15 @@ pub record HasBootstrap (pool : List Slot) (p : PlacedSite) : Type 0 where
 abbrev pub row_of : PlacedSite → Row
 row_of p = record { handle = p.first + 3; arguments = map argument_index (placed_arguments p) }
 
-argument_spelled : (pool : List Slot) (a : PlacedArgument) (at : ℕ) → IsNamed pool a → Spells (named_index BadBootstraps pool kinds.Argument) at (u2 (argument_index a)) (argument_index a)
+argument_spelled : (pool : List Slot) (a : PlacedArgument) (at : ℕ) → IsNamed pool a →
+    Spells (named_index BadBootstraps pool kinds.Argument) at (u2 (argument_index a)) (argument_index a)
 unfolding named_index
 argument_spelled pool a at n =
     let i = argument_index a in
     (at, [], u2 i, refl, (refl, refl), (i, u2 i, [], refl, (refl, u2_is i n.fits), (tt, [], [], refl, (refl, n.named at), (refl, refl))))
 
-arguments_all : (pool : List Slot) (given : List PlacedArgument) → AllByRecursion (IsNamed pool) given → AllByRecursion (λ a. (place : ℕ) → Spells (named_index BadBootstraps pool kinds.Argument) place (u2 (argument_index a)) (argument_index a)) given
+arguments_all : (pool : List Slot) (given : List PlacedArgument) → AllByRecursion (IsNamed pool) given →
+    AllByRecursion (λ a. (place : ℕ) → Spells (named_index BadBootstraps pool kinds.Argument) place (u2 (argument_index a)) (argument_index a)) given
 arguments_all pool [] all = tt
 arguments_all pool (a ∷ given) all = (λ place. argument_spelled pool a place all.0, arguments_all pool given all.1)
 
@@ -79,14 +81,17 @@ bootstrap_spelled pool p at h =
       ),
     )
 
-bootstraps_all : (pool : List Slot) (ps : List PlacedSite) → AllByRecursion (HasBootstrap pool) ps → AllByRecursion (λ p. (place : ℕ) → Spells (read_bootstrap pool) place (bootstrap p) (row_of p)) ps
+bootstraps_all : (pool : List Slot) (ps : List PlacedSite) → AllByRecursion (HasBootstrap pool) ps →
+    AllByRecursion (λ p. (place : ℕ) → Spells (read_bootstrap pool) place (bootstrap p) (row_of p)) ps
 bootstraps_all pool [] all = tt
 bootstraps_all pool (p ∷ ps) all = (λ place. bootstrap_spelled pool p place all.0, bootstraps_all pool ps all.1)
 
-contents_spelled : (pool : List Slot) (ps : List PlacedSite) (at : ℕ) → length ps < 2 ^ 16 → AllByRecursion (HasBootstrap pool) ps → Spells (read_bootstraps pool) at (bootstraps ps) (map row_of ps)
+contents_spelled : (pool : List Slot) (ps : List PlacedSite) (at : ℕ) → length ps < 2 ^ 16 → AllByRecursion (HasBootstrap pool) ps →
+    Spells (read_bootstraps pool) at (bootstraps ps) (map row_of ps)
 unfolding read_bootstraps bootstraps
 contents_spelled pool ps at few all =
-    (length ps, u2 (length ps), flat_map bootstrap ps, refl, (refl, u2_is (length ps) few), times_spelled (read_bootstrap pool) bootstrap row_of ps [] (at + 2) (bootstraps_all pool ps all))
+    (length ps, u2 (length ps), flat_map bootstrap ps, refl, (refl, u2_is (length ps) few), times_spelled (read_bootstrap pool) bootstrap row_of ps [] (at + 2)
+        (bootstraps_all pool ps all))
 
 -- a BootstrapMethods attribute, the first time
 abbrev rows_read : List Slot → ℕ → Part (Option (List Row))
@@ -101,7 +106,8 @@ other_read = do
   skipped ← passed_contents Truncated
   done None
 
-attribute_spelled : (pool : List Slot) (ps : List PlacedSite) (at : ℕ) → HasCommon pool → length ps < 2 ^ 16 → length (bootstraps ps) < 2 ^ 32 → AllByRecursion (HasBootstrap pool) ps
+attribute_spelled : (pool : List Slot) (ps : List PlacedSite) (at : ℕ) → HasCommon pool → length ps < 2 ^ 16 → length (bootstraps ps) < 2 ^ 32 →
+    AllByRecursion (HasBootstrap pool) ps
     → Spells (class_attribute pool None) at (attribute 8 (bootstraps ps)) (Some (map row_of ps))
 unfolding class_attribute bootstraps_attribute attribute
 attribute_spelled pool ps at c few short all =
@@ -140,7 +146,8 @@ attribute_spelled pool ps at c few short all =
       ),
     )
 
-pub class_attributes_spelled : (pool : List Slot) (ps : List PlacedSite) (at : ℕ) → HasCommon pool → length ps < 2 ^ 16 → length (bootstraps ps) < 2 ^ 32 → AllByRecursion (HasBootstrap pool) ps
+pub class_attributes_spelled : (pool : List Slot) (ps : List PlacedSite) (at : ℕ) → HasCommon pool → length ps < 2 ^ 16 → length (bootstraps ps) < 2 ^ 32 →
+    AllByRecursion (HasBootstrap pool) ps
     → Spells (read_class_attributes pool) at (class_attributes ps) (Some (map row_of ps))
 unfolding read_class_attributes class_attributes repeated
 class_attributes_spelled pool ps at c few short all =

@@ -27,7 +27,8 @@ pub record HasCall (pool : List Slot) (p : PlacedSite) : Type 0 where
 abbrev pub site_found : Method → ℕ → PlacedSite → Site
 site_found m pc p = record { method = m; pc = pc; index = p.first + 6 }
 
-one_spelled : (pool : List Slot) (m : Method) (has_room : Bool) (start at : ℕ) (p : PlacedSite) → HasCall pool p → has_room ≡ true → Spells (read_instruction pool m has_room start) at (instruction p) (site_found m (at - start) p ∷ [])
+one_spelled : (pool : List Slot) (m : Method) (has_room : Bool) (start at : ℕ) (p : PlacedSite) → HasCall pool p → has_room ≡ true →
+    Spells (read_instruction pool m has_room start) at (instruction p) (site_found m (at - start) p ∷ [])
 unfolding read_instruction call_site operands
 one_spelled pool m has_room start at p h room =
     let i = p.first + 6 in
@@ -71,7 +72,8 @@ one_spelled pool m has_room start at p h room =
 return_spelled : (pool : List Slot) (m : Method) (has_room : Bool) (start at : ℕ) → Spells (read_instruction pool m has_room start) at (0xB1 ∷ []) []
 unfolding read_instruction ordinary passed
 return_spelled pool m has_room start at =
-    (at, [], 0xB1 ∷ [], refl, (refl, refl), (0xB1, 0xB1 ∷ [], [], refl, (refl, refl), (tt, [], [], refl, ([], [], [], refl, (refl, refl), (refl, refl)), (refl, refl))))
+    (at, [], 0xB1 ∷ [], refl, (refl, refl), (0xB1, 0xB1 ∷ [], [], refl, (refl, refl), (tt, [], [], refl, ([], [], [], refl, (refl, refl), (refl, refl)),
+        (refl, refl))))
 
 -- the next instruction, where the code has not ended
 abbrev one_more : List Slot → Method → ℕ → ℕ → List Site → Part (List Site)
@@ -79,7 +81,8 @@ one_more pool m room start so_far = do
   found ← read_instruction pool m (ltb (length so_far) room) start
   done (so_far ++ found)
 
-next_spelled : (pool : List Slot) (m : Method) (room start end at : ℕ) (so_far found : List Site) (bytes : List ℕ) → at < end → ((place : ℕ) → place ≡ at → Spells (read_instruction pool m (ltb (length so_far) room) start) place bytes found)
+next_spelled : (pool : List Slot) (m : Method) (room start end at : ℕ) (so_far found : List Site) (bytes : List ℕ) → at < end →
+    ((place : ℕ) → place ≡ at → Spells (read_instruction pool m (ltb (length so_far) room) start) place bytes found)
     → Spells (next_site pool m room start end so_far) at bytes (so_far ++ found)
 next_spelled pool m room start end at so_far found bytes lt one =
     let left : leb end at ≡ false = grind (arith, nat_tests) in
@@ -93,7 +96,8 @@ next_spelled pool m room start end at so_far found bytes lt one =
           (found, bytes, [], sym (append-nil bytes), one (at + 0) place, (refl, refl)),
     )
 
-ended : (pool : List Slot) (m : Method) (room start end most at : ℕ) (so_far : List Site) → end ≤ at → Spells (repeated (next_site pool m room start end) most so_far) at [] so_far
+ended : (pool : List Slot) (m : Method) (room start end most at : ℕ) (so_far : List Site) → end ≤ at →
+    Spells (repeated (next_site pool m room start end) most so_far) at [] so_far
 unfolding repeated
 ended pool m room start end zero at so_far le = (refl, refl)
 ended pool m room start end (suc most) at so_far le =
@@ -108,8 +112,10 @@ ended pool m room start end (suc most) at so_far le =
 
 -- The code of call sites is spelled from the first of them on, with a call site for each.
 pub code_spelled : (pool : List Slot) (m : Method) (room start end : ℕ) (sites : List MadeSite) (k b most at : ℕ) (so_far : List Site)
-    → at ≡ start + 5 * k → at + 5 * length sites + 1 ≡ end → length sites + 1 ≤ most → length so_far + length sites ≤ room → AllByRecursion (HasCall pool) (sites_from k b sites)
-    → Spells (repeated (next_site pool m room start end) most so_far) at (flat_map instruction (sites_from k b sites) ++ 0xB1 ∷ []) (so_far ++ map (λ p. site_found m (5 * p.number) p) (sites_from k b sites))
+    → at ≡ start + 5 * k → at + 5 * length sites + 1 ≡ end → length sites + 1 ≤ most → length so_far + length sites ≤ room →
+        AllByRecursion (HasCall pool) (sites_from k b sites)
+    → Spells (repeated (next_site pool m room start end) most so_far) at (flat_map instruction (sites_from k b sites) ++ 0xB1 ∷ [])
+        (so_far ++ map (λ p. site_found m (5 * p.number) p) (sites_from k b sites))
 unfolding repeated sites_from
 code_spelled pool m room start end [] k b zero at so_far here_is end_is enough few calls = absurd (omega arith)
 code_spelled pool m room start end [] k b (suc most) at so_far here_is end_is enough few calls = (
@@ -129,9 +135,11 @@ code_spelled pool m room start end (site ∷ sites) k b (suc most) at so_far her
     let in_room : ltb (length so_far) room ≡ true = grind (arith, nat_tests, few) in
     let pc : (place : ℕ) → place ≡ at → place - start ≡ 5 * k = λ place e. omega (arith, e, here_is) in
     let one : (place : ℕ) → place ≡ at → Spells (read_instruction pool m (ltb (length so_far) room) start) place (instruction p) (found ∷ []) =
-    λ place e. subst (λ n. Spells (read_instruction pool m (ltb (length so_far) room) start) place (instruction p) (site_found m n p ∷ [])) (pc place e) (one_spelled pool m (ltb (length so_far) room) start place p calls.0 in_room) in
+    λ place e. subst (λ n. Spells (read_instruction pool m (ltb (length so_far) room) start) place (instruction p) (site_found m n p ∷ [])) (pc place e)
+        (one_spelled pool m (ltb (length so_far) room) start place p calls.0 in_room) in
     let len : length next ≡ length so_far + 1 = length-append so_far (found ∷ []) in
-    let rest = code_spelled pool m room start end sites (k + 1) (b + site_width site) most (at + 5) next (omega (arith, here_is)) (omega (arith, end_is)) (omega (arith, enough)) (omega (arith, few, len)) calls.1 in (
+    let rest = code_spelled pool m room start end sites (k + 1) (b + site_width site) most (at + 5) next (omega (arith, here_is)) (omega (arith, end_is))
+        (omega (arith, enough)) (omega (arith, few, len)) calls.1 in (
       next,
       instruction p,
       flat_map instruction others ++ 0xB1 ∷ [],

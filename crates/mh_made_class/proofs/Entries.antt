@@ -24,14 +24,17 @@ entries_good pool first (args.Integer n) h = (good_integer pool (cast_unsigned w
 entries_good pool first (args.Long n) h = (good_long pool (cast_unsigned w64 n / 2 ^ 32) (cast_unsigned w64 n % 2 ^ 32), tt)
 entries_good pool first (args.Str text) h = (good_text pool text, (good_string pool first text h.0, tt))
 
-arguments_good : (pool : List Slot) (given : List PlacedArgument) → AllByRecursion (λ a. Holds pool a.first (argument_entries a)) given → AllByRecursion (IsGood pool) (flat_map argument_entries given)
+arguments_good : (pool : List Slot) (given : List PlacedArgument) → AllByRecursion (λ a. Holds pool a.first (argument_entries a)) given →
+    AllByRecursion (IsGood pool) (flat_map argument_entries given)
 arguments_good pool [] h = tt
-arguments_good pool (a ∷ given) h = all_append (IsGood pool) (argument_entries a) (flat_map argument_entries given) (entries_good pool a.first a.arg h.0) (arguments_good pool given h.1)
+arguments_good pool (a ∷ given) h = all_append (IsGood pool) (argument_entries a) (flat_map argument_entries given) (entries_good pool a.first a.arg h.0)
+    (arguments_good pool given h.1)
 
 type_is_descriptor : descriptor_fault bootstrap_type ≡ None
 type_is_descriptor = refl
 
-pub site_good : (pool : List Slot) (p : PlacedSite) → HasCommon pool → HasSite pool p → AllByRecursion (λ a. Holds pool a.first (argument_entries a)) (placed_arguments p) → descriptor_fault p.site.ty ≡ None → AllByRecursion (IsGood pool) (site_entries p)
+pub site_good : (pool : List Slot) (p : PlacedSite) → HasCommon pool → HasSite pool p → AllByRecursion (λ a. Holds pool a.first (argument_entries a))
+    (placed_arguments p) → descriptor_fault p.site.ty ≡ None → AllByRecursion (IsGood pool) (site_entries p)
 site_good pool p c h given ty =
     let b = p.first in (
       good_text pool p.site.script,
@@ -101,15 +104,20 @@ entries_bound count first (args.Str text) = (λ at. refl, (λ at. refl, tt))
 
 arguments_bound : (count : ℕ) (given : List PlacedArgument) → AllByRecursion (IsBound count) (flat_map argument_entries given)
 arguments_bound count [] = tt
-arguments_bound count (a ∷ given) = all_append (IsBound count) (argument_entries a) (flat_map argument_entries given) (entries_bound count a.first a.arg) (arguments_bound count given)
+arguments_bound count (a ∷ given) = all_append (IsBound count) (argument_entries a) (flat_map argument_entries given) (entries_bound count a.first a.arg)
+    (arguments_bound count given)
 
 pub site_bound : (count : ℕ) (p : PlacedSite) → p.number < count → AllByRecursion (IsBound count) (site_entries p)
 unfolding has_bootstrap
 site_bound count p lt =
     let below : ltb p.number count ≡ true = grind (arith, nat_tests) in
-    (λ at. refl, (λ at. refl, (λ at. refl, (λ at. refl, (λ at. refl, (λ at. refl, (λ at. ap (λ b. holds b at BadBootstraps) below, arguments_bound count (placed_arguments p))))))))
+    (λ at. refl,
+        (λ at. refl,
+        (λ at. refl, (λ at. refl, (λ at. refl, (λ at. refl, (λ at. ap (λ b. holds b at BadBootstraps) below, arguments_bound count (placed_arguments p))))))))
 
 pub common_bound : (count : ℕ) → AllByRecursion (IsBound count) common_entries
 unfolding has_bootstrap
 common_bound count =
-    (λ at. refl, (λ at. refl, (λ at. refl, (λ at. refl, (λ at. refl, (λ at. refl, (λ at. refl, (λ at. refl, (λ at. refl, (λ at. refl, (λ at. refl, (λ at. refl, tt))))))))))))
+    (λ at. refl,
+        (λ at. refl,
+        (λ at. refl, (λ at. refl, (λ at. refl, (λ at. refl, (λ at. refl, (λ at. refl, (λ at. refl, (λ at. refl, (λ at. refl, (λ at. refl, tt))))))))))))

@@ -16,7 +16,8 @@ all_append P [] ys h k = k
 all_append P (x ∷ xs) ys h k = (h.0, all_append P xs ys h.1 k)
 
 -- what each part has, all have
-pub all_parts : {X Y : Type 0} (P : Y → Type 0) (f : X → List Y) (xs : List X) → AllByRecursion (λ x. AllByRecursion P (f x)) xs → AllByRecursion P (flat_map f xs)
+pub all_parts : {X Y : Type 0} (P : Y → Type 0) (f : X → List Y) (xs : List X) → AllByRecursion (λ x. AllByRecursion P (f x)) xs →
+    AllByRecursion P (flat_map f xs)
 all_parts P f [] h = tt
 all_parts P f (x ∷ xs) h = all_append P (f x) (flat_map f xs) h.0 (all_parts P f xs h.1)
 
@@ -34,7 +35,8 @@ ascii_sound (b ∷ bytes) h =
     let high : ltb b 128 ≡ true = grind (arith, nat_tests, h.0.1) in
     rw (low, high) (ap suc (ascii_sound bytes h.1))
 
-pub arguments_placed : (first : ℕ) (made : List MadeArg) → AllByRecursion IsMakeableArgument made → first + sum_by argument_width made < 2 ^ 16 → AllByRecursion IsPlacedArgument (arguments_from first made)
+pub arguments_placed : (first : ℕ) (made : List MadeArg) → AllByRecursion IsMakeableArgument made → first + sum_by argument_width made < 2 ^ 16 →
+    AllByRecursion IsPlacedArgument (arguments_from first made)
 unfolding arguments_from
 arguments_placed first [] h fits = tt
 arguments_placed first (arg ∷ made) h fits = (
@@ -42,7 +44,8 @@ arguments_placed first (arg ∷ made) h fits = (
   arguments_placed (first + argument_width arg) made h.1 (omega (arith, fits, sum_by-cons argument_width arg made)),
 )
 
-pub sites_placed : (number first : ℕ) (sites : List MadeSite) → AllByRecursion IsMakeableSite sites → number ≤ first → first + sum_by site_width sites < 2 ^ 16 → AllByRecursion IsPlaced (sites_from number first sites)
+pub sites_placed : (number first : ℕ) (sites : List MadeSite) → AllByRecursion IsMakeableSite sites → number ≤ first → first + sum_by site_width sites < 2 ^ 16
+    → AllByRecursion IsPlaced (sites_from number first sites)
 unfolding sites_from
 sites_placed number first [] h le fits = tt
 sites_placed number first (site ∷ sites) h le fits = (

@@ -85,9 +85,11 @@ header_spelled count pos few =
     )
 
 -- the entries of the pool, as they are written
-pool_bytes : (ps : List PlacedSite) → flat_map entry_bytes common_entries ++ flat_map (λ p. flat_map entry_bytes (site_entries p)) ps ≡ flat_map entry_bytes (all_entries ps)
+pool_bytes : (ps : List PlacedSite) → flat_map entry_bytes common_entries ++ flat_map (λ p. flat_map entry_bytes (site_entries p)) ps ≡ flat_map entry_bytes
+    (all_entries ps)
 pool_bytes ps =
-    ap (λ xs. flat_map entry_bytes common_entries ++ xs) (sym (parts_of_parts entry_bytes site_entries ps)) ∙ sym (flat_map-append entry_bytes common_entries (flat_map site_entries ps))
+    ap (λ xs. flat_map entry_bytes common_entries ++ xs) (sym (parts_of_parts entry_bytes site_entries ps)) ∙
+        sym (flat_map-append entry_bytes common_entries (flat_map site_entries ps))
 
 -- the bytes of the class file, as they are read
 abbrev pub parts_of : List MadeSite → List ℕ
@@ -99,5 +101,6 @@ pub made_is : (made : List MadeSite) → made_class made ≡ parts_of made
 unfolding made_class pool_of
 made_is made =
     let ps = placed made in
-    regrouped version (u2 (pool_count made)) (flat_map entry_bytes common_entries) (flat_map (λ p. flat_map entry_bytes (site_entries p)) ps) class_names fields (methods ps) (class_attributes ps)
+    regrouped version (u2 (pool_count made)) (flat_map entry_bytes common_entries) (flat_map (λ p. flat_map entry_bytes (site_entries p)) ps) class_names fields
+        (methods ps) (class_attributes ps)
     ∙ ap (λ xs. (version ++ u2 (pool_count made)) ++ (xs ++ (class_names ++ ((fields ++ methods ps) ++ class_attributes ps)))) (pool_bytes ps)

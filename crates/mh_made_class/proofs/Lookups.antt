@@ -46,7 +46,8 @@ holds_split pool i (e ∷ es) fs h =
     ((h.0, r.0), subst (λ n. Holds pool n fs) k r.1)
 
 -- A check passes each slot that it passes as an entry.
-pub each_slot : (f : Slot → Verdict) → f None ≡ Ok tt → (es : List Entry) (at : ℕ) → AllByRecursion (λ e. (place : ℕ) → f (Some (place, e)) ≡ Ok tt) es → each f (slots_from at es) ≡ Ok tt
+pub each_slot : (f : Slot → Verdict) → f None ≡ Ok tt → (es : List Entry) (at : ℕ) → AllByRecursion (λ e. (place : ℕ) → f (Some (place, e)) ≡ Ok tt) es →
+    each f (slots_from at es) ≡ Ok tt
 unfolding each
 each_slot f none [] at all = refl
 each_slot f none (e ∷ es) at all = go (is_wide e) (each_slot f none es (at + length (entry_bytes e)) all.1)

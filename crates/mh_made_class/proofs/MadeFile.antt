@@ -29,7 +29,8 @@ use Rattle.mh_made_class.proofs.HeaderSpelling.{header_spelled, parts_of, made_i
 abbrev class_made : List MadeSite → Class
 class_made made = let ps = placed made in class_of (slots_of ps) (sites_found ps) (map row_of ps)
 
-file_spelled : (made : List MadeSite) (room : ℕ) → AreMakeable made → AllByRecursion IsReadable made → length made ≤ room → Spells (class_file room (length (parts_of made))) 0 (parts_of made) (class_made made)
+file_spelled : (made : List MadeSite) (room : ℕ) → AreMakeable made → AllByRecursion IsReadable made → length made ≤ room →
+    Spells (class_file room (length (parts_of made))) 0 (parts_of made) (class_made made)
 unfolding class_file
 file_spelled made room h readable few =
     let ps = placed made in
@@ -83,7 +84,8 @@ file_spelled made room h readable few =
                 a,
                 [],
                 sym (append-nil a),
-                class_attributes_spelled pool ps (at + 8 + length m) k.common (omega (arith, few_sites made, h.few, n)) (omega (arith, bootstraps_few 0 13 made, h.few)) (bootstraps_stand pool ps k.stand k.given k.fit),
+                class_attributes_spelled pool ps (at + 8 + length m) k.common (omega (arith, few_sites made, h.few, n))
+                    (omega (arith, bootstraps_few 0 13 made, h.few)) (bootstraps_stand pool ps k.stand k.given k.fit),
                 (
                   at + 8 + length m + length a,
                   [],
@@ -119,7 +121,8 @@ reads_back made h readable room few =
     let ps = placed made in
     let k = standing made h in
     let is_file : IsClassFile room (made_class made) (class_made made) =
-    subst (λ (bytes : List ℕ). Spells (class_file room (length bytes)) 0 bytes (class_made made)) (sym (made_is made)) (file_spelled made room h readable few) in (
+    subst (λ (bytes : List ℕ). Spells (class_file room (length bytes)) 0 bytes (class_made made)) (sym (made_is made)) (file_spelled made room h readable few)
+        in (
       class_made made,
       is_file,
       record {

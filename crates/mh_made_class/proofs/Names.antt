@@ -16,9 +16,11 @@ use Rattle.mh_made_class.proofs.Lookups.{At}
 use Rattle.mh_made_class.proofs.Standing.{HasCommon}
 use Rattle.mh_made_class.proofs.Good.{named_at}
 
-pub index_spelled : (short : ClassKind) (pool : List Slot) (kind : Kind) (i at : ℕ) (e : Entry) → At pool i e → is_kind kind e ≡ true → i < 2 ^ 16 → Spells (named_index short pool kind) at (u2 i) i
+pub index_spelled : (short : ClassKind) (pool : List Slot) (kind : Kind) (i at : ℕ) (e : Entry) → At pool i e → is_kind kind e ≡ true → i < 2 ^ 16 →
+    Spells (named_index short pool kind) at (u2 i) i
 unfolding named_index
-index_spelled short pool kind i at e s k lt = (at, [], u2 i, refl, (refl, refl), (i, u2 i, [], refl, (refl, u2_is i lt), (tt, [], [], refl, (refl, named_at pool kind i at e s k), (refl, refl))))
+index_spelled short pool kind i at e s k lt =
+    (at, [], u2 i, refl, (refl, refl), (i, u2 i, [], refl, (refl, u2_is i lt), (tt, [], [], refl, (refl, named_at pool kind i at e s k), (refl, refl))))
 
 pub class_names_spelled : (pool : List Slot) (at : ℕ) → HasCommon pool → Spells (read_class_names pool) at class_names tt
 unfolding read_class_names repeated

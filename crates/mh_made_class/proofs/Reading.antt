@@ -30,24 +30,30 @@ use Rattle.mh_made_class.proofs.BootstrapSpelling.{row_of}
 halves : (n : ℕ) → 2 ^ 32 * (n / 2 ^ 32) + n % 2 ^ 32 ≡ n
 halves n = ap (λ x. x + n % 2 ^ 32) (mul_comm (2 ^ 32) (n / 2 ^ 32)) ∙ div-add-mod' n (2 ^ 32)
 
-pub named_argument : (pool : List Slot) (first at : ℕ) (arg : MadeArg) → Holds pool first (entries_at first arg) → names pool kinds.Argument (index_at first arg) at ≡ Ok tt
+pub named_argument : (pool : List Slot) (first at : ℕ) (arg : MadeArg) → Holds pool first (entries_at first arg) →
+    names pool kinds.Argument (index_at first arg) at ≡ Ok tt
 named_argument pool first at (args.Integer n) h = named_at pool kinds.Argument first at (entries.Integer (cast_unsigned w32 n)) h.0 refl
-named_argument pool first at (args.Long n) h = named_at pool kinds.Argument first at (entries.Long (cast_unsigned w64 n / 2 ^ 32) (cast_unsigned w64 n % 2 ^ 32)) h.0 refl
+named_argument pool first at (args.Long n) h =
+    named_at pool kinds.Argument first at (entries.Long (cast_unsigned w64 n / 2 ^ 32) (cast_unsigned w64 n % 2 ^ 32)) h.0 refl
 named_argument pool first at (args.Str text) h = named_at pool kinds.Argument (first + 1) at (entries.Str first) h.1.0 refl
 
-argument_read : (pool : List Slot) (first : ℕ) (arg : MadeArg) → Holds pool first (entries_at first arg) → IsNumber arg → argument pool (index_at first arg) ≡ constant_of arg
+argument_read : (pool : List Slot) (first : ℕ) (arg : MadeArg) → Holds pool first (entries_at first arg) → IsNumber arg →
+    argument pool (index_at first arg) ≡ constant_of arg
 argument_read pool first (args.Integer n) h fits = rw (h.0.1) (ap (λ (z : ℤ). constants.Integer z) (to_z-of_z w32 n fits))
 argument_read pool first (args.Long n) h fits = rw (h.0.1, halves) (ap (λ (z : ℤ). constants.Long z) (to_z-of_z w64 n fits))
 argument_read pool first (args.Str text) h fits = rw (h.1.0.1, h.0.1) refl
 
-arguments_read : (pool : List Slot) (first : ℕ) (made : List MadeArg) → AllByRecursion (λ a. Holds pool a.first (argument_entries a)) (arguments_from first made) → AllByRecursion IsNumber made
+arguments_read : (pool : List Slot) (first : ℕ) (made : List MadeArg) → AllByRecursion (λ a. Holds pool a.first (argument_entries a))
+    (arguments_from first made) → AllByRecursion IsNumber made
     → map (argument pool) (map argument_index (arguments_from first made)) ≡ map constant_of made
 unfolding arguments_from
 arguments_read pool first [] h fits = refl
 arguments_read pool first (arg ∷ made) h fits =
-    rw (argument_read pool first arg h.0 fits.0) (ap (λ (cs : List Constant). constant_of arg ∷ cs) (arguments_read pool (first + argument_width arg) made h.1 fits.1))
+    rw (argument_read pool first arg h.0 fits.0) (ap (λ (cs : List Constant). constant_of arg ∷ cs) (arguments_read pool (first + argument_width arg) made h.1
+        fits.1))
 
-handle_read : (pool : List Slot) (p : PlacedSite) → HasCommon pool → HasSite pool p → handle pool (p.first + 3) ≡ record { kind = 6; owner = codes "made/Boot"; name = p.site.script; descriptor = bootstrap_type }
+handle_read : (pool : List Slot) (p : PlacedSite) → HasCommon pool → HasSite pool p → handle pool (p.first + 3) ≡ record { kind = 6; owner =
+    codes "made/Boot"; name = p.site.script; descriptor = bootstrap_type }
 handle_read pool p c h = rw (h.handle.1, h.method.1, c.boot.1, c.boot_name.1, h.name.1, h.script.1, c.boot_type.1) refl
 
 abbrev bootstrap_with : HandleRef → List Constant → Bootstrap
@@ -55,7 +61,8 @@ bootstrap_with h cs = record { handle = h; arguments = cs }
 
 -- Each bootstrap method is read as that of its call site.
 pub bootstraps_read : (pool : List Slot) (k b : ℕ) (sites : List MadeSite) → HasCommon pool → AllByRecursion (HasSite pool) (sites_from k b sites)
-    → AllByRecursion (λ p. AllByRecursion (λ a. Holds pool a.first (argument_entries a)) (placed_arguments p)) (sites_from k b sites) → AllByRecursion IsReadable sites
+    → AllByRecursion (λ p. AllByRecursion (λ a. Holds pool a.first (argument_entries a)) (placed_arguments p)) (sites_from k b sites) →
+        AllByRecursion IsReadable sites
     → map (read_bootstrap pool) (map row_of (sites_from k b sites)) ≡ map bootstrap_of sites
 unfolding sites_from
 bootstraps_read pool k b [] c h given readable = refl
@@ -67,11 +74,13 @@ bootstraps_read pool k b (site ∷ sites) c h given readable =
     ∙ ap (bootstrap_with ref) (arguments_read pool (b + 7) site.args given.0 readable.0.args) in
     rw head (ap (λ (bs : List Bootstrap). bootstrap_of site ∷ bs) (bootstraps_read pool (k + 1) (b + site_width site) sites c h.1 given.1 readable.1))
 
-site_read : (pool : List Slot) (p : PlacedSite) → HasCommon pool → HasSite pool p → site_view pool (site_found run_method (5 * p.number) p) ≡ site_of p.number p.site
+site_read : (pool : List Slot) (p : PlacedSite) → HasCommon pool → HasSite pool p → site_view pool (site_found run_method (5 * p.number) p) ≡ site_of p.number
+    p.site
 site_read pool p c h = rw (h.call.1, h.call_name.1, c.called.1, h.ty.1, c.run.1, c.run_type.1) refl
 
 -- Each call site that is found is the one that was to be made.
-pub sites_read : (pool : List Slot) (k b : ℕ) (sites : List MadeSite) → HasCommon pool → AllByRecursion (HasSite pool) (sites_from k b sites) → map (site_view pool) (sites_found (sites_from k b sites)) ≡ sites_of k sites
+pub sites_read : (pool : List Slot) (k b : ℕ) (sites : List MadeSite) → HasCommon pool → AllByRecursion (HasSite pool) (sites_from k b sites) →
+    map (site_view pool) (sites_found (sites_from k b sites)) ≡ sites_of k sites
 unfolding sites_from
 sites_read pool k b [] c h = refl
 sites_read pool k b (site ∷ sites) c h =

@@ -12,12 +12,14 @@ pub u4_is : (n : ℕ) → n < 2 ^ 32 → n ≡ big_number 4 (u4 n)
 u4_is n lt = sym (big_number-reads_back 4 n [] lt)
 
 -- the second of two formats, where the test does not hold
-pub otherwise : {K A : Type 0} (b : Bool) (f g : Format K A) (at : ℕ) (bytes : List ℕ) (x : A) → b ≡ false → Spells g at bytes x → Spells (choose b f g) at bytes x
+pub otherwise : {K A : Type 0} (b : Bool) (f g : Format K A) (at : ℕ) (bytes : List ℕ) (x : A) → b ≡ false → Spells g at bytes x →
+    Spells (choose b f g) at bytes x
 otherwise true f g at bytes x e s = absurd cc
 otherwise false f g at bytes x e s = s
 
 -- the first of two formats, where the test holds
-pub where_true : {K A : Type 0} (b : Bool) (f g : Format K A) (at : ℕ) (bytes : List ℕ) (x : A) → b ≡ true → Spells f at bytes x → Spells (choose b f g) at bytes x
+pub where_true : {K A : Type 0} (b : Bool) (f g : Format K A) (at : ℕ) (bytes : List ℕ) (x : A) → b ≡ true → Spells f at bytes x →
+    Spells (choose b f g) at bytes x
 where_true true f g at bytes x e s = s
 where_true false f g at bytes x e s = absurd cc
 

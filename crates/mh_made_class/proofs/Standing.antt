@@ -91,13 +91,15 @@ unfolding arguments_from
 arguments_width first [] = refl
 arguments_width first (arg ∷ made) =
     let rest = flat_map argument_entries (arguments_from (first + argument_width arg) made) in
-    omega (arith, width-append (entries_at first arg) rest, at_width first arg, arguments_width (first + argument_width arg) made, sum_by-cons argument_width arg made)
+    omega (arith, width-append (entries_at first arg) rest, at_width first arg, arguments_width (first + argument_width arg) made, sum_by-cons argument_width
+        arg made)
 
 pub entries_of_site : (p : PlacedSite) → entries_width (site_entries p) ≡ site_width p.site
 entries_of_site p = omega (arith, arguments_width (p.first + 7) p.site.args)
 
 -- Each of the arguments stands at its indexes.
-pub arguments_stand : (pool : List Slot) (first : ℕ) (made : List MadeArg) → Holds pool first (flat_map argument_entries (arguments_from first made)) → AllByRecursion (λ a. Holds pool a.first (argument_entries a)) (arguments_from first made)
+pub arguments_stand : (pool : List Slot) (first : ℕ) (made : List MadeArg) → Holds pool first (flat_map argument_entries (arguments_from first made)) →
+    AllByRecursion (λ a. Holds pool a.first (argument_entries a)) (arguments_from first made)
 unfolding arguments_from
 arguments_stand pool first [] h = tt
 arguments_stand pool first (arg ∷ made) h =
@@ -106,7 +108,8 @@ arguments_stand pool first (arg ∷ made) h =
     (two.0, arguments_stand pool (first + argument_width arg) made (subst (λ n. Holds pool (first + n) rest) (at_width first arg) two.1))
 
 -- Each of the call sites stands at its indexes.
-pub sites_stand : (pool : List Slot) (number first : ℕ) (sites : List MadeSite) → Holds pool first (flat_map site_entries (sites_from number first sites)) → AllByRecursion (HasSite pool) (sites_from number first sites)
+pub sites_stand : (pool : List Slot) (number first : ℕ) (sites : List MadeSite) → Holds pool first (flat_map site_entries (sites_from number first sites)) →
+    AllByRecursion (HasSite pool) (sites_from number first sites)
 unfolding sites_from
 sites_stand pool number first [] h = tt
 sites_stand pool number first (site ∷ sites) h =

@@ -21,12 +21,15 @@ text_writable text h = (ascii_sound text h.ascii, h.short)
 high_fits : (n : ℕ) → n < 2 ^ 64 → n / 2 ^ 32 < 2 ^ 32
 high_fits n lt = (div-lt_iff_lt-mul {x = n} {y = 2 ^ 32} (omega arith)).1 lt
 
-entries_writable : (first : ℕ) (arg : MadeArg) → IsMakeableArgument arg → IsNumber arg → first + argument_width arg < 2 ^ 16 → AllByRecursion IsWritable (entries_at first arg)
+entries_writable : (first : ℕ) (arg : MadeArg) → IsMakeableArgument arg → IsNumber arg → first + argument_width arg < 2 ^ 16 →
+    AllByRecursion IsWritable (entries_at first arg)
 entries_writable first (args.Integer n) h number fits = ((of_z_fits w32 n number).fits, tt)
-entries_writable first (args.Long n) h number fits = ((high_fits (cast_unsigned w64 n) (of_z_fits w64 n number).fits, mod-lt (cast_unsigned w64 n) (omega arith)), tt)
+entries_writable first (args.Long n) h number fits =
+    ((high_fits (cast_unsigned w64 n) (of_z_fits w64 n number).fits, mod-lt (cast_unsigned w64 n) (omega arith)), tt)
 entries_writable first (args.Str text) h number fits = (text_writable text h, (omega (arith, fits), tt))
 
-arguments_writable : (first : ℕ) (made : List MadeArg) → AllByRecursion IsMakeableArgument made → AllByRecursion IsNumber made → first + sum_by argument_width made < 2 ^ 16
+arguments_writable : (first : ℕ) (made : List MadeArg) → AllByRecursion IsMakeableArgument made → AllByRecursion IsNumber made →
+    first + sum_by argument_width made < 2 ^ 16
     → AllByRecursion IsWritable (flat_map argument_entries (arguments_from first made))
 unfolding arguments_from
 arguments_writable first [] h numbers fits = tt

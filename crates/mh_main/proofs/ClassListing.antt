@@ -25,7 +25,8 @@ sites-left room first next n h = omega arith
 
 -- ---- the listing
 
-listed-with : (rest : Input) (c : Class) (first next : ℕ) (old mid new : List ℕ) → next ≡ first + length c.sites → mid ≡ old ++ lines_from first c c.sites → IfListed rest (λ cs. new ≡ mid ++ listing_from next cs) → IfListed (with_class c rest) (λ cs. new ≡ old ++ listing_from first cs)
+listed-with : (rest : Input) (c : Class) (first next : ℕ) (old mid new : List ℕ) → next ≡ first + length c.sites → mid ≡ old ++ lines_from first c c.sites →
+    IfListed rest (λ cs. new ≡ mid ++ listing_from next cs) → IfListed (with_class c rest) (λ cs. new ≡ old ++ listing_from first cs)
 listed-with usage c first next old mid new counted put h = h
 listed-with (refused line) c first next old mid new counted put h = h
 listed-with (program p) c first next old mid new counted put h = h
@@ -35,7 +36,9 @@ listed-with (listed cs) c first next old mid new counted put h =
 listed-with missing c first next old mid new counted put h = h
 listed-with untold c first next old mid new counted put h = tt
 
-listed-first : (t : Told) (room first next : ℕ) (name : List ℕ) (names : List (List ℕ)) (files : List ℕ → Told) (old mid new : List ℕ) → ListsClass room t first next old mid → IfListed (classes_input (room - (next - first)) names files) (λ cs. new ≡ mid ++ listing_from next cs) → IfListed (first_and_others room t name names files) (λ cs. new ≡ old ++ listing_from first cs)
+listed-first : (t : Told) (room first next : ℕ) (name : List ℕ) (names : List (List ℕ)) (files : List ℕ → Told) (old mid new : List ℕ) →
+    ListsClass room t first next old mid → IfListed (classes_input (room - (next - first)) names files) (λ cs. new ≡ mid ++ listing_from next cs) →
+    IfListed (first_and_others room t name names files) (λ cs. new ≡ old ++ listing_from first cs)
 listed-first nothing room first next name names files old mid new l h = tt
 listed-first absent room first next name names files old mid new l h = absurd l
 listed-first (file bytes) room first next name names files old mid new l h =
@@ -44,7 +47,10 @@ listed-first (file bytes) room first next name names files old mid new l h =
     (listed-with (classes_input (room - length l.0.sites) names files) l.0 first next old mid new l.3 l.4
     (subst (λ m. IfListed (classes_input m names files) (λ cs. new ≡ mid ++ listing_from next cs)) left h))
 
-pub listed-all : {E : Type 0} (r : Result (Unit {0}) E) (t : Told) (room first next : ℕ) (name : List ℕ) (names : List (List ℕ)) (files files' : List ℕ → Told) (old mid new : List ℕ) → ((n : List ℕ) → files' n ≡ files n) → ListsClass room t first next old mid → OnOk r (IfListed (classes_input (room - (next - first)) names files') (λ cs. new ≡ mid ++ listing_from next cs)) → OnOk r (IfListed (first_and_others room t name names files) (λ cs. new ≡ old ++ listing_from first cs))
+pub listed-all : {E : Type 0} (r : Result (Unit {0}) E) (t : Told) (room first next : ℕ) (name : List ℕ) (names : List (List ℕ)) (files files' : List ℕ →
+    Told) (old mid new : List ℕ) → ((n : List ℕ) → files' n ≡ files n) → ListsClass room t first next old mid →
+    OnOk r (IfListed (classes_input (room - (next - first)) names files') (λ cs. new ≡ mid ++ listing_from next cs)) →
+    OnOk r (IfListed (first_and_others room t name names files) (λ cs. new ≡ old ++ listing_from first cs))
 listed-all (Ok u) t room first next name names files files' old mid new same l h =
     let e : files' ≡ files = λ i n. same n i in
     listed-first t room first next name names files old mid new l
@@ -75,7 +81,9 @@ refuses-untold (TooLong at) = tt
 refuses-untold (Fault at line kind) = tt
 refuses-untold (Place at place kind) = tt
 
-refuses-first : (t : Told) (room first next : ℕ) (name : List ℕ) (names : List (List ℕ)) (files : List ℕ → Told) (old mid : List ℕ) (stop : Stop) → ListsClass room t first next old mid → Refuses (classes_input (room - (next - first)) names files) stop → Refuses (first_and_others room t name names files) stop
+refuses-first : (t : Told) (room first next : ℕ) (name : List ℕ) (names : List (List ℕ)) (files : List ℕ → Told) (old mid : List ℕ) (stop : Stop) →
+    ListsClass room t first next old mid → Refuses (classes_input (room - (next - first)) names files) stop →
+    Refuses (first_and_others room t name names files) stop
 refuses-first nothing room first next name names files old mid stop l h = refuses-untold stop
 refuses-first absent room first next name names files old mid stop l h = absurd l
 refuses-first (file bytes) room first next name names files old mid stop l h =
@@ -83,7 +91,10 @@ refuses-first (file bytes) room first next name names files old mid stop l h =
     rw (small-enough bytes l.2, l.1)
     (refuses-with (classes_input (room - length l.0.sites) names files) l.0 stop (subst (λ m. Refuses (classes_input m names files) stop) left h))
 
-pub refuses-all : {T : Type 0} (r : Result T Stop) (t : Told) (room first next : ℕ) (name : List ℕ) (names : List (List ℕ)) (files files' : List ℕ → Told) (old mid : List ℕ) → ((n : List ℕ) → files' n ≡ files n) → ListsClass room t first next old mid → IfErr r (λ stop. Refuses (classes_input (room - (next - first)) names files') stop) → IfErr r (λ stop. Refuses (first_and_others room t name names files) stop)
+pub refuses-all : {T : Type 0} (r : Result T Stop) (t : Told) (room first next : ℕ) (name : List ℕ) (names : List (List ℕ)) (files files' : List ℕ →
+    Told) (old mid : List ℕ) → ((n : List ℕ) → files' n ≡ files n) → ListsClass room t first next old mid →
+    IfErr r (λ stop. Refuses (classes_input (room - (next - first)) names files') stop) →
+    IfErr r (λ stop. Refuses (first_and_others room t name names files) stop)
 refuses-all (Ok u) t room first next name names files files' old mid same l h = tt
 refuses-all (Err stop) t room first next name names files files' old mid same l h =
     let e : files' ≡ files = λ i n. same n i in

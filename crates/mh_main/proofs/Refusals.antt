@@ -9,7 +9,8 @@ pub unread-pieces : (name : List ℕ) → codes "cannot read " ++ (name ++ (code
 unread-pieces name = sym (append_assoc (codes "cannot read ") name (codes "\n"))
 
 -- `refused NAME line N KIND`
-pub fault-pieces : (name : List ℕ) (number : ℕ) (word : List ℕ) → codes "refused " ++ (name ++ (codes " line " ++ (decimal number ++ (codes " " ++ (word ++ (codes "\n" ++ [])))))) ≡ fault_line name number word
+pub fault-pieces : (name : List ℕ) (number : ℕ) (word : List ℕ) →
+    codes "refused " ++ (name ++ (codes " line " ++ (decimal number ++ (codes " " ++ (word ++ (codes "\n" ++ [])))))) ≡ fault_line name number word
 fault-pieces name number word =
     sym (
     append_assoc (codes "refused " ++ name ++ codes " line " ++ decimal number ++ codes " ") word (codes "\n")
@@ -19,7 +20,8 @@ fault-pieces name number word =
     ∙ append_assoc (codes "refused ") name (codes " line " ++ (decimal number ++ (codes " " ++ (word ++ codes "\n")))))
 
 -- `refused NAME at N KIND`
-pub place-pieces : (name : List ℕ) (at : ℕ) (word : List ℕ) → codes "refused " ++ (name ++ (codes " at " ++ (decimal at ++ (codes " " ++ (word ++ (codes "\n" ++ [])))))) ≡ place_line name at word
+pub place-pieces : (name : List ℕ) (at : ℕ) (word : List ℕ) →
+    codes "refused " ++ (name ++ (codes " at " ++ (decimal at ++ (codes " " ++ (word ++ (codes "\n" ++ [])))))) ≡ place_line name at word
 place-pieces name at word =
     sym (
     append_assoc (codes "refused " ++ name ++ codes " at " ++ decimal at ++ codes " ") word (codes "\n")

@@ -6,7 +6,8 @@ use Rattle.std.specs.Io.KnownBytes.{Appends, Keeps}
 use Rattle.mh_outside.specs.Told.{Told, nothing, absent, file, HasRead, IsFront, IsWhole, MayBeLonger}
 
 -- a piece after a front part
-pub Appends-then : (old mid new : Option (List ℕ)) (bytes : List ℕ) (at n : ℕ) → Appends old mid (take at bytes) → Appends mid new (take n (drop at bytes)) → Appends old new (take (at + n) bytes)
+pub Appends-then : (old mid new : Option (List ℕ)) (bytes : List ℕ) (at n : ℕ) → Appends old mid (take at bytes) → Appends mid new (take n (drop at bytes)) →
+    Appends old new (take (at + n) bytes)
 Appends-then None mid new bytes at n front piece = tt
 Appends-then (Some x) None new bytes at n front piece = absurd front
 Appends-then (Some x) (Some y) None bytes at n front piece = absurd piece
@@ -25,19 +26,22 @@ Appends-kept (Some x) (Some y) None bytes at front kept = absurd kept
 Appends-kept (Some x) (Some y) (Some z) bytes at front kept = kept ∙ front
 
 -- a piece that was read after the front
-pub IsFront-then : (told : Told) (got buf : List ℕ) (n : ℕ) → n ≤ length buf → IsFront told got → HasRead told (length got) n buf → IsFront told (got ++ take n buf)
+pub IsFront-then : (told : Told) (got buf : List ℕ) (n : ℕ) → n ≤ length buf → IsFront told got → HasRead told (length got) n buf →
+    IsFront told (got ++ take n buf)
 IsFront-then nothing got buf n le front read = tt
 IsFront-then absent got buf n le front read = absurd read
 IsFront-then (file bytes) got buf n le front read =
     rw (length-append, length-take-le, read.same, take-add) (ap (λ p. p ++ take n (drop (length got) bytes)) front)
 
 -- the same of a buffer whose first part was read into
-pub IsFront-piece : (told : Told) (got buf rest new : List ℕ) (at n : ℕ) → at ≡ length got → n ≤ length buf → new ≡ got ++ take n (buf ++ rest) → HasRead told at n buf → IsFront told got → IsFront told new
+pub IsFront-piece : (told : Told) (got buf rest new : List ℕ) (at n : ℕ) → at ≡ length got → n ≤ length buf → new ≡ got ++ take n (buf ++ rest) →
+    HasRead told at n buf → IsFront told got → IsFront told new
 IsFront-piece told got buf rest new at n e le new_is read front =
     rw (new_is, take-append-le n buf rest le) (IsFront-then told got buf n le front (rw e at read))
 
 -- the front is all, where a read gave nothing
-pub IsWhole-from_front : (told : Told) (got buf new : List ℕ) (at n : ℕ) → at ≡ length got → 0 < length buf → new ≡ got → HasRead told at n buf → n ≡ 0 → IsFront told got → IsWhole told new
+pub IsWhole-from_front : (told : Told) (got buf new : List ℕ) (at n : ℕ) → at ≡ length got → 0 < length buf → new ≡ got → HasRead told at n buf → n ≡ 0 →
+    IsFront told got → IsWhole told new
 IsWhole-from_front nothing got buf new at n e room same read none front = tt
 IsWhole-from_front absent got buf new at n e room same read none front = read
 IsWhole-from_front (file bytes) got buf new at n e room same read none front =

@@ -14,9 +14,11 @@ none_left None rest none = refl
 none_left (Some v) rest none = ap (option_map (λ vs. v ∷ vs)) none
 
 -- arguments in another number than the types
-pub arguments_of-other : (classes : List Class) (tokens : List (Bor (List ℕ))) (types : List Ty) → (length tokens ≡ length types → ⊥) → arguments_of classes (map (λ t. t.now) tokens) types ≡ None
+pub arguments_of-other : (classes : List Class) (tokens : List (Bor (List ℕ))) (types : List Ty) → (length tokens ≡ length types → ⊥) →
+    arguments_of classes (map (λ t. t.now) tokens) types ≡ None
 arguments_of-other classes [] [] other = absurd (other refl)
 arguments_of-other classes [] (t ∷ types) other = refl
 arguments_of-other classes (token ∷ tokens) [] other = refl
 arguments_of-other classes (token ∷ tokens) (t ∷ types) other =
-    none_left (argument_of classes token.now t) (arguments_of classes (map (λ x. x.now) tokens) types) (arguments_of-other classes tokens types (λ e. other (ap suc e)))
+    none_left (argument_of classes token.now t) (arguments_of classes (map (λ x. x.now) tokens) types) (arguments_of-other classes tokens types
+        (λ e. other (ap suc e)))

@@ -29,23 +29,28 @@ use Rattle.mh_plan.specs.Results.{IsCallOf}
 
 -- ---- leaves that are found
 
-placed : (table : LeafTable) (o : Option ℕ) (leaf : LeafId) → IfSome o (λ at. at < length table.leaves) → leaf_if_found (leaf_at o) ≡ Some leaf → leaf.0 < length table.leaves
+placed : (table : LeafTable) (o : Option ℕ) (leaf : LeafId) → IfSome o (λ at. at < length table.leaves) → leaf_if_found (leaf_at o) ≡ Some leaf →
+    leaf.0 < length table.leaves
 placed table None leaf within is = cc
 placed table (Some at) leaf within is =
     let same : at ≡ leaf.0 = ap (λ o. option_map_or (λ (l : LeafId). l.0) o 0) is in omega (arith, within, same)
 
-found-within : (table : LeafTable) (owner : Option ClassId) (name descriptor : List ℕ) (how : How) (leaf : LeafId) → leaf_if_found (leaf_of owner name descriptor how table.leaves) ≡ Some leaf → leaf.0 < length table.leaves
+found-within : (table : LeafTable) (owner : Option ClassId) (name descriptor : List ℕ) (how : How) (leaf : LeafId) →
+    leaf_if_found (leaf_of owner name descriptor how table.leaves) ≡ Some leaf → leaf.0 < length table.leaves
 found-within table None name descriptor how leaf is = cc
 found-within table (Some owner) name descriptor how leaf is =
-    placed table (position (is_called owner name descriptor how) table.leaves) leaf (position-within (is_called owner name descriptor how) table.leaves _ refl) is
+    placed table (position (is_called owner name descriptor how) table.leaves) leaf (position-within (is_called owner name descriptor how) table.leaves _ refl)
+        is
 
-named-within : (table : LeafTable) (texts : Option Texts) (leaf : LeafId) → option_and_then (λ (t : Texts). leaf_if_found (find_leaf table t.owner t.name t.descriptor Any)) texts ≡ Some leaf → leaf.0 < length table.leaves
+named-within : (table : LeafTable) (texts : Option Texts) (leaf : LeafId) →
+    option_and_then (λ (t : Texts). leaf_if_found (find_leaf table t.owner t.name t.descriptor Any)) texts ≡ Some leaf → leaf.0 < length table.leaves
 named-within table None leaf is = cc
 named-within table (Some t) leaf is = found-within table (class_named table.classes t.owner) t.name t.descriptor Any leaf is
 
 -- ---- arguments
 
-argument-typed : (classes : List Class) (t : Ty) (v : Value) (o : Option Value) → option_and_then (λ w. if has_type classes w t then Some w else None) o ≡ Some v → has_type classes v t ≡ true
+argument-typed : (classes : List Class) (t : Ty) (v : Value) (o : Option Value) → option_and_then (λ w. if has_type classes w t then Some w else None) o ≡ Some
+    v → has_type classes v t ≡ true
 argument-typed classes t v None is = cc
 argument-typed classes t v (Some w) is =
     elim (cases_Bool (has_type classes w t)) [
@@ -56,12 +61,15 @@ argument-typed classes t v (Some w) is =
     ]
 
 -- the first value and the others, where all are there
-first_and_others : (first : Option Value) (others : Option (List Value)) (values : List Value) → option_and_then (λ v. option_map (λ vs. v ∷ vs) others) first ≡ Some values → (v : Value) × (vs : List Value) × (first ≡ Some v) × (others ≡ Some vs) × (v ∷ vs ≡ values)
+first_and_others : (first : Option Value) (others : Option (List Value)) (values : List Value) →
+    option_and_then (λ v. option_map (λ vs. v ∷ vs) others) first ≡ Some values → (v : Value) × (vs : List Value) × (first ≡ Some v) × (others ≡ Some vs)
+    × (v ∷ vs ≡ values)
 first_and_others None others values is = cc
 first_and_others (Some v) None values is = cc
 first_and_others (Some v) (Some vs) values is = (v, vs, refl, refl, cc)
 
-arguments-typed : (classes : List Class) (tokens : List (List ℕ)) (types : List Ty) (values : List Value) → arguments_of classes tokens types ≡ Some values → HaveTypes classes values types
+arguments-typed : (classes : List Class) (tokens : List (List ℕ)) (types : List Ty) (values : List Value) → arguments_of classes tokens types ≡ Some values →
+    HaveTypes classes values types
 arguments-typed classes [] [] values is = let none : [] ≡ values = cc in subst (λ vs. HaveTypes classes vs []) none tt
 arguments-typed classes [] (t ∷ types) values is = cc
 arguments-typed classes (token ∷ tokens) [] values is = cc
@@ -72,25 +80,33 @@ arguments-typed classes (token ∷ tokens) (t ∷ types) values is =
 
 -- ---- one call
 
-called-fits : (table : LeafTable) (is_exact : Bool) (leaf : LeafId) (t : MethodTy) (values : List Value) → leaf.0 < length table.leaves → HaveTypes table.classes values t.params → IsCallOf table (if is_exact then Exact leaf t values else Generic leaf t values)
+called-fits : (table : LeafTable) (is_exact : Bool) (leaf : LeafId) (t : MethodTy) (values : List Value) → leaf.0 < length table.leaves →
+    HaveTypes table.classes values t.params → IsCallOf table (if is_exact then Exact leaf t values else Generic leaf t values)
 called-fits table true leaf t values within typed = (within, typed)
 called-fits table false leaf t values within typed = (within, typed)
 
-with_values : (table : LeafTable) (word : List ℕ) (leaf : LeafId) (t : MethodTy) (args : List (List ℕ)) (o : Option (List Value)) (call : Call) → leaf.0 < length table.leaves → o ≡ arguments_of table.classes args t.params → provided_some o BadArguments (λ values. Ok (call_by word leaf t values)) ≡ Ok call → IsCallOf table call
+with_values : (table : LeafTable) (word : List ℕ) (leaf : LeafId) (t : MethodTy) (args : List (List ℕ)) (o : Option (List Value)) (call : Call) →
+    leaf.0 < length table.leaves → o ≡ arguments_of table.classes args t.params → provided_some o BadArguments (λ values. Ok (call_by word leaf t values)) ≡ Ok
+    call → IsCallOf table call
 with_values table word leaf t args None call within read is = cc
 with_values table word leaf t args (Some values) call within read is =
     let same : call_by word leaf t values ≡ call = cc in
     subst (IsCallOf table) same
     (called-fits table (bytes_eq word (codes "exact")) leaf t values within (arguments-typed table.classes args t.params values (sym read)))
 
-with_type : (table : LeafTable) (word : List ℕ) (leaf : LeafId) (args : List (List ℕ)) (o : Option MethodTy) (call : Call) → leaf.0 < length table.leaves → provided_some o BadType (λ t. provided_some (arguments_of table.classes args t.params) BadArguments (λ values. Ok (call_by word leaf t values))) ≡ Ok call → IsCallOf table call
+with_type : (table : LeafTable) (word : List ℕ) (leaf : LeafId) (args : List (List ℕ)) (o : Option MethodTy) (call : Call) → leaf.0 < length table.leaves →
+    provided_some o BadType (λ t. provided_some (arguments_of table.classes args t.params) BadArguments (λ values. Ok (call_by word leaf t values))) ≡ Ok call →
+    IsCallOf table call
 with_type table word leaf args None call within is = cc
 with_type table word leaf args (Some t) call within is = with_values table word leaf t args (arguments_of table.classes args t.params) call within refl is
 
-with_leaf : (table : LeafTable) (word token asked : List ℕ) (args : List (List ℕ)) (o : Option LeafId) (call : Call) → o ≡ leaf_named table token → provided_some o NoLeaf (λ leaf. provided_some (type_if_read (desc table.classes asked)) BadType (λ t. provided_some (arguments_of table.classes args t.params) BadArguments (λ values. Ok (call_by word leaf t values)))) ≡ Ok call → IsCallOf table call
+with_leaf : (table : LeafTable) (word token asked : List ℕ) (args : List (List ℕ)) (o : Option LeafId) (call : Call) → o ≡ leaf_named table token →
+    provided_some o NoLeaf (λ leaf. provided_some (type_if_read (desc table.classes asked)) BadType
+    (λ t. provided_some (arguments_of table.classes args t.params) BadArguments (λ values. Ok (call_by word leaf t values)))) ≡ Ok call → IsCallOf table call
 with_leaf table word token asked args None call found is = cc
 with_leaf table word token asked args (Some leaf) call found is =
     with_type table word leaf args (type_if_read (desc table.classes asked)) call (named-within table (leaf_texts token) leaf (sym found)) is
 
-pub leaf_call-fits : (table : LeafTable) (word token asked : List ℕ) (args : List (List ℕ)) (call : Call) → leaf_call table word token asked args ≡ Ok call → IsCallOf table call
+pub leaf_call-fits : (table : LeafTable) (word token asked : List ℕ) (args : List (List ℕ)) (call : Call) → leaf_call table word token asked args ≡ Ok call →
+    IsCallOf table call
 leaf_call-fits table word token asked args call is = with_leaf table word token asked args (leaf_named table token) call refl is

@@ -8,18 +8,24 @@ use Rattle.mh_handle.specs.declared.answer.Answer.{Answer}
 use Rattle.mh_plan.specs.Results.{result_said, thread_said, results_said}
 use Rattle.mh_plan.specs.Text.{result_line, results_text, thread_text, threads_text}
 
-pub threads_text-more : (classes : List Class) (threads : List (List Answer)) (n : ℕ) (item : List Answer) (old new all : List ℕ) → n < length threads → slice_get threads n ≡ Some item → new ≡ old ++ thread_text classes n (thread_said item) → old ++ threads_text classes n (results_said (drop n threads)) ≡ all → new ++ threads_text classes (n + 1) (results_said (drop (n + 1) threads)) ≡ all
+pub threads_text-more : (classes : List Class) (threads : List (List Answer)) (n : ℕ) (item : List Answer) (old new all : List ℕ) → n < length threads →
+    slice_get threads n ≡ Some item → new ≡ old ++ thread_text classes n (thread_said item) →
+    old ++ threads_text classes n (results_said (drop n threads)) ≡ all → new ++ threads_text classes (n + 1) (results_said (drop (n + 1) threads)) ≡ all
 threads_text-more classes threads n item old new all in_range is new_is before =
-    let cut : drop n threads ≡ item ∷ drop (n + 1) threads = drop_more threads n item in_range ∙ ap (λ x. x ∷ drop (n + 1) threads) (get_or_from_slice_get threads n item item is) in
+    let cut : drop n threads ≡ item ∷ drop (n + 1) threads = drop_more threads n item in_range ∙ ap (λ x. x ∷ drop (n + 1) threads)
+        (get_or_from_slice_get threads n item item is) in
     ap (λ x. x ++ threads_text classes (n + 1) (results_said (drop (n + 1) threads))) new_is
     ∙ append_assoc old (thread_text classes n (thread_said item)) (threads_text classes (n + 1) (results_said (drop (n + 1) threads)))
     ∙ ap (λ x. old ++ threads_text classes n (results_said x)) (sym cut) ∙ before
 
-lines-said : (classes : List Class) (answers : List Answer) → flat_map (λ answer. result_line classes (result_said answer)) answers ≡ results_text classes (thread_said answers)
+lines-said : (classes : List Class) (answers : List Answer) → flat_map (λ answer. result_line classes (result_said answer)) answers ≡ results_text classes
+    (thread_said answers)
 lines-said classes [] = refl
 lines-said classes (answer ∷ answers) = ap (λ x. result_line classes (result_said answer) ++ x) (lines-said classes answers)
 
 -- behind the lines of all answers
-pub results_text-whole : (classes : List Class) (answers : List Answer) (i : ℕ) (old new : List ℕ) → length answers ≤ i → new ≡ old ++ flat_map (λ answer. result_line classes (result_said answer)) (take i answers) → new ≡ old ++ results_text classes (thread_said answers)
+pub results_text-whole : (classes : List Class) (answers : List Answer) (i : ℕ) (old new : List ℕ) → length answers ≤ i →
+    new ≡ old ++ flat_map (λ answer. result_line classes (result_said answer)) (take i answers) → new ≡ old ++ results_text classes (thread_said answers)
 results_text-whole classes answers i old new all is =
-    is ∙ ap (λ xs. old ++ flat_map (λ answer. result_line classes (result_said answer)) xs) (take_all i answers all) ∙ ap (λ x. old ++ x) (lines-said classes answers)
+    is ∙ ap (λ xs. old ++ flat_map (λ answer. result_line classes (result_said answer)) xs) (take_all i answers all) ∙
+        ap (λ x. old ++ x) (lines-said classes answers)

@@ -9,6 +9,7 @@ last (thread ∷ []) calls call = refl
 last (thread ∷ next ∷ front) calls call = ap (λ xs. thread ∷ xs) (last (next ∷ front) calls call)
 
 -- the last thread is taken out, gets the call, and is put back
-pub with_call-last : (old front new : List (List Call)) (calls more : List Call) (call : Call) → old ≡ front ++ calls ∷ [] → more ≡ calls ++ call ∷ [] → new ≡ front ++ more ∷ [] → new ≡ with_call old call
+pub with_call-last : (old front new : List (List Call)) (calls more : List Call) (call : Call) → old ≡ front ++ calls ∷ [] → more ≡ calls ++ call ∷ [] →
+    new ≡ front ++ more ∷ [] → new ≡ with_call old call
 with_call-last old front new calls more call popped pushed put =
     put ∙ ap (λ xs. front ++ xs ∷ []) pushed ∙ sym (ap (λ xs. with_call xs call) popped ∙ last front calls call)

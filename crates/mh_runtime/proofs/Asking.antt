@@ -27,31 +27,38 @@ lacking (f ∷ forms) r none = cases (same_recipe r f.recipe) refl (lacking form
     cases false other others = others
 
 -- the recipes of forms, and of one form more
-asked-push : (asked asked' : List FormView) (f : FormView) (r : List Key) → asked' ≡ asked ++ f ∷ [] → f.recipe ≡ r → map recipe_of asked' ≡ map recipe_of asked ++ r ∷ []
+asked-push : (asked asked' : List FormView) (f : FormView) (r : List Key) → asked' ≡ asked ++ f ∷ [] → f.recipe ≡ r →
+    map recipe_of asked' ≡ map recipe_of asked ++ r ∷ []
 asked-push asked asked' f r pushed made =
     ap (map recipe_of) pushed ∙ (map-append recipe_of asked (f ∷ []) ∙ ap (λ x. map recipe_of asked ++ x ∷ []) made)
 
-pub asked-again : (recipes : List (List Key)) (pass : PassView) (r : List Key) → HasAsked recipes pass → is_one recipes r ≡ true → HasAsked (recipes ++ r ∷ []) pass
+pub asked-again : (recipes : List (List Key)) (pass : PassView) (r : List Key) → HasAsked recipes pass → is_one recipes r ≡ true →
+    HasAsked (recipes ++ r ∷ []) pass
 asked-again recipes pass r has there = record { once = has.once; same = λ q. has.same q ∙ sym (again recipes r q there) }
 
-asked-before : (recipes : List (List Key)) (old new : PassView) (f : FormView) (r : List Key) → HasAsked recipes old → Has recipe_of old.asked f.recipe f → new ≡ old → f.recipe ≡ r → HasAsked (recipes ++ r ∷ []) new
+asked-before : (recipes : List (List Key)) (old new : PassView) (f : FormView) (r : List Key) → HasAsked recipes old → Has recipe_of old.asked f.recipe f →
+    new ≡ old → f.recipe ≡ r → HasAsked (recipes ++ r ∷ []) new
 asked-before recipes old new f r has found same made =
     let at : slice_get (map recipe_of old.asked) found.0 ≡ Some f.recipe = slice_get-map recipe_of old.asked found.0 ∙ ap (option_map recipe_of) found.1 in
     let there : is_one (asked_recipes old) r ≡ true =
     any_passes_from_place (same_recipe r) (map recipe_of old.asked) found.0 f.recipe at ((same_recipe-decides r f.recipe).1 (sym made)) in
     subst (HasAsked (recipes ++ r ∷ [])) (sym same) (asked-again recipes old r has (sym (has.same r) ∙ there))
 
-asked-now : (recipes : List (List Key)) (old new : PassView) (f : FormView) (r : List Key) → HasAsked recipes old → Lacks recipe_of old.asked f.recipe → new.asked ≡ old.asked ++ f ∷ [] → f.recipe ≡ r → HasAsked (recipes ++ r ∷ []) new
+asked-now : (recipes : List (List Key)) (old new : PassView) (f : FormView) (r : List Key) → HasAsked recipes old → Lacks recipe_of old.asked f.recipe →
+    new.asked ≡ old.asked ++ f ∷ [] → f.recipe ≡ r → HasAsked (recipes ++ r ∷ []) new
 asked-now recipes old new f r has none pushed made =
     let all : map recipe_of new.asked ≡ map recipe_of old.asked ++ r ∷ [] = asked-push old.asked new.asked f r pushed made in
     let lacks : Lacks recipe_of old.asked r = subst (Lacks recipe_of old.asked) made none in
     record {
-      once = subst (IsDistinct same_recipe) (sym all) (IsDistinct-push same_recipe-equivalence (map recipe_of old.asked) r has.once (lacking old.asked r lacks));
-      same = λ q. ap (λ rs. is_one rs q) all ∙ (one-more (map recipe_of old.asked) r q ∙ (ap (λ b. b || same_recipe q r) (has.same q) ∙ sym (one-more recipes r q)));
+      once = subst (IsDistinct same_recipe) (sym all) (IsDistinct-push same_recipe-equivalence (map recipe_of old.asked) r has.once
+          (lacking old.asked r lacks));
+      same = λ q. ap (λ rs. is_one rs q) all ∙ (one-more (map recipe_of old.asked) r q ∙ (ap (λ b. b || same_recipe q r) (has.same q) ∙
+          sym (one-more recipes r q)));
     }
 
 -- a form was asked for
-pub asked-more : (recipes : List (List Key)) (old new : PassView) (f : FormView) (r : List Key) → HasAsked recipes old → f.recipe ≡ r → AsksFor f old new → HasAsked (recipes ++ r ∷ []) new
+pub asked-more : (recipes : List (List Key)) (old new : PassView) (f : FormView) (r : List Key) → HasAsked recipes old → f.recipe ≡ r → AsksFor f old new →
+    HasAsked (recipes ++ r ∷ []) new
 asked-more recipes old new f r has made asks =
     ⊎_elim
     (λ (before : Has recipe_of old.asked f.recipe f × (new ≡ old)). asked-before recipes old new f r has before.0 before.1 made)
@@ -59,7 +66,8 @@ asked-more recipes old new f r has made asks =
     asks
 
 -- a number was drawn for a recipe that was not asked for, and none was left
-pub asked-full : (recipes : List (List Key)) (old : PassView) (new : SeatView) (r : List Key) (drawn : ℕ) → HasAsked recipes old → DrawsInOrder old → Lacks recipe_of old.asked r → Draws drawn old.seat new → 16384 < drawn → AreTooMany (recipes ++ r ∷ [])
+pub asked-full : (recipes : List (List Key)) (old : PassView) (new : SeatView) (r : List Key) (drawn : ℕ) → HasAsked recipes old → DrawsInOrder old →
+    Lacks recipe_of old.asked r → Draws drawn old.seat new → 16384 < drawn → AreTooMany (recipes ++ r ∷ [])
 asked-full recipes old new r drawn has in_order none draws past =
     let rs : List (List Key) = map recipe_of old.asked in
     let next : drawn ≡ length old.seat.numbers + 1 = draws.next in_order.room in
@@ -72,7 +80,8 @@ asked-full recipes old new r drawn has in_order none draws past =
 
 -- ---- numbers
 
-drawn-now : (old new : PassView) (f : FormView) (r : List Key) → DrawsInOrder old → new.asked ≡ old.asked ++ f ∷ [] → DrawsAtMostOne r old new → DrawsInOrder new
+drawn-now : (old new : PassView) (f : FormView) (r : List Key) → DrawsInOrder old → new.asked ≡ old.asked ++ f ∷ [] → DrawsAtMostOne r old new →
+    DrawsInOrder new
 drawn-now old new f r in_order pushed draws =
     let more : length new.asked ≡ length old.asked + 1 = ap length pushed ∙ length-append old.asked (f ∷ []) in
     ⊎_elim

@@ -38,12 +38,14 @@ edits_at table r w asked c =
 abbrev Uses : List Key → List Key → List (List Key) → Type 0
 Uses r keys edits = ((keys ≡ []) × (edits ≡ [])) ⊎ (edits ≡ (r ++ keys) ∷ [])
 
-uses-by : (same : Bool) (row : Checked) (r keys : List Key) → Uses r (if same then [] else unless_refused row keys) (if same then [] else at_type row (λ _. (r ++ keys) ∷ []))
+uses-by : (same : Bool) (row : Checked) (r keys : List Key) →
+    Uses r (if same then [] else unless_refused row keys) (if same then [] else at_type row (λ _. (r ++ keys) ∷ []))
 uses-by true row r keys = inl (refl, refl)
 uses-by false (Err e) r keys = inl (refl, refl)
 uses-by false (Ok t) r keys = inr refl
 
-uses : (table : LeafTable) (t : Tree) (h : HandleView) (asked : MethodTy) → Stands table h t → Uses h.form.recipe (call_keys table.classes h.ty h.weight asked) (used_edits table t asked)
+uses : (table : LeafTable) (t : Tree) (h : HandleView) (asked : MethodTy) → Stands table h t → Uses h.form.recipe (call_keys table.classes h.ty h.weight asked)
+    (used_edits table t asked)
 uses table t h asked st =
     let edits : used_edits table t asked ≡ edits_at table h.form.recipe h.weight asked (Ok h.ty) =
     ap (edits_at table (recipe table t) (weight t) asked) st.typed
@@ -64,12 +66,15 @@ first-asked before r = one-more before r r ∙ (ap (λ b. is_one before r || b) 
 two : (before : List (List Key)) (r s : List Key) → (before ++ r ∷ []) ++ s ∷ [] ≡ before ++ (r ∷ s ∷ [])
 two before r s = append_assoc before (r ∷ []) (s ∷ [])
 
-asks-none : (r : List Key) (old mid new : PassView) (answer : Result Answer EditError) → ((before : List (List Key)) → HasAsked before old → HasAsked (before ++ r ∷ []) mid) → AsksBy r [] mid new answer → Asks (r ∷ []) old new answer
+asks-none : (r : List Key) (old mid new : PassView) (answer : Result Answer EditError) → ((before : List (List Key)) → HasAsked before old →
+    HasAsked (before ++ r ∷ []) mid) → AsksBy r [] mid new answer → Asks (r ∷ []) old new answer
 asks-none r old mid new (Ok a) first same = λ before has. subst (HasAsked (before ++ r ∷ [])) (sym same) (first before has)
 asks-none r old mid new (Err NoMemory) first same = tt
 asks-none r old mid new (Err (FormsFull drawn)) first same = absurd same
 
-asks-keys : (r keys : List Key) (old mid new : PassView) (answer : Result Answer EditError) → (DrawsInOrder old → DrawsInOrder mid) → ((before : List (List Key)) → HasAsked before old → HasAsked (before ++ r ∷ []) mid) → AsksBy r keys mid new answer → Asks (r ∷ (r ++ keys) ∷ []) old new answer
+asks-keys : (r keys : List Key) (old mid new : PassView) (answer : Result Answer EditError) → (DrawsInOrder old → DrawsInOrder mid) →
+    ((before : List (List Key)) → HasAsked before old → HasAsked (before ++ r ∷ []) mid) → AsksBy r keys mid new answer →
+    Asks (r ∷ (r ++ keys) ∷ []) old new answer
 asks-keys r [] old mid new (Ok a) kept first same = λ before has.
     subst (λ rs. HasAsked rs new) (two before r (r ++ []))
     (subst (λ s. HasAsked ((before ++ r ∷ []) ++ s ∷ []) new) (sym (append-nil r))
@@ -85,7 +90,10 @@ asks-keys r (k ∷ keys) old mid new (Err (FormsFull drawn)) kept first asks = �
     (asked-full (before ++ r ∷ []) mid new.seat (r ++ k ∷ keys) drawn (first before has) (kept in_order) asks.0.0 asks.1 asks.2)
 
 -- a generic call of what stands for a tree, and the handle given back
-pub asks-generic : (table table' : LeafTable) (t : Tree) (h : HandleView) (asked : MethodTy) (old mid new new' : PassView) (answer : Result Answer EditError) → table' ≡ table → new' ≡ new → Stands table h t → (DrawsInOrder old → DrawsInOrder mid) → ((before : List (List Key)) → HasAsked before old → HasAsked (before ++ recipe table t ∷ []) mid) → AsksBy h.form.recipe (call_keys table'.classes h.ty h.weight asked) mid new answer → Asks (recipe table t ∷ used_edits table t asked) old new' answer
+pub asks-generic : (table table' : LeafTable) (t : Tree) (h : HandleView) (asked : MethodTy) (old mid new new' : PassView) (answer : Result Answer EditError) →
+    table' ≡ table → new' ≡ new → Stands table h t → (DrawsInOrder old → DrawsInOrder mid) → ((before : List (List Key)) → HasAsked before old →
+    HasAsked (before ++ recipe table t ∷ []) mid) → AsksBy h.form.recipe (call_keys table'.classes h.ty h.weight asked) mid new answer →
+    Asks (recipe table t ∷ used_edits table t asked) old new' answer
 asks-generic table table' t h asked old mid new new' answer same back st kept first asks =
     let keys : List Key = call_keys table.classes h.ty h.weight asked in
     let asks' : AsksBy h.form.recipe keys mid new answer =
@@ -110,22 +118,26 @@ stopped-early r more old (FormsFull drawn) first = λ in_order before has.
     subst AreTooMany (append_assoc before (r ∷ []) more) (too_many-more (before ++ r ∷ []) more (first in_order before has))
 
 -- an error that is handed on
-pub stops : {A : Type 0} (recipes : List (List Key)) (old new : PassView) (e : EditError) (r : Result A EditError) → IsErrAnd r (λ x. x ≡ e) → Stopped recipes old e → Asks recipes old new r
+pub stops : {A : Type 0} (recipes : List (List Key)) (old new : PassView) (e : EditError) (r : Result A EditError) → IsErrAnd r (λ x. x ≡ e) →
+    Stopped recipes old e → Asks recipes old new r
 stops recipes old new e (Ok a) is stopped = absurd is
 stops recipes old new e (Err x) is stopped = subst (Stopped recipes old) (sym is) stopped
 
 -- ---- leaves that stay
 
 -- what holds of whatever a handle stands for, over leaves that stayed
-pub moved : (P : LeafTable → Tree → Type 0) (table table' : LeafTable) (h : HandleView) (t : Tree) → table' ≡ table → Stands table h t → ((u : Tree) → Stands table' h u → P table' u) → P table t
+pub moved : (P : LeafTable → Tree → Type 0) (table table' : LeafTable) (h : HandleView) (t : Tree) → table' ≡ table → Stands table h t →
+    ((u : Tree) → Stands table' h u → P table' u) → P table t
 moved P table table' h t same st holds = subst (λ x. P x t) same (holds t (subst (λ x. Stands x h t) (sym same) st))
 
 -- ---- handles of leaves
 
-pub asks-leaf : (r : List Key) (old new : PassView) (h : Handle) → Makes r old new (Ok h) → (before : List (List Key)) → HasAsked before old → HasAsked (before ++ r ∷ []) new
+pub asks-leaf : (r : List Key) (old new : PassView) (h : Handle) → Makes r old new (Ok h) → (before : List (List Key)) → HasAsked before old →
+    HasAsked (before ++ r ∷ []) new
 asks-leaf r old new h makes before has = asked-more before old new h.form r has makes.0 makes.1
 
-pub full-leaf : (r : List Key) (old new : PassView) (e : HandleError) (drawn : ℕ) → e ≡ handle.FormsFull drawn → Makes r old new (Err e) → Stopped (r ∷ []) old (FormsFull drawn)
+pub full-leaf : (r : List Key) (old new : PassView) (e : HandleError) (drawn : ℕ) → e ≡ handle.FormsFull drawn → Makes r old new (Err e) →
+    Stopped (r ∷ []) old (FormsFull drawn)
 full-leaf r old new e drawn is makes = λ in_order before has.
     let m : Makes r old new (Err (handle.FormsFull drawn)) = subst (λ x. Makes r old new (Err x)) is makes in
     asked-full before old new.seat r drawn has in_order m.0.0 m.1 m.2

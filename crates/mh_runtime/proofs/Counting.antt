@@ -46,7 +46,8 @@ once-member (r ∷ recipes) q = cases (is_one recipes r) refl (once-member recip
     there true same m = alike recipes q r same ∙ m
     there false other m = refl
 
-    cases : (b : Bool) → is_one recipes r ≡ b → is_one (unique_keys same_recipe recipes) q ≡ is_one recipes q → is_one (cond b (unique_keys same_recipe recipes) (r ∷ unique_keys same_recipe recipes)) q ≡ (same_recipe q r || is_one recipes q)
+    cases : (b : Bool) → is_one recipes r ≡ b → is_one (unique_keys same_recipe recipes) q ≡ is_one recipes q →
+        is_one (cond b (unique_keys same_recipe recipes) (r ∷ unique_keys same_recipe recipes)) q ≡ (same_recipe q r || is_one recipes q)
     cases true m before = before ∙ there (same_recipe q r) refl m
     cases false m before = ap (λ b. same_recipe q r || b) before
 
@@ -67,7 +68,8 @@ unfolding IsDistinct
 once-distinct [] = tt
 once-distinct (r ∷ recipes) = cases (is_one recipes r) refl (once-distinct recipes)
   where
-    cases : (b : Bool) → is_one recipes r ≡ b → IsDistinct same_recipe (unique_keys same_recipe recipes) → IsDistinct same_recipe (cond b (unique_keys same_recipe recipes) (r ∷ unique_keys same_recipe recipes))
+    cases : (b : Bool) → is_one recipes r ≡ b → IsDistinct same_recipe (unique_keys same_recipe recipes) →
+        IsDistinct same_recipe (cond b (unique_keys same_recipe recipes) (r ∷ unique_keys same_recipe recipes))
     cases true m before = before
     cases false m before = (apart r (unique_keys same_recipe recipes) (once-member recipes r ∙ m), before)
 

@@ -47,7 +47,8 @@ drawn-for-call r (k ∷ keys) old new (Err NoMemory) asks = at-most-one (r ++ k 
 drawn-for-call r (k ∷ keys) old new (Err (FormsFull drawn)) asks = one-drawn drawn old new asks.1
 
 -- by a handle and then by a call of it
-pub drawn-for-both : (r keys : List Key) (old mid new new' : PassView) (result : Result Answer EditError) → DrawsAtMost 1 old mid → new' ≡ new → AsksBy r keys mid new result → DrawsAtMost 2 old new'
+pub drawn-for-both : (r keys : List Key) (old mid new new' : PassView) (result : Result Answer EditError) → DrawsAtMost 1 old mid → new' ≡ new →
+    AsksBy r keys mid new result → DrawsAtMost 2 old new'
 drawn-for-both r keys old mid new new' result first back asks =
     let then : DrawsAtMost 1 mid new = drawn-for-call r keys mid new result asks in
     subst (λ (p : PassView). DrawsAtMost 2 old p) (sym back) (omega (arith, first, then))
@@ -61,6 +62,7 @@ kept-by-call : (r keys : List Key) (old new : PassView) (a : Answer) → DrawsIn
 kept-by-call r [] old new a in_order same = subst DrawsInOrder (sym same) in_order
 kept-by-call r (k ∷ keys) old new a in_order asks = drawn-more old new asks.0.0 (r ++ k ∷ keys) in_order asks.0.2 asks.1
 
-pub kept-by-both : (r keys : List Key) (old mid new new' : PassView) (result : Result Answer EditError) → (DrawsInOrder old → DrawsInOrder mid) → new' ≡ new → AsksBy r keys mid new result → KeepsOrder old new' result
+pub kept-by-both : (r keys : List Key) (old mid new new' : PassView) (result : Result Answer EditError) → (DrawsInOrder old → DrawsInOrder mid) → new' ≡ new →
+    AsksBy r keys mid new result → KeepsOrder old new' result
 kept-by-both r keys old mid new new' (Ok a) first back asks = λ in_order. subst DrawsInOrder (sym back) (kept-by-call r keys mid new a (first in_order) asks)
 kept-by-both r keys old mid new new' (Err e) first back asks = λ in_order. tt

@@ -27,12 +27,14 @@ module _ {X : Type 0} (f : X → List (List Key)) where
   abbrev pub AsksUpTo : List X → ℕ → PassView → PassView → Type 0
   AsksUpTo xs i old new = (before : List (List Key)) → HasAsked before old → HasAsked (before ++ flat_map f (take i xs)) new
 
-  pub asks-next : (xs : List X) (i : ℕ) (x : X) (old mid new : PassView) → i < length xs → x ≡ get_or xs i x → AsksUpTo xs i old mid → ((before : List (List Key)) → HasAsked before mid → HasAsked (before ++ f x) new) → AsksUpTo xs (i + 1) old new
+  pub asks-next : (xs : List X) (i : ℕ) (x : X) (old mid new : PassView) → i < length xs → x ≡ get_or xs i x → AsksUpTo xs i old mid →
+      ((before : List (List Key)) → HasAsked before mid → HasAsked (before ++ f x) new) → AsksUpTo xs (i + 1) old new
   asks-next xs i x old mid new within is so_far asks before has =
       subst (λ rs. HasAsked rs new) (append_assoc before (flat_map f (take i xs)) (f x) ∙ ap (λ rs. before ++ rs) (sym (up-to xs i x within is)))
       (asks (before ++ flat_map f (take i xs)) (so_far before has))
 
-  pub stopped-at : (xs : List X) (i : ℕ) (x : X) (old mid : PassView) (e : EditError) → i < length xs → x ≡ get_or xs i x → AsksUpTo xs i old mid → DrawsInOrder mid → Stopped (f x) mid e → Stopped (flat_map f xs) old e
+  pub stopped-at : (xs : List X) (i : ℕ) (x : X) (old mid : PassView) (e : EditError) → i < length xs → x ≡ get_or xs i x → AsksUpTo xs i old mid →
+      DrawsInOrder mid → Stopped (f x) mid e → Stopped (flat_map f xs) old e
   stopped-at xs i x old mid NoMemory within is so_far in_order stopped = tt
   stopped-at xs i x old mid (FormsFull drawn) within is so_far in_order stopped = λ _ before has.
       let front : List (List Key) = flat_map f (take (i + 1) xs) in
@@ -44,12 +46,14 @@ module _ {X : Type 0} (f : X → List (List Key)) where
       subst AreTooMany (append_assoc before front (flat_map f (drop (i + 1) xs)) ∙ ap (λ rs. before ++ rs) whole)
       (too_many-more (before ++ front) (flat_map f (drop (i + 1) xs)) here)
 
-  pub asks-all : (xs xs' : List X) (i : ℕ) (old new : PassView) → length xs ≤ i → xs ≡ xs' → AsksUpTo xs i old new → (before : List (List Key)) → HasAsked before old → HasAsked (before ++ flat_map f xs') new
+  pub asks-all : (xs xs' : List X) (i : ℕ) (old new : PassView) → length xs ≤ i → xs ≡ xs' → AsksUpTo xs i old new → (before : List (List Key)) →
+      HasAsked before old → HasAsked (before ++ flat_map f xs') new
   asks-all xs xs' i old new all same so_far before has =
       subst (λ ys. HasAsked (before ++ flat_map f ys) new) (take_all i xs all ∙ same) (so_far before has)
 
 -- items that tell the same as others, and one more
-pub told-next : {X Y Z : Type 0} (f : X → Z) (g : Y → Z) (xs : List X) (i : ℕ) (x : X) (ys ys' : List Y) (y : Y) → i < length xs → x ≡ get_or xs i x → ys' ≡ ys ++ y ∷ [] → map g ys ≡ map f (take i xs) → g y ≡ f x → map g ys' ≡ map f (take (i + 1) xs)
+pub told-next : {X Y Z : Type 0} (f : X → Z) (g : Y → Z) (xs : List X) (i : ℕ) (x : X) (ys ys' : List Y) (y : Y) → i < length xs → x ≡ get_or xs i x →
+    ys' ≡ ys ++ y ∷ [] → map g ys ≡ map f (take i xs) → g y ≡ f x → map g ys' ≡ map f (take (i + 1) xs)
 told-next f g xs i x ys ys' y within is pushed before told =
     ap (map g) pushed
     ∙ (map-append g ys (y ∷ []) ∙ (ap₂ (λ zs z. zs ++ z ∷ []) before (told ∙ ap f is) ∙ sym (map_more f xs i x within)))
@@ -68,7 +72,9 @@ pub asked-count : (recipes : List (List Key)) (pass : PassView) → HasAsked rec
 asked-count recipes pass has =
     sym (length-map pass.asked recipe_of) ∙ length-from_keys same_recipe-equivalence (asked_recipes pass) recipes has.once has.same
 
-pub full-run : {A : Type 0} (recipes : List (List Key)) (pass : PassView) (e : EditError) (r : Result A EditError) → IsErrAnd r (λ x. x ≡ e) → HasAsked [] pass → DrawsInOrder pass → Stopped recipes pass e → IfFull r (AreTooMany recipes)
+pub full-run : {A : Type 0} (recipes : List (List Key)) (pass : PassView) (e : EditError) (r : Result A EditError) → IsErrAnd r (λ x. x ≡ e) → HasAsked [] pass
+    → DrawsInOrder pass → Stopped recipes pass e → IfFull r (AreTooMany recipes)
 full-run {A = A} recipes pass e (Ok a) is none in_order stopped = tt
 full-run {A = A} recipes pass NoMemory (Err x) is none in_order stopped = subst (λ y. IfFull {A = A} (Err y) (AreTooMany recipes)) (sym is) tt
-full-run {A = A} recipes pass (FormsFull drawn) (Err x) is none in_order stopped = subst (λ y. IfFull {A = A} (Err y) (AreTooMany recipes)) (sym is) (stopped in_order [] none)
+full-run {A = A} recipes pass (FormsFull drawn) (Err x) is none in_order stopped = subst (λ y. IfFull {A = A} (Err y) (AreTooMany recipes)) (sym is)
+    (stopped in_order [] none)

@@ -47,12 +47,14 @@ module _ {V K : Type 0} (key : V → K) where
 
       cases : Dec (i < n) → key v ≢ k
       cases (yes lt) = below i v lt at
-      cases (no not) = let same : i ≡ n = omega arith in let w : Some (node_of l) ≡ Some v = sym here ∙ (ap (λ j. slice_get (nodes_of ls) j) (sym same) ∙ at) in let is_v : node_of l ≡ v = cc in λ e. other (ap key is_v ∙ e)
+      cases (no not) = let same : i ≡ n = omega arith in let w : Some (node_of l) ≡ Some v = sym here ∙ (ap (λ j. slice_get (nodes_of ls) j) (sym same) ∙ at) in
+          let is_v : node_of l ≡ v = cc in λ e. other (ap key is_v ∙ e)
 
   pub lacks_all : (ls : List (Learnt V)) (k : K) (n : ℕ) → length ls ≤ n → LacksBelow key (nodes_of ls) k n → Lacks key (nodes_of ls) k
   lacks_all ls k n past below i v at = let w = slice_get_within (nodes_of ls) i v at in below i v (omega (arith, length_nodes ls)) at
 
-  pub found : (ls : List (Learnt V)) (k : K) (n : ℕ) (l : Learnt V) → n < length ls → l ≡ slice_index_or ls n l → key (node_of l) ≡ k → Has key (nodes_of ls) k (node_of l)
+  pub found : (ls : List (Learnt V)) (k : K) (n : ℕ) (l : Learnt V) → n < length ls → l ≡ slice_index_or ls n l → key (node_of l) ≡ k →
+      Has key (nodes_of ls) k (node_of l)
   found ls k n l in_list is e = (n, node_at ls n l (slice_get_read ls (length ls) n l refl in_list is), e)
 
   -- a walk is no longer than its chain
@@ -63,7 +65,8 @@ module _ {V K : Type 0} (key : V → K) where
       let w = slice_get_within cells (length xs) _ n.0 in omega arith
 
   -- one more node
-  distinct_more : (ls : List (Learnt V)) (l : Learnt V) → Distinct key (nodes_of ls) → Lacks key (nodes_of ls) (key (node_of l)) → Distinct key (nodes_of ls ++ node_of l ∷ [])
+  distinct_more : (ls : List (Learnt V)) (l : Learnt V) → Distinct key (nodes_of ls) → Lacks key (nodes_of ls) (key (node_of l)) →
+      Distinct key (nodes_of ls ++ node_of l ∷ [])
   distinct_more ls l d new i j v w at_i at_j same =
       let n : ℕ = length (nodes_of ls) in
       ⊎_elim
@@ -77,14 +80,18 @@ module _ {V K : Type 0} (key : V → K) where
       (at_push (nodes_of ls) (node_of l) j w at_j))
       (at_push (nodes_of ls) (node_of l) i v at_i)
 
-  pub longer : (cells : List ℕ) (ls : List (Learnt V)) (l : Learnt V) → IsWalk key cells ls → slice_get cells (length ls) ≡ Some l.mark.cell → l.mark.value ≡ l.node.now
+  pub longer : (cells : List ℕ) (ls : List (Learnt V)) (l : Learnt V) → IsWalk key cells ls → slice_get cells (length ls) ≡ Some l.mark.cell →
+      l.mark.value ≡ l.node.now
       → Lacks key (nodes_of ls) (key (node_of l)) → IsWalk key cells (ls ++ l ∷ [])
   longer cells ls l walk cell known new = record {
-    noted = λ i m at. ⊎_elim (λ old. walk.noted i m old) (λ (t : (i ≡ length ls) × (l ≡ m)). subst (λ (z : ℕ × Learnt V). (slice_get cells z.0 ≡ Some z.1.mark.cell) × (z.1.mark.value ≡ z.1.node.now)) (λ j. (sym t.0 j, t.1 j)) (cell, known)) (at_push ls l i m at);
+    noted = λ i m at. ⊎_elim (λ old. walk.noted i m old) (λ (t : (i ≡ length ls) × (l ≡ m)). subst
+        (λ (z : ℕ × Learnt V). (slice_get cells z.0 ≡ Some z.1.mark.cell) × (z.1.mark.value ≡ z.1.node.now)) (λ j. (sym t.0 j, t.1 j)) (cell, known))
+        (at_push ls l i m at);
     distinct = subst (Distinct key) (sym (map-append node_of ls (l ∷ []))) (distinct_more ls l walk.distinct new);
   }
 
-  pub kept_walk : (cells : List ℕ) (ls more : List (Learnt V)) (l : Learnt V) → IsWalk key cells ls → slice_get cells (length ls) ≡ Some l.mark.cell → l.mark.value ≡ l.node.now
+  pub kept_walk : (cells : List ℕ) (ls more : List (Learnt V)) (l : Learnt V) → IsWalk key cells ls → slice_get cells (length ls) ≡ Some l.mark.cell →
+      l.mark.value ≡ l.node.now
       → Kept key ls l more → IsWalk key cells more
   kept_walk cells ls more l walk cell known kept = ⊎_elim
       (λ (t : (more ≡ ls ++ l ∷ []) × Lacks key (nodes_of ls) (key (node_of l))). subst (IsWalk key cells) (sym t.0) (longer cells ls l walk cell known t.1))
@@ -96,27 +103,34 @@ module _ {V K : Type 0} (key : V → K) where
       (λ (t : more ≡ ls). ([], ap nodes_of t ∙ sym (append-nil (nodes_of ls)))) kept
 
   -- a node of the next cell was kept
-  pub stepped_walk : (cells : List ℕ) (ls same more : List (Learnt V)) (l : Learnt V) (n a : ℕ) → IsWalk key cells ls → n ≡ length ls → slice_get cells n ≡ Some a
+  pub stepped_walk : (cells : List ℕ) (ls same more : List (Learnt V)) (l : Learnt V) (n a : ℕ) → IsWalk key cells ls → n ≡ length ls →
+      slice_get cells n ≡ Some a
       → (l.mark.cell ≡ a) × (l.mark.value ≡ l.node.now) → same ≡ ls → Kept key same l more → IsWalk key cells more × StartsWith (nodes_of more) (nodes_of ls)
   stepped_walk cells ls same more l n a walk len cell note is kept =
       let k : Kept key ls l more = subst (λ z. Kept key z l more) is kept in
       (kept_walk cells ls more l walk (ap (slice_get cells) (sym len) ∙ (cell ∙ ap Some (sym note.0))) note.1 k, kept_starts ls more l k)
 
   -- a node of the next cell was added
-  pub put_walk : (cells : List ℕ) (ls same more : List (Learnt V)) (l : Learnt V) (v : V) (n a : ℕ) → IsWalk key cells ls → n ≡ length ls → slice_get cells n ≡ Some a
-      → (l.mark.cell ≡ a) × (l.mark.value ≡ l.node.now) → same ≡ ls → more ≡ same ++ l ∷ [] → l.node.now ≡ v → Lacks key (nodes_of ls) (key v) → IsWalk key cells more
+  pub put_walk : (cells : List ℕ) (ls same more : List (Learnt V)) (l : Learnt V) (v : V) (n a : ℕ) → IsWalk key cells ls → n ≡ length ls →
+      slice_get cells n ≡ Some a
+      → (l.mark.cell ≡ a) × (l.mark.value ≡ l.node.now) → same ≡ ls → more ≡ same ++ l ∷ [] → l.node.now ≡ v → Lacks key (nodes_of ls) (key v) →
+          IsWalk key cells more
   put_walk cells ls same more l v n a walk len cell note is more_is node new =
-      subst (IsWalk key cells) (sym (more_is ∙ ap (λ z. z ++ l ∷ []) is)) (longer cells ls l walk (ap (slice_get cells) (sym len) ∙ (cell ∙ ap Some (sym note.0))) note.1 (λ i w at e. new i w at (e ∙ ap key node)))
+      subst (IsWalk key cells) (sym (more_is ∙ ap (λ z. z ++ l ∷ []) is)) (longer cells ls l walk (ap (slice_get cells) (sym len) ∙
+          (cell ∙ ap Some (sym note.0))) note.1 (λ i w at e. new i w at (e ∙ ap key node)))
 
 module _ {V Z : Type 0} (f : Learnt V → Z) where
-  pub taken : (ls : List (Learnt V)) (i : ℕ) (l : Learnt V) → i < length ls → l ≡ slice_index_or ls i l → take (i + 1) (map f ls) ≡ take i (map f ls) ++ f l ∷ []
+  pub taken : (ls : List (Learnt V)) (i : ℕ) (l : Learnt V) → i < length ls → l ≡ slice_index_or ls i l →
+      take (i + 1) (map f ls) ≡ take i (map f ls) ++ f l ∷ []
   taken ls i l in_list is =
       let at = name_at f ls i l in_list is in
-      take_more (map f ls) i (f l) (slice_get_within (map f ls) i (f l) at) ∙ ap (λ z. take i (map f ls) ++ z ∷ []) (get_or_from_slice_get (map f ls) i (f l) (f l) at)
+      take_more (map f ls) i (f l) (slice_get_within (map f ls) i (f l) at) ∙ ap (λ z. take i (map f ls) ++ z ∷ []) (get_or_from_slice_get (map f ls) i (f l)
+          (f l) at)
 
 module _ {V : Type 0} where
   pub noted_same : (cells cells' : List ℕ) (ls ls' : List (Learnt V)) → cells ≡ cells' → ls' ≡ ls → Noted cells ls → Noted cells' ls'
-  noted_same cells cells' ls ls' c e n i l at = subst (λ z. (slice_get z i ≡ Some l.mark.cell) × (l.mark.value ≡ l.node.now)) c (n i l (subst (λ z. slice_get z i ≡ Some l) e at))
+  noted_same cells cells' ls ls' c e n i l at = subst (λ z. (slice_get z i ≡ Some l.mark.cell) × (l.mark.value ≡ l.node.now)) c
+      (n i l (subst (λ z. slice_get z i ≡ Some l) e at))
 
   fact_at : (ls : List (Learnt V)) (i : ℕ) (f : V × (ℕ × V)) → slice_get (facts_of ls) i ≡ Some f → (l : Learnt V) × (slice_get ls i ≡ Some l) × (fact_of l ≡ f)
   fact_at [] i v e = cc

@@ -9,4 +9,5 @@ pub record WalkView (V : Type 0) : Type 0 where
 
 -- a walk is stored as the pair of its fields
 abbrev pub walk_coded : {V : Type 0} → Coded V → Coded (WalkView V)
-walk_coded {V} c = code_by (List ℕ × List V) (coded× (coded_list coded_ℕ) (coded_list c)) (λ w. (w.cells, w.nodes)) (λ p. record { cells = p.0; nodes = p.1 }) (λ _. refl)
+walk_coded {V} c = code_by (List ℕ × List V) (coded× (coded_list coded_ℕ) (coded_list c)) (λ w. (w.cells, w.nodes)) (λ p. record { cells = p.0; nodes = p.1 })
+    (λ _. refl)

@@ -42,7 +42,8 @@ plain_is_name : (name : List ℕ) → 0 < length name → list_all is_plain name
 plain_is_name [] some plain = absurd (omega (arith, some))
 plain_is_name (b ∷ bs) some plain = plain_is_name_byte (b ∷ bs) plain
 
-named_type : (classes : List Class) (c : ClassId) → AreClasses classes → IsPlainClass classes c → type_desc classes (76 ∷ (name_of classes c ++ 59 ∷ [])) ≡ Ok (ty.Class c)
+named_type : (classes : List Class) (c : ClassId) → AreClasses classes → IsPlainClass classes c → type_desc classes (76 ∷ (name_of classes c ++ 59 ∷ [])) ≡ Ok
+    (ty.Class c)
 named_type classes c sound is =
     let name : List ℕ = name_of classes c in
     let good : type_fault (76 ∷ (name ++ 59 ∷ [])) ≡ None = named.named_type name (plain_is_name name is.named is.plain) in
@@ -50,9 +51,11 @@ named_type classes c sound is =
     let inner : take (length (name ++ 59 ∷ []) - 1) (name ++ 59 ∷ []) ≡ name = ap (λ n. take n (name ++ 59 ∷ [])) long ∙ front_of name (59 ∷ []) in
     ap (λ o. unless_bad o (type_meant classes 0 (76 ∷ (name ++ 59 ∷ [])))) good
     ∙ ap (λ n. found_then (class_meant classes 1 n) (λ d. Ok (item_type d))) inner
-    ∙ ap (λ o. found_then (option_map_or (λ d. Ok (comp.Class d)) o (Err (descriptor.NoClass 1 (length name)))) (λ d. Ok (item_type d))) (sound.ordered.distinct c is.listed)
+    ∙ ap (λ o. found_then (option_map_or (λ d. Ok (comp.Class d)) o (Err (descriptor.NoClass 1 (length name)))) (λ d. Ok (item_type d)))
+        (sound.ordered.distinct c is.listed)
 
-pub component_trip : (classes : List Class) (c : Comp) → AreClasses classes → IsWritableComponent classes c → component_of (type_desc classes (component_text classes c)) ≡ Some c
+pub component_trip : (classes : List Class) (c : Comp) → AreClasses classes → IsWritableComponent classes c →
+    component_of (type_desc classes (component_text classes c)) ≡ Some c
 component_trip classes (comp.Prim primitive.Z) sound is = refl
 component_trip classes (comp.Prim primitive.I) sound is = refl
 component_trip classes (comp.Prim primitive.J) sound is = refl
@@ -85,7 +88,8 @@ split_joined t (u ∷ us) lacks all =
     ∙ slice_split_at (λ b. b == 44) t 44 (u ++ flat_map (λ v. 44 ∷ v) us) (all_lack t lacks) refl
     ∙ ap (λ ps. t ∷ ps) (split_joined u us all.0 all.1)
 
-joined_items : (classes : List Class) (items : List Cell) → flat_map (λ other. codes "," ++ item_text classes other) items ≡ flat_map (λ u. 44 ∷ u) (map (item_text classes) items)
+joined_items : (classes : List Class) (items : List Cell) → flat_map (λ other. codes "," ++ item_text classes other) items ≡ flat_map (λ u. 44 ∷ u)
+    (map (item_text classes) items)
 joined_items classes [] = refl
 joined_items classes (item ∷ items) =
     flat_map-cons (λ other. codes "," ++ item_text classes other) item items
@@ -110,7 +114,8 @@ bare_typed classes (comp.Class d) (cell.Object c k) = refl
 bare_typed classes (comp.Class d) (cell.Thrown e) = refl
 bare_typed classes (comp.Class d) cell.Null = refl
 
-items_trip : (classes : List Class) (c : Comp) → AreClasses classes → (items : List Cell) → AreWritable classes items → are_items_of classes c items ≡ true → items_of classes c (map (item_text classes) items) ≡ Some (map bare_item items)
+items_trip : (classes : List Class) (c : Comp) → AreClasses classes → (items : List Cell) → AreWritable classes items → are_items_of classes c items ≡ true →
+    items_of classes c (map (item_text classes) items) ≡ Some (map bare_item items)
 items_trip classes c sound [] each typed = refl
 items_trip classes c sound (item ∷ items) each typed =
     let parts = and_parts (is_item_of classes c item) (are_items_of classes c items) typed in
@@ -137,12 +142,15 @@ listed_some : (classes : List Class) (c : Comp) (text : List ℕ) → 0 < length
 listed_some classes c [] some = absurd (omega (arith, some))
 listed_some classes c (b ∷ bs) some = refl
 
-pub listed_trip : (classes : List Class) (c : Comp) → AreClasses classes → (items : List Cell) → AreWritable classes items → are_items_of classes c items ≡ true → listed classes c (items_text classes items) ≡ Some (map bare_item items)
+pub listed_trip : (classes : List Class) (c : Comp) → AreClasses classes → (items : List Cell) → AreWritable classes items → are_items_of classes c items ≡ true
+    → listed classes c (items_text classes items) ≡ Some (map bare_item items)
 listed_trip classes c sound [] each typed = refl
 listed_trip classes c sound (item ∷ items) each typed =
     let first : List ℕ = item_text classes item in
-    let joined : items_text classes (item ∷ items) ≡ first ++ flat_map (λ u. 44 ∷ u) (map (item_text classes) items) = ap (λ r. first ++ r) (joined_items classes items) in
-    let some : 0 < length (first ++ flat_map (λ u. 44 ∷ u) (map (item_text classes) items)) = omega (arith, item_some classes item, length-append first (flat_map (λ u. 44 ∷ u) (map (item_text classes) items))) in
+    let joined : items_text classes (item ∷ items) ≡ first ++ flat_map (λ u. 44 ∷ u) (map (item_text classes) items) =
+        ap (λ r. first ++ r) (joined_items classes items) in
+    let some : 0 < length (first ++ flat_map (λ u. 44 ∷ u) (map (item_text classes) items)) =
+        omega (arith, item_some classes item, length-append first (flat_map (λ u. 44 ∷ u) (map (item_text classes) items))) in
     ap (listed classes c) joined
     ∙ listed_some classes c (first ++ flat_map (λ u. 44 ∷ u) (map (item_text classes) items)) some
     ∙ ap (items_of classes c) (split_joined first (map (item_text classes) items) (no_comma_in_item classes item each.0) (texts_lack classes items each.1))

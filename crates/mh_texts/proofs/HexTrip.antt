@@ -48,8 +48,10 @@ onto-hex zero n acc hex = hex
 onto-hex (suc k) n acc hex =
     let glyph = glyph-hex (n % 16) (omega arith) in
     elim (cases_Bool (n / 16 == 0)) [
-      | inl e ↦ subst (λ t. AreHexDigits (if t then digit_glyph false (n % 16) ∷ acc else digits_onto k 16 false (n / 16) (digit_glyph false (n % 16) ∷ acc))) (sym e) (glyph, hex)
-      | inr e ↦ subst (λ t. AreHexDigits (if t then digit_glyph false (n % 16) ∷ acc else digits_onto k 16 false (n / 16) (digit_glyph false (n % 16) ∷ acc))) (sym e) (onto-hex k (n / 16) (digit_glyph false (n % 16) ∷ acc) (glyph, hex))
+      | inl e ↦ subst (λ t. AreHexDigits (if t then digit_glyph false (n % 16) ∷ acc else digits_onto k 16 false (n / 16) (digit_glyph false (n % 16) ∷ acc)))
+          (sym e) (glyph, hex)
+      | inr e ↦ subst (λ t. AreHexDigits (if t then digit_glyph false (n % 16) ∷ acc else digits_onto k 16 false (n / 16) (digit_glyph false (n % 16) ∷ acc)))
+          (sym e) (onto-hex k (n / 16) (digit_glyph false (n % 16) ∷ acc) (glyph, hex))
     ]
 
 -- the first number that needs so many digits and one more
@@ -61,25 +63,30 @@ onto-short : (m k n : ℕ) (acc : List ℕ) → n < limit m → length (digits_o
 onto-short m zero n acc small = omega arith
 onto-short zero (suc k) n acc small =
     let none : (n / 16 == 0) ≡ true = eq-eqb (n / 16) 0 (omega arith) in
-    subst (λ t. length (if t then digit_glyph false (n % 16) ∷ acc else digits_onto k 16 false (n / 16) (digit_glyph false (n % 16) ∷ acc)) ≤ 1 + length acc) (sym none) (omega arith)
+    subst (λ t. length (if t then digit_glyph false (n % 16) ∷ acc else digits_onto k 16 false (n / 16) (digit_glyph false (n % 16) ∷ acc)) ≤ 1 + length acc)
+        (sym none) (omega arith)
 onto-short (suc m) (suc k) n acc small =
     let low : n / 16 < limit m = omega arith in
     let more = onto-short m k (n / 16) (digit_glyph false (n % 16) ∷ acc) low in
     elim (cases_Bool (n / 16 == 0)) [
-      | inl e ↦ subst (λ t. length (if t then digit_glyph false (n % 16) ∷ acc else digits_onto k 16 false (n / 16) (digit_glyph false (n % 16) ∷ acc)) ≤ suc (suc m) + length acc) (sym e) (omega arith)
-      | inr e ↦ subst (λ t. length (if t then digit_glyph false (n % 16) ∷ acc else digits_onto k 16 false (n / 16) (digit_glyph false (n % 16) ∷ acc)) ≤ suc (suc m) + length acc) (sym e) (omega (arith, more))
+      | inl e ↦ subst (λ t. length (if t then digit_glyph false (n % 16) ∷ acc else digits_onto k 16 false (n / 16) (digit_glyph false (n % 16) ∷ acc)) ≤ suc
+          (suc m) + length acc) (sym e) (omega arith)
+      | inr e ↦ subst (λ t. length (if t then digit_glyph false (n % 16) ∷ acc else digits_onto k 16 false (n / 16) (digit_glyph false (n % 16) ∷ acc)) ≤ suc
+          (suc m) + length acc) (sym e) (omega (arith, more))
     ]
 
 le_after : (n : ℕ) (ds : List ℕ) → n ≤ digits_value_after 16 n ds
 le_after n [] = omega arith
 le_after n (d ∷ ds) = omega (arith, le_after (n * 16 + digit_value d) ds)
 
-pub hex_read : (ds : List ℕ) (count n : ℕ) (rest : List ℕ) → AreHexDigits ds → count + length ds ≤ 6 → digits_value_after 16 n ds ≤ 0x10FFFF → characters_from (escape.Digits count n) (ds ++ rest) ≡ characters_from (escape.Digits (count + length ds) (digits_value_after 16 n ds)) rest
+pub hex_read : (ds : List ℕ) (count n : ℕ) (rest : List ℕ) → AreHexDigits ds → count + length ds ≤ 6 → digits_value_after 16 n ds ≤ 0x10FFFF →
+    characters_from (escape.Digits count n) (ds ++ rest) ≡ characters_from (escape.Digits (count + length ds) (digits_value_after 16 n ds)) rest
 hex_read [] count n rest hex few low = ap (λ k. characters_from (escape.Digits k n) rest) (omega arith)
 hex_read (d ∷ ds) count n rest hex few low =
     let m : ℕ = n * 16 + digit_value d in
     let same : 16 * n + digit_value d ≡ m = omega arith in
-    let within : (nat_lt count 6 && nat_le (16 * n + digit_value d) 0x10FFFF) ≡ true = and_from _ _ (lt-ltb count 6 (omega arith)) (le-leb (16 * n + digit_value d) 0x10FFFF (omega (arith, le_after m ds))) in
+    let within : (nat_lt count 6 && nat_le (16 * n + digit_value d) 0x10FFFF) ≡ true =
+        and_from _ _ (lt-ltb count 6 (omega arith)) (le-leb (16 * n + digit_value d) 0x10FFFF (omega (arith, le_after m ds))) in
     let one : step (escape.Digits count n) d ≡ goes_on (escape.Digits (count + 1) m) =
     ap (λ t. if t then (if nat_lt 0 count then option_and_then whole (scalar n) else None) else option_and_then (one_digit_more count n) (hex_value d)) hex.0.1
     ∙ ap (option_and_then (one_digit_more count n)) hex.0.0

@@ -30,17 +30,20 @@ number_parts classes name k = append_assoc name (35 ∷ []) (decimal k)
 lacks_number : (classes : List Class) (c : _) → IsPlainClass classes c → Lacks 35 (name_text classes c)
 lacks_number classes c is = subst (Lacks 35) (sym (class_text_is classes c is)) (plain_lacks _ is.plain).numbers
 
-object_trip : (classes : List Class) (c : _) (k : ℕ) → AreClasses classes → IsPlainClass classes c → has_own_literal classes c ≡ false → k < 2 ^ 32 → object_of classes ((name_text classes c ++ codes "#") ++ decimal k) ≡ Some (cell.Object c k)
+object_trip : (classes : List Class) (c : _) (k : ℕ) → AreClasses classes → IsPlainClass classes c → has_own_literal classes c ≡ false → k < 2 ^ 32 →
+    object_of classes ((name_text classes c ++ codes "#") ++ decimal k) ≡ Some (cell.Object c k)
 object_trip classes c k sound is own small =
     let found = class_found classes c sound is in
     ap (object_of classes) (number_parts classes (name_text classes c) k)
-    ∙ ap (option_and_then (λ parts. option_and_then (λ d. option_and_then (λ n. if_object classes n d) (unsigned_of parts.1)) (class_named classes parts.0))) (cut_found 35 (name_text classes c) (decimal k) (lacks_number classes c is))
+    ∙ ap (option_and_then (λ parts. option_and_then (λ d. option_and_then (λ n. if_object classes n d) (unsigned_of parts.1)) (class_named classes parts.0)))
+        (cut_found 35 (name_text classes c) (decimal k) (lacks_number classes c is))
     ∙ ap (option_and_then (λ d. option_and_then (λ n. if_object classes n d) (unsigned_of (decimal k)))) found
     ∙ ap (option_and_then (λ n. if_object classes n c)) (unsigned_trip k small)
     ∙ ap (λ t. if t then None else Some (cell.Object c k)) own
 
 -- what is printed of an item is read as the item, an exception as its class alone
-pub item_trip : (classes : List Class) → AreClasses classes → (item : Cell) → IsWritableItem classes item → item_of classes (item_text classes item) ≡ Some (bare_item item)
+pub item_trip : (classes : List Class) → AreClasses classes → (item : Cell) → IsWritableItem classes item →
+    item_of classes (item_text classes item) ≡ Some (bare_item item)
 item_trip classes sound (cell.Prim (num.Z b)) is = ap (λ o. option_map cell.Prim (option_map num.Z o)) (bool_trip b)
 item_trip classes sound (cell.Prim (num.I n)) is = ap (λ o. option_map cell.Prim (option_map num.I o)) (int_trip n is)
 item_trip classes sound (cell.Prim (num.J n)) is = ap (λ o. option_map cell.Prim (option_map num.J o)) (long_trip n is)
@@ -75,20 +78,23 @@ no_comma_in_hex : (ds : List ℕ) → AreHexDigits ds → Lacks 44 ds
 no_comma_in_hex [] hex = tt
 no_comma_in_hex (d ∷ ds) hex = (ne_eqb d 44 (λ e. let none : hex_value d ≡ None = ap hex_value e in cc (none, hex.0.0)), no_comma_in_hex ds hex.1)
 
-no_comma_by : (c : ℕ) (space comma line backslash graphic : Bool) → (comma ≡ false → (c == 44) ≡ false) → Lacks 44 (printed_by c space comma line backslash graphic)
+no_comma_by : (c : ℕ) (space comma line backslash graphic : Bool) → (comma ≡ false → (c == 44) ≡ false) →
+    Lacks 44 (printed_by c space comma line backslash graphic)
 no_comma_by c true comma line backslash graphic other = (refl, (refl, tt))
 no_comma_by c false true line backslash graphic other = (refl, (refl, tt))
 no_comma_by c false false true backslash graphic other = (refl, (refl, tt))
 no_comma_by c false false false true graphic other = (refl, (refl, tt))
 no_comma_by c false false false false true other = (other refl, tt)
-no_comma_by c false false false false false other = (refl, (refl, (refl, Lacks-append 44 (digits 16 false c) (codes "}") (no_comma_in_hex (digits 16 false c) (digits-hex c)) (refl, tt))))
+no_comma_by c false false false false false other =
+    (refl, (refl, (refl, Lacks-append 44 (digits 16 false c) (codes "}") (no_comma_in_hex (digits 16 false c) (digits-hex c)) (refl, tt))))
 
 no_comma_in_char : (c : ℕ) → Lacks 44 (escaped_char c)
 no_comma_in_char c = no_comma_by c (c == 32) (c == 44) (c == 10) (c == 92) (is_graphic c) (λ h. h)
 
 no_comma_in_text : (cs : List ℕ) → Lacks 44 (escaped cs)
 no_comma_in_text [] = tt
-no_comma_in_text (c ∷ cs) = subst (Lacks 44) (sym (flat_map-cons escaped_char c cs)) (Lacks-append 44 (escaped_char c) (escaped cs) (no_comma_in_char c) (no_comma_in_text cs))
+no_comma_in_text (c ∷ cs) = subst (Lacks 44) (sym (flat_map-cons escaped_char c cs)) (Lacks-append 44 (escaped_char c) (escaped cs) (no_comma_in_char c)
+    (no_comma_in_text cs))
 
 no_comma_in_name : (classes : List Class) (c : _) → IsPlainClass classes c → Lacks 44 (name_text classes c)
 no_comma_in_name classes c is = subst (Lacks 44) (sym (class_text_is classes c is)) (plain_lacks _ is.plain).commas
@@ -102,6 +108,7 @@ no_comma_in_item classes (cell.Boxed (num.I n)) is = (refl, (refl, no_comma_in_s
 no_comma_in_item classes (cell.Boxed (num.J n)) is = (refl, (refl, no_comma_in_signed n is))
 no_comma_in_item classes (cell.Text s) is = (refl, (refl, no_comma_in_text s))
 no_comma_in_item classes (cell.Object c k) is =
-    (refl, (refl, Lacks-append 44 (name_text classes c ++ codes "#") (decimal k) (Lacks-append 44 (name_text classes c) (codes "#") (no_comma_in_name classes c is.0) (refl, tt)) (no_comma_in_decimal k (omega (arith, is.2)))))
+    (refl, (refl, Lacks-append 44 (name_text classes c ++ codes "#") (decimal k) (Lacks-append 44 (name_text classes c) (codes "#")
+        (no_comma_in_name classes c is.0) (refl, tt)) (no_comma_in_decimal k (omega (arith, is.2)))))
 no_comma_in_item classes (cell.Thrown e) is = (refl, (refl, no_comma_in_name classes e.class is.0))
 no_comma_in_item classes cell.Null is = (refl, (refl, (refl, (refl, tt))))

@@ -114,14 +114,16 @@ no_exception = refl
 unknown_class : literal_of builtin_classes (codes "x:no/Such") ≡ None
 unknown_class = refl
 
-ints : literal_of builtin_classes (codes "a:I[i:1,i:2]") ≡ Some (value.Array (comp.Prim primitive.I) (cell.Prim (num.I (pos 1)) ∷ cell.Prim (num.I (pos 2)) ∷ []))
+ints : literal_of builtin_classes (codes "a:I[i:1,i:2]") ≡ Some (value.Array (comp.Prim primitive.I) (cell.Prim (num.I (pos 1)) ∷ cell.Prim (num.I (pos 2)) ∷
+    []))
 unfolding digits
 ints = refl
 
 no_items : literal_of builtin_classes (codes "a:Ljava/lang/String;[]") ≡ Some (value.Array (comp.Class string_class) [])
 no_items = refl
 
-text_with_comma_within : literal_of builtin_classes (codes "a:Ljava/lang/Object;[s:a\\cb,null,s:]]") ≡ Some (value.Array (comp.Class object_class) (cell.Text (codes "a,b") ∷ cell.Null ∷ cell.Text (codes "]") ∷ []))
+text_with_comma_within : literal_of builtin_classes (codes "a:Ljava/lang/Object;[s:a\\cb,null,s:]]") ≡ Some
+    (value.Array (comp.Class object_class) (cell.Text (codes "a,b") ∷ cell.Null ∷ cell.Text (codes "]") ∷ []))
 text_with_comma_within = refl
 
 item_of_another_type : literal_of builtin_classes (codes "a:I[j:1]") ≡ None

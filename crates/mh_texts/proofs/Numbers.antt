@@ -92,9 +92,11 @@ unsigned_of-no_text text no_text =
     no_text (subst IsUtf8 (same_bytes _ _ parts.1) (IsUtf8-from_ascii _ (IsAscii-decimal n (omega arith)))))
 
 -- a number that was parsed is the one that is written so, where its own text is the text
-pub unsigned_of-read : (text : List ℕ) (n : ℕ) (b : Bool) → digits_value 10 (without_leading_plus text) < 2 ^ 32 → n ≡ digits_value 10 (without_leading_plus text) → b ≡ bytes_eq (decimal n) text → unsigned_of text ≡ (if b then Some n else None)
+pub unsigned_of-read : (text : List ℕ) (n : ℕ) (b : Bool) → digits_value 10 (without_leading_plus text) < 2 ^ 32 →
+    n ≡ digits_value 10 (without_leading_plus text) → b ≡ bytes_eq (decimal n) text → unsigned_of text ≡ (if b then Some n else None)
 unsigned_of-read text n b small is test =
     let fits : nat_lt (digits_value 10 (without_leading_plus text)) (2 ^ 32) ≡ true = lt-ltb _ _ small in
-    ap (λ t. if t && bytes_eq (decimal (digits_value 10 (without_leading_plus text))) text then Some (digits_value 10 (without_leading_plus text)) else None) fits
+    ap (λ t. if t && bytes_eq (decimal (digits_value 10 (without_leading_plus text))) text then Some (digits_value 10 (without_leading_plus text)) else None)
+        fits
     ∙ ap (λ m. if bytes_eq (decimal m) text then Some m else None) (sym is)
     ∙ ap (λ t. if t then Some n else None) (sym test)

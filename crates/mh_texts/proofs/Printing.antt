@@ -16,14 +16,17 @@ printed_text : shown_value builtin_classes (value.Text (97 ∷ 32 ∷ 44 ∷ 10 
 unfolding digits
 printed_text = refl
 
-printed_array : shown_value builtin_classes (value.Array (comp.Class object_class) (cell.Text (codes "a,b") ∷ cell.Boxed (num.I (negsuc 0)) ∷ cell.Thrown (saying throwable_class (codes "m")) ∷ [])) ≡ codes "a:Ljava/lang/Object;[s:a\\cb,I:-1,x:java/lang/Throwable]"
+printed_array : shown_value builtin_classes (value.Array (comp.Class object_class) (cell.Text (codes "a,b") ∷ cell.Boxed (num.I (negsuc 0)) ∷ cell.Thrown
+    (saying throwable_class (codes "m")) ∷ [])) ≡ codes "a:Ljava/lang/Object;[s:a\\cb,I:-1,x:java/lang/Throwable]"
 unfolding digits
 printed_array = refl
 
-printed_exception : shown_exception builtin_classes (record { class = throwable_class; message = codes "/ by"; cause = Some (record { class = class_at 12; message = [] }) }) ≡ codes "java/lang/Throwable s:/\\sby cause java/lang/Error s:"
+printed_exception : shown_exception builtin_classes (record { class = throwable_class; message = codes "/ by"; cause =
+    Some (record { class = class_at 12; message = [] }) }) ≡ codes "java/lang/Throwable s:/\\sby cause java/lang/Error s:"
 printed_exception = refl
 
-printed_type : shown_type builtin_classes (record { params = ty.Prim primitive.Z ∷ ty.Array (comp.Class string_class) ∷ []; ret = None }) ≡ codes "(Z[Ljava/lang/String;)V"
+printed_type : shown_type builtin_classes (record { params = ty.Prim primitive.Z ∷ ty.Array (comp.Class string_class) ∷ []; ret = None }) ≡ codes
+    "(Z[Ljava/lang/String;)V"
 printed_type = refl
 
 not_cut : shown_text (replicate 1024 97) ≡ replicate 1024 97

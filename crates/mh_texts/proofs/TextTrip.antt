@@ -24,7 +24,8 @@ printed_by c space comma line backslash graphic =
     else (if backslash then codes "\\\\"
     else (if graphic then c ∷ [] else codes "\\u{" ++ digits 16 false c ++ codes "}"))))
 
-by_number : (rest : List ℕ) (c : ℕ) → scalar c ≡ Some c → characters_from escape.Outside ((codes "\\u{" ++ digits 16 false c ++ codes "}") ++ rest) ≡ option_map (λ cs. c ∷ cs) (characters_from escape.Outside rest)
+by_number : (rest : List ℕ) (c : ℕ) → scalar c ≡ Some c → characters_from escape.Outside ((codes "\\u{" ++ digits 16 false c ++ codes "}") ++ rest) ≡ option_map
+    (λ cs. c ∷ cs) (characters_from escape.Outside rest)
 by_number rest c is =
     let low : c < 0x110000 = scalar-low c is in
     let ds : List ℕ = digits 16 false c in
@@ -44,9 +45,11 @@ by_number rest c is =
     ∙ read
     ∙ ap (option_and_then (rest_of rest)) closed
 
-by_itself : (rest : List ℕ) (c : ℕ) → (c == 92) ≡ false → is_graphic c ≡ true → characters_from escape.Outside (c ∷ rest) ≡ option_map (λ cs. c ∷ cs) (characters_from escape.Outside rest)
+by_itself : (rest : List ℕ) (c : ℕ) → (c == 92) ≡ false → is_graphic c ≡ true → characters_from escape.Outside (c ∷ rest) ≡ option_map (λ cs. c ∷ cs)
+    (characters_from escape.Outside rest)
 by_itself rest c other graphic =
-    ap (option_and_then (rest_of rest)) (ap (λ t. if t then goes_on escape.Backslash else (if is_graphic c then whole c else None)) other ∙ ap (λ t. if t then whole c else None) graphic)
+    ap (option_and_then (rest_of rest)) (ap (λ t. if t then goes_on escape.Backslash else (if is_graphic c then whole c else None)) other ∙
+        ap (λ t. if t then whole c else None) graphic)
 
 -- one of the four characters that have an escape of their own
 by_escape : (rest : List ℕ) (d : ℕ) (c : ℕ) → (c == d) ≡ true → reads_back rest d → reads_back rest c
@@ -83,7 +86,8 @@ char_trip rest c is =
 
 characters_trip : (cs : List ℕ) → AreScalars cs → characters_from escape.Outside (escaped cs) ≡ Some cs
 characters_trip [] is = refl
-characters_trip (c ∷ cs) is = ap (characters_from escape.Outside) (flat_map-cons escaped_char c cs) ∙ char_trip (escaped cs) c is.0 ∙ ap (option_map (λ ds. c ∷ ds)) (characters_trip cs is.1)
+characters_trip (c ∷ cs) is = ap (characters_from escape.Outside) (flat_map-cons escaped_char c cs) ∙ char_trip (escaped cs) c is.0 ∙
+    ap (option_map (λ ds. c ∷ ds)) (characters_trip cs is.1)
 
 -- what is printed of a text, uncut, is read as the text
 pub text_trip : (cs : List ℕ) → AreScalars cs → length cs ≤ 4096 → text_of (escaped cs) ≡ Some cs

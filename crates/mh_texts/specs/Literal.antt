@@ -99,7 +99,8 @@ if_item classes component item = if is_item_of classes component item then Some 
 abbrev pub items_of : List Class → Comp → List (List ℕ) → Option (List Cell)
 items_of classes component [] = Some []
 items_of classes component (text ∷ texts) =
-    option_and_then (λ item. option_map (λ items. item ∷ items) (items_of classes component texts)) (option_and_then (if_item classes component) (item_of classes text))
+    option_and_then (λ item. option_map (λ items. item ∷ items) (items_of classes component texts)) (option_and_then (if_item classes component)
+        (item_of classes text))
 
 -- the items between the brackets; commas separate them
 abbrev pub listed : List Class → Comp → List ℕ → Option (List Cell)
@@ -119,7 +120,8 @@ abbrev pub array_of_literal : List Class → List ℕ → Option Value
 array_of_literal classes text =
     option_and_then (λ parts.
     option_and_then (λ component.
-    option_and_then (λ inside. option_and_then (if_few component) (listed classes component inside)) (unclosed parts.1)) (component_of (type_desc classes parts.0))) (cut_at 91 text)
+    option_and_then (λ inside. option_and_then (if_few component) (listed classes component inside)) (unclosed parts.1))
+        (component_of (type_desc classes parts.0))) (cut_at 91 text)
 
 -- ---- values
 

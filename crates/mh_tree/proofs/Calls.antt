@@ -48,17 +48,20 @@ calls-after calls (Threw e more) h = refl
 calls-after calls Stuck h = absurd h
 
 -- first the calls of what runs first, then those of what runs on its result
-pub calls-in-order : {A B : Type 0} (r : Ran A) (n : ℕ) (next : A → ℕ → Ran B) → Ends (and_then r n next) → calls_made (and_then r n next) ≡ calls_made r ++ calls_made (next_run r n next)
+pub calls-in-order : {A B : Type 0} (r : Ran A) (n : ℕ) (next : A → ℕ → Ran B) → Ends (and_then r n next) →
+    calls_made (and_then r n next) ≡ calls_made r ++ calls_made (next_run r n next)
 calls-in-order (Gave a calls) n next h = calls-after calls (next a (raised n calls)) (ends-after calls (next a (raised n calls)) h)
 calls-in-order (Threw e calls) n next h = sym (append-nil calls)
 calls-in-order Stuck n next h = absurd h
 
-chosen : {A : Type 0} (b : Bool) (e : Exc) (calls : List LeafCall) (r : Ran A) → Ends (cond b (after calls r) (Threw e calls)) → calls_made (cond b (after calls r) (Threw e calls)) ≡ calls ++ calls_made (cond b r (Threw e []))
+chosen : {A : Type 0} (b : Bool) (e : Exc) (calls : List LeafCall) (r : Ran A) → Ends (cond b (after calls r) (Threw e calls)) →
+    calls_made (cond b (after calls r) (Threw e calls)) ≡ calls ++ calls_made (cond b r (Threw e []))
 chosen true e calls r h = calls-after calls r (ends-after calls r h)
 chosen false e calls r h = sym (append-nil calls)
 
 -- first the calls of the target, then those of the handler, if it runs
-pub calls-guarded : {A : Type 0} (r : Ran A) (test : Exc → Bool) (n : ℕ) (handler : Exc → ℕ → Ran A) → Ends (guarded r test n handler) → calls_made (guarded r test n handler) ≡ calls_made r ++ calls_made (handler_run r test n handler)
+pub calls-guarded : {A : Type 0} (r : Ran A) (test : Exc → Bool) (n : ℕ) (handler : Exc → ℕ → Ran A) → Ends (guarded r test n handler) →
+    calls_made (guarded r test n handler) ≡ calls_made r ++ calls_made (handler_run r test n handler)
 calls-guarded (Gave a calls) test n handler h = sym (append-nil calls)
 calls-guarded (Threw e calls) test n handler h = chosen (test e) e calls (handler e (raised n calls)) h
 calls-guarded Stuck test n handler h = absurd h
@@ -97,7 +100,8 @@ pub collect-calls :
     Ends (mean table (tree.Collect t place f) args n) →
     calls_made (mean table (tree.Collect t place f) args n)
     ≡ calls_made (mean table f (part_of place (arity table f) args) n)
-    ++ calls_made (next_run (mean table f (part_of place (arity table f) args) n) n (λ r k. mean table t (spliced place (arity table f) (option_to_list r) args) k))
+    ++ calls_made (next_run (mean table f (part_of place (arity table f) args) n) n (λ r k. mean table t (spliced place (arity table f) (option_to_list r) args)
+        k))
 collect-calls table t place f args n h =
     calls-in-order (mean table f (part_of place (arity table f) args) n) n (λ r k. mean table t (spliced place (arity table f) (option_to_list r) args) k) h
 

@@ -17,7 +17,8 @@ can_all-lengths classes [] (t ∷ ts) h = refl
 can_all-lengths classes (s ∷ ss) [] h = refl
 can_all-lengths classes (s ∷ ss) (t ∷ ts) h = ap (λ b. can classes s t && b) (can_all-lengths classes ss ts (λ e. h (ap suc e))) ∙ and_false (can classes s t)
 
-pub names_types-lengths : (params : List Ty) (reorder : List ℕ) (types : List Ty) → (length reorder ≡ length types → ⊥) → names_types params reorder types ≡ false
+pub names_types-lengths : (params : List Ty) (reorder : List ℕ) (types : List Ty) → (length reorder ≡ length types → ⊥) →
+    names_types params reorder types ≡ false
 names_types-lengths params [] [] h = absurd (h refl)
 names_types-lengths params [] (t ∷ ts) h = refl
 names_types-lengths params (i ∷ is) [] h = refl

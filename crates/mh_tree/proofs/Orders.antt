@@ -42,19 +42,22 @@ one-more {A} None xs n a is =
 -- the items of a range are those from its start on, so many
 pub picked-range : {A : Type 0} → (xs : List A) (n a : ℕ) → picked xs (range_with_len a n) ≡ take n (drop a xs)
 picked-range xs zero a = refl
-picked-range xs (suc n) a = ap (λ ys. option_to_list (slice_get xs a) ++ ys) (picked-range xs n (a + 1) ∙ ap (λ m. take n (drop m xs)) (add-one a)) ∙ one-more (slice_get xs a) xs n a refl
+picked-range xs (suc n) a = ap (λ ys. option_to_list (slice_get xs a) ++ ys) (picked-range xs n (a + 1) ∙ ap (λ m. take n (drop m xs)) (add-one a)) ∙
+    one-more (slice_get xs a) xs n a refl
 
 -- picking by one order and then by another
 pub picked-append : {A : Type 0} → (xs : List A) (is js : List ℕ) → picked xs (is ++ js) ≡ picked xs is ++ picked xs js
 picked-append xs [] js = refl
-picked-append xs (i ∷ is) js = ap (λ ys. option_to_list (slice_get xs i) ++ ys) (picked-append xs is js) ∙ sym (append_assoc (option_to_list (slice_get xs i)) (picked xs is) (picked xs js))
+picked-append xs (i ∷ is) js = ap (λ ys. option_to_list (slice_get xs i) ++ ys) (picked-append xs is js) ∙
+    sym (append_assoc (option_to_list (slice_get xs i)) (picked xs is) (picked xs js))
 
 -- the order that leaves each argument where it is
 abbrev pub identity_order : ℕ → List ℕ
 identity_order n = range_with_len 0 n
 
 -- Permute by the identity order means its part
-pub permute-identity : (table : LeafTable) (t : Tree) (asked : MethodTy) (args : List Value) (n : ℕ) → length args ≡ arity table t → mean table (tree.Permute t asked (identity_order (arity table t))) args n ≡ mean table t args n
+pub permute-identity : (table : LeafTable) (t : Tree) (asked : MethodTy) (args : List Value) (n : ℕ) → length args ≡ arity table t →
+    mean table (tree.Permute t asked (identity_order (arity table t))) args n ≡ mean table t args n
 permute-identity table t asked args n e =
     let enough : length args ≤ arity table t = omega (arith, e) in
     ap (λ xs. mean table t xs n) (picked-range args (arity table t) 0 ∙ take_all (arity table t) args enough)
@@ -76,7 +79,9 @@ abbrev pub back_order : ℕ → List ℕ → ℕ → List ℕ
 back_order place others n = range_with_len 0 place ++ (others ++ range_with_len place (n - place))
 
 -- Drop, and then Permute back, means the part
-pub drop-permuted : (table : LeafTable) (t : Tree) (asked : MethodTy) (place : ℕ) (types : List Ty) (others : List ℕ) (args : List Value) (n : ℕ) → place ≤ length args → length (picked args others) ≡ length types → mean table (tree.Permute (tree.Drop t place types) asked (back_order place others (length args))) args n ≡ mean table t args n
+pub drop-permuted : (table : LeafTable) (t : Tree) (asked : MethodTy) (place : ℕ) (types : List Ty) (others : List ℕ) (args : List Value) (n : ℕ) →
+    place ≤ length args → length (picked args others) ≡ length types →
+    mean table (tree.Permute (tree.Drop t place types) asked (back_order place others (length args))) args n ≡ mean table t args n
 drop-permuted table t asked place types others args n low e =
     let put = picked args others in
     let rest : take (length args - place) (drop place args) ≡ drop (place + 0) args =

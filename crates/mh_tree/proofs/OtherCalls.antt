@@ -21,7 +21,8 @@ no-calls : (r : Result (Option Value) Exc) → calls_made (or_throw r (λ v. Gav
 no-calls (Ok v) = refl
 no-calls (Err e) = refl
 
-no-calls-found : (classes : List Class) (c : Option RetConv) (r : Option Value) → calls_made (found c (λ d. or_throw (ret_conv classes d r) (λ v. Gave v []))) ≡ []
+no-calls-found : (classes : List Class) (c : Option RetConv) (r : Option Value) →
+    calls_made (found c (λ d. or_throw (ret_conv classes d r) (λ v. Gave v []))) ≡ []
 no-calls-found classes None r = refl
 no-calls-found classes (Some c) r = no-calls (ret_conv classes c r)
 
@@ -48,7 +49,8 @@ pub astype-calls :
     calls_made (mean table (tree.AsType t asked) args n) ≡ calls_made (mean table t converted n)
 astype-calls table t ty asked args converted n typed conv ends =
     let classes = table.classes in
-    let run : MethodTy → Done = λ own. or_throw (conv_all classes asked.params own.params args) (λ xs. and_then (mean table t xs n) n (λ r k. conv_result classes own.ret asked.ret r)) in
+    let run : MethodTy → Done = λ own. or_throw (conv_all classes asked.params own.params args)
+        (λ xs. and_then (mean table t xs n) n (λ r k. conv_result classes own.ret asked.ret r)) in
     let next : Option Value → ℕ → Done = λ r k. conv_result classes ty.ret asked.ret r in
     let is : mean table (tree.AsType t asked) args n ≡ and_then (mean table t converted n) n next =
     ap (λ o. known o run) typed ∙ ap (λ x. or_throw x (λ xs. and_then (mean table t xs n) n next)) conv in

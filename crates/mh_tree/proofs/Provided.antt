@@ -17,11 +17,13 @@ pub provided-parts : (b : Bool) (e : Exc) (next : Checked) (t : MethodTy) → pr
 provided-parts true e next t h = (refl, h)
 provided-parts false e next t h = absurd cc
 
-pub provided_some-parts : {A : Type 0} (o : Option A) (e : Exc) (next : A → Checked) (t : MethodTy) → provided_some o e next ≡ Ok t → (a : A) × (o ≡ Some a) × (next a ≡ Ok t)
+pub provided_some-parts : {A : Type 0} (o : Option A) (e : Exc) (next : A → Checked) (t : MethodTy) → provided_some o e next ≡ Ok t → (a : A) × (o ≡ Some a)
+    × (next a ≡ Ok t)
 provided_some-parts (Some a) e next t h = (a, refl, h)
 provided_some-parts None e next t h = absurd cc
 
-pub provided_fit-parts : (r : Result Value Exc) (word : List ℕ) (next : Checked) (t : MethodTy) → provided_fit r word next ≡ Ok t → (w : Value) × (r ≡ Ok w) × (next ≡ Ok t)
+pub provided_fit-parts : (r : Result Value Exc) (word : List ℕ) (next : Checked) (t : MethodTy) → provided_fit r word next ≡ Ok t → (w : Value) × (r ≡ Ok w)
+    × (next ≡ Ok t)
 provided_fit-parts (Ok w) word next t h = (w, refl, h)
 provided_fit-parts (Err e) word next t h = absurd cc
 

@@ -19,7 +19,8 @@ throws : (classes : List Class) → AreClasses classes → (k : Kind) → Throws
 throws classes are (kind.Throw class) h = is_subclass-complete classes are.ordered.ascending class throwable_class h
 throws classes are k h = refl
 
-each : (classes : List Class) → AreClasses classes → (leaves : List Leaf) → All (IsLeafOf classes) leaves → (l : ℕ) (leaf : Leaf) → slice_get leaves l ≡ Some leaf → is_well_typed classes leaf ≡ true
+each : (classes : List Class) → AreClasses classes → (leaves : List Leaf) → All (IsLeafOf classes) leaves → (l : ℕ) (leaf : Leaf) →
+    slice_get leaves l ≡ Some leaf → is_well_typed classes leaf ≡ true
 each classes are [] all l leaf is = absurd cc
 each classes are (first ∷ leaves) all zero leaf is =
     let here = All-head (IsLeafOf classes) first leaves all in

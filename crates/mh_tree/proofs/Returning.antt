@@ -18,7 +18,8 @@ returns-after classes calls (Threw e more) ret h = h
 returns-after classes calls r ret h = absurd h
 
 -- what was returned, as arguments of what runs next
-pub returned-typed : (classes : List Class) (v : Option Value) (calls : List LeafCall) (ret : Option Ty) → Returns classes (Gave v calls) ret → HaveTypes classes (option_to_list v) (option_to_list ret)
+pub returned-typed : (classes : List Class) (v : Option Value) (calls : List LeafCall) (ret : Option Ty) → Returns classes (Gave v calls) ret →
+    HaveTypes classes (option_to_list v) (option_to_list ret)
 returned-typed classes (Some v) calls (Some t) h = (h, tt)
 returned-typed classes None calls None h = tt
 returned-typed classes v calls ret h = absurd h
@@ -33,7 +34,8 @@ returns-then classes (Gave v calls) ty ret n next h more =
 returns-then classes (Threw e calls) ty ret n next h more = h
 returns-then classes Stuck ty ret n next h more = absurd h
 
-caught : (classes : List Class) (b : Bool) (r s : Done) (ret : Option Ty) → (b ≡ true → Returns classes r ret) → Returns classes s ret → Returns classes (cond b r s) ret
+caught : (classes : List Class) (b : Bool) (r s : Done) (ret : Option Ty) → (b ≡ true → Returns classes r ret) → Returns classes s ret →
+    Returns classes (cond b r s) ret
 caught classes true r s ret h k = h refl
 caught classes false r s ret h k = k
 

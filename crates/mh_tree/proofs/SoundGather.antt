@@ -46,33 +46,42 @@ item-there classes c (value.Array d items) typed = tt
 item-there classes (comp.Class c) value.Null typed = refl
 item-there classes c v typed = absurd cc
 
-more-items : (classes : List Class) (c : Comp) (o : Option Cell) (os : Option (List Cell)) → IsItem classes c o → AreItems classes c os → AreItems classes c (item_and_more o os)
+more-items : (classes : List Class) (c : Comp) (o : Option Cell) (os : Option (List Cell)) → IsItem classes c o → AreItems classes c os →
+    AreItems classes c (item_and_more o os)
 more-items classes c (Some i) (Some items) h k = both-true _ _ h k
 more-items classes c (Some i) None h k = tt
 more-items classes c None os h k = tt
 
-items-there : (classes : List Class) (c : Comp) (count : ℕ) (vs : List Value) → HaveTypes classes vs (replicate count (item_type c)) → AreItems classes c (items_of_values vs)
+items-there : (classes : List Class) (c : Comp) (count : ℕ) (vs : List Value) → HaveTypes classes vs (replicate count (item_type c)) →
+    AreItems classes c (items_of_values vs)
 items-there classes c count [] have = refl
 items-there classes c zero (v ∷ vs) have = absurd have
 items-there classes c (suc count) (v ∷ vs) have =
     more-items classes c (item_of_value v) (items_of_values vs) (item-there classes c v have.0) (items-there classes c count vs have.1)
 
-array-made : (classes : List Class) → AreClasses classes → (c : Comp) (o : Option (List Cell)) → AreItems classes c o → Converts classes (array_or_nested c o) (ty.Array c)
+array-made : (classes : List Class) → AreClasses classes → (c : Comp) (o : Option (List Cell)) → AreItems classes c o →
+    Converts classes (array_or_nested c o) (ty.Array c)
 array-made classes are c (Some items) h = both-true _ _ (component_below-itself classes c) h
 array-made classes are c None h = internal_error-below classes are
 
-pub array-converts : (classes : List Class) → AreClasses classes → (c : Comp) (count : ℕ) (vs : List Value) → HaveTypes classes vs (replicate count (item_type c)) → Converts classes (array_of c vs) (ty.Array c)
+pub array-converts : (classes : List Class) → AreClasses classes → (c : Comp) (count : ℕ) (vs : List Value) →
+    HaveTypes classes vs (replicate count (item_type c)) → Converts classes (array_of c vs) (ty.Array c)
 array-converts classes are c count vs have = array-made classes are c (items_of_values vs) (items-there classes c count vs have)
 
-throw-value : (classes : List Class) (r : Result Value Exc) (t : Ty) (ret : Option Ty) (next : Value → Done) → Converts classes r t → ((v : Value) → has_type classes v t ≡ true → Returns classes (next v) ret) → Returns classes (or_throw r next) ret
+throw-value : (classes : List Class) (r : Result Value Exc) (t : Ty) (ret : Option Ty) (next : Value → Done) → Converts classes r t →
+    ((v : Value) → has_type classes v t ≡ true → Returns classes (next v) ret) → Returns classes (or_throw r next) ret
 throw-value classes (Ok v) t ret next h more = more v h
 throw-value classes (Err e) t ret next h more = h
 
-pub last-there : (classes : List Class) (c : Comp) (o : Option Ty) → takes_array classes c o ≡ true → (t : Ty) × (o ≡ Some t) × (is_type_below classes (ty.Array c) t ≡ true)
+pub last-there : (classes : List Class) (c : Comp) (o : Option Ty) → takes_array classes c o ≡ true → (t : Ty) × (o ≡ Some t)
+    × (is_type_below classes (ty.Array c) t ≡ true)
 last-there classes c None h = absurd cc
 last-there classes c (Some t) h = (t, refl, h)
 
-pub gather-sound : (classes : List Class) → AreClasses classes → (body : Body) (t : MethodTy) (weight : ℕ) (array : Option Ty) (count : ℕ) (u : MethodTy) → IsSound classes body t → gather_row classes t weight array count ≡ Ok u → IsSound classes (λ args n. found (component_of array) (λ c. or_throw (array_of c (part_of (length t.params - 1) count args)) (λ v. body (spliced (length t.params - 1) count (v ∷ []) args) n))) u
+pub gather-sound : (classes : List Class) → AreClasses classes → (body : Body) (t : MethodTy) (weight : ℕ) (array : Option Ty) (count : ℕ) (u : MethodTy) →
+    IsSound classes body t → gather_row classes t weight array count ≡ Ok u →
+    IsSound classes (λ args n. found (component_of array) (λ c. or_throw (array_of c (part_of (length t.params - 1) count args))
+    (λ v. body (spliced (length t.params - 1) count (v ∷ []) args) n))) u
 gather-sound classes are body t weight array count u sound typed args n have =
     let q = gather_row-parts classes t weight array count u typed in
     let place = length t.params - 1 in
@@ -85,7 +94,8 @@ gather-sound classes are body t weight array count u sound typed args n have =
     subst (λ m. HaveTypes classes (part_of place m args) items) e (types-part classes args t.params items place 1 low have') in
     let run : Value → Done = λ v. body (spliced place count (v ∷ []) args) n in
     let done : Returns classes (or_throw (array_of q.0 (part_of place count args)) run) t.ret =
-    throw-value classes (array_of q.0 (part_of place count args)) (ty.Array q.0) t.ret run (array-converts classes are q.0 count (part_of place count args) own) (λ v made.
+    throw-value classes (array_of q.0 (part_of place count args)) (ty.Array q.0) t.ret run (array-converts classes are q.0 count (part_of place count args) own)
+        (λ v made.
     let one : HaveTypes classes (v ∷ []) (take 1 (drop place t.params)) =
     subst (HaveTypes classes (v ∷ [])) (sym (one-taken t.params place last.0 last.1)) (value-below classes are (ty.Array q.0) last.0 last.2 v made, tt) in
     let put = types-splice classes args (v ∷ []) t.params items place 1 low have' one in

@@ -18,7 +18,8 @@ types-length classes [] (t ∷ ts) h = absurd h
 types-length classes (x ∷ xs) [] h = absurd h
 types-length classes (x ∷ xs) (t ∷ ts) h = ap suc (types-length classes xs ts h.1)
 
-pub types-join : (classes : List Class) (xs ys : List Value) (ts us : List Ty) → HaveTypes classes xs ts → HaveTypes classes ys us → HaveTypes classes (xs ++ ys) (ts ++ us)
+pub types-join : (classes : List Class) (xs ys : List Value) (ts us : List Ty) → HaveTypes classes xs ts → HaveTypes classes ys us →
+    HaveTypes classes (xs ++ ys) (ts ++ us)
 types-join classes [] ys [] us h k = k
 types-join classes [] ys (t ∷ ts) us h k = absurd h
 types-join classes (x ∷ xs) ys [] us h k = absurd h
@@ -42,7 +43,8 @@ types-drop classes (x ∷ xs) [] (suc n) h = absurd h
 types-drop classes (x ∷ xs) (t ∷ ts) (suc n) h = types-drop classes xs ts n h.1
 
 -- the value at a place has the type there
-pub types-get : (classes : List Class) (xs : List Value) (ts : List Ty) (i : ℕ) (t : Ty) → HaveTypes classes xs ts → slice_get ts i ≡ Some t → (v : Value) × (slice_get xs i ≡ Some v) × (has_type classes v t ≡ true)
+pub types-get : (classes : List Class) (xs : List Value) (ts : List Ty) (i : ℕ) (t : Ty) → HaveTypes classes xs ts → slice_get ts i ≡ Some t →
+    (v : Value) × (slice_get xs i ≡ Some v) × (has_type classes v t ≡ true)
 types-get classes [] [] i t h is = absurd cc
 types-get classes [] (u ∷ ts) i t h is = absurd h
 types-get classes (x ∷ xs) [] i t h is = absurd h
@@ -50,7 +52,8 @@ types-get classes (x ∷ xs) (u ∷ ts) zero t h is = let e : u ≡ t = cc in (x
 types-get classes (x ∷ xs) (u ∷ ts) (suc i) t h is = types-get classes xs ts i t h.1 is
 
 -- chosen arguments have the types that are wanted
-pub types-picked : (classes : List Class) (args : List Value) (params : List Ty) (reorder : List ℕ) (types : List Ty) → HaveTypes classes args params → names_types params reorder types ≡ true → HaveTypes classes (picked args reorder) types
+pub types-picked : (classes : List Class) (args : List Value) (params : List Ty) (reorder : List ℕ) (types : List Ty) → HaveTypes classes args params →
+    names_types params reorder types ≡ true → HaveTypes classes (picked args reorder) types
 types-picked classes args params [] [] h named = tt
 types-picked classes args params [] (t ∷ types) h named = absurd cc
 types-picked classes args params (i ∷ reorder) [] h named = absurd cc

@@ -32,7 +32,8 @@ pub begins_element : (p : Place) (b : ℕ) (bs : List ℕ) (s : Standing) → el
 begins_element p b bs s told goes =
     elim (cases_Bool (b == 76)) [
       | inl e ↦
-          let is : Some (standing.Name p false) ≡ Some s = sym (ap (λ t. if t then Some (standing.Name p false) else (if is_base b then Some (behind p) else None)) e) ∙ told in
+          let is : Some (standing.Name p false) ≡ Some s =
+              sym (ap (λ t. if t then Some (standing.Name p false) else (if is_base b then Some (behind p) else None)) e) ∙ told in
           let n : NameFrom p false bs = subst (λ t. Goes t bs) (sym (some_is _ _ is)) goes in
           record {
             element = named n.name;
@@ -44,7 +45,8 @@ begins_element p b bs s told goes =
           }
       | inr e ↦ elim (cases_Bool (is_base b)) [
         | inl base ↦
-            let is : Some (behind p) ≡ Some s = sym (ap (λ t. if t then Some (standing.Name p false) else (if is_base b then Some (behind p) else None)) e ∙ ap (λ t. if t then Some (behind p) else None) base) ∙ told in
+            let is : Some (behind p) ≡ Some s = sym (ap (λ t. if t then Some (standing.Name p false) else (if is_base b then Some (behind p) else None)) e ∙
+                ap (λ t. if t then Some (behind p) else None) base) ∙ told in
             record {
               element = letter b;
               rest = bs;
@@ -54,7 +56,8 @@ begins_element p b bs s told goes =
               is = refl;
             }
         | inr base ↦
-            let is : None ≡ Some s = sym (ap (λ t. if t then Some (standing.Name p false) else (if is_base b then Some (behind p) else None)) e ∙ ap (λ t. if t then Some (behind p) else None) base) ∙ told in
+            let is : None ≡ Some s = sym (ap (λ t. if t then Some (standing.Name p false) else (if is_base b then Some (behind p) else None)) e ∙
+                ap (λ t. if t then Some (behind p) else None) base) ∙ told in
             cc
       ]
     ]

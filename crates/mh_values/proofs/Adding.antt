@@ -20,17 +20,23 @@ use Rattle.mh_values.proofs.Behind.{ascending-add, distinct-add, class_named-new
 
 -- ---- the map
 
-other_entries : {K X : Type 0} (eq : K → K → Bool) (test : K → Bool) (old new : List (K × X)) → KeepsOthers eq test old new → (other : K → Bool) → IsKeyTest eq other → AreApart test other → lookup other new ≡ lookup other old
+other_entries : {K X : Type 0} (eq : K → K → Bool) (test : K → Bool) (old new : List (K × X)) → KeepsOthers eq test old new → (other : K → Bool) →
+    IsKeyTest eq other → AreApart test other → lookup other new ≡ lookup other old
 unfolding KeepsOthers
 other_entries eq test old new h = h
 
 apart : (bs cs ks : List ℕ) → bytes_eq bs cs ≡ false → is_at (λ k. slice_cmp nat_cmp bs k) ks ≡ true → is_at (λ k. slice_cmp nat_cmp cs k) ks ≡ false
 apart bs cs ks n y = is_eq-slice_cmp cs ks ∙ (nat_list_eq_equiv.symm cs ks ∙ sym (nat_list_eq_equiv.congr bs ks cs (sym (is_eq-slice_cmp bs ks) ∙ y)) ∙ n)
 
-number_at-other : (m n : BTreeMap (Vec ℕ) ClassId) (key name : List ℕ) (w : Option ClassId) → UpdatesBy (λ (x y : Vec ℕ). slice_cmp nat_cmp x.items y.items) (λ k. slice_cmp nat_cmp key k.items) m n w → bytes_eq key name ≡ false → number_at n name ≡ number_at m name
-number_at-other m n key name w h e = other_entries _ _ _ _ h.3 _ (λ x y. (eq_by_cmp_equiv nat_list_cmp_total).congr name x.items y.items) (λ k. apart key name k.items e)
+number_at-other : (m n : BTreeMap (Vec ℕ) ClassId) (key name : List ℕ) (w : Option ClassId) → UpdatesBy (λ (x y : Vec ℕ). slice_cmp nat_cmp x.items y.items)
+    (λ k. slice_cmp nat_cmp key k.items) m n w → bytes_eq key name ≡ false → number_at n name ≡ number_at m name
+number_at-other m n key name w h e = other_entries _ _ _ _ h.3 _ (λ x y. (eq_by_cmp_equiv nat_list_cmp_total).congr name x.items y.items)
+    (λ k. apart key name k.items e)
 
-found-add : (m n : BTreeMap (Vec ℕ) ClassId) (xs : List Class) (y : Class) (key : List ℕ) (v : ClassId) → ((name : List ℕ) → number_at m name ≡ class_named xs name) → UpdatesBy (λ (x y : Vec ℕ). slice_cmp nat_cmp x.items y.items) (λ k. slice_cmp nat_cmp key k.items) m n (Some v) → class_named xs key ≡ None → y.name ≡ key → v ≡ class_at (length xs) → (name : List ℕ) → number_at n name ≡ class_named (xs ++ y ∷ []) name
+found-add : (m n : BTreeMap (Vec ℕ) ClassId) (xs : List Class) (y : Class) (key : List ℕ) (v : ClassId) →
+    ((name : List ℕ) → number_at m name ≡ class_named xs name) → UpdatesBy (λ (x y : Vec ℕ). slice_cmp nat_cmp x.items y.items)
+    (λ k. slice_cmp nat_cmp key k.items) m n (Some v) → class_named xs key ≡ None → y.name ≡ key → v ≡ class_at (length xs) → (name : List ℕ) →
+    number_at n name ≡ class_named (xs ++ y ∷ []) name
 found-add m n xs y key v old updates new same here name =
     elim (cases_Bool (bytes_eq key name)) [
       | inl e ↦
@@ -39,7 +45,9 @@ found-add m n xs y key v old updates new same here name =
       | inr e ↦ number_at-other m n key name (Some v) updates e ∙ old name ∙ sym (class_named-other xs y name (ap (λ l. bytes_eq l name) same ∙ e))
     ]
 
-pub registry-add : (m n : BTreeMap (Vec ℕ) ClassId) (xs ys : List Class) (y : Class) (key : List ℕ) (v : ClassId) → IsRegistry m xs → UpdatesBy (λ (x y : Vec ℕ). slice_cmp nat_cmp x.items y.items) (λ k. slice_cmp nat_cmp key k.items) m n (Some v) → class_named xs key ≡ None → y.name ≡ key → IsWithin (length xs) y.superclass → v.0 ≡ length xs → ys ≡ xs ++ y ∷ [] → IsRegistry n ys
+pub registry-add : (m n : BTreeMap (Vec ℕ) ClassId) (xs ys : List Class) (y : Class) (key : List ℕ) (v : ClassId) → IsRegistry m xs →
+    UpdatesBy (λ (x y : Vec ℕ). slice_cmp nat_cmp x.items y.items) (λ k. slice_cmp nat_cmp key k.items) m n (Some v) → class_named xs key ≡ None → y.name ≡ key
+    → IsWithin (length xs) y.superclass → v.0 ≡ length xs → ys ≡ xs ++ y ∷ [] → IsRegistry n ys
 registry-add m n xs ys y key v old updates new same within here pushed =
     subst (λ l. IsRegistry n l) (sym pushed) (record {
       ordered = record {

@@ -11,7 +11,8 @@ use Rattle.mh_values.specs.Classes.{name_of, named_from, class_named, IsAscendin
 
 -- ---- a list with one item more
 
-pub at_end : {A : Type 0} (xs : List A) (y z : A) (i : ℕ) → slice_get (xs ++ y ∷ []) i ≡ Some z → ((i < length xs) × (slice_get xs i ≡ Some z)) ⊎ ((i ≡ length xs) × (y ≡ z))
+pub at_end : {A : Type 0} (xs : List A) (y z : A) (i : ℕ) → slice_get (xs ++ y ∷ []) i ≡ Some z → ((i < length xs) × (slice_get xs i ≡ Some z))
+    ⊎ ((i ≡ length xs) × (y ≡ z))
 at_end [] y z zero h = inr (refl, cc)
 at_end [] y z (suc i) h = cc
 at_end (x ∷ xs) y z zero h = inl (omega arith, h)
@@ -32,7 +33,8 @@ found_in : (o : Option Class) (b : ClassId) → option_map_or (λ class. class.s
 found_in None b h = cc
 found_in (Some z) b h = (z, refl, h)
 
-superclass_of-some : (classes : List Class) (a b : ClassId) → superclass_of classes a ≡ Some b → (z : Class) × (slice_get classes a.0 ≡ Some z) × (z.superclass ≡ Some b)
+superclass_of-some : (classes : List Class) (a b : ClassId) → superclass_of classes a ≡ Some b → (z : Class) × (slice_get classes a.0 ≡ Some z)
+    × (z.superclass ≡ Some b)
 superclass_of-some classes a b h = found_in (slice_get classes a.0) b h
 
 pub ascending-add : (xs : List Class) (y : Class) → IsAscending xs → IsWithin (length xs) y.superclass → IsAscending (xs ++ y ∷ [])
@@ -50,12 +52,16 @@ abbrev or_else : {X : Type 0} → Option X → Option X → Option X
 or_else None p = p
 or_else (Some x) p = Some x
 
-named_from-add : (n : ℕ) (xs : List Class) (y : Class) (name : List ℕ) → named_from n (xs ++ y ∷ []) name ≡ or_else (named_from n xs name) (if bytes_eq y.name name then Some (class_at (n + length xs)) else None)
+named_from-add : (n : ℕ) (xs : List Class) (y : Class) (name : List ℕ) → named_from n (xs ++ y ∷ []) name ≡ or_else (named_from n xs name)
+    (if bytes_eq y.name name then Some (class_at (n + length xs)) else None)
 named_from-add n [] y name = ap (λ k. if bytes_eq y.name name then Some (class_at k) else None) (omega arith)
 named_from-add n (x ∷ xs) y name =
-    let later : named_from (n + 1) (xs ++ y ∷ []) name ≡ or_else (named_from (n + 1) xs name) (if bytes_eq y.name name then Some (class_at (n + suc (length xs))) else None) =
-    named_from-add (n + 1) xs y name ∙ ap (λ k. or_else (named_from (n + 1) xs name) (if bytes_eq y.name name then Some (class_at k) else None)) (omega arith) in
-    elim (bytes_eq x.name name) as (λ b. (if b then Some (class_at n) else named_from (n + 1) (xs ++ y ∷ []) name) ≡ or_else (if b then Some (class_at n) else named_from (n + 1) xs name) (if bytes_eq y.name name then Some (class_at (n + suc (length xs))) else None)) [
+    let later : named_from (n + 1) (xs ++ y ∷ []) name ≡ or_else (named_from (n + 1) xs name)
+        (if bytes_eq y.name name then Some (class_at (n + suc (length xs))) else None) =
+    named_from-add (n + 1) xs y name ∙ ap (λ k. or_else (named_from (n + 1) xs name) (if bytes_eq y.name name then Some (class_at k) else None)) (omega arith)
+        in
+    elim (bytes_eq x.name name) as (λ b. (if b then Some (class_at n) else named_from (n + 1) (xs ++ y ∷ []) name) ≡ or_else
+        (if b then Some (class_at n) else named_from (n + 1) xs name) (if bytes_eq y.name name then Some (class_at (n + suc (length xs))) else None)) [
       | true ↦ refl
       | false ↦ later
     ]
@@ -63,13 +69,16 @@ named_from-add n (x ∷ xs) y name =
 same_bytes : (a b : List ℕ) → a ≡ b → bytes_eq a b ≡ true
 same_bytes a b h = (bytes_eq-Decides a b).1 h
 
-pub class_named-add : (xs : List Class) (y : Class) (name : List ℕ) → class_named (xs ++ y ∷ []) name ≡ or_else (class_named xs name) (if bytes_eq y.name name then Some (class_at (length xs)) else None)
-class_named-add xs y name = named_from-add 0 xs y name ∙ ap (λ k. or_else (class_named xs name) (if bytes_eq y.name name then Some (class_at k) else None)) (omega arith)
+pub class_named-add : (xs : List Class) (y : Class) (name : List ℕ) → class_named (xs ++ y ∷ []) name ≡ or_else (class_named xs name)
+    (if bytes_eq y.name name then Some (class_at (length xs)) else None)
+class_named-add xs y name = named_from-add 0 xs y name ∙ ap (λ k. or_else (class_named xs name) (if bytes_eq y.name name then Some (class_at k) else None))
+    (omega arith)
 
 class_named-kept : (xs : List Class) (y : Class) (name : List ℕ) (c : ClassId) → class_named xs name ≡ Some c → class_named (xs ++ y ∷ []) name ≡ Some c
 class_named-kept xs y name c h = class_named-add xs y name ∙ ap (λ o. or_else o (if bytes_eq y.name name then Some (class_at (length xs)) else None)) h
 
-pub class_named-new : (xs : List Class) (y : Class) (name : List ℕ) → class_named xs name ≡ None → y.name ≡ name → class_named (xs ++ y ∷ []) name ≡ Some (class_at (length xs))
+pub class_named-new : (xs : List Class) (y : Class) (name : List ℕ) → class_named xs name ≡ None → y.name ≡ name →
+    class_named (xs ++ y ∷ []) name ≡ Some (class_at (length xs))
 class_named-new xs y name h same =
     class_named-add xs y name
     ∙ ap (λ o. or_else o (if bytes_eq y.name name then Some (class_at (length xs)) else None)) h
@@ -89,7 +98,8 @@ name_of-old : (xs : List Class) (y : Class) (c : ClassId) → c.0 < length xs �
 name_of-old xs y c within = ap (λ o. option_map_or (λ class. class.name) o []) (slice_get-old xs (y ∷ []) c.0 within)
 
 name_of-seam : (xs : List Class) (y : Class) (c : ClassId) → c.0 ≡ length xs → name_of (xs ++ y ∷ []) c ≡ y.name
-name_of-seam xs y c here = ap (λ n. option_map_or (λ class. class.name) (slice_get (xs ++ y ∷ []) n) []) here ∙ ap (λ o. option_map_or (λ class. class.name) o []) (slice_get-seam xs y)
+name_of-seam xs y c here = ap (λ n. option_map_or (λ class. class.name) (slice_get (xs ++ y ∷ []) n) []) here ∙
+    ap (λ o. option_map_or (λ class. class.name) o []) (slice_get-seam xs y)
 
 last_or_before : (c n : ℕ) → c < n + 1 → (c < n) ⊎ (c ≡ n)
 last_or_before c n h = grind arith

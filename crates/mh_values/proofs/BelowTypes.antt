@@ -26,7 +26,8 @@ in_front classes are = sym (take-append-drop 28 classes) ∙ ap (λ front. front
 
 -- a class that is built in and below Throwable, by computation
 pub throwable-below : (classes : List Class) → AreClasses classes → is_subclass classes throwable_class object_class ≡ true
-throwable-below classes are = let P : List Class → Type 0 = λ cs. is_subclass cs throwable_class object_class ≡ true in subst P (sym (in_front classes are)) refl
+throwable-below classes are = let P : List Class → Type 0 = λ cs. is_subclass cs throwable_class object_class ≡ true in
+    subst P (sym (in_front classes are)) refl
 
 pub internal_error-below : (classes : List Class) → AreClasses classes → is_subclass classes internal_error_class throwable_class ≡ true
 internal_error-below classes are =
@@ -69,7 +70,8 @@ way_on : (classes : List Class) (a b c : ClassId) → IsSubclass classes a b →
 way_on classes a b c itself more = more
 way_on classes a b c (above {b = d} is way) more = above is (way_on classes d b c way more)
 
-pub is_subclass-trans : (classes : List Class) → AreClasses classes → (a b c : ClassId) → is_subclass classes a b ≡ true → is_subclass classes b c ≡ true → is_subclass classes a c ≡ true
+pub is_subclass-trans : (classes : List Class) → AreClasses classes → (a b c : ClassId) → is_subclass classes a b ≡ true → is_subclass classes b c ≡ true →
+    is_subclass classes a c ≡ true
 is_subclass-trans classes are a b c h k =
     is_subclass-complete classes are.ordered.ascending a c
     (way_on classes a b c (reaches-sound (length classes) classes a b h) (reaches-sound (length classes) classes b c k))
@@ -80,13 +82,15 @@ pub component_below-itself : (classes : List Class) (c : Comp) → is_component_
 component_below-itself classes (comp.Prim p) = same_primitive-itself p
 component_below-itself classes (comp.Class c) = is_subclass-itself classes c
 
-component_below-trans : (classes : List Class) → AreClasses classes → (a b c : Comp) → is_component_below classes a b ≡ true → is_component_below classes b c ≡ true → is_component_below classes a c ≡ true
+component_below-trans : (classes : List Class) → AreClasses classes → (a b c : Comp) → is_component_below classes a b ≡ true →
+    is_component_below classes b c ≡ true → is_component_below classes a c ≡ true
 component_below-trans classes are (comp.Prim p) (comp.Prim q) c h k =
     let P : Primitive → Type 0 = λ r. is_component_below classes (comp.Prim r) c ≡ true in subst P (sym (same_primitive-is p q h)) k
 component_below-trans classes are (comp.Class a) (comp.Class b) (comp.Class c) h k = is_subclass-trans classes are a b c h k
 component_below-trans classes are a b c h k = absurd cc
 
-pub item-below : (classes : List Class) → AreClasses classes → (c d : Comp) → is_component_below classes c d ≡ true → (i : Cell) → is_item_of classes c i ≡ true → is_item_of classes d i ≡ true
+pub item-below : (classes : List Class) → AreClasses classes → (c d : Comp) → is_component_below classes c d ≡ true → (i : Cell) → is_item_of classes c i ≡ true
+    → is_item_of classes d i ≡ true
 item-below classes are (comp.Prim p) (comp.Prim q) h i k =
     let P : Primitive → Type 0 = λ r. is_item_of classes (comp.Prim r) i ≡ true in subst P (same_primitive-is p q h) k
 item-below classes are (comp.Class c) (comp.Class d) h (cell.Boxed n) k = is_subclass-trans classes are (wrapper_of (primitive_of n)) c d k h
@@ -108,7 +112,8 @@ item-typed classes c i k = absurd cc
 
 -- ---- values
 
-pub value-below : (classes : List Class) → AreClasses classes → (s t : Ty) → is_type_below classes s t ≡ true → (v : Value) → has_type classes v s ≡ true → has_type classes v t ≡ true
+pub value-below : (classes : List Class) → AreClasses classes → (s t : Ty) → is_type_below classes s t ≡ true → (v : Value) → has_type classes v s ≡ true →
+    has_type classes v t ≡ true
 value-below classes are (ty.Prim p) (ty.Prim q) h v k =
     let P : Primitive → Type 0 = λ r. has_type classes v (ty.Prim r) ≡ true in subst P (same_primitive-is p q h) k
 value-below classes are (ty.Class c) (ty.Class d) h (value.Boxed n) k = is_subclass-trans classes are (wrapper_of (primitive_of n)) c d k h

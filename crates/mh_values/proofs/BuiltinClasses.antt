@@ -24,10 +24,12 @@ string_named = refl
 throwable_named : class_named builtin_classes (codes "java/lang/Throwable") ≡ Some throwable_class
 throwable_named = refl
 
-errors_named : map (class_named builtin_classes) (codes "java/lang/InternalError" ∷ codes "java/lang/invoke/WrongMethodTypeException" ∷ codes "java/lang/ClassCastException" ∷ []) ≡ Some internal_error_class ∷ Some wrong_method_type_class ∷ Some class_cast_class ∷ []
+errors_named : map (class_named builtin_classes) (codes "java/lang/InternalError" ∷ codes "java/lang/invoke/WrongMethodTypeException" ∷ codes
+    "java/lang/ClassCastException" ∷ []) ≡ Some internal_error_class ∷ Some wrong_method_type_class ∷ Some class_cast_class ∷ []
 errors_named = refl
 
-exceptions_named : map (class_named builtin_classes) (codes "java/lang/NullPointerException" ∷ codes "java/lang/IllegalArgumentException" ∷ codes "java/lang/ArithmeticException" ∷ []) ≡ Some null_pointer_class ∷ Some illegal_argument_class ∷ Some arithmetic_class ∷ []
+exceptions_named : map (class_named builtin_classes) (codes "java/lang/NullPointerException" ∷ codes "java/lang/IllegalArgumentException" ∷ codes
+    "java/lang/ArithmeticException" ∷ []) ≡ Some null_pointer_class ∷ Some illegal_argument_class ∷ Some arithmetic_class ∷ []
 exceptions_named = refl
 
 unknown : class_named builtin_classes (codes "java/lang/Void") ≡ None

@@ -21,7 +21,8 @@ accepts_on s n b bs told more at = ap (λ o. option_map_or (λ m. first_bad (at 
 
 -- ---- names and elements
 
-name_accepts : (p : Place) (has : Bool) (name rest : List ℕ) → list_all is_name_byte name ≡ true → (has ≡ false → 0 < length name) → Accepts (behind p) rest → Accepts (standing.Name p has) (name ++ 59 ∷ rest)
+name_accepts : (p : Place) (has : Bool) (name rest : List ℕ) → list_all is_name_byte name ≡ true → (has ≡ false → 0 < length name) → Accepts (behind p) rest →
+    Accepts (standing.Name p has) (name ++ 59 ∷ rest)
 name_accepts p true [] rest good one more = accepts_on (standing.Name p true) (behind p) 59 rest refl more
 name_accepts p false [] rest good one more = absurd (omega (arith, one refl))
 name_accepts p has (b ∷ bs) rest good one more =
@@ -56,7 +57,8 @@ element_begins (letter b) good = record {
   no_array = base_other b 91 good refl;
   no_close = base_other b 41 good refl;
   no_void = base_other b 86 good refl;
-  goes = λ p rest more. (behind p, ap (λ t. if t then Some (standing.Name p false) else (if is_base b then Some (behind p) else None)) (base_other b 76 good refl) ∙ ap (λ t. if t then Some (behind p) else None) good, more);
+  goes = λ p rest more. (behind p, ap (λ t. if t then Some (standing.Name p false) else (if is_base b then Some (behind p) else None))
+      (base_other b 76 good refl) ∙ ap (λ t. if t then Some (behind p) else None) good, more);
 }
 element_begins (named name) good = record {
   first = 76;
@@ -66,22 +68,26 @@ element_begins (named name) good = record {
   no_array = refl;
   no_close = refl;
   no_void = refl;
-  goes = λ p rest more. (standing.Name p false, refl, subst (Accepts (standing.Name p false)) (sym (append_assoc name (59 ∷ []) rest)) (name_accepts p false name rest good.1 (λ h. good.0) more));
+  goes = λ p rest more. (standing.Name p false, refl, subst (Accepts (standing.Name p false)) (sym (append_assoc name (59 ∷ []) rest))
+      (name_accepts p false name rest good.1 (λ h. good.0) more));
 }
 
 -- ---- dimensions
 
-dimensions_accept : (p : Place) (e : Element) (rest : List ℕ) → IsElement e → Accepts (behind p) rest → (m k : ℕ) → k + m ≤ 255 → Accepts (standing.Dimensions p k) (replicate m 91 ++ (element_text e ++ rest))
+dimensions_accept : (p : Place) (e : Element) (rest : List ℕ) → IsElement e → Accepts (behind p) rest → (m k : ℕ) → k + m ≤ 255 →
+    Accepts (standing.Dimensions p k) (replicate m 91 ++ (element_text e ++ rest))
 dimensions_accept p e rest good more zero k few =
     let begins = element_begins e good in
     let goes = begins.goes p rest more in
     let step : next (standing.Dimensions p k) begins.first ≡ Some goes.0 =
     ap (λ t. if t then (if nat_le (k + 1) 255 then Some (standing.Dimensions p (k + 1)) else None) else element p begins.first) begins.no_array ∙ goes.1 in
-    subst (λ t. Accepts (standing.Dimensions p k) (t ++ rest)) (sym begins.is) (accepts_on (standing.Dimensions p k) goes.0 begins.first (begins.more ++ rest) step goes.2)
+    subst (λ t. Accepts (standing.Dimensions p k) (t ++ rest)) (sym begins.is) (accepts_on (standing.Dimensions p k) goes.0 begins.first (begins.more ++ rest)
+        step goes.2)
 dimensions_accept p e rest good more (suc m) k few =
     let step : next (standing.Dimensions p k) 91 ≡ Some (standing.Dimensions p (k + 1)) =
     ap (λ t. if t then Some (standing.Dimensions p (k + 1)) else None) (le-leb (k + 1) 255 (omega arith)) in
-    accepts_on (standing.Dimensions p k) (standing.Dimensions p (k + 1)) 91 (replicate m 91 ++ (element_text e ++ rest)) step (dimensions_accept p e rest good more m (k + 1) (omega arith))
+    accepts_on (standing.Dimensions p k) (standing.Dimensions p (k + 1)) 91 (replicate m 91 ++ (element_text e ++ rest)) step
+        (dimensions_accept p e rest good more m (k + 1) (omega arith))
 
 -- ---- types
 
@@ -116,7 +122,8 @@ spelled_begins (suc m) e few good = record {
   slots = sym (ap (λ t. if t then element_slots e else 1) (ne_eqb (suc m) 0 (λ h. cc)));
   no_close = refl;
   no_void = refl;
-  goes = λ p rest more. (standing.Dimensions p 1, refl, subst (Accepts (standing.Dimensions p 1)) (sym (append_assoc (replicate m 91) (element_text e) rest)) (dimensions_accept p e rest good more m 1 (omega arith)));
+  goes = λ p rest more. (standing.Dimensions p 1, refl, subst (Accepts (standing.Dimensions p 1)) (sym (append_assoc (replicate m 91) (element_text e) rest))
+      (dimensions_accept p e rest good more m 1 (omega arith)));
 }
 
 -- ---- method descriptors
@@ -126,10 +133,13 @@ close_accepts None good = λ at. refl
 close_accepts (Some t) good =
     let begins = spelled_begins t.dimensions t.element good.0 good.1 in
     let goes = begins.goes place.Last [] (λ at. refl) in
-    let step : next standing.Close begins.first ≡ Some goes.0 = ap (λ c. if c then Some standing.End else begun place.Last begins.first) begins.no_void ∙ goes.1 in
-    subst (Accepts standing.Close) (sym begins.is) (accepts_on standing.Close goes.0 begins.first begins.more step (subst (Accepts goes.0) (append-nil begins.more) goes.2))
+    let step : next standing.Close begins.first ≡ Some goes.0 = ap (λ c. if c then Some standing.End else begun place.Last begins.first) begins.no_void ∙
+        goes.1 in
+    subst (Accepts standing.Close) (sym begins.is) (accepts_on standing.Close goes.0 begins.first begins.more step
+        (subst (Accepts goes.0) (append-nil begins.more) goes.2))
 
-parameters_accept : (params : List Spelled) (ret : Option Spelled) (n : ℕ) → AreSpelled params → IsReturn ret → n + all_slots params ≤ 255 → Accepts (standing.Parameters n) (texts_of params ++ 41 ∷ return_spelled ret)
+parameters_accept : (params : List Spelled) (ret : Option Spelled) (n : ℕ) → AreSpelled params → IsReturn ret → n + all_slots params ≤ 255 →
+    Accepts (standing.Parameters n) (texts_of params ++ 41 ∷ return_spelled ret)
 parameters_accept [] ret n good returns few = accepts_on (standing.Parameters n) standing.Close 41 (return_spelled ret) refl (close_accepts ret returns)
 parameters_accept (t ∷ ts) ret n good returns few =
     let begins = spelled_begins t.dimensions t.element good.0.0 good.0.1 in
@@ -146,4 +156,5 @@ parameters_accept (t ∷ ts) ret n good returns few =
 
 pub descriptor_complete : (text : List ℕ) → IsMethodDescriptor text → descriptor_fault text ≡ None
 descriptor_complete text d =
-    subst (λ t. first_bad 0 standing.Front t ≡ None) (sym d.is) (accepts_on standing.Front (standing.Parameters 0) 40 (texts_of d.params ++ 41 ∷ return_spelled d.ret) refl (parameters_accept d.params d.ret 0 d.spelled d.returns (omega (arith, d.few))) 0)
+    subst (λ t. first_bad 0 standing.Front t ≡ None) (sym d.is) (accepts_on standing.Front (standing.Parameters 0) 40 (texts_of d.params ++ 41 ∷ return_spelled
+        d.ret) refl (parameters_accept d.params d.ret 0 d.spelled d.returns (omega (arith, d.few))) 0)

@@ -27,7 +27,8 @@ accepts_from (standing.Types some) = (73 ∷ [], λ at. refl)
 accepts_from (standing.Dimensions p k) = let rest = accepts_behind p in (73 ∷ rest.0, accepts_on (standing.Dimensions p k) (behind p) 73 rest.0 refl rest.1)
 accepts_from (standing.Name p has) =
     let rest = accepts_behind p in
-    (97 ∷ 59 ∷ rest.0, accepts_on (standing.Name p has) (standing.Name p true) 97 (59 ∷ rest.0) refl (accepts_on (standing.Name p true) (behind p) 59 rest.0 refl rest.1))
+    (97 ∷ 59 ∷ rest.0, accepts_on (standing.Name p has) (standing.Name p true) 97 (59 ∷ rest.0) refl (accepts_on (standing.Name p true) (behind p) 59 rest.0
+        refl rest.1))
 accepts_from standing.End = ([], λ at. refl)
 
 -- ---- where a text goes wrong
@@ -57,7 +58,8 @@ wrong_later s n b bs k told wrong = record {
   here = λ h rest at none.
       let shorter : k < length bs = omega arith in
       let later : first_bad at s (take (suc k + 1) (b ∷ bs) ++ rest) ≡ first_bad (at + 1) n (take (k + 1) bs ++ rest) =
-      ap (λ j. first_bad at s (take j (b ∷ bs) ++ rest)) one_more ∙ ap (λ o. option_map_or (λ m. first_bad (at + 1) m (take (k + 1) bs ++ rest)) o (Some at)) told in
+      ap (λ j. first_bad at s (take j (b ∷ bs) ++ rest)) one_more ∙ ap (λ o. option_map_or (λ m. first_bad (at + 1) m (take (k + 1) bs ++ rest)) o (Some at))
+          told in
       wrong.here shorter rest (at + 1) (sym later ∙ none);
 }
   where
@@ -78,7 +80,9 @@ at_end s at p told =
       | inr e ↦ let is : Some at ≡ Some p = sym (ap (λ t. if t then None else Some at) e) ∙ told in omega (arith, same_number at p is)
     ]
 
-wrong_on : (s : Standing) (b : ℕ) (bs : List ℕ) (at p : ℕ) (o : Option Standing) → next s b ≡ o → ((n : Standing) → first_bad (at + 1) n bs ≡ Some p → (k : ℕ) × (p ≡ at + 1 + k) × GoesWrong n bs k) → option_map_or (λ n. first_bad (at + 1) n bs) o (Some at) ≡ Some p → (k : ℕ) × (p ≡ at + k) × GoesWrong s (b ∷ bs) k
+wrong_on : (s : Standing) (b : ℕ) (bs : List ℕ) (at p : ℕ) (o : Option Standing) → next s b ≡ o → ((n : Standing) → first_bad (at + 1) n bs ≡ Some p →
+    (k : ℕ) × (p ≡ at + 1 + k) × GoesWrong n bs k) → option_map_or (λ n. first_bad (at + 1) n bs) o (Some at) ≡ Some p → (k : ℕ) × (p ≡ at + k)
+    × GoesWrong s (b ∷ bs) k
 wrong_on s b bs at p None told more is = (0, omega (arith, same_number at p is), wrong_here s b bs told)
 wrong_on s b bs at p (Some n) told more is =
     let later = more n is in

@@ -19,7 +19,8 @@ use Rattle.mh_values.specs.TypeText.{type_text, return_text, method_type_text}
 use Rattle.mh_values.proofs.TypeSpelling.{is_type_named, begun_bad, class-joined, type-read, both-true}
 
 -- where the first byte of a type leads behind parameters that take so many slots
-param-begun : (classes : List Class) (at s : ℕ) (t : Ty) (rest : List ℕ) → nat_le (s + slots_of t) 255 ≡ true → first_bad at (standing.Parameters s) (type_text classes t ++ rest) ≡ begun_bad at (place.Parameter (s + slots_of t)) (type_text classes t ++ rest)
+param-begun : (classes : List Class) (at s : ℕ) (t : Ty) (rest : List ℕ) → nat_le (s + slots_of t) 255 ≡ true →
+    first_bad at (standing.Parameters s) (type_text classes t ++ rest) ≡ begun_bad at (place.Parameter (s + slots_of t)) (type_text classes t ++ rest)
 param-begun classes at s (ty.Prim primitive.Z) rest few = rw few refl
 param-begun classes at s (ty.Prim primitive.I) rest few = rw few refl
 param-begun classes at s (ty.Prim primitive.J) rest few = rw few refl
@@ -32,7 +33,9 @@ within_slots : (n : ℕ) → n ≤ 255 → nat_le n 255 ≡ true
 within_slots n h = grind (arith, nat_tests)
 
 -- behind all parameters
-params-read : (classes : List Class) (at s : ℕ) (ts : List Ty) (rest : List ℕ) → list_all (is_type_named classes) ts ≡ true → s + slots_of_all ts ≤ 255 → first_bad at (standing.Parameters s) (flat_map (type_text classes) ts ++ rest) ≡ first_bad (at + length (flat_map (type_text classes) ts)) (standing.Parameters (s + slots_of_all ts)) rest
+params-read : (classes : List Class) (at s : ℕ) (ts : List Ty) (rest : List ℕ) → list_all (is_type_named classes) ts ≡ true → s + slots_of_all ts ≤ 255 →
+    first_bad at (standing.Parameters s) (flat_map (type_text classes) ts ++ rest) ≡ first_bad (at + length (flat_map (type_text classes) ts))
+    (standing.Parameters (s + slots_of_all ts)) rest
 params-read classes at s [] rest good few =
     ap (λ n. first_bad n (standing.Parameters s) rest) (omega arith) ∙ ap (λ n. first_bad (at + 0) (standing.Parameters n) rest) (omega arith)
 params-read classes at s (t ∷ ts) rest good few =
@@ -57,7 +60,8 @@ is_return_named classes None = true
 is_return_named classes (Some t) = is_type_named classes t
 
 -- where the first byte of a type leads behind the parameters
-close-begun : (classes : List Class) (at : ℕ) (t : Ty) (rest : List ℕ) → first_bad at standing.Close (type_text classes t ++ rest) ≡ begun_bad at place.Last (type_text classes t ++ rest)
+close-begun : (classes : List Class) (at : ℕ) (t : Ty) (rest : List ℕ) → first_bad at standing.Close (type_text classes t ++ rest) ≡ begun_bad at place.Last
+    (type_text classes t ++ rest)
 close-begun classes at (ty.Prim primitive.Z) rest = refl
 close-begun classes at (ty.Prim primitive.I) rest = refl
 close-begun classes at (ty.Prim primitive.J) rest = refl
@@ -66,7 +70,8 @@ close-begun classes at (ty.Class c) rest =
     subst P (sym (class-joined (name_of classes c) rest)) refl
 close-begun classes at (ty.Array c) rest = refl
 
-return-read : (classes : List Class) (at : ℕ) (ret : Option Ty) → is_return_named classes ret ≡ true → first_bad at standing.Close (return_text classes ret) ≡ None
+return-read : (classes : List Class) (at : ℕ) (ret : Option Ty) → is_return_named classes ret ≡ true →
+    first_bad at standing.Close (return_text classes ret) ≡ None
 return-read classes at None good = refl
 return-read classes at (Some t) good =
     ap (first_bad at standing.Close) (sym (append-nil (type_text classes t)))

@@ -33,18 +33,21 @@ name-bytes : (name : List ℕ) → is_name name ≡ true → list_all is_name_by
 name-bytes [] good = absurd cc
 name-bytes (b ∷ bs) good = good
 
-class-piece : (name rest : List ℕ) → is_name name ≡ true → pieces false ((codes "L" ++ name ++ codes ";") ++ rest) ≡ (codes "L" ++ name ++ codes ";") ∷ pieces false rest
+class-piece : (name rest : List ℕ) → is_name name ≡ true → pieces false ((codes "L" ++ name ++ codes ";") ++ rest) ≡ (codes "L" ++ name ++ codes ";") ∷ pieces
+    false rest
 class-piece name rest good =
     ap (pieces false) (class-joined name rest) ∙ rw (name-piece name rest (name-bytes name good)) refl
 
-component-piece : (classes : List Class) (c : Comp) (rest : List ℕ) → is_component_named classes c ≡ true → pieces false (component_text classes c ++ rest) ≡ component_text classes c ∷ pieces false rest
+component-piece : (classes : List Class) (c : Comp) (rest : List ℕ) → is_component_named classes c ≡ true →
+    pieces false (component_text classes c ++ rest) ≡ component_text classes c ∷ pieces false rest
 component-piece classes (comp.Prim primitive.Z) rest good = refl
 component-piece classes (comp.Prim primitive.I) rest good = refl
 component-piece classes (comp.Prim primitive.J) rest good = refl
 component-piece classes (comp.Class c) rest good = class-piece (name_of classes c) rest good
 
 -- a type is one piece
-type-piece : (classes : List Class) (t : Ty) (rest : List ℕ) → is_type_named classes t ≡ true → pieces false (type_text classes t ++ rest) ≡ type_text classes t ∷ pieces false rest
+type-piece : (classes : List Class) (t : Ty) (rest : List ℕ) → is_type_named classes t ≡ true → pieces false (type_text classes t ++ rest) ≡ type_text classes t
+    ∷ pieces false rest
 type-piece classes (ty.Prim primitive.Z) rest good = refl
 type-piece classes (ty.Prim primitive.I) rest good = refl
 type-piece classes (ty.Prim primitive.J) rest good = refl
@@ -52,7 +55,8 @@ type-piece classes (ty.Class c) rest good = class-piece (name_of classes c) rest
 type-piece classes (ty.Array c) rest good = rw (component-piece classes c rest good) refl
 
 -- types are as many pieces
-types-pieces : (classes : List Class) (ts : List Ty) (rest : List ℕ) → list_all (is_type_named classes) ts ≡ true → pieces false (flat_map (type_text classes) ts ++ rest) ≡ map (type_text classes) ts ++ pieces false rest
+types-pieces : (classes : List Class) (ts : List Ty) (rest : List ℕ) → list_all (is_type_named classes) ts ≡ true →
+    pieces false (flat_map (type_text classes) ts ++ rest) ≡ map (type_text classes) ts ++ pieces false rest
 types-pieces classes [] rest good = refl
 types-pieces classes (t ∷ ts) rest good =
     let parts = both-true (is_type_named classes t) (list_all (is_type_named classes) ts) good in
@@ -60,7 +64,8 @@ types-pieces classes (t ∷ ts) rest good =
     ∙ type-piece classes t (flat_map (type_text classes) ts ++ rest) parts.0
     ∙ ap (λ ps. type_text classes t ∷ ps) (types-pieces classes ts rest parts.1)
 
-return-piece : (classes : List Class) (ret : Option Ty) → is_return_named classes ret ≡ true → pieces false (return_text classes ret) ≡ return_text classes ret ∷ []
+return-piece : (classes : List Class) (ret : Option Ty) → is_return_named classes ret ≡ true → pieces false (return_text classes ret) ≡ return_text classes ret
+    ∷ []
 return-piece classes None good = refl
 return-piece classes (Some t) good =
     ap (pieces false) (sym (append-nil (type_text classes t))) ∙ type-piece classes t [] good
@@ -76,7 +81,8 @@ IsTypeOf classes (ty.Prim p) = Unit {0}
 IsTypeOf classes (ty.Class c) = c.0 < length classes
 IsTypeOf classes (ty.Array c) = IsComponentOf classes c
 
-class-means : (classes : List Class) (at : ℕ) (c : ClassId) → IsDistinct classes → c.0 < length classes → class_meant classes at (take (length (name_of classes c ++ 59 ∷ []) - 1) (name_of classes c ++ 59 ∷ [])) ≡ Ok (comp.Class c)
+class-means : (classes : List Class) (at : ℕ) (c : ClassId) → IsDistinct classes → c.0 < length classes →
+    class_meant classes at (take (length (name_of classes c ++ 59 ∷ []) - 1) (name_of classes c ++ 59 ∷ [])) ≡ Ok (comp.Class c)
 class-means classes at c distinct within =
     let name = name_of classes c in
     let long : length (name ++ 59 ∷ []) - 1 ≡ length name = omega (arith, length-append name (59 ∷ [])) in
@@ -99,7 +105,8 @@ abbrev pub AreTypesOf : List Class → List Ty → Type 0
 AreTypesOf classes [] = Unit {0}
 AreTypesOf classes (t ∷ ts) = IsTypeOf classes t × AreTypesOf classes ts
 
-types-mean : (classes : List Class) (at : ℕ) (ts : List Ty) → IsDistinct classes → AreTypesOf classes ts → types_meant classes at (map (type_text classes) ts) ≡ Ok ts
+types-mean : (classes : List Class) (at : ℕ) (ts : List Ty) → IsDistinct classes → AreTypesOf classes ts →
+    types_meant classes at (map (type_text classes) ts) ≡ Ok ts
 types-mean classes at [] distinct of = refl
 types-mean classes at (t ∷ ts) distinct of =
     rw (type-means classes at t distinct of.0, types-mean classes (at + length (type_text classes t)) ts distinct of.1) refl
@@ -116,13 +123,15 @@ abbrev pub IsReturnOf : List Class → Option Ty → Type 0
 IsReturnOf classes None = Unit {0}
 IsReturnOf classes (Some t) = IsTypeOf classes t
 
-return-means : (classes : List Class) (at : ℕ) (ret : Option Ty) → IsDistinct classes → IsReturnOf classes ret → return_meant classes at (return_text classes ret) ≡ Ok ret
+return-means : (classes : List Class) (at : ℕ) (ret : Option Ty) → IsDistinct classes → IsReturnOf classes ret →
+    return_meant classes at (return_text classes ret) ≡ Ok ret
 return-means classes at None distinct of = refl
 return-means classes at (Some t) distinct of = rw (no_void classes t, type-means classes at t distinct of) refl
 
 -- ---- the text of a method type is read back as that type
 
-pub desc-text : (classes : List Class) (t : MethodTy) → IsDistinct classes → IsWritable classes t → AreTypesOf classes t.params → IsReturnOf classes t.ret → desc classes (method_type_text classes t) ≡ Ok t
+pub desc-text : (classes : List Class) (t : MethodTy) → IsDistinct classes → IsWritable classes t → AreTypesOf classes t.params → IsReturnOf classes t.ret →
+    desc classes (method_type_text classes t) ≡ Ok t
 desc-text classes t distinct writable params ret =
     let texts = map (type_text classes) t.params in
     let last = return_text classes t.ret in

@@ -41,7 +41,8 @@ one_more n b text few begins =
       spelled = (begins.good, rest.spelled);
       returns = rest.returns;
       few = λ h. omega (arith, rest.few few, begins.slots);
-      is = begins.is ∙ ap (λ t. spelled_text begins.type ++ t) rest.is ∙ sym (append_assoc (spelled_text begins.type) (texts_of rest.params) (41 ∷ return_spelled rest.ret));
+      is = begins.is ∙ ap (λ t. spelled_text begins.type ++ t) rest.is ∙
+          sym (append_assoc (spelled_text begins.type) (texts_of rest.params) (41 ∷ return_spelled rest.ret));
     }
 
 parameters_step : (n b : ℕ) (s : Standing) (bs : List ℕ) → next (standing.Parameters n) b ≡ Some s → Goes s bs → ParametersFrom n (b ∷ bs)
@@ -62,7 +63,8 @@ parameters_step n b s bs told goes =
           let more : parameter n b ≡ Some s = sym (ap (λ t. if t then Some standing.Close else parameter n b) e) ∙ told in
           elim (cases_Bool (nat_le (n + slots_from b) 255)) [
             | inl few ↦
-                let begun_so : begun (place.Parameter (n + slots_from b)) b ≡ Some s = sym (ap (λ t. if t then begun (place.Parameter (n + slots_from b)) b else None) few) ∙ more in
+                let begun_so : begun (place.Parameter (n + slots_from b)) b ≡ Some s =
+                    sym (ap (λ t. if t then begun (place.Parameter (n + slots_from b)) b else None) few) ∙ more in
                 one_more n b (b ∷ bs) (leb-true _ _ few) (begins_type (place.Parameter (n + slots_from b)) b bs s begun_so goes)
             | inr few ↦ let is : None ≡ Some s = sym (ap (λ t. if t then begun (place.Parameter (n + slots_from b)) b else None) few) ∙ more in cc
           ]
@@ -118,7 +120,8 @@ end_goes at (standing.Dimensions p k) told = cc
 end_goes at (standing.Name p has) told = cc
 end_goes at standing.End told = refl
 
-on : (at : ℕ) (s : Standing) (b : ℕ) (bs : List ℕ) (o : Option Standing) → next s b ≡ o → ((n : Standing) → first_bad (at + 1) n bs ≡ None → Goes n bs) → option_map_or (λ n. first_bad (at + 1) n bs) o (Some at) ≡ None → Goes s (b ∷ bs)
+on : (at : ℕ) (s : Standing) (b : ℕ) (bs : List ℕ) (o : Option Standing) → next s b ≡ o → ((n : Standing) → first_bad (at + 1) n bs ≡ None → Goes n bs) →
+    option_map_or (λ n. first_bad (at + 1) n bs) o (Some at) ≡ None → Goes s (b ∷ bs)
 on at s b bs None told more none = cc
 on at s b bs (Some n) told more none = step_goes s b n bs told (more n none)
 

@@ -17,7 +17,8 @@ same_class a b h = ap class_at (eqb-true a.0 b.0 h)
 
 -- ---- what the test finds is there
 
-by_superclass : (steps : ℕ) (classes : List Class) (a b : ClassId) (o : Option ClassId) → superclass_of classes a ≡ o → ((c : ClassId) → reaches_within steps classes c b ≡ true → IsSubclass classes c b) → through steps classes b o ≡ true → IsSubclass classes a b
+by_superclass : (steps : ℕ) (classes : List Class) (a b : ClassId) (o : Option ClassId) → superclass_of classes a ≡ o →
+    ((c : ClassId) → reaches_within steps classes c b ≡ true → IsSubclass classes c b) → through steps classes b o ≡ true → IsSubclass classes a b
 by_superclass steps classes a b None is more h = cc
 by_superclass steps classes a b (Some c) is more h = above is (more c h)
 
@@ -35,7 +36,8 @@ reaches-here : (steps : ℕ) (classes : List Class) (a : ClassId) → reaches_wi
 reaches-here zero classes a = eq-eqb a.0 a.0 refl
 reaches-here (suc steps) classes a = or_left _ _ (eq-eqb a.0 a.0 refl)
 
-reaches-complete : (classes : List Class) → IsAscending classes → (a b : ClassId) → IsSubclass classes a b → (steps : ℕ) → a.0 ≤ steps → reaches_within steps classes a b ≡ true
+reaches-complete : (classes : List Class) → IsAscending classes → (a b : ClassId) → IsSubclass classes a b → (steps : ℕ) → a.0 ≤ steps →
+    reaches_within steps classes a b ≡ true
 reaches-complete classes ascending a b itself steps enough = reaches-here steps classes a
 reaches-complete classes ascending a b (above {b = c} is more) zero enough = absurd (omega (arith, ascending a c is))
 reaches-complete classes ascending a b (above {b = c} is more) (suc steps) enough =
@@ -65,11 +67,13 @@ same_tests : (x y : Bool) → (x ≡ true → y ≡ true) → (y ≡ true → x 
 same_tests true y f g = sym (f refl)
 same_tests false y f g = sym (false_from_ne_true y (λ h. cc (g h)))
 
-through_or_here : (classes : List Class) (a b : ClassId) → IsSubclass classes a b → (a ≡ b) ⊎ ((c : ClassId) × (superclass_of classes a ≡ Some c) × IsSubclass classes c b)
+through_or_here : (classes : List Class) (a b : ClassId) → IsSubclass classes a b → (a ≡ b) ⊎ ((c : ClassId) × (superclass_of classes a ≡ Some c)
+    × IsSubclass classes c b)
 through_or_here classes a b itself = inl refl
 through_or_here classes a b (above {b = c} is more) = inr (c, is, more)
 
-pub is_subclass-up : (classes : List Class) → IsAscending classes → (a b c : ClassId) → superclass_of classes a ≡ Some c → (a ≡ b → ⊥) → is_subclass classes a b ≡ is_subclass classes c b
+pub is_subclass-up : (classes : List Class) → IsAscending classes → (a b c : ClassId) → superclass_of classes a ≡ Some c → (a ≡ b → ⊥) →
+    is_subclass classes a b ≡ is_subclass classes c b
 is_subclass-up classes ascending a b c is other =
     same_tests (is_subclass classes a b) (is_subclass classes c b) (λ h.
     elim (through_or_here classes a b (reaches-sound (length classes) classes a b h)) [

@@ -41,14 +41,16 @@ goes_on p has b h =
     rw (ends, bad)
 
 -- behind a name and its `;`
-name-read : (at : ℕ) (p : Place) (name rest : List ℕ) → list_all is_name_byte name ≡ true → first_bad at (standing.Name p true) (name ++ 59 ∷ rest) ≡ first_bad (at + length name + 1) (behind p) rest
+name-read : (at : ℕ) (p : Place) (name rest : List ℕ) → list_all is_name_byte name ≡ true → first_bad at (standing.Name p true) (name ++ 59 ∷ rest) ≡ first_bad
+    (at + length name + 1) (behind p) rest
 name-read at p [] rest good = ap (λ n. first_bad n (behind p) rest) (omega arith)
 name-read at p (b ∷ bs) rest good =
     let parts = both-true (is_name_byte b) (list_all is_name_byte bs) good in
     rw (goes_on p true b parts.0) (name-read (at + 1) p bs rest parts.1 ∙ ap (λ n. first_bad n (behind p) rest) (omega arith))
 
 -- the same from the name's first byte on
-pub class-read : (at : ℕ) (p : Place) (name rest : List ℕ) → is_name name ≡ true → first_bad at (standing.Name p false) (name ++ 59 ∷ rest) ≡ first_bad (at + length name + 1) (behind p) rest
+pub class-read : (at : ℕ) (p : Place) (name rest : List ℕ) → is_name name ≡ true → first_bad at (standing.Name p false) (name ++ 59 ∷ rest) ≡ first_bad
+    (at + length name + 1) (behind p) rest
 class-read at p [] rest good = absurd cc
 class-read at p (b ∷ bs) rest good =
     let parts = both-true (is_name_byte b) (list_all is_name_byte bs) good in
@@ -74,7 +76,8 @@ begun_bad at p (b ∷ bs) = option_map_or (λ n. first_bad (at + 1) n bs) (begun
 pub class-joined : (name rest : List ℕ) → (codes "L" ++ name ++ codes ";") ++ rest ≡ 76 ∷ (name ++ 59 ∷ rest)
 class-joined name rest = ap (λ xs. 76 ∷ xs) (append_assoc name (59 ∷ []) rest)
 
-component-read : (classes : List Class) (at : ℕ) (p : Place) (c : Comp) (rest : List ℕ) → is_component_named classes c ≡ true → first_bad at (standing.Dimensions p 1) (component_text classes c ++ rest) ≡ first_bad (at + length (component_text classes c)) (behind p) rest
+component-read : (classes : List Class) (at : ℕ) (p : Place) (c : Comp) (rest : List ℕ) → is_component_named classes c ≡ true →
+    first_bad at (standing.Dimensions p 1) (component_text classes c ++ rest) ≡ first_bad (at + length (component_text classes c)) (behind p) rest
 component-read classes at p (comp.Prim primitive.Z) rest good = refl
 component-read classes at p (comp.Prim primitive.I) rest good = refl
 component-read classes at p (comp.Prim primitive.J) rest good = refl
@@ -83,7 +86,8 @@ component-read classes at p (comp.Class c) rest good =
     ∙ class-read (at + 1) p (name_of classes c) rest good
     ∙ ap (λ n. first_bad n (behind p) rest) (omega (arith, length-append (name_of classes c) (59 ∷ [])))
 
-pub type-read : (classes : List Class) (at : ℕ) (p : Place) (t : Ty) (rest : List ℕ) → is_type_named classes t ≡ true → begun_bad at p (type_text classes t ++ rest) ≡ first_bad (at + length (type_text classes t)) (behind p) rest
+pub type-read : (classes : List Class) (at : ℕ) (p : Place) (t : Ty) (rest : List ℕ) → is_type_named classes t ≡ true →
+    begun_bad at p (type_text classes t ++ rest) ≡ first_bad (at + length (type_text classes t)) (behind p) rest
 type-read classes at p (ty.Prim primitive.Z) rest good = refl
 type-read classes at p (ty.Prim primitive.I) rest good = refl
 type-read classes at p (ty.Prim primitive.J) rest good = refl

@@ -22,9 +22,11 @@ IsSubclass-trans : (classes : List Class) (a b c : ClassId) → IsSubclass class
 IsSubclass-trans classes a b c itself more = more
 IsSubclass-trans classes a b c (above {b = d} is rest) more = above is (IsSubclass-trans classes d b c rest more)
 
-pub is_subclass-trans : (classes : List Class) → IsAscending classes → (a b c : ClassId) → is_subclass classes a b ≡ true → is_subclass classes b c ≡ true → is_subclass classes a c ≡ true
+pub is_subclass-trans : (classes : List Class) → IsAscending classes → (a b c : ClassId) → is_subclass classes a b ≡ true → is_subclass classes b c ≡ true →
+    is_subclass classes a c ≡ true
 is_subclass-trans classes ascending a b c h k =
-    is_subclass-complete classes ascending a c (IsSubclass-trans classes a b c ((is_subclass-law classes ascending a b).0 h) ((is_subclass-law classes ascending b c).0 k))
+    is_subclass-complete classes ascending a c (IsSubclass-trans classes a b c ((is_subclass-law classes ascending a b).0 h)
+        ((is_subclass-law classes ascending b c).0 k))
 
 -- nothing is above `java/lang/Object`
 first_of : (classes : List Class) (n : ℕ) → superclass_of (take (suc n) classes) object_class ≡ superclass_of classes object_class
@@ -61,7 +63,8 @@ component_below-itself : (classes : List Class) (c : Comp) → is_component_belo
 component_below-itself classes (comp.Prim p) = same_primitive-itself p
 component_below-itself classes (comp.Class c) = is_subclass-itself classes c
 
-component_below-trans : (classes : List Class) → IsAscending classes → (a b c : Comp) → is_component_below classes a b ≡ true → is_component_below classes b c ≡ true → is_component_below classes a c ≡ true
+component_below-trans : (classes : List Class) → IsAscending classes → (a b c : Comp) → is_component_below classes a b ≡ true →
+    is_component_below classes b c ≡ true → is_component_below classes a c ≡ true
 component_below-trans classes ascending (comp.Prim p) (comp.Prim q) (comp.Prim r) h k = same_primitive-trans p q r h k
 component_below-trans classes ascending (comp.Class a) (comp.Class b) (comp.Class c) h k = is_subclass-trans classes ascending a b c h k
 component_below-trans classes ascending (comp.Prim p) (comp.Prim q) (comp.Class c) h k = cc
@@ -72,7 +75,8 @@ component_below-trans classes ascending (comp.Class a) (comp.Class b) (comp.Prim
 -- ---- values
 
 -- a value of a class has each class above it
-class_up : (classes : List Class) → AreClasses classes → (v : Value) (c d : ClassId) → is_subclass classes c d ≡ true → has_class classes v c ≡ true → has_class classes v d ≡ true
+class_up : (classes : List Class) → AreClasses classes → (v : Value) (c d : ClassId) → is_subclass classes c d ≡ true → has_class classes v c ≡ true →
+    has_class classes v d ≡ true
 class_up classes sound (value.Prim n) c d below h = cc
 class_up classes sound (value.Boxed n) c d below h = is_subclass-trans classes sound.ordered.ascending _ c d h below
 class_up classes sound (value.Text s) c d below h = is_subclass-trans classes sound.ordered.ascending _ c d h below
@@ -84,10 +88,12 @@ class_up classes sound (value.Array own items) c d below h =
     and_from (d.0 == 0) (are_items_of classes own items) (object_top classes sound d (ap (λ a. is_subclass classes a d) (sym object) ∙ below)) parts.1
 class_up classes sound value.Null c d below h = refl
 
-component_up : (classes : List Class) → AreClasses classes → (v : Value) (c d : Comp) → is_component_below classes c d ≡ true → has_component classes v c ≡ true → has_component classes v d ≡ true
+component_up : (classes : List Class) → AreClasses classes → (v : Value) (c d : Comp) → is_component_below classes c d ≡ true → has_component classes v c ≡ true
+    → has_component classes v d ≡ true
 component_up classes sound (value.Array own items) c d below h =
     let parts = and_parts (is_component_below classes own c) (are_items_of classes own items) h in
-    and_from (is_component_below classes own d) (are_items_of classes own items) (component_below-trans classes sound.ordered.ascending own c d parts.0 below) parts.1
+    and_from (is_component_below classes own d) (are_items_of classes own items) (component_below-trans classes sound.ordered.ascending own c d parts.0 below)
+        parts.1
 component_up classes sound value.Null c d below h = refl
 component_up classes sound (value.Prim n) c d below h = cc
 component_up classes sound (value.Boxed n) c d below h = cc
@@ -96,7 +102,8 @@ component_up classes sound (value.Object own k) c d below h = cc
 component_up classes sound (value.Thrown e) c d below h = cc
 
 array_up : (classes : List Class) (v : Value) (c : Comp) (d : ClassId) → (d.0 == 0) ≡ true → has_component classes v c ≡ true → has_class classes v d ≡ true
-array_up classes (value.Array own items) c d object h = and_from (d.0 == 0) (are_items_of classes own items) object (and_parts (is_component_below classes own c) (are_items_of classes own items) h).1
+array_up classes (value.Array own items) c d object h =
+    and_from (d.0 == 0) (are_items_of classes own items) object (and_parts (is_component_below classes own c) (are_items_of classes own items) h).1
 array_up classes value.Null c d object h = refl
 array_up classes (value.Prim n) c d object h = cc
 array_up classes (value.Boxed n) c d object h = cc
@@ -111,7 +118,8 @@ IsReference (ty.Class c) = Unit {0}
 IsReference (ty.Array c) = Unit {0}
 
 -- a value of a type has each type above it
-pub type_up : (classes : List Class) → AreClasses classes → (s t : Ty) → IsReference s → IsReference t → is_type_below classes s t ≡ true → (v : Value) → has_type classes v s ≡ true → has_type classes v t ≡ true
+pub type_up : (classes : List Class) → AreClasses classes → (s t : Ty) → IsReference s → IsReference t → is_type_below classes s t ≡ true → (v : Value) →
+    has_type classes v s ≡ true → has_type classes v t ≡ true
 type_up classes sound (ty.Class c) (ty.Class d) r q below v h = class_up classes sound v c d below h
 type_up classes sound (ty.Class c) (ty.Array d) r q below v h = cc
 type_up classes sound (ty.Array c) (ty.Class d) r q below v h = array_up classes v c d below h
@@ -121,16 +129,19 @@ type_up classes sound (ty.Class c) (ty.Prim p) r q below v h = absurd q
 type_up classes sound (ty.Array c) (ty.Prim p) r q below v h = absurd q
 
 -- a type above which each value of a type is, is above the type
-type_down : (classes : List Class) (s t : Ty) → IsReference s → IsReference t → ((v : Value) → has_type classes v s ≡ true → has_type classes v t ≡ true) → is_type_below classes s t ≡ true
+type_down : (classes : List Class) (s t : Ty) → IsReference s → IsReference t → ((v : Value) → has_type classes v s ≡ true → has_type classes v t ≡ true) →
+    is_type_below classes s t ≡ true
 type_down classes (ty.Class c) (ty.Class d) r q all = all (value.Object c 0) (is_subclass-itself classes c)
 type_down classes (ty.Class c) (ty.Array d) r q all = all (value.Object c 0) (is_subclass-itself classes c)
 type_down classes (ty.Array c) (ty.Class d) r q all =
     (and_parts (d.0 == 0) true (all (value.Array c []) (and_from (is_component_below classes c c) true (component_below-itself classes c) refl))).0
 type_down classes (ty.Array c) (ty.Array d) r q all =
-    (and_parts (is_component_below classes c d) true (all (value.Array c []) (and_from (is_component_below classes c c) true (component_below-itself classes c) refl))).0
+    (and_parts (is_component_below classes c d) true (all (value.Array c []) (and_from (is_component_below classes c c) true (component_below-itself classes c)
+        refl))).0
 type_down classes (ty.Prim p) t r q all = absurd r
 type_down classes (ty.Class c) (ty.Prim p) r q all = absurd q
 type_down classes (ty.Array c) (ty.Prim p) r q all = absurd q
 
-pub is_type_below-law : (classes : List Class) → AreClasses classes → (s t : Ty) → IsReference s → IsReference t → IsTrue (is_type_below classes s t) ↔ ((v : Value) → IsTrue (has_type classes v s) → IsTrue (has_type classes v t))
+pub is_type_below-law : (classes : List Class) → AreClasses classes → (s t : Ty) → IsReference s → IsReference t →
+    IsTrue (is_type_below classes s t) ↔ ((v : Value) → IsTrue (has_type classes v s) → IsTrue (has_type classes v t))
 is_type_below-law classes sound s t r q = (type_up classes sound s t r q, type_down classes s t r q)

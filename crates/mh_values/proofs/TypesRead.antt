@@ -7,7 +7,8 @@ use Rattle.mh_values.specs.declared.descriptor.DescriptorError.TheVariants as de
 use Rattle.mh_values.specs.Descriptor.{found_then, pieces, ends_type, longer, bytes_of, Means}
 
 -- a refusal of a part is that of the whole
-pub Means-part : {A B : Type 0} (e : DescriptorError) (meant : Result A DescriptorError) (next : A → Result B DescriptorError) → Means {A = A} (Err e) meant → Means {A = B} (Err e) (found_then meant next)
+pub Means-part : {A B : Type 0} (e : DescriptorError) (meant : Result A DescriptorError) (next : A → Result B DescriptorError) → Means {A = A} (Err e) meant →
+    Means {A = B} (Err e) (found_then meant next)
 Means-part descriptor.NoMemory meant next is = tt
 Means-part (descriptor.Bad at) meant next is = ap (λ r. found_then r next) is
 Means-part (descriptor.NoClass at len) meant next is = ap (λ r. found_then r next) is
@@ -21,7 +22,8 @@ Means-err (descriptor.NoClass at len) meant is = is
 Means-err (descriptor.Unsupported at) meant is = is
 
 -- an error that `?` hands on
-pub Means-handed : {A : Type 0} (r : Result A DescriptorError) (e : DescriptorError) (meant : Result A DescriptorError) → IsErrAnd r (λ y. y ≡ e) → Means {A = A} (Err e) meant → Means r meant
+pub Means-handed : {A : Type 0} (r : Result A DescriptorError) (e : DescriptorError) (meant : Result A DescriptorError) → IsErrAnd r (λ y. y ≡ e) →
+    Means {A = A} (Err e) meant → Means r meant
 Means-handed (Ok a) e meant given is = absurd given
 Means-handed {A} (Err y) e meant given is = subst (λ x. Means {A = A} (Err x) meant) (sym given) is
 
@@ -38,7 +40,8 @@ pub pieces-bytes : (in_name : Bool) (text : List ℕ) → bytes_of (pieces in_na
 pieces-bytes in_name [] = refl
 pieces-bytes in_name (b ∷ bs) =
     let ended : bytes_of ((b ∷ []) ∷ pieces false bs) ≡ length (b ∷ bs) = omega (arith, bytes_of-cons (b ∷ []) (pieces false bs), pieces-bytes false bs) in
-    let more : bytes_of (longer b (pieces (in_name || b == 76) bs)) ≡ length (b ∷ bs) = omega (arith, longer-bytes b (pieces (in_name || b == 76) bs), pieces-bytes (in_name || b == 76) bs) in
+    let more : bytes_of (longer b (pieces (in_name || b == 76) bs)) ≡ length (b ∷ bs) =
+        omega (arith, longer-bytes b (pieces (in_name || b == 76) bs), pieces-bytes (in_name || b == 76) bs) in
     elim (ends_type in_name b) as (λ t. bytes_of (if t then (b ∷ []) ∷ pieces false bs else longer b (pieces (in_name || b == 76) bs)) ≡ length (b ∷ bs)) [
       | true ↦ ended
       | false ↦ more

@@ -14,7 +14,8 @@ pub dimensions_step : (p : Place) (k b : ℕ) (s : Standing) (bs : List ℕ) →
 dimensions_step p k b s bs told goes =
     elim (cases_Bool (b == 91)) [
       | inl e ↦
-          let more : (if nat_le (k + 1) 255 then Some (standing.Dimensions p (k + 1)) else None) ≡ Some s = sym (ap (λ t. if t then (if nat_le (k + 1) 255 then Some (standing.Dimensions p (k + 1)) else None) else element p b) e) ∙ told in
+          let more : (if nat_le (k + 1) 255 then Some (standing.Dimensions p (k + 1)) else None) ≡ Some s =
+              sym (ap (λ t. if t then (if nat_le (k + 1) 255 then Some (standing.Dimensions p (k + 1)) else None) else element p b) e) ∙ told in
           elim (cases_Bool (nat_le (k + 1) 255)) [
             | inl few ↦
                 let is : Some (standing.Dimensions p (k + 1)) ≡ Some s = sym (ap (λ t. if t then Some (standing.Dimensions p (k + 1)) else None) few) ∙ more in
@@ -31,7 +32,9 @@ dimensions_step p k b s bs told goes =
             | inr few ↦ let is : None ≡ Some s = sym (ap (λ t. if t then Some (standing.Dimensions p (k + 1)) else None) few) ∙ more in cc
           ]
       | inr e ↦
-          let begins = begins_element p b bs s (sym (ap (λ t. if t then (if nat_le (k + 1) 255 then Some (standing.Dimensions p (k + 1)) else None) else element p b) e) ∙ told) goes in
+          let begins =
+              begins_element p b bs s (sym (ap (λ t. if t then (if nat_le (k + 1) 255 then Some (standing.Dimensions p (k + 1)) else None) else element p b) e)
+              ∙ told) goes in
           record {
             more = 0;
             element = begins.element;
@@ -47,7 +50,9 @@ pub name_step : (p : Place) (has : Bool) (b : ℕ) (s : Standing) (bs : List ℕ
 name_step p has b s bs told goes =
     elim (cases_Bool (b == 59)) [
       | inl e ↦
-          let more : (if has then Some (behind p) else None) ≡ Some s = sym (ap (λ t. if t then (if has then Some (behind p) else None) else (if b == 46 || b == 91 then None else Some (standing.Name p true))) e) ∙ told in
+          let more : (if has then Some (behind p) else None) ≡ Some s =
+              sym (ap (λ t. if t then (if has then Some (behind p) else None) else (if b == 46 || b == 91 then None else Some (standing.Name p true))) e) ∙
+              told in
           elim (cases_Bool has) [
             | inl some ↦
                 let is : Some (behind p) ≡ Some s = sym (ap (λ t. if t then Some (behind p) else None) some) ∙ more in
@@ -62,7 +67,9 @@ name_step p has b s bs told goes =
             | inr some ↦ let is : None ≡ Some s = sym (ap (λ t. if t then Some (behind p) else None) some) ∙ more in cc
           ]
       | inr e ↦
-          let more : (if b == 46 || b == 91 then None else Some (standing.Name p true)) ≡ Some s = sym (ap (λ t. if t then (if has then Some (behind p) else None) else (if b == 46 || b == 91 then None else Some (standing.Name p true))) e) ∙ told in
+          let more : (if b == 46 || b == 91 then None else Some (standing.Name p true)) ≡ Some s =
+              sym (ap (λ t. if t then (if has then Some (behind p) else None) else (if b == 46 || b == 91 then None else Some (standing.Name p true))) e) ∙
+              told in
           elim (cases_Bool (b == 46 || b == 91)) [
             | inl bad ↦ let is : None ≡ Some s = sym (ap (λ t. if t then None else Some (standing.Name p true)) bad) ∙ more in cc
             | inr bad ↦
@@ -71,7 +78,8 @@ name_step p has b s bs told goes =
                 record {
                   name = b ∷ n.name;
                   rest = n.rest;
-                  good = and_from (is_name_byte b) (list_all is_name_byte n.name) (not_from_false (b == 59 || (b == 46 || b == 91)) (or_from (b == 59) (b == 46 || b == 91) e bad)) n.good;
+                  good = and_from (is_name_byte b) (list_all is_name_byte n.name) (not_from_false (b == 59 || (b == 46 || b == 91))
+                      (or_from (b == 59) (b == 46 || b == 91) e bad)) n.good;
                   one = λ h. omega arith;
                   after = n.after;
                   is = ap (λ t. b ∷ t) n.is;

@@ -70,7 +70,8 @@ types_meant classes at (text ∷ texts) =
 
 -- the return type of its text at a place; `V` is void
 abbrev pub return_meant : List Class → ℕ → List ℕ → Result (Option Ty) DescriptorError
-return_meant classes at text = if option_map_or (λ b. b == 86) (slice_get text 0) false then Ok None else found_then (type_meant classes at text) (λ t. Ok (Some t))
+return_meant classes at text = if option_map_or (λ b. b == 86) (slice_get text 0) false then Ok None else found_then (type_meant classes at text)
+    (λ t. Ok (Some t))
 
 -- the last piece
 abbrev pub last_of : List (List ℕ) → List ℕ

@@ -29,7 +29,8 @@ grown-requires-clause-shaped g c =
     bind-shaped c.args.w.now.leaves.now.classes c.args.t c.args.pos c.args.v c.in_ok-own.own c.in_ok-own.ensures.tells c.in_ok-own.ensures.shaped
 
 pub returns-clause-gains : goal.returns-clause-gains
-returns-clause-gains g c = grown-gains c.args.t c.in_ok-own.own c.weight.result c.new.result (key.Bind c.args.pos) c.in_ok-fields.fields.items c.grown.result c.weight.ensures.weight c.new.ensures c.grown.ensures.grows
+returns-clause-gains g c = grown-gains c.args.t c.in_ok-own.own c.weight.result c.new.result (key.Bind c.args.pos) c.in_ok-fields.fields.items c.grown.result
+    c.weight.ensures.weight c.new.ensures c.grown.ensures.grows
 
 pub returns-clause-stands : goal.returns-clause-stands
 returns-clause-stands g c a st =
@@ -44,6 +45,7 @@ returns-clause-stands g c a st =
     (λ x grows.
     bind-stands c.args.w.now.leaves.now c.args.t x a c.args.pos c.args.v c.fitted.result c.get-param.result.now c.in_ok-own.own row at fits
     (bind-fits c.args.w.now.leaves.now.classes c.args.t c.args.pos c.args.v c.in_ok-own.own row c.in_ok-own.ensures.shaped)
-    (grows-as c.args.t x c.in_ok-own.own (1 + c.weight.result) (1 + c.args.t.weight) c.new.result [] own own c.in_ok-fields.fields.items (field.Val (erased c.fitted.result) ∷ [])
+    (grows-as c.args.t x c.in_ok-own.own (1 + c.weight.result) (1 + c.args.t.weight) c.new.result [] own own c.in_ok-fields.fields.items
+        (field.Val (erased c.fitted.result) ∷ [])
     (ap (λ n. 1 + n) c.weight.ensures.weight) c.new.ensures refl (c.in_ok-fields.ensures ∙ ap (λ s. field.Val s ∷ []) c.erase-slot.ensures) grows)
     st)

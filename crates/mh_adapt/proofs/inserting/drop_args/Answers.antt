@@ -18,7 +18,8 @@ grown-requires-clause-shaped g c =
     (drop-shaped c.args.t c.args.pos c.args.tys.now c.in_ok-own.own c.in_ok-own.ensures.tells c.in_ok-own.ensures.shaped)
 
 pub returns-clause-gains : goal.returns-clause-gains
-returns-clause-gains g c = grown-gains c.args.t c.in_ok-own.own c.weight.result c.new.result (key.Add c.args.pos c.in_ok-basics.basics) c.new-2.result.items c.grown.result c.weight.ensures.weight c.new.ensures c.grown.ensures.grows
+returns-clause-gains g c = grown-gains c.args.t c.in_ok-own.own c.weight.result c.new.result (key.Add c.args.pos c.in_ok-basics.basics) c.new-2.result.items
+    c.grown.result c.weight.ensures.weight c.new.ensures c.grown.ensures.grows
 
 pub returns-clause-stands : goal.returns-clause-stands
 returns-clause-stands g c a st =
@@ -29,6 +30,7 @@ returns-clause-stands g c a st =
     (λ x grows.
     drop-stands c.args.w.now.leaves.now c.args.t x a c.args.pos c.args.tys.now c.in_ok-own.own row
     (drop-fits c.args.t c.args.pos c.args.tys.now c.in_ok-own.own row c.in_ok-own.ensures.shaped)
-    (grows-as c.args.t x c.in_ok-own.own (1 + c.weight.result) (1 + c.args.t.weight) c.new.result [] (key.Add c.args.pos c.in_ok-basics.basics) own c.new-2.result.items []
+    (grows-as c.args.t x c.in_ok-own.own (1 + c.weight.result) (1 + c.args.t.weight) c.new.result [] (key.Add c.args.pos c.in_ok-basics.basics) own
+        c.new-2.result.items []
     (ap (λ n. 1 + n) c.weight.ensures.weight) c.new.ensures (ap (key.Add c.args.pos) c.in_ok-basics.ensures) c.new-2.ensures.items grows)
     st)

@@ -21,7 +21,8 @@ grown-requires-clause-fits g c =
     (permute-fits c.args.t c.args.ty.now c.args.reorder.now c.in_ok-own.own c.in_ok-own.ensures.tells c.in_ok-own.ensures.shaped)
 
 pub returns-clause-gains : goal.returns-clause-gains
-returns-clause-gains g c = grown-gains c.args.t c.in_ok-own.own c.weight.result c.new.result (key.Permute c.in_ok-basics.basics c.in_ok-reorder.reorder) c.new-2.result.items c.grown.result c.weight.ensures.weight c.new.ensures c.grown.ensures.grows
+returns-clause-gains g c = grown-gains c.args.t c.in_ok-own.own c.weight.result c.new.result (key.Permute c.in_ok-basics.basics c.in_ok-reorder.reorder)
+    c.new-2.result.items c.grown.result c.weight.ensures.weight c.new.ensures c.grown.ensures.grows
 
 pub returns-clause-stands : goal.returns-clause-stands
 returns-clause-stands g c a st =

@@ -20,10 +20,12 @@ grown-requires-clause-shaped g c =
     (fold-suited c.args.t c.args.c c.in_ok-own.ensures.shaped c.args.pos c.in_ok-own.own c.in_ok-own.ensures.tells)
 
 pub returns-clause-gains : goal.returns-clause-gains
-returns-clause-gains g c = adds-gains c.in_ok-own.own c.args.t (fold_key c.args.pos c.args.c.ty) c.args.c c.in_ok-by.by c.in_ok-by.ensures c.grown.result c.grown.ensures.grows
+returns-clause-gains g c = adds-gains c.in_ok-own.own c.args.t (fold_key c.args.pos c.args.c.ty) c.args.c c.in_ok-by.by c.in_ok-by.ensures c.grown.result
+    c.grown.ensures.grows
 
 pub returns-clause-stands : goal.returns-clause-stands
 returns-clause-stands g c a b st sp =
     adds-stands c.in_ok-own.own c.args.t (fold_key c.args.pos c.args.c.ty) c.args.c c.in_ok-by.by c.in_ok-by.ensures
     c.args.w.now.leaves.now (tree.Fold a c.args.pos b) c.grown.result c.grown.ensures.grows (λ h grows.
-    fold-stands c.args.w.now.leaves.now c.args.t h c.args.c a b c.args.pos c.in_ok-by.ensures.fields.0 c.in_ok-own.own c.in_ok-own.ensures.tells c.in_ok-by.ensures.fields.2 grows st sp)
+    fold-stands c.args.w.now.leaves.now c.args.t h c.args.c a b c.args.pos c.in_ok-by.ensures.fields.0 c.in_ok-own.own c.in_ok-own.ensures.tells
+        c.in_ok-by.ensures.fields.2 grows st sp)

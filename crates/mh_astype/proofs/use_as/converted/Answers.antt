@@ -15,7 +15,8 @@ grown-requires-clause-fits g c =
     let key : c.in_ok-key.key ≡ convert_key c.args.w.now.leaves.now.classes c.args.ty c.args.h.ty =
     c.in_ok-key.ensures ∙ ap₂ (λ (cs : List Class) (own : MethodTy). convert_key cs c.args.ty own) c.classes-classes.ensures c.ty.ensures.ty in
     let P : Key → Type 0 = λ k. fits k (handle_body c.args.h) ≡ true in
-    subst P (sym key) (convert-fits c.args.w.now.leaves.now.classes c.args.h c.args.ty c.args.ty (ret_entry_of c.args.w.now.leaves.now.classes c.args.h.ty.ret c.args.ty.ret) c.ty.ensures.shaped c.requires.row)
+    subst P (sym key) (convert-fits c.args.w.now.leaves.now.classes c.args.h c.args.ty c.args.ty (ret_entry_of c.args.w.now.leaves.now.classes c.args.h.ty.ret
+        c.args.ty.ret) c.ty.ensures.shaped c.requires.row)
 
 pub grown-requires-clause-shaped : goal.grown-requires-clause-shaped
 grown-requires-clause-shaped g c =
@@ -34,7 +35,8 @@ pub returns-clause-makes : goal.returns-clause-makes
 returns-clause-makes g c =
     let key : c.in_ok-key.key ≡ convert_key c.args.w.now.leaves.now.classes c.args.ty c.args.h.ty =
     c.in_ok-key.ensures ∙ ap₂ (λ (cs : List Class) (own : MethodTy). convert_key cs c.args.ty own) c.classes-classes.ensures c.ty.ensures.ty in
-    makes-changed c.args.w.now.leaves.now.classes c.args.ty c.args.h.ty c.args.h.form.recipe c.in_ok-key.key c.args.w.now.pass.now _ c.grown.result c.requires.changes key c.grown.ensures.makes
+    makes-changed c.args.w.now.leaves.now.classes c.args.ty c.args.h.ty c.args.h.form.recipe c.in_ok-key.key c.args.w.now.pass.now _ c.grown.result
+        c.requires.changes key c.grown.ensures.makes
 
 pub returns-clause-used : goal.returns-clause-used
 returns-clause-used g c =
@@ -42,4 +44,5 @@ returns-clause-used g c =
     c.in_ok-key.ensures ∙ ap₂ (λ (cs : List Class) (own : MethodTy). convert_key cs c.args.ty own) c.classes-classes.ensures c.ty.ensures.ty in
     let fields : c.in_ok-fields.fields.items ≡ convert_fields c.args.w.now.leaves.now.classes c.args.ty c.args.h.ty =
     c.in_ok-fields.ensures ∙ ap₂ (λ (cs : List Class) (own : MethodTy). convert_fields cs c.args.ty own) c.classes-classes.ensures c.ty-2.ensures.ty in
-    used-grown c.args.w.now.leaves.now.classes c.args.ty c.args.h _ _ c.in_ok-key.key c.in_ok-fields.fields.items c.grown.result c.requires.changes (ap (λ w. 1 + w) c.weight.ensures.weight) c.new.ensures key fields c.grown.ensures.grows
+    used-grown c.args.w.now.leaves.now.classes c.args.ty c.args.h _ _ c.in_ok-key.key c.in_ok-fields.fields.items c.grown.result c.requires.changes
+        (ap (λ w. 1 + w) c.weight.ensures.weight) c.new.ensures key fields c.grown.ensures.grows

@@ -6,4 +6,5 @@ use Rattle.mh_base.proofs.split.split_at_byte.Goals as goal
 pub returns-clause-pieces : goal.returns-clause-pieces
 returns-clause-pieces c =
     map_from_collect _ c.collect.ensures.ran
-    (YieldsList-from_slice_split _ (λ b. b == c.args.at) c.args.bytes.now c.split.ensures.rest c.split.ensures.done c.split.ensures.closure (λ x b q called. search rules))
+    (YieldsList-from_slice_split _ (λ b. b == c.args.at) c.args.bytes.now c.split.ensures.rest c.split.ensures.done c.split.ensures.closure
+        (λ x b q called. search rules))

@@ -5,7 +5,8 @@ use Rattle.mh_bench.proofs.Spending.{spends-made}
 use Rattle.mh_bench.proofs.making.filtered.Goals as goal
 
 pub returns-clause-spends : goal.returns-clause-spends
-returns-clause-spends g c = spends-then 1 1 _ _ _ c.in_ok-part.ensures.spends (spends-made _ _ _ c.filter.result c.filter.ensures.goes_on c.filter.ensures.makes)
+returns-clause-spends g c = spends-then 1 1 _ _ _ c.in_ok-part.ensures.spends (spends-made _ _ _ c.filter.result c.filter.ensures.goes_on
+    c.filter.ensures.makes)
 
 pub returns-clause-stands : goal.returns-clause-stands
 returns-clause-stands g c =

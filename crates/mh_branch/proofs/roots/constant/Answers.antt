@@ -10,5 +10,6 @@ returns-clause-stands g c =
     sym (ap (λ cs. constant_row cs c.args.ty c.args.v) c.classes-classes.ensures) ∙ c.in_ok-own.ensures in
     let fits : fit c.args.w.now.leaves.now.classes c.args.v c.in-Some.ret ≡ Ok c.fitted.result =
     sym (ap (λ cs. fit cs c.args.v c.in-Some.ret) c.classes-classes.ensures) ∙ c.fitted.ensures in
-    constant-answers c.args.w.now.leaves.now c.args.ty c.args.v c.in_ok-own.own c.in-Some.ret c.fitted.result c.erase-slot.result c.basic_of.result c.new.result c.in_ok-fields.fields.items c.rooted.result
+    constant-answers c.args.w.now.leaves.now c.args.ty c.args.v c.in_ok-own.own c.in-Some.ret c.fitted.result c.erase-slot.result c.basic_of.result c.new.result
+        c.in_ok-fields.fields.items c.rooted.result
     row c.in-Some.is fits c.erase-slot.ensures c.basic_of.ensures c.new.ensures c.in_ok-fields.ensures c.rooted.ensures.grows

@@ -6,11 +6,13 @@ use Rattle.mh_branch.proofs.roots.throw.Goals as goal
 pub returns-clause-makes : goal.returns-clause-makes
 returns-clause-makes g c =
     throw-makes c.args.ret c.in_ok-shape.shape.ret c.args.w.now.pass.now c.rooted.new.w.pass.now c.rooted.result
-    (throw-ret c.classes.result.now c.args.ret c.args.class c.in_ok-own.own c.in_ok-shape.shape c.in_ok-own.ensures c.in_ok-shape.ensures) c.rooted.ensures.makes
+    (throw-ret c.classes.result.now c.args.ret c.args.class c.in_ok-own.own c.in_ok-shape.shape c.in_ok-own.ensures c.in_ok-shape.ensures)
+        c.rooted.ensures.makes
 
 pub returns-clause-stands : goal.returns-clause-stands
 returns-clause-stands g c =
     let row : throw_row c.args.w.now.leaves.now.classes c.args.ret c.args.class ≡ Ok c.in_ok-own.own =
     sym (ap (λ cs. throw_row cs c.args.ret c.args.class) c.classes.ensures.classes) ∙ c.in_ok-own.ensures in
     throw-answers c.args.w.now.leaves.now c.args.ret c.args.class c.in_ok-own.own c.in_ok-shape.shape.ret c.new.result c.new-2.result.items c.rooted.result
-    c.classes.ensures.are row (throw-ret c.args.w.now.leaves.now.classes c.args.ret c.args.class c.in_ok-own.own c.in_ok-shape.shape row c.in_ok-shape.ensures) c.new.ensures c.new-2.ensures.items c.rooted.ensures.grows
+    c.classes.ensures.are row (throw-ret c.args.w.now.leaves.now.classes c.args.ret c.args.class c.in_ok-own.own c.in_ok-shape.shape row c.in_ok-shape.ensures)
+        c.new.ensures c.new-2.ensures.items c.rooted.ensures.grows

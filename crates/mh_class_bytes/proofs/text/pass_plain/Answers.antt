@@ -6,5 +6,6 @@ pub loop-end-preserved : goal.loop-end-preserved
 loop-end-preserved c = record {
   onward = omega arith;
   within = omega arith;
-  passed = sym (sound_plain c.args.bytes.now c.loop-end.end _ c.loop-end-test.true c.if-bytes-end-ge1.true c.if-bytes-end-le127.true (sym c.loop-end.invariant.passed));
+  passed = sym (sound_plain c.args.bytes.now c.loop-end.end _ c.loop-end-test.true c.if-bytes-end-ge1.true c.if-bytes-end-le127.true
+      (sym c.loop-end.invariant.passed));
 }

@@ -6,4 +6,5 @@ use Rattle.mh_classfile.specs.Code.{passed}
 use Rattle.mh_classfile.proofs.attributes.pass_handlers.Given as goal
 
 abbrev pub invariant-loop : goal.invariant-loop
-invariant-loop l = record { so_far : reads (rows (passed 8) (l.count - l.counter)) l.cursor ≡ reads (rows (passed 8) l.count) l.fn.cursor; moves : Moves l.fn.cursor l.cursor }
+invariant-loop l = record { so_far : reads (rows (passed 8) (l.count - l.counter)) l.cursor ≡ reads (rows (passed 8) l.count) l.fn.cursor; moves : Moves
+    l.fn.cursor l.cursor }

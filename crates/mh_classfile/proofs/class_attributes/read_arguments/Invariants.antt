@@ -8,7 +8,8 @@ use Rattle.mh_classfile.proofs.class_attributes.read_arguments.Given as goal
 
 abbrev pub invariant-loop : goal.invariant-loop
 invariant-loop l = record {
-  so_far : reads (repeated (listed (named_index BadBootstraps l.pool Argument)) (l.count - l.counter) l.methods.begun) l.cursor ≡ reads (times (named_index BadBootstraps l.pool Argument) l.count) l.fn.cursor;
+  so_far : reads (repeated (listed (named_index BadBootstraps l.pool Argument)) (l.count - l.counter) l.methods.begun) l.cursor ≡ reads
+      (times (named_index BadBootstraps l.pool Argument) l.count) l.fn.cursor;
   closed : l.methods.closed ≡ l.fn.methods.closed;
   count : length l.methods.begun ≡ l.counter;
   moves : Moves l.fn.cursor l.cursor;

@@ -7,6 +7,7 @@ use Rattle.mh_classfile.proofs.class_attributes.read_attributes.Given as goal
 
 abbrev pub invariant-loop : goal.invariant-loop
 invariant-loop l = record {
-  so_far : reads (repeated (class_attribute l.pool) (l.count - l.counter) (closed_of l.found)) l.cursor ≡ reads (repeated (class_attribute l.pool) l.count None) l.fn.cursor;
+  so_far : reads (repeated (class_attribute l.pool) (l.count - l.counter) (closed_of l.found)) l.cursor ≡ reads (repeated (class_attribute l.pool) l.count None)
+      l.fn.cursor;
   moves : Moves l.fn.cursor l.cursor;
 }

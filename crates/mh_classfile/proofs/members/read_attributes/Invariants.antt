@@ -6,7 +6,8 @@ use Rattle.mh_classfile.proofs.members.read_attributes.Given as goal
 
 abbrev pub invariant-loop : goal.invariant-loop
 invariant-loop l = record {
-  so_far : reads (repeated (method_attribute l.pool l.method l.fn.sites.room) (l.count - l.counter) (l.seen, l.sites.sites)) l.cursor ≡ reads (repeated (method_attribute l.pool l.method l.fn.sites.room) l.count (false, l.fn.sites.sites)) l.fn.cursor;
+  so_far : reads (repeated (method_attribute l.pool l.method l.fn.sites.room) (l.count - l.counter) (l.seen, l.sites.sites)) l.cursor ≡ reads
+      (repeated (method_attribute l.pool l.method l.fn.sites.room) l.count (false, l.fn.sites.sites)) l.fn.cursor;
   room : l.sites.room ≡ l.fn.sites.room;
   moves : Moves l.fn.cursor l.cursor;
 }

@@ -13,7 +13,8 @@ returns-in_err-check_bootstrap c =
     rw (p.1, p.2) (each_stops f pool c.loop-index.index None (each f pool) _ (omega arith) c.in_err-check_bootstrap.ensures c.loop-index.invariant)
 
 pub loop-index-preserved : goal.loop-index-preserved
-loop-index-preserved c = each_next (has_bootstrap c.args.count) c.args.pool.now c.loop-index.index None _ (omega arith) c.in_ok-check_bootstrap.ensures c.loop-index.invariant
+loop-index-preserved c = each_next (has_bootstrap c.args.count) c.args.pool.now c.loop-index.index None _ (omega arith) c.in_ok-check_bootstrap.ensures
+    c.loop-index.invariant
 
 pub returns : goal.returns
 returns c = each_done (has_bootstrap c.args.count) c.args.pool.now c.loop-index.index _ (omega arith) c.loop-index.invariant

@@ -10,7 +10,8 @@ pub returns-clause-found : goal.returns-clause-found
 returns-clause-found c = is_found (λ v. v) c.args.room c.args.bytes.now c.read_exact.result c.read_exact.ensures
 
 pub returns-clause-only : goal.returns-clause-only
-returns-clause-only c = λ d s. subst (λ (r : Checked ClassKind Class). Yields (λ v. v) c.read_exact.result r) (file_complete c.args.room c.args.bytes.now d s) c.read_exact.ensures
+returns-clause-only c = λ d s. subst (λ (r : Checked ClassKind Class). Yields (λ v. v) c.read_exact.result r) (file_complete c.args.room c.args.bytes.now d s)
+    c.read_exact.ensures
 
 pub returns-clause-either : goal.returns-clause-either
 returns-clause-either c = either c.args.room c.args.bytes.now

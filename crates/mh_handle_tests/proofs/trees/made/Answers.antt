@@ -6,12 +6,14 @@ use Rattle.mh_handle_tests.proofs.trees.made.Goals as goal
 pub adapted-requires-clause-ready : goal.adapted-requires-clause-ready
 adapted-requires-clause-ready g c =
     c.loop-step.invariant.spends.ready 2
-    (ready-less _ 200 (2 * c.loop-step.step-index + 2) (omega (arith, c.loop-step-test.true, c.requires.few)) (c.in_ok-h.ensures.spends.ready 200 c.requires.ready))
+    (ready-less _ 200 (2 * c.loop-step.step-index + 2) (omega (arith, c.loop-step-test.true, c.requires.few))
+        (c.in_ok-h.ensures.spends.ready 200 c.requires.ready))
 
 pub returns-in_err-h-2-clause-spends : goal.returns-in_err-h-2-clause-spends
 returns-in_err-h-2-clause-spends g c =
     spends-more (4 + (2 * c.loop-step.step-index + 2)) 204 _ _ (omega (arith, c.loop-step-test.true, c.requires.few))
-    (spends-then 4 (2 * c.loop-step.step-index + 2) _ _ _ c.in_ok-h.ensures.spends (spends-then (2 * c.loop-step.step-index) 2 _ _ _ c.loop-step.invariant.spends c.adapted.ensures.spends))
+    (spends-then 4 (2 * c.loop-step.step-index + 2) _ _ _ c.in_ok-h.ensures.spends (spends-then (2 * c.loop-step.step-index) 2 _ _ _
+        c.loop-step.invariant.spends c.adapted.ensures.spends))
 
 pub loop-step-preserved : goal.loop-step-preserved
 loop-step-preserved g c = record {

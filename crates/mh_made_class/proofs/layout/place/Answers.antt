@@ -11,7 +11,8 @@ loop-number-preserved c =
     let within : i < length sites = c.loop-number-test.true in
     let so_far = c.loop-number.invariant in
     record {
-      put = sites_next c.loop-number.next c.width-next.result sites i site _ _ _ within c.index-sites-number.is c.width-next.ensures c.in_ok-push.ensures.items so_far.put;
+      put = sites_next c.loop-number.next c.width-next.result sites i site _ _ _ within c.index-sites-number.is c.width-next.ensures c.in_ok-push.ensures.items
+          so_far.put;
       makeable = (all_split IsMakeableSite sites i site within c.index-sites-number.is so_far.makeable).1;
       fits = omega (arith, so_far.fits, c.width-next.ensures, sum_split site_width sites i site within c.index-sites-number.is);
       some = omega (arith, so_far.some, c.width-next.ensures);

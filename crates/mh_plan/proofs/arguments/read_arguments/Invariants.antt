@@ -5,4 +5,5 @@ use Rattle.mh_plan.proofs.arguments.read_arguments.Given as goal
 
 abbrev pub invariant-loop-i : goal.invariant-loop-i
 invariant-loop-i l =
-    arguments_of l.classes (map (λ t. t.now) l.tokens) l.types ≡ behind l.values (arguments_of l.classes (map (λ t. t.now) (drop l.i l.tokens)) (drop l.i l.types))
+    arguments_of l.classes (map (λ t. t.now) l.tokens) l.types ≡ behind l.values (arguments_of l.classes (map (λ t. t.now) (drop l.i l.tokens))
+        (drop l.i l.types))

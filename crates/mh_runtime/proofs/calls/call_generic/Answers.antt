@@ -20,17 +20,20 @@ returns-in_err-handle-clause-asks g c =
 
 pub returns-clause-in_order : goal.returns-clause-in_order
 returns-clause-in_order g c =
-    kept-by-both c.in_ok-handle.handle.form.recipe _ c.args.w.now.pass.now c.leaf_handle.new.w.pass.now c.invoke_generic-answer.new.w.pass.now c.give_back.new.w.pass.now
+    kept-by-both c.in_ok-handle.handle.form.recipe _ c.args.w.now.pass.now c.leaf_handle.new.w.pass.now c.invoke_generic-answer.new.w.pass.now
+        c.give_back.new.w.pass.now
     c.invoke_generic-answer.result c.in_ok-handle.ensures.in_order (ap (λ (w : Work). w.pass.now) c.give_back.ensures) c.invoke_generic-answer.ensures.asks
 
 pub returns-clause-draws : goal.returns-clause-draws
 returns-clause-draws g c =
-    drawn-for-both c.in_ok-handle.handle.form.recipe _ c.args.w.now.pass.now c.leaf_handle.new.w.pass.now c.invoke_generic-answer.new.w.pass.now c.give_back.new.w.pass.now
+    drawn-for-both c.in_ok-handle.handle.form.recipe _ c.args.w.now.pass.now c.leaf_handle.new.w.pass.now c.invoke_generic-answer.new.w.pass.now
+        c.give_back.new.w.pass.now
     c.invoke_generic-answer.result c.in_ok-handle.ensures.draws (ap (λ (w : Work). w.pass.now) c.give_back.ensures) c.invoke_generic-answer.ensures.asks
 
 pub returns-clause-answer : goal.returns-clause-answer
 returns-clause-answer g c =
-    moved (λ (table : LeafTable) (t : Tree). IfOk c.invoke_generic-answer.result (IsAnswer (generic table t c.args.ty.now c.args.args.now 0) (generic_keys table t c.args.ty.now)))
+    moved (λ (table : LeafTable) (t : Tree). IfOk c.invoke_generic-answer.result (IsAnswer (generic table t c.args.ty.now c.args.args.now 0)
+        (generic_keys table t c.args.ty.now)))
     c.args.w.now.leaves.now c.leaf_handle.new.w.leaves.now c.in_ok-handle.handle (tree.Leaf c.args.id)
     (ap (λ leaves. leaves.now) c.in_ok-handle.ensures.goes_on.leaves) c.in_ok-handle.ensures.stands c.invoke_generic-answer.ensures.answer
 

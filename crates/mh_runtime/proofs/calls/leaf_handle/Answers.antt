@@ -11,7 +11,8 @@ returns-in-Ok-clause-asks g c =
 
 pub returns-in-Err-FormsFull-clause-asks : goal.returns-in-Err-FormsFull-clause-asks
 returns-in-Err-FormsFull-clause-asks g c =
-    full-leaf (recipe c.args.w.now.leaves.now (tree.Leaf c.args.id)) c.args.w.now.pass.now c.leaf.new.w.pass.now c.in-Err-FormsFull.field-0 c.in-Err-FormsFull.drawn
+    full-leaf (recipe c.args.w.now.leaves.now (tree.Leaf c.args.id)) c.args.w.now.pass.now c.leaf.new.w.pass.now c.in-Err-FormsFull.field-0
+        c.in-Err-FormsFull.drawn
     c.in-Err-FormsFull.field-0-is c.in-Err-FormsFull.ensures.makes
 
 pub returns-in-Ok-clause-in_order : goal.returns-in-Ok-clause-in_order
@@ -20,12 +21,15 @@ returns-in-Ok-clause-in_order g c =
 
 pub returns-in-Ok-clause-draws : goal.returns-in-Ok-clause-draws
 returns-in-Ok-clause-draws g c =
-    drawn-for-handle (recipe c.args.w.now.leaves.now (tree.Leaf c.args.id)) c.args.w.now.pass.now c.leaf.new.w.pass.now (Ok c.in-Ok.handle) c.in-Ok.ensures.makes
+    drawn-for-handle (recipe c.args.w.now.leaves.now (tree.Leaf c.args.id)) c.args.w.now.pass.now c.leaf.new.w.pass.now (Ok c.in-Ok.handle)
+        c.in-Ok.ensures.makes
 
 pub returns-in-Err-NoMemory-clause-draws : goal.returns-in-Err-NoMemory-clause-draws
 returns-in-Err-NoMemory-clause-draws g c =
-    drawn-for-handle (recipe c.args.w.now.leaves.now (tree.Leaf c.args.id)) c.args.w.now.pass.now c.leaf.new.w.pass.now (Err c.in-Err-NoMemory.field-0) c.in-Err-NoMemory.ensures.makes
+    drawn-for-handle (recipe c.args.w.now.leaves.now (tree.Leaf c.args.id)) c.args.w.now.pass.now c.leaf.new.w.pass.now (Err c.in-Err-NoMemory.field-0)
+        c.in-Err-NoMemory.ensures.makes
 
 pub returns-in-Err-FormsFull-clause-draws : goal.returns-in-Err-FormsFull-clause-draws
 returns-in-Err-FormsFull-clause-draws g c =
-    drawn-for-handle (recipe c.args.w.now.leaves.now (tree.Leaf c.args.id)) c.args.w.now.pass.now c.leaf.new.w.pass.now (Err c.in-Err-FormsFull.field-0) c.in-Err-FormsFull.ensures.makes
+    drawn-for-handle (recipe c.args.w.now.leaves.now (tree.Leaf c.args.id)) c.args.w.now.pass.now c.leaf.new.w.pass.now (Err c.in-Err-FormsFull.field-0)
+        c.in-Err-FormsFull.ensures.makes

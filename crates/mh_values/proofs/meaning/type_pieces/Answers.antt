@@ -9,7 +9,9 @@ abbrev texts : List (Bor (List ℕ)) → List (List ℕ)
 texts found = map (λ x. x.now) found
 
 -- the invariant at values that are equal to these
-moved : (bytes : List ℕ) (found : List (List ℕ)) (start at : ℕ) (in_name : _) (found' : List (List ℕ)) (start' : ℕ) (in_name' : _) → found' ≡ found → start' ≡ start → in_name' ≡ in_name → pieces false bytes ≡ found ++ within (take (at - start) (drop start bytes)) (pieces in_name (drop at bytes)) → pieces false bytes ≡ found' ++ within (take (at - start') (drop start' bytes)) (pieces in_name' (drop at bytes))
+moved : (bytes : List ℕ) (found : List (List ℕ)) (start at : ℕ) (in_name : _) (found' : List (List ℕ)) (start' : ℕ) (in_name' : _) → found' ≡ found →
+    start' ≡ start → in_name' ≡ in_name → pieces false bytes ≡ found ++ within (take (at - start) (drop start bytes)) (pieces in_name (drop at bytes)) →
+    pieces false bytes ≡ found' ++ within (take (at - start') (drop start' bytes)) (pieces in_name' (drop at bytes))
 moved bytes found start at in_name found' start' in_name' f s n cut = cc
 
 pub loop-at-preserved : goal.loop-at-preserved
@@ -18,22 +20,33 @@ loop-at-preserved c =
     let in_range : c.loop-at.at < length bytes = omega arith in
     elim c.if-ends_type.branch [
       | then-ends_type+in_ok-push w ↦
-          let pushed : texts w.push.new.self.items ≡ texts c.loop-at.found.items ++ take (c.loop-at.at + 1 - c.loop-at.start) (drop c.loop-at.start bytes) ∷ [] = ap texts w.in_ok-push.ensures.items ∙ map-append _ _ _ in
+          let pushed : texts w.push.new.self.items ≡ texts c.loop-at.found.items ++ take (c.loop-at.at + 1 - c.loop-at.start) (drop c.loop-at.start bytes) ∷
+              [] = ap texts w.in_ok-push.ensures.items ∙ map-append _ _ _ in
           record {
             behind = omega arith;
-            cut = moved bytes _ (c.loop-at.at + 1) (c.loop-at.at + 1) false (texts c.if-ends_type.found.items) c.if-ends_type.start c.if-ends_type.in_name (ap (λ v. texts v.items) w.found-is ∙ pushed) w.start-is w.in_name-is (cut-ends bytes (texts c.loop-at.found.items) c.loop-at.start c.loop-at.at c.loop-at.in_name c.loop-at.invariant.behind in_range c.loop-at.invariant.cut (sym w.if-ends_type.ensures));
+            cut = moved bytes _ (c.loop-at.at + 1) (c.loop-at.at + 1) false (texts c.if-ends_type.found.items) c.if-ends_type.start c.if-ends_type.in_name
+                (ap (λ v. texts v.items) w.found-is ∙ pushed) w.start-is w.in_name-is (cut-ends bytes (texts c.loop-at.found.items) c.loop-at.start c.loop-at.at
+                c.loop-at.in_name c.loop-at.invariant.behind in_range c.loop-at.invariant.cut (sym w.if-ends_type.ensures));
           }
       | else-ends_type+then-in_name w ↦
-          let turned : c.loop-at.in_name ≡ (c.loop-at.in_name || get_or bytes c.loop-at.at 0 == 76) = w.if-in_name.true ∙ sym (ap (λ t. t || get_or bytes c.loop-at.at 0 == 76) w.if-in_name.true) in
+          let turned : c.loop-at.in_name ≡ (c.loop-at.in_name || get_or bytes c.loop-at.at 0 == 76) =
+              w.if-in_name.true ∙ sym (ap (λ t. t || get_or bytes c.loop-at.at 0 == 76) w.if-in_name.true) in
           record {
             behind = omega arith;
-            cut = moved bytes (texts c.loop-at.found.items) c.loop-at.start (c.loop-at.at + 1) c.loop-at.in_name (texts c.if-ends_type.found.items) c.if-ends_type.start c.if-ends_type.in_name (ap (λ v. texts v.items) w.found-is) w.start-is w.in_name-is (cut-more bytes (texts c.loop-at.found.items) c.loop-at.start c.loop-at.at c.loop-at.in_name c.loop-at.in_name c.loop-at.invariant.behind in_range c.loop-at.invariant.cut (sym w.if-ends_type.ensures) turned);
+            cut = moved bytes (texts c.loop-at.found.items) c.loop-at.start (c.loop-at.at + 1) c.loop-at.in_name (texts c.if-ends_type.found.items)
+                c.if-ends_type.start c.if-ends_type.in_name (ap (λ v. texts v.items) w.found-is) w.start-is w.in_name-is
+                (cut-more bytes (texts c.loop-at.found.items) c.loop-at.start c.loop-at.at c.loop-at.in_name c.loop-at.in_name c.loop-at.invariant.behind
+                in_range c.loop-at.invariant.cut (sym w.if-ends_type.ensures) turned);
           }
       | else-ends_type+else-in_name w ↦
-          let turned : (get_or bytes c.loop-at.at 0 == 76) ≡ (c.loop-at.in_name || get_or bytes c.loop-at.at 0 == 76) = sym (ap (λ t. t || get_or bytes c.loop-at.at 0 == 76) w.if-in_name.false) in
+          let turned : (get_or bytes c.loop-at.at 0 == 76) ≡ (c.loop-at.in_name || get_or bytes c.loop-at.at 0 == 76) =
+              sym (ap (λ t. t || get_or bytes c.loop-at.at 0 == 76) w.if-in_name.false) in
           record {
             behind = omega arith;
-            cut = moved bytes (texts c.loop-at.found.items) c.loop-at.start (c.loop-at.at + 1) (get_or bytes c.loop-at.at 0 == 76) (texts c.if-ends_type.found.items) c.if-ends_type.start c.if-ends_type.in_name (ap (λ v. texts v.items) w.found-is) w.start-is w.in_name-is (cut-more bytes (texts c.loop-at.found.items) c.loop-at.start c.loop-at.at c.loop-at.in_name (get_or bytes c.loop-at.at 0 == 76) c.loop-at.invariant.behind in_range c.loop-at.invariant.cut (sym w.if-ends_type.ensures) turned);
+            cut = moved bytes (texts c.loop-at.found.items) c.loop-at.start (c.loop-at.at + 1) (get_or bytes c.loop-at.at 0 == 76)
+                (texts c.if-ends_type.found.items) c.if-ends_type.start c.if-ends_type.in_name (ap (λ v. texts v.items) w.found-is) w.start-is w.in_name-is
+                (cut-more bytes (texts c.loop-at.found.items) c.loop-at.start c.loop-at.at c.loop-at.in_name (get_or bytes c.loop-at.at 0 == 76)
+                c.loop-at.invariant.behind in_range c.loop-at.invariant.cut (sym w.if-ends_type.ensures) turned);
           }
     ]
 
@@ -43,9 +56,13 @@ returns c =
     let all : c.loop-at.at ≡ length bytes = omega arith in
     elim c.if-start-bytes.branch [
       | then-start-bytes+in_ok-push-2 w ↦
-          let pushed : texts w.push-then-start-bytes.new.self.items ≡ texts c.loop-at.found.items ++ take (c.loop-at.at - c.loop-at.start) (drop c.loop-at.start bytes) ∷ [] =
-          ap texts w.in_ok-push-2.ensures.items ∙ map-append _ _ _ ∙ ap (λ n. texts c.loop-at.found.items ++ take (n - c.loop-at.start) (drop c.loop-at.start bytes) ∷ []) (sym all) in
-          ap (λ v. texts v.items) w.found-is ∙ pushed ∙ sym (cut-last bytes (texts c.loop-at.found.items) c.loop-at.start c.loop-at.at c.loop-at.in_name (omega arith) all c.loop-at.invariant.cut)
+          let pushed : texts w.push-then-start-bytes.new.self.items ≡ texts c.loop-at.found.items ++ take (c.loop-at.at - c.loop-at.start)
+              (drop c.loop-at.start bytes) ∷ [] =
+          ap texts w.in_ok-push-2.ensures.items ∙ map-append _ _ _ ∙
+              ap (λ n. texts c.loop-at.found.items ++ take (n - c.loop-at.start) (drop c.loop-at.start bytes) ∷ []) (sym all) in
+          ap (λ v. texts v.items) w.found-is ∙ pushed ∙ sym (cut-last bytes (texts c.loop-at.found.items) c.loop-at.start c.loop-at.at c.loop-at.in_name
+              (omega arith) all c.loop-at.invariant.cut)
       | else-start-bytes w ↦
-          ap (λ v. texts v.items) w.found-is ∙ sym (cut-none bytes (texts c.loop-at.found.items) c.loop-at.start c.loop-at.at c.loop-at.in_name (omega arith) all c.loop-at.invariant.cut)
+          ap (λ v. texts v.items) w.found-is ∙ sym (cut-none bytes (texts c.loop-at.found.items) c.loop-at.start c.loop-at.at c.loop-at.in_name (omega arith)
+              all c.loop-at.invariant.cut)
     ]

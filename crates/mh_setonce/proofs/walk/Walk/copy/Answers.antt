@@ -8,7 +8,8 @@ use Rattle.mh_setonce.proofs.walk.Walk.copy.Goals as goal
 view_of : {V : Type 0} → List ℕ → List V → WalkView V
 view_of cells nodes = record { cells = cells; nodes = nodes }
 
-same_view : {V : Type 0} (cells : List ℕ) (xs ys : List (Learnt V)) (v : WalkView V) → facts_of xs ≡ facts_of ys → view_of cells (nodes_of ys) ≡ v → view_of cells (nodes_of xs) ≡ v
+same_view : {V : Type 0} (cells : List ℕ) (xs ys : List (Learnt V)) (v : WalkView V) → facts_of xs ≡ facts_of ys → view_of cells (nodes_of ys) ≡ v →
+    view_of cells (nodes_of xs) ≡ v
 same_view cells xs ys v e w = ap (view_of cells) (nodes_facts xs ys e) ∙ w
 
 pub invariant_of-result : goal.invariant_of-result

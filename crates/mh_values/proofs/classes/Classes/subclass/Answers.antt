@@ -6,7 +6,8 @@ use Rattle.mh_values.proofs.classes.Classes.subclass.Goals as goal
 -- at a class without a superclass the way ends
 ends : (c : goal.In_default) → is_subclass c.args.self.now c.args.class c.args.above ≡ false
 ends c =
-    let top = is_subclass-top c.args.self.now c.loop-above.class c.args.above (sym c.in_default.ensures.superclass) (other_class c.loop-above.class c.args.above c.loop-above-test.ensures) in
+    let top = is_subclass-top c.args.self.now c.loop-above.class c.args.above (sym c.in_default.ensures.superclass) (other_class c.loop-above.class c.args.above
+        c.loop-above-test.ensures) in
     sym c.loop-above.invariant ∙ top
 
 pub returns-in_default-clause-reached : goal.returns-in_default-clause-reached
@@ -23,7 +24,8 @@ loop-above-smaller c = c.in-Some.ensures.classes.ordered.ascending c.loop-above.
 pub loop-above-preserved : goal.loop-above-preserved
 loop-above-preserved c =
     let ascending = c.in-Some.ensures.classes.ordered.ascending in
-    sym (is_subclass-up c.args.self.now ascending c.loop-above.class c.args.above c.in-Some.superclass (sym c.in-Some.ensures.superclass) (other_class c.loop-above.class c.args.above c.loop-above-test.ensures)) ∙ c.loop-above.invariant
+    sym (is_subclass-up c.args.self.now ascending c.loop-above.class c.args.above c.in-Some.superclass (sym c.in-Some.ensures.superclass)
+        (other_class c.loop-above.class c.args.above c.loop-above-test.ensures)) ∙ c.loop-above.invariant
 
 -- at the class itself the way is found
 found : (c : goal.After-loop-above) → is_subclass c.args.self.now c.args.class c.args.above ≡ true
