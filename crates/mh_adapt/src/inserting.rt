@@ -21,11 +21,11 @@ use std::alloc::Global;
 use std::sync::Wait;
 
 // The value that fits a type.
-fn fitted(alloc: Global, v: Value, ty: Ty, classes: &Classes) -> Value
+fn fitted(v: Value, ty: Ty, classes: &Classes) -> Value
     requires { (w : Value) × (fit classes.now v ty ≡ Ok w) }
     ensures { fit classes.now v ty ≡ Ok result }
 {
-    let Ok(fitted) = fit(alloc, v, ty, classes) else {
+    let Ok(fitted) = fit(v, ty, classes) else {
         unreachable!()
     };
     fitted
@@ -73,7 +73,7 @@ pub fn bind<'t, R: Wait>(
     let own = bind_type(alloc, w, &t, pos, &v)?;
     let classes = w.classes();
     let param = *t.ty().params.get(usize::from(pos));
-    let slot = erase(fitted(alloc, v, param, classes));
+    let slot = erase(fitted(v, param, classes));
     let fields = one_field(alloc, Field::Val(slot))?;
     let by = Growth {
         ty: own,

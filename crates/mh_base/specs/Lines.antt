@@ -1,9 +1,11 @@
 -- A text as lines, a line as tokens, and what lines build one after the other.
-use Rattle.std.specs.Prelude.{ℕ, ◌+◌, ◌==◌, Bool, true, ◌&&◌, nat_le, List, [], ◌∷◌, take, drop, position, Option, None, Some, option_map, Result, Ok, Err}
+use Rattle.std.specs.Prelude.{◌≡◌, ℕ, ◌+◌, ◌==◌, Bool, true, ◌&&◌, nat_le, List, [], ◌∷◌, take, drop, position, Option, option_map, Result, Ok, Err}
 use Rattle.std.specs.List.{slice_split, list_all}
 use Rattle.mh_base.specs.declared.lines.LineFault.{LineFault}
+use Rattle.mh_base.specs.declared.lines.LineError.{LineError}
+use Rattle.mh_base.specs.declared.lines.LineError.TheVariants as line_error
 
--- LF ends a line; what stands behind the last LF is a line too
+-- LF ends a line; what stands after the last LF is a line too
 abbrev pub lines_of : List ℕ → List (List ℕ)
 lines_of text = slice_split (λ b. b == 10) text
 
@@ -11,7 +13,7 @@ lines_of text = slice_split (λ b. b == 10) text
 abbrev pub tokens_of : List ℕ → List (List ℕ)
 tokens_of line = slice_split (λ b. b == 32) line
 
--- a text in front of the first place of a byte, and behind it
+-- a text before the first place of a byte, and after it
 abbrev pub cut_at : ℕ → List ℕ → Option (List ℕ × List ℕ)
 cut_at byte text = option_map (λ at. (take at text, drop (at + 1) text)) (position (λ b. b == byte) text)
 
@@ -28,17 +30,19 @@ is_plain line = list_all (λ b. nat_le 0x20 b && nat_le b 0x7E) line
 abbrev pub fault_at : {K : Type 0} → ℕ → K → LineFault K
 fault_at n kind = record { line = n; kind = kind }
 
--- goes on behind a line that was taken, and stops at one that has a fault
-abbrev pub behind : {S K : Type 0} → ℕ → Result S K → (S → Result S (LineFault K)) → Result S (LineFault K)
-behind n (Ok next) rest = rest next
-behind n (Err kind) rest = Err (fault_at n kind)
+-- goes on after a line that was taken, and stops at one that has a fault
+abbrev pub after_line : {S K : Type 0} → ℕ → Result S K → (S → Result S (LineFault K)) → Result S (LineFault K)
+after_line n (Ok next) rest = rest next
+after_line n (Err kind) rest = Err (fault_at n kind)
 
 -- what lines, counted from a number, build from a start; or the first that has no meaning there
 abbrev pub built_from : {S K : Type 0} → (S → List ℕ → Result S K) → ℕ → S → List (List ℕ) → Result S (LineFault K)
 built_from step n so_far [] = Ok so_far
-built_from step n so_far (line ∷ lines) = behind n (step so_far line) (λ next. built_from step (n + 1) next lines)
+built_from step n so_far (line ∷ lines) = after_line n (step so_far line) (λ next. built_from step (n + 1) next lines)
 
--- what a line leaves, where a reader says what is wrong with it, if anything is
-abbrev pub taken_or : {S K : Type 0} → Option K → S → Result S K
-taken_or None next = Ok next
-taken_or (Some kind) next = Err kind
+-- what a reader answers that took a line of this meaning, with what is then there: Ok where that is the meaning's value, a kind where it is
+-- the meaning's; want of memory tells nothing
+abbrev pub TakesLine : {T S K : Type 0} → S → Result T (LineError K) → Result S K → Type 0
+TakesLine new (Ok done) meaning = meaning ≡ Ok new
+TakesLine new (Err line_error.NoMemory) meaning = Unit {0}
+TakesLine new (Err (line_error.Kind kind)) meaning = meaning ≡ Err kind

@@ -11,7 +11,7 @@ mod split;
 
 pub use copied::Copied;
 pub use frozen::Frozen;
-pub use lines::{LineFault, is_passed, is_plain};
+pub use lines::{LineError, LineFault, is_passed, is_plain};
 pub use memory::NoMemory;
 pub use seq::Seq;
 pub use shared::Shared;

@@ -25,7 +25,7 @@ fn place_of(text: &[u8], byte: u8) -> Option<usize>
     text.iter().position(|b| *b == byte)
 }
 
-/// A text in front of the first place of a byte, and behind it; `None` where the byte is nowhere.
+/// A text before the first place of a byte, and after it; `None` where the byte is nowhere.
 pub fn split_once(text: &[u8], byte: u8) -> Option<(&[u8], &[u8])>
     ensures { option_map (λ parts. (parts.0.now, parts.1.now)) result ≡ cut_at byte text.now }
 {

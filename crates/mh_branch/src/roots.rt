@@ -18,11 +18,11 @@ use std::alloc::Global;
 use std::sync::Wait;
 
 /// The value that fits a type.
-fn fitted(alloc: Global, v: Value, ty: Ty, classes: &Classes) -> Value
+fn fitted(v: Value, ty: Ty, classes: &Classes) -> Value
     requires { (w : Value) × (fit classes.now v ty ≡ Ok w) }
     ensures { fit classes.now v ty ≡ Ok result }
 {
-    let Ok(fitted) = fit(alloc, v, ty, classes) else {
+    let Ok(fitted) = fit(v, ty, classes) else {
         unreachable!()
     };
     fitted
@@ -47,7 +47,7 @@ pub fn constant<'t, R: Wait>(
     let classes = w.leaves.classes();
     let own = check_constant(alloc, ty, &v, classes)?;
     let Some(ret) = ty else { unreachable!() };
-    let slot = erase(fitted(alloc, v, ret, classes));
+    let slot = erase(fitted(v, ret, classes));
     let fields = one_field(alloc, Field::Val(slot))?;
     let by = Growth {
         ty: own,

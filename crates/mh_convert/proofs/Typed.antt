@@ -18,8 +18,18 @@ use Rattle.mh_values.specs.HasType.{primitive_of, wrapper_of, is_same_primitive,
 use Rattle.mh_values.proofs.SameTypes.{same_primitive-is}
 use Rattle.mh_values.proofs.BelowTypes.{class_cast-below, null_pointer-below, value-below, type_below-itself}
 use Rattle.mh_convert.specs.Conversion.{widens, serves_as, can, widened, widened_value, boxed, cast, unboxed, conv, fit, is_trivial}
-pub use Rattle.mh_convert.proofs.TypedConversions.{cast-throws, cast-typed, conv-throws, conv-typed, fit-typed, if_err, if_ok, unboxed-throws, unboxed-typed,
-    widened-typed}
+pub use Rattle.mh_convert.proofs.TypedConversions.{
+  cast-throws,
+  cast-typed,
+  conv-throws,
+  conv-typed,
+  fit-typed,
+  if_err,
+  if_ok,
+  unboxed-throws,
+  unboxed-typed,
+  widened-typed,
+}
 
 -- ---- what changes nothing
 

@@ -59,7 +59,7 @@ pub cast-throws : (classes : List Class) → AreClasses classes → (v : Value) 
     is_subclass classes e.class throwable_class ≡ true
 cast-throws classes are v t e h =
     subst (λ (x : Exc). is_subclass classes x.class throwable_class ≡ true) (if_err (has_type classes v t) v (bare class_cast_class) e h)
-        (class_cast-below classes are)
+    (class_cast-below classes are)
 
 -- ---- unboxing
 

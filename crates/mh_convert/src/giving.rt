@@ -5,7 +5,6 @@ ghost use Rattle.mh_convert.specs.Conversion.{can, widened, widened_value, boxed
 use crate::Conv;
 use crate::allowed::serves_as;
 use mh_values::{ClassId, Classes, Exc, Num, Primitive, Ty, Value, has_type};
-use std::alloc::Global;
 
 /// A number as one of a primitive type that it serves as.
 fn widened(number: Num, to: Primitive) -> Num
@@ -36,33 +35,33 @@ fn boxed(v: Value) -> Value
 }
 
 /// A reference as a value of a reference type: itself, if it has the type.
-fn cast(alloc: Global, v: Value, to: Ty, classes: &Classes) -> Result<Value, Exc>
+fn cast(v: Value, to: Ty, classes: &Classes) -> Result<Value, Exc>
     ensures { result ≡ cast classes.now v to }
 {
     if has_type(&v, to, classes) {
         Ok(v)
     } else {
-        Err(Exc::bare(alloc, ClassId::CLASS_CAST))
+        Err(Exc::bare(ClassId::CLASS_CAST))
     }
 }
 
 /// A reference as a number of a primitive type: a boxed number that serves as one, widened.
-fn unboxed(alloc: Global, v: Value, to: Primitive) -> Result<Value, Exc>
+fn unboxed(v: Value, to: Primitive) -> Result<Value, Exc>
     ensures { result ≡ unboxed v to }
 {
     match v {
-        Value::Null => Err(Exc::bare(alloc, ClassId::NULL_POINTER)),
+        Value::Null => Err(Exc::bare(ClassId::NULL_POINTER)),
         Value::Boxed(number) if serves_as(number.primitive(), to) => {
             Ok(Value::Prim(widened(number, to)))
         }
-        _ => Err(Exc::bare(alloc, ClassId::CLASS_CAST)),
+        _ => Err(Exc::bare(ClassId::CLASS_CAST)),
     }
 }
 
 /// What an allowed conversion gives of a value of its `from`: the value itself, widened, boxed or
 /// unboxed, or `NullPointerException` or `ClassCastException`, with an empty message, where a
 /// reference is not what is wanted (`MethodHandle.asType`, SE 17). It takes no memory.
-pub fn convert(alloc: Global, by: Conv, v: Value, classes: &Classes) -> Result<Value, Exc>
+pub fn convert(by: Conv, v: Value, classes: &Classes) -> Result<Value, Exc>
     requires allowed { IsTrue (can classes.now by.from by.to) }
     requires typed { IsTrue (has_type classes.now v by.from) }
     ensures { result ≡ conv classes.now by.from by.to v }
@@ -70,18 +69,18 @@ pub fn convert(alloc: Global, by: Conv, v: Value, classes: &Classes) -> Result<V
     match (by.from, by.to) {
         (Ty::Prim(_), Ty::Prim(to)) => Ok(widened_value(v, to)),
         (Ty::Prim(_), _) => Ok(boxed(v)),
-        (_, Ty::Prim(to)) => unboxed(alloc, v, to),
-        (_, to) => cast(alloc, v, to, classes),
+        (_, Ty::Prim(to)) => unboxed(v, to),
+        (_, to) => cast(v, to, classes),
     }
 }
 
 /// A bound or constant value, which is a reference, as a value of a type: as `convert` of an
 /// `Object`. It takes no memory.
-pub fn fit(alloc: Global, v: Value, to: Ty, classes: &Classes) -> Result<Value, Exc>
+pub fn fit(v: Value, to: Ty, classes: &Classes) -> Result<Value, Exc>
     ensures { result ≡ fit classes.now v to }
 {
     match to {
-        Ty::Prim(to) => unboxed(alloc, v, to),
-        _ => cast(alloc, v, to, classes),
+        Ty::Prim(to) => unboxed(v, to),
+        _ => cast(v, to, classes),
     }
 }

@@ -4,37 +4,36 @@ ghost use Rattle.mh_convert.specs.Conversion.{fit, unboxed, cast};
 
 use crate::allowed::serves_as;
 use mh_values::{ClassId, Classes, Exc, Primitive, Ty, Value, has_type};
-use std::alloc::Global;
 
 /// The exception of a reference that is no boxed number which serves as the primitive type.
-fn unboxing_error(alloc: Global, v: &Value, to: Primitive) -> Option<Exc>
+fn unboxing_error(v: &Value, to: Primitive) -> Option<Exc>
     ensures { result ≡ result_err (unboxed v.now to) }
 {
     match v {
-        Value::Null => Some(Exc::bare(alloc, ClassId::NULL_POINTER)),
+        Value::Null => Some(Exc::bare(ClassId::NULL_POINTER)),
         Value::Boxed(number) if serves_as(number.primitive(), to) => None,
-        _ => Some(Exc::bare(alloc, ClassId::CLASS_CAST)),
+        _ => Some(Exc::bare(ClassId::CLASS_CAST)),
     }
 }
 
 /// The exception of a reference that has not the type.
-fn cast_error(alloc: Global, v: &Value, to: Ty, classes: &Classes) -> Option<Exc>
+fn cast_error(v: &Value, to: Ty, classes: &Classes) -> Option<Exc>
     ensures { result ≡ result_err (cast classes.now v.now to) }
 {
     if has_type(v, to, classes) {
         None
     } else {
-        Some(Exc::bare(alloc, ClassId::CLASS_CAST))
+        Some(Exc::bare(ClassId::CLASS_CAST))
     }
 }
 
 /// Why a bound or constant value does not fit a type: the error of `fit`, if it has one. The value
 /// stays with its owner. It takes no memory.
-pub fn misfit(alloc: Global, v: &Value, to: Ty, classes: &Classes) -> Option<Exc>
+pub fn misfit(v: &Value, to: Ty, classes: &Classes) -> Option<Exc>
     ensures { result ≡ result_err (fit classes.now v.now to) }
 {
     match to {
-        Ty::Prim(to) => unboxing_error(alloc, v, to),
-        _ => cast_error(alloc, v, to, classes),
+        Ty::Prim(to) => unboxing_error(v, to),
+        _ => cast_error(v, to, classes),
     }
 }

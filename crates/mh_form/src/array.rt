@@ -94,7 +94,7 @@ pub(crate) fn check_array(alloc: Global, slot: &Slot, count: u32) -> Result<Step
 {
     match slot {
         Slot::L(Value::Null) if count == 0 => Ok(fill(alloc, Slot::I(0))),
-        Slot::L(Value::Null) => Ok(end(alloc, Exc::bare(alloc, ClassId::NULL_POINTER))),
+        Slot::L(Value::Null) => Ok(end(alloc, Exc::bare(ClassId::NULL_POINTER))),
         Slot::L(Value::Array(_, items)) if items.len() == count as usize => {
             Ok(fill(alloc, Slot::I(0)))
         }

@@ -42,7 +42,7 @@ pub(crate) fn convert_slot(alloc: Global, conv: Conv, slot: Slot, classes: &Clas
     ensures { ran_of_step result ≡ converted classes.now conv slot }
 {
     let value = typed(conv.from, slot, classes);
-    slot_or_throw(alloc, convert(alloc, conv, value, classes))
+    slot_or_throw(alloc, convert(conv, value, classes))
 }
 
 /// Null, false or zero.

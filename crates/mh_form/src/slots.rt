@@ -103,8 +103,8 @@ pub(crate) fn raise(alloc: Global, slot: Slot) -> Exc
 {
     match slot {
         Slot::L(Value::Thrown(exc)) => exc,
-        Slot::L(Value::Null) => Exc::bare(alloc, ClassId::NULL_POINTER),
-        Slot::L(_) => Exc::bare(alloc, ClassId::CLASS_CAST),
+        Slot::L(Value::Null) => Exc::bare(ClassId::NULL_POINTER),
+        Slot::L(_) => Exc::bare(ClassId::CLASS_CAST),
         _ => unreachable!(),
     }
 }

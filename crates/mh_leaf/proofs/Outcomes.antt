@@ -1,7 +1,7 @@
 -- A leaf of a kind that allows its type gives, on arguments of that type, values of its return type or an exception.
 use Rattle.std.proofs.Common.{◌≡◌, refl, sym, ap, subst, ℕ, zero, suc, ◌==◌, ℤ, pos, negsuc, Bool, true, false, ◌&&◌, cond, List, [], ◌∷◌, ◌++◌, length, Option, Some, None, nat_lt, nat_le, codes, arith}
 use Rattle.std.specs.Int.{w32, cast_signed}
-use Rattle.std.proofs.lemmas.Bool.{eqb-true}
+use Rattle.std.proofs.lemmas.Bool.{eqb-true, and_parts}
 use Rattle.std.specs.Prelude.{option_map, slice_get}
 use Rattle.mh_values.specs.declared.class.Class.{Class}
 use Rattle.mh_values.specs.declared.types.Ty.{Ty}
@@ -21,15 +21,25 @@ use Rattle.mh_values.specs.HasType.{has_type, HaveTypes}
 use Rattle.mh_values.specs.Returns.{Returns}
 use Rattle.mh_values.specs.Same.{is_same_type, is_same_return}
 use Rattle.mh_values.proofs.BelowTypes.{arithmetic-below, class_cast-below, internal_error-below, null_pointer-below}
-use Rattle.mh_values.proofs.SameTypes.{both, same_type-is, same_return-is, same_method_type-is, method_type}
+use Rattle.mh_values.proofs.SameTypes.{same_type-is, same_return-is, same_method_type-is, method_type}
 use Rattle.mh_values.proofs.Subclasses.{is_subclass-itself}
 use Rattle.mh_leaf.specs.declared.leaf.Kind.{Kind}
 use Rattle.mh_leaf.specs.declared.leaf.Kind.TheVariants as kind
 use Rattle.mh_leaf.specs.declared.leaf.Leaf.{Leaf}
 use Rattle.mh_leaf.proofs.ArgumentTypes.{is_boolean, ints_there, longs_there, boolean_there, one_there, two_there}
 use Rattle.mh_leaf.specs.Outcome.{returned, int, divided, characters_of, text, joined, measured, two_ints, two_longs, one_boolean, one_value, two_values, first_value, picked_value, kind_on, lacks_receiver, leaf_outcome, calls_of, ran_of, ran_of_some, leaf_run, int_type, long_type, boolean_type, string_type, is_type, returns_first, chooses, is_kind_type, throws_exceptions, is_well_typed}
-pub use Rattle.mh_leaf.proofs.SingleOutcomes.{Ends, divided-returns, first_of_more-ends, fixed, ints-end, joined-returns, mapped-ends, measured-returns,
-    pick-ends, same-ends}
+pub use Rattle.mh_leaf.proofs.SingleOutcomes.{
+  Ends,
+  divided-returns,
+  first_of_more-ends,
+  fixed,
+  ints-end,
+  joined-returns,
+  mapped-ends,
+  measured-returns,
+  pick-ends,
+  same-ends,
+}
 
 pub kind-ends : (classes : List Class) → AreClasses classes → (k : Kind) (t : MethodTy) (args : List Value) (n : ℕ) → is_kind_type k t ≡ true →
     throws_exceptions classes k ≡ true → HaveTypes classes args t.params → Ends classes (kind_on k args n) t.ret
@@ -40,12 +50,12 @@ kind-ends classes are kind.Idiv t args n is throws have =
     fixed classes t _ _ args _ is have (ints-end classes _ int_type args (λ p calls. divided-returns classes are p.0 p.1 calls))
 kind-ends classes are kind.Ladd t args n is throws have =
     fixed classes t _ _ args _ is have (λ longs. let q = longs_there classes args longs in mapped-ends classes _ (two_longs args) q.0 (Some long_type) q.1
-        (λ calls. refl))
+    (λ calls. refl))
 kind-ends classes are kind.Ieq t args n is throws have = fixed classes t _ _ args _ is have (ints-end classes _ boolean_type args (λ p calls. refl))
 kind-ends classes are kind.Ilt t args n is throws have = fixed classes t _ _ args _ is have (ints-end classes _ boolean_type args (λ p calls. refl))
 kind-ends classes are kind.Not t args n is throws have =
     fixed classes t _ _ args _ is have (λ one. let q = boolean_there classes args one in mapped-ends classes _ (one_boolean args) q.0 (Some boolean_type) q.1
-        (λ calls. refl))
+    (λ calls. refl))
 kind-ends classes are kind.Concat t args n is throws have =
     fixed classes t _ _ args _ is have (λ two.
     let q = two_there classes args string_type string_type two in
@@ -55,13 +65,16 @@ kind-ends classes are kind.Length t args n is throws have =
     let q = one_there classes args string_type one in
     mapped-ends classes measured (one_value args) q.0 (Some int_type) q.1 (measured-returns classes are q.0))
 kind-ends classes are kind.Same t args n is throws have =
-    let q = both (length t.params == 1) (returns_first t) is in same-ends classes t.params t.ret args q.0 q.1 have
+    let q = and_parts (length t.params == 1) (returns_first t) is in same-ends classes t.params t.ret args q.0 q.1 have
 kind-ends classes are kind.First t args n is throws have =
-    let q = both (nat_le 2 (length t.params)) (returns_first t) is in first_of_more-ends classes t.params t.ret args q.0 q.1 have
+    let q = and_parts (nat_le 2 (length t.params)) (returns_first t) is in first_of_more-ends classes t.params t.ret args q.0 q.1 have
 kind-ends classes are kind.Pick t args n is throws have = pick-ends classes t.params t.ret args is have
-kind-ends classes are kind.Tick t args n is throws have =
-    (int (cast_signed w32 n), refl, λ calls. subst (λ r. Returns classes (ran_of (int (cast_signed w32 n)) calls) r)
-        (sym (same_return-is t.ret (Some int_type) is)) refl)
+kind-ends classes are kind.Tick t args n is throws have = (
+  int (cast_signed w32 n),
+  refl,
+  λ calls. subst (λ r. Returns classes (ran_of (int (cast_signed w32 n)) calls) r)
+      (sym (same_return-is t.ret (Some int_type) is)) refl,
+)
 kind-ends classes are kind.Note t args n is throws have =
     (Return None, refl, λ calls. subst (λ r. Returns classes (Gave None calls) r) (sym (same_return-is t.ret None is)) tt)
 kind-ends classes are (kind.Throw class) t args n is throws have = (Throw (bare class), refl, λ calls. throws)
@@ -71,7 +84,7 @@ kind-ends classes are (kind.Throw class) t args n is throws have = (Throw (bare 
 pub outcome-there : (classes : List Class) → AreClasses classes → (leaf : Leaf) (args : List Value) (n : ℕ) → is_well_typed classes leaf ≡ true →
     HaveTypes classes args leaf.ty.params → Ends classes (leaf_outcome leaf args n) leaf.ty.ret
 outcome-there classes are leaf args n is have =
-    let q = both (is_kind_type leaf.kind leaf.ty) (throws_exceptions classes leaf.kind) is in
+    let q = and_parts (is_kind_type leaf.kind leaf.ty) (throws_exceptions classes leaf.kind) is in
     elim (lacks_receiver leaf args) as (λ b. Ends classes (cond b (Some (Throw (bare null_pointer_class))) (kind_on leaf.kind args n)) leaf.ty.ret) [
       | true ↦ (Throw (bare null_pointer_class), refl, λ calls. null_pointer-below classes are)
       | false ↦ kind-ends classes are leaf.kind leaf.ty args n q.0 q.1 have

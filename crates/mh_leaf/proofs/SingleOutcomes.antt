@@ -1,7 +1,7 @@
 -- How the kinds of leaves end on arguments of their types, kind by kind.
 use Rattle.std.proofs.Common.{◌≡◌, refl, sym, ap, subst, ℕ, zero, suc, ◌==◌, ℤ, pos, negsuc, Bool, true, false, ◌&&◌, cond, List, [], ◌∷◌, ◌++◌, length, Option, Some, None, nat_lt, nat_le, codes, arith}
 use Rattle.std.specs.Int.{w32, cast_signed}
-use Rattle.std.proofs.lemmas.Bool.{eqb-true}
+use Rattle.std.proofs.lemmas.Bool.{eqb-true, and_parts}
 use Rattle.std.specs.Prelude.{option_map, slice_get}
 use Rattle.mh_values.specs.declared.class.Class.{Class}
 use Rattle.mh_values.specs.declared.types.Ty.{Ty}
@@ -21,7 +21,7 @@ use Rattle.mh_values.specs.HasType.{has_type, HaveTypes}
 use Rattle.mh_values.specs.Returns.{Returns}
 use Rattle.mh_values.specs.Same.{is_same_type, is_same_return}
 use Rattle.mh_values.proofs.BelowTypes.{arithmetic-below, class_cast-below, internal_error-below, null_pointer-below}
-use Rattle.mh_values.proofs.SameTypes.{both, same_type-is, same_return-is, same_method_type-is, method_type}
+use Rattle.mh_values.proofs.SameTypes.{same_type-is, same_return-is, same_method_type-is, method_type}
 use Rattle.mh_values.proofs.Subclasses.{is_subclass-itself}
 use Rattle.mh_leaf.specs.declared.leaf.Kind.{Kind}
 use Rattle.mh_leaf.specs.declared.leaf.Kind.TheVariants as kind
@@ -40,8 +40,8 @@ divided-returns classes are a (negsuc b) calls = refl
 text-returns : (classes : List Class) → AreClasses classes → (s : List ℕ) (calls : List LeafCall) → Returns classes (ran_of (text s) calls) (Some string_type)
 text-returns classes are s calls =
     elim (nat_lt 4096 (length s)) as
-        (λ b. Returns classes (ran_of (cond b (Throw (saying internal_error_class (codes "string too long"))) (returned (value.Text s))) calls)
-        (Some string_type)) [
+    (λ b. Returns classes (ran_of (cond b (Throw (saying internal_error_class (codes "string too long"))) (returned (value.Text s))) calls)
+    (Some string_type)) [
       | true ↦ internal_error-below classes are
       | false ↦ is_subclass-itself classes string_class
     ]
@@ -117,8 +117,8 @@ pick-ends classes (c ∷ s ∷ t ∷ []) ret [] h have = absurd have
 pick-ends classes (c ∷ s ∷ t ∷ []) ret (u ∷ []) h have = absurd have.1
 pick-ends classes (c ∷ s ∷ t ∷ []) ret (u ∷ v ∷ []) h have = absurd have.1.1
 pick-ends classes (c ∷ s ∷ t ∷ []) ret (u ∷ v ∷ w ∷ []) h have =
-    let q = both (is_same_type c boolean_type && is_same_type s t) (is_same_return (Some t) ret) h in
-    let r = both (is_same_type c boolean_type) (is_same_type s t) q.0 in
+    let q = and_parts (is_same_type c boolean_type && is_same_type s t) (is_same_return (Some t) ret) h in
+    let r = and_parts (is_same_type c boolean_type) (is_same_type s t) q.0 in
     let b = is_boolean classes u (subst (λ x. has_type classes u x ≡ true) (same_type-is c boolean_type r.0) have.0) in
     subst (λ x. Ends classes (option_map returned (picked_value (x ∷ v ∷ w ∷ []))) ret) (sym b.1)
     (picked-ends classes b.0 v w s t ret r.1 q.1 have.1.0 have.1.1.0)

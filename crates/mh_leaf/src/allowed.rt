@@ -42,7 +42,7 @@ fn chooses(params: &[Ty], ret: Option<Ty>) -> bool
     }
 }
 
-/// Whether a leaf of a kind may have a type, that of its method handle with the receiver in front.
+/// Whether a leaf of a kind may have a type, that of its method handle with the receiver first.
 pub fn is_kind_type(kind: Kind, ty: &MethodTy) -> bool
     ensures { result ≡ is_kind_type kind ty.now }
 {

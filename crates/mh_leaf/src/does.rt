@@ -145,13 +145,13 @@ fn concatenated(alloc: Global, args: &[Value]) -> Result<Option<Outcome>, NoMemo
 }
 
 /// `length`.
-fn length(alloc: Global, args: &[Value]) -> Result<Option<Outcome>, NoMemory>
+fn length(args: &[Value]) -> Result<Option<Outcome>, NoMemory>
     ensures { IfOk result (λ outcome. outcome ≡ kind_on Kind.Length args.now 0) }
 {
     let Some(value) = one_value(args) else {
         return Ok(None);
     };
-    Ok(Some(measured(alloc, value)?))
+    Ok(Some(measured(value)?))
 }
 
 /// What a leaf of a kind does with these arguments, where `n` leaf calls were made before in the
@@ -175,13 +175,13 @@ pub fn kind_does(
         Kind::Ilt => Ok(less(args)),
         Kind::Not => Ok(negated(args)),
         Kind::Concat => concatenated(alloc, args),
-        Kind::Length => length(alloc, args),
+        Kind::Length => length(args),
         Kind::Same => returned(alloc, one_value(args)),
         Kind::First => returned(alloc, first_value(args)),
         Kind::Pick => returned(alloc, picked_value(args)),
         Kind::Tick => Ok(Some(int(signed(n)))),
         Kind::Note => Ok(Some(Outcome::Return(None))),
-        Kind::Throw(class) => Ok(Some(Outcome::Throw(Exc::bare(alloc, class)))),
+        Kind::Throw(class) => Ok(Some(Outcome::Throw(Exc::bare(class)))),
     }
 }
 
@@ -203,7 +203,7 @@ pub fn leaf_does(alloc: Global, leaf: &Leaf, args: &Items, n: u32) -> Result<Out
     ensures { IfOk result (λ outcome. leaf_outcome leaf.now args.now n ≡ Some outcome) }
 {
     if lacks_receiver(leaf.is_virtual, args) {
-        return Ok(Outcome::Throw(Exc::bare(alloc, ClassId::NULL_POINTER)));
+        return Ok(Outcome::Throw(Exc::bare(ClassId::NULL_POINTER)));
     }
     let Some(outcome) = kind_does(alloc, leaf.kind, args, n)? else {
         unreachable!()

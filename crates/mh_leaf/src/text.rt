@@ -41,7 +41,7 @@ pub fn joined(alloc: Global, first: &Value, second: &Value) -> Result<Outcome, N
         (λ outcome. outcome ≡ joined (characters_of first.now) (characters_of second.now)) }
 {
     let (Some(front), Some(back)) = (characters_of(first), characters_of(second)) else {
-        return Ok(Outcome::Throw(Exc::bare(alloc, ClassId::CLASS_CAST)));
+        return Ok(Outcome::Throw(Exc::bare(ClassId::CLASS_CAST)));
     };
     text(alloc, front, back)
 }
@@ -66,12 +66,12 @@ fn units(text: &[char]) -> Result<i32, NoMemory>
 }
 
 /// `length`: the number of UTF-16 units of the argument.
-pub fn measured(alloc: Global, value: &Value) -> Result<Outcome, NoMemory>
+pub fn measured(value: &Value) -> Result<Outcome, NoMemory>
     ensures { IfOk result (λ outcome. outcome ≡ measured value.now) }
 {
     Ok(match value {
         Value::Text(text) => Outcome::Return(Some(Value::Prim(Num::I(units(text.as_slice())?)))),
-        Value::Null => Outcome::Throw(Exc::bare(alloc, ClassId::NULL_POINTER)),
-        _ => Outcome::Throw(Exc::bare(alloc, ClassId::CLASS_CAST)),
+        Value::Null => Outcome::Throw(Exc::bare(ClassId::NULL_POINTER)),
+        _ => Outcome::Throw(Exc::bare(ClassId::CLASS_CAST)),
     })
 }

@@ -1,9 +1,10 @@
--- What is registered stays so when a class or a leaf is put behind the others.
+-- What is registered stays so when a class or a leaf is put after the others.
 use Rattle.std.proofs.Common.{◌≡◌, refl, zero, suc, true, false, if◌then◌else◌, sym, ap, ◌∙◌, ℕ, ◌+◌, ◌<◌, List, [], ◌∷◌, ◌++◌, length, slice_get, Option, None, Some, Result, Ok, Err, OnOk, OnErr, IfSome, arith, length-append}
 use Rattle.std.specs.Option.{option_map_or}
 use Rattle.std.proofs.lemmas.Option.{slice_get_within}
 use Rattle.std.proofs.lemmas.List.Elements.{All-push}
 use Rattle.std.specs.Str.{bytes_eq}
+use Rattle.mh_base.proofs.Slices.{slice_get-front}
 use Rattle.mh_values.specs.Classes.{named_from, class_named}
 use Rattle.mh_values.specs.declared.class.Class.{Class}
 use Rattle.mh_values.specs.declared.class.ClassId.{ClassId}
@@ -12,11 +13,6 @@ use Rattle.mh_leaf.specs.declared.leaf.Kind.{Kind}
 use Rattle.mh_leaf.specs.declared.leaf.Kind.TheVariants.{Iadd, Isub, Imul, Idiv, Ladd, Ieq, Ilt, Not, Concat, Length, Same, First, Pick, Tick, Note, Throw}
 use Rattle.mh_leaf.specs.declared.leaf.Leaf.{Leaf}
 use Rattle.mh_leaves.specs.Registered.{AreRegistered, IsLeafOf, ThrowsException, most_leaves}
-
-slice_get-old : {A : Type 0} (xs ys : List A) (i : ℕ) → i < length xs → slice_get (xs ++ ys) i ≡ slice_get xs i
-slice_get-old [] ys i within = absurd (omega (arith, within))
-slice_get-old (x ∷ xs) ys zero within = refl
-slice_get-old (x ∷ xs) ys (suc i) within = slice_get-old xs ys i (omega arith)
 
 -- a class that has a name is one of the list
 named_from-within : (n : ℕ) (classes : List Class) (name : List ℕ) (c : ClassId) → named_from n classes name ≡ Some c → c.0 < n + length classes
@@ -40,7 +36,7 @@ found-grown : (classes more : List Class) (a b : ClassId) (o : Option Class) →
     option_map_or (λ class. class.superclass) o None ≡ Some b → superclass_of (classes ++ more) a ≡ Some b
 found-grown classes more a b None is h = absurd cc
 found-grown classes more a b (Some z) is h =
-    ap (λ o. option_map_or (λ class. class.superclass) o None) (slice_get-old classes more a.0 (slice_get_within classes a.0 z is) ∙ is) ∙ h
+    ap (λ o. option_map_or (λ class. class.superclass) o None) (slice_get-front classes more a.0 (slice_get_within classes a.0 z is) ∙ is) ∙ h
 
 subclass-grown : (classes more : List Class) (a b : ClassId) → IsSubclass classes a b → IsSubclass (classes ++ more) a b
 subclass-grown classes more a b itself = itself
@@ -95,7 +91,7 @@ pub registered-declared : {T E : Type 0} (r : Result T E) (classes more new : Li
 registered-declared (Ok x) classes more new leaves h ok err = registered-class classes more new leaves h ok
 registered-declared (Err e) classes more new leaves h ok err = rw err h
 
--- the same where a leaf may not have been put behind the others
+-- the same where a leaf may not have been put after the others
 pub registered-pushed : {T E : Type 0} (r : Result T E) (classes : List Class) (leaves new : List Leaf) (leaf : Leaf) →
     AreRegistered (record { classes = classes; leaves = leaves }) → IsLeafOf classes leaf → (length leaves ≡ most_leaves → ⊥) →
     OnOk r (new ≡ leaves ++ leaf ∷ []) → OnErr r (new ≡ leaves) → AreRegistered (record { classes = classes; leaves = new })

@@ -1,12 +1,13 @@
--- What leaves keep stays so when a class or a leaf is put behind the others.
+-- What leaves keep stays so when a class or a leaf is put after the others.
 use Rattle.std.proofs.Common.{◌≡◌, sym, ap₂, subst, ◌∙◌, ℕ, ◌+◌, ◌-◌, take, true, false, ◌&&◌, ◌==◌, cond, List, [], ◌∷◌, ◌++◌, length, None, Some, Result, OnOk, OnErr, arith}
+use Rattle.std.proofs.lemmas.Bool.{and_parts}
 use Rattle.std.proofs.lemmas.List.{take-append-le, take_all}
 use Rattle.std.proofs.lemmas.Slice.Eq.{bytes_eq-Decides}
 use Rattle.std.specs.List.{list_any}
 use Rattle.std.specs.Str.{bytes_eq}
 use Rattle.mh_values.specs.declared.class.Class.{Class}
 use Rattle.mh_values.specs.declared.class.ClassId.{ClassId}
-use Rattle.mh_values.proofs.SameTypes.{both, same_class-is}
+use Rattle.mh_values.proofs.SameTypes.{same_class-is}
 use Rattle.mh_leaf.specs.declared.leaf.Leaf.{Leaf}
 use Rattle.mh_leaves.specs.declared.index.Index.{Index}
 use Rattle.mh_leaves.specs.Find.{are_texts, has_texts}
@@ -37,8 +38,8 @@ kept-declared r classes more new leaves index old ok err = record {
 
 same_texts : (o p : ClassId) (a b c d : List ℕ) → are_texts o a b p c d ≡ true → (o ≡ p) × (a ≡ c) × (b ≡ d)
 same_texts o p a b c d h =
-    let q = both (o.0 == p.0 && bytes_eq a c) (bytes_eq b d) h in
-    let r = both (o.0 == p.0) (bytes_eq a c) q.0 in
+    let q = and_parts (o.0 == p.0 && bytes_eq a c) (bytes_eq b d) h in
+    let r = and_parts (o.0 == p.0) (bytes_eq a c) q.0 in
     (same_class-is o p r.0, (bytes_eq-Decides a c).0 r.1, (bytes_eq-Decides b d).0 q.1)
 
 -- no leaf has texts that are those of a new one

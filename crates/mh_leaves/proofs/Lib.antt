@@ -5,3 +5,4 @@ pub mod Numbering
 pub mod Once
 pub mod Tokens
 pub mod Typed
+mod WrittenKeys

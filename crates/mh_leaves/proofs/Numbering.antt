@@ -10,6 +10,7 @@ use Rattle.std.specs.Global.{Vec}
 use Rattle.std.specs.Map.{lookup, IsKeyTest, AreApart as KeysApart, KeepsOthers}
 use Rattle.std.specs.Ordering.{nat_cmp}
 use Rattle.std.specs.Str.{bytes_eq}
+use Rattle.mh_base.proofs.TextMaps.{WritesText, at_text-other}
 use Rattle.mh_leaves.specs.Numbers.{number_at, AreBelow, AreNumbered, IsNumberedAnew, AreGrown}
 
 -- the maps from texts to numbers
@@ -18,21 +19,12 @@ Texts = BTreeMap (Vec ℕ) ℕ
 
 -- ---- one key that is written
 
-other_entries : {K X : Type 0} (eq : K → K → Bool) (test : K → Bool) (old new : List (K × X)) → KeepsOthers eq test old new → (other : K → Bool) →
-    IsKeyTest eq other → KeysApart test other → lookup other new ≡ lookup other old
-unfolding KeepsOthers
-other_entries eq test old new h = h
-
-apart : (bs cs ks : List ℕ) → bytes_eq bs cs ≡ false → is_at (λ k. slice_cmp nat_cmp bs k) ks ≡ true → is_at (λ k. slice_cmp nat_cmp cs k) ks ≡ false
-apart bs cs ks n y = is_eq-slice_cmp cs ks ∙ (nat_list_eq_equiv.symm cs ks ∙ sym (nat_list_eq_equiv.congr bs ks cs (sym (is_eq-slice_cmp bs ks) ∙ y)) ∙ n)
-
 -- the call of `insert` at a text
 abbrev pub Writes : Texts → Texts → List ℕ → ℕ → Type 0
-Writes m n key v = UpdatesBy (λ (x y : Vec ℕ). slice_cmp nat_cmp x.items y.items) (λ k. slice_cmp nat_cmp key k.items) m n (Some v)
+Writes m n key v = WritesText m n key (Some v)
 
 number_at-other : (m n : Texts) (key text : List ℕ) (v : ℕ) → Writes m n key v → bytes_eq key text ≡ false → number_at n text ≡ number_at m text
-number_at-other m n key text v h e = other_entries _ _ _ _ h.3 _ (λ x y. (eq_by_cmp_equiv nat_list_cmp_total).congr text x.items y.items)
-    (λ k. apart key text k.items e)
+number_at-other m n key text v h e = at_text-other m n key text (Some v) h e
 
 -- ---- a new text
 
@@ -108,7 +100,7 @@ numbered-written m n key v old h here more = record {
       ];
 }
 
--- ---- one call behind another
+-- ---- one call after another
 
 pub grown-further : (a b c : Texts) → AreGrown a b → AreGrown b c → AreGrown a c
 grown-further a b c first second = record {

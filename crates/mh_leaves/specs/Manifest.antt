@@ -1,6 +1,6 @@
 -- What the lines of a manifest mean.
 use Rattle.std.specs.Prelude.{ℕ, ◌==◌, List, [], ◌∷◌, codes, Bool, true, false, not, ◌&&◌, ◌||◌, if◌then◌else◌, Option, None, Some, Result, Ok, Err, length, drop, is_some, option_map, option_and_then, nat_eq, nat_le}
-use Rattle.std.specs.Option.{option_map_or}
+use Rattle.std.specs.Option.{option_map_or, option_or}
 use Rattle.std.specs.List.{list_all, list_any, slice_split, starts_with}
 use Rattle.std.specs.Str.{bytes_eq}
 use Rattle.mh_base.specs.Lines.{lines_of, tokens_of, cut_at, is_passed, is_plain, built_from}
@@ -72,11 +72,6 @@ other_kind word =
     else (if bytes_eq word (codes "tick") then Some kind.Tick
     else (if bytes_eq word (codes "note") then Some kind.Note else None))))))
 
--- the first of two answers that is there
-abbrev pub or_else : {A : Type 0} → Option A → Option A → Option A
-or_else (Some a) other = Some a
-or_else None other = other
-
 -- the class name of `throw:CLASS`
 abbrev pub thrown_name : List ℕ → Option (List ℕ)
 thrown_name word = if starts_with nat_eq word (codes "throw:") && is_class_name (drop 6 word) then Some (drop 6 word) else None
@@ -91,11 +86,11 @@ throw_kind classes word = option_and_then (λ name. option_map kind.Throw (class
 
 -- the kind of a word, whose class must be there
 abbrev pub kind_among : List Class → List ℕ → Option Kind
-kind_among classes word = or_else (number_kind word) (or_else (other_kind word) (throw_kind classes word))
+kind_among classes word = option_or (number_kind word) (option_or (other_kind word) (throw_kind classes word))
 
 -- ---- descriptors
 
--- whether the class is there that a piece of a descriptor names, if it names one: behind its first `L`
+-- whether the class is there that a piece of a descriptor names, if it names one: after its first `L`
 abbrev pub knows_name : List Class → List ℕ → Bool
 knows_name classes piece = option_map_or (λ parts. is_some (class_named classes parts.1)) (cut_at 76 piece) true
 
@@ -112,7 +107,7 @@ abbrev pub type_if_read : {E : Type 0} → Result MethodTy E → Option MethodTy
 type_if_read (Ok t) = Some t
 type_if_read (Err e) = None
 
--- the type of a leaf's method handle: a receiver of the owner's class is in front
+-- the type of a leaf's method handle: a receiver of the owner's class comes first
 abbrev pub handle_type : Bool → ClassId → MethodTy → MethodTy
 handle_type true owner t = record { params = ty.Class owner ∷ t.params; ret = t.ret }
 handle_type false owner t = t

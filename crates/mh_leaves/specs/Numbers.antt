@@ -39,13 +39,13 @@ pub record AreNumbered (texts : BTreeMap (Vec ℕ) ℕ) : Type 0 where
 abbrev pub AreByTexts : BTreeMap (Vec ℕ) ℕ → BTreeMap Key ℕ → Type 0
 AreByTexts texts leaves = (owner i j n : ℕ) → get key_cmp leaves (owner, i, j) ≡ Some n → (i < btree_map_len texts) × (j < btree_map_len texts)
 
--- a text's number stays, or it is new and behind those that there were
+-- a text's number stays, or it is new and after those that there were
 abbrev pub IsNumberedAnew : BTreeMap (Vec ℕ) ℕ → BTreeMap (Vec ℕ) ℕ → List ℕ → Type 0
 IsNumberedAnew old new text =
     (number_at new text ≡ number_at old text)
     ⊎ ((n : ℕ) × (number_at old text ≡ None) × (number_at new text ≡ Some n) × (btree_map_len old ≤ n))
 
--- each text keeps its number, and new ones have numbers behind those that there were
+-- each text keeps its number, and new ones have numbers after those that there were
 pub record AreGrown (old new : BTreeMap (Vec ℕ) ℕ) : Type 0 where
   pub numbers : (text : List ℕ) → IsNumberedAnew old new text
   pub longer : btree_map_len old ≤ btree_map_len new

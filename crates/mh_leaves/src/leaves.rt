@@ -48,7 +48,7 @@ impl Leaves {
         })
     }
 
-    /// The classes, the built-in ones in front.
+    /// The classes, the built-in ones first.
     pub fn classes(&self) -> &Classes
         ensures { result.now ≡ self.now.classes }
     {
@@ -167,7 +167,7 @@ impl Leaves {
         }
     }
 
-    /// The type of a leaf's method handle, a receiver in front.
+    /// The type of a leaf's method handle, a receiver first.
     pub fn ty(&self, id: LeafId) -> &MethodTy
         requires { id.0 < length self.now.leaves }
         ensures { type_of_leaf self.now id ≡ Some result.now }

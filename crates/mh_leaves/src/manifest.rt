@@ -1,6 +1,6 @@
 ghost use Rattle.std.specs.Prelude.{◌≡◌, ◌<◌, false, length, map, None, IfOk};
 ghost use Rattle.std.specs.List.{list_all, list_any};
-ghost use Rattle.mh_base.specs.Lines.{taken_or, built_from};
+ghost use Rattle.mh_base.specs.Lines.{TakesLine, built_from};
 ghost use Rattle.mh_values.specs.Classes.{class_named};
 ghost use Rattle.mh_values.specs.Descriptor.{desc};
 ghost use Rattle.mh_leaves.specs.Fault.{TellsManifest, TellsInto};
@@ -12,7 +12,7 @@ ghost use Rattle.mh_leaves.specs.declared.manifest.ManifestError.TheVariants.{No
 use crate::kinds::{is_kind_word, is_well_typed, kind_among};
 use crate::leaves::MOST_LEAVES;
 use crate::{Leaves, Reference, is_class_name, is_method_name};
-use mh_base::{LineFault, NoMemory, Seq, is_passed, is_plain, split_at_byte, split_once};
+use mh_base::{LineError, LineFault, NoMemory, Seq, is_passed, is_plain, split_at_byte, split_once};
 use mh_leaf::{Kind, Leaf};
 use mh_values::{
     ClassId, Classes, DescriptorError, MOST_SLOTS, MethodTy, Ty, all_slots, descriptor_text,
@@ -95,52 +95,56 @@ impl From<AllocError> for ManifestError {
     }
 }
 
-fn copied(alloc: Global, bytes: &[u8]) -> Result<Seq<u8>, NoMemory>
-    ensures { IfOk result (λ copy. copy ≡ bytes.now) }
-{
-    Ok(Seq::from_vec(Vec::from_slice(alloc, bytes)?))
+/// How a line was taken.
+type LineResult = Result<(), LineError<ManifestKind>>;
+
+/// A leaf of a line: its owner and its kind are there, and its descriptor is not read yet.
+#[derive(Clone, Copy)]
+struct LeafLine<'b> {
+    is_virtual: bool,
+    texts: Reference<'b>,
+    owner: ClassId,
+    kind: Kind,
 }
 
-// Declares a class below one that is there, and says what is wrong with it.
+// Declares a class below one that is there.
 fn add_class(
     leaves: &mut Leaves,
     name: &[u8],
     superclass: ClassId,
-) -> Result<Option<ManifestKind>, NoMemory>
+) -> LineResult
     requires new { class_named leaves.old.classes name.now ≡ None }
     requires superclass { superclass.0 < length leaves.old.classes }
-    ensures { IfOk result
-        (λ fault. class_added leaves.old name.now superclass ≡ taken_or fault leaves.new) }
+    ensures { TakesLine leaves.new result (class_added leaves.old name.now superclass) }
 {
     if leaves.has_most_classes() {
-        return Ok(Some(ManifestKind::TooMany));
+        return Err(LineError::Kind(ManifestKind::TooMany));
     }
     leaves.add_class(name, superclass)?;
-    Ok(None)
+    Ok(())
 }
 
-// Takes a line `class NAME SUPER`, and says what is wrong with it.
+// Takes a line `class NAME SUPER`.
 fn read_class(
     leaves: &mut Leaves,
     name: &[u8],
     superclass: &[u8],
-) -> Result<Option<ManifestKind>, NoMemory>
-    ensures { IfOk result
-        (λ fault. class_line leaves.old name.now superclass.now ≡ taken_or fault leaves.new) }
+) -> LineResult
+    ensures { TakesLine leaves.new result (class_line leaves.old name.now superclass.now) }
 {
     if !(is_class_name(name) && is_class_name(superclass)) {
-        return Ok(Some(ManifestKind::BadLine));
+        return Err(LineError::Kind(ManifestKind::BadLine));
     }
     if leaves.class_of(name).is_some() {
-        return Ok(Some(ManifestKind::Twice));
+        return Err(LineError::Kind(ManifestKind::Twice));
     }
     let Some(superclass) = leaves.class_of(superclass) else {
-        return Ok(Some(ManifestKind::UnknownClass));
+        return Err(LineError::Kind(ManifestKind::UnknownClass));
     };
     add_class(leaves, name, superclass)
 }
 
-// The type of a leaf's method handle: a receiver is in front.
+// The type of a leaf's method handle: a receiver comes first.
 fn handle_type(
     alloc: Global,
     is_virtual: bool,
@@ -161,28 +165,28 @@ fn handle_type(
     })
 }
 
-// Registers a leaf, and says what is wrong with it.
+// Registers a leaf.
 fn add_leaf(
     alloc: Global,
     leaves: &mut Leaves,
     leaf: Leaf,
-) -> Result<Option<ManifestKind>, NoMemory>
+) -> LineResult
     requires owner { leaf.owner.0 < length leaves.old.classes }
     requires new { list_any (has_texts leaf.owner leaf.name leaf.descriptor) leaves.old.leaves
         ≡ false }
-    ensures { IfOk result (λ fault. leaf_added leaves.old leaf ≡ taken_or fault leaves.new) }
+    ensures { TakesLine leaves.new result (leaf_added leaves.old leaf) }
 {
     if all_slots(leaf.ty.params.as_slice()) > MOST_SLOTS {
-        return Ok(Some(ManifestKind::BadDescriptor));
+        return Err(LineError::Kind(ManifestKind::BadDescriptor));
     }
     if !is_well_typed(&leaf, leaves.classes()) {
-        return Ok(Some(ManifestKind::BadKind));
+        return Err(LineError::Kind(ManifestKind::BadKind));
     }
     if leaves.count() == MOST_LEAVES {
-        return Ok(Some(ManifestKind::TooMany));
+        return Err(LineError::Kind(ManifestKind::TooMany));
     }
     leaves.add_leaf(alloc, leaf)?;
-    Ok(None)
+    Ok(())
 }
 
 // Whether the class is there that a piece of a descriptor names, if it names one.
@@ -235,54 +239,39 @@ pub fn type_of(
     }
 }
 
-// The leaf of an owner and a kind with these texts and a type, which lacks the receiver.
-fn leaf_of(
-    alloc: Global,
-    is_virtual: bool,
-    texts: Reference<'_>,
-    owner: ClassId,
-    kind: Kind,
-    ty: MethodTy,
-) -> Result<Leaf, NoMemory>
+// The leaf of a line with a type, which lacks the receiver.
+fn leaf_of(alloc: Global, line: LeafLine<'_>, ty: MethodTy) -> Result<Leaf, NoMemory>
     ensures { IfOk result
-        (λ leaf. leaf ≡ leaf_of is_virtual (texts_of texts.entry) owner kind ty) }
+        (λ leaf. leaf ≡ leaf_of line.is_virtual (texts_of line.entry.texts) line.owner line.kind ty) }
 {
-    let ty = handle_type(alloc, is_virtual, owner, ty)?;
-    let name = copied(alloc, texts.name)?;
-    let descriptor = copied(alloc, texts.descriptor)?;
+    let ty = handle_type(alloc, line.is_virtual, line.owner, ty)?;
+    let name = Seq::copy_of(alloc, line.texts.name)?;
+    let descriptor = Seq::copy_of(alloc, line.texts.descriptor)?;
     Ok(Leaf {
-        owner,
+        owner: line.owner,
         name,
         descriptor,
-        is_virtual,
+        is_virtual: line.is_virtual,
         ty,
-        kind,
+        kind: line.kind,
     })
 }
 
-// Registers a leaf of an owner and a kind, and says what is wrong with it.
-fn read_owned(
-    alloc: Global,
-    leaves: &mut Leaves,
-    is_virtual: bool,
-    texts: Reference<'_>,
-    owner: ClassId,
-    kind: Kind,
-) -> Result<Option<ManifestKind>, NoMemory>
-    requires owner { owner.0 < length leaves.old.classes }
-    requires new { list_any (has_texts owner texts.name.now texts.descriptor.now)
+// Registers the leaf of a line.
+fn read_owned(alloc: Global, leaves: &mut Leaves, line: LeafLine<'_>) -> LineResult
+    requires owner { line.owner.0 < length leaves.old.classes }
+    requires new { list_any (has_texts line.owner line.texts.name.now line.texts.descriptor.now)
         leaves.old.leaves ≡ false }
-    ensures { IfOk result
-        (λ fault. owned_leaf leaves.old is_virtual (texts_of texts.entry) owner kind
-        ≡ taken_or fault leaves.new) }
+    ensures { TakesLine leaves.new result
+        (owned_leaf leaves.old line.is_virtual (texts_of line.entry.texts) line.owner line.kind) }
 {
-    if !has_known_classes(alloc, leaves.classes(), texts.descriptor)? {
-        return Ok(Some(ManifestKind::UnknownClass));
+    if !has_known_classes(alloc, leaves.classes(), line.texts.descriptor)? {
+        return Err(LineError::Kind(ManifestKind::UnknownClass));
     }
-    let Some(ty) = type_of(alloc, leaves.classes(), texts.descriptor)? else {
-        return Ok(Some(ManifestKind::BadDescriptor));
+    let Some(ty) = type_of(alloc, leaves.classes(), line.texts.descriptor)? else {
+        return Err(LineError::Kind(ManifestKind::BadDescriptor));
     };
-    let leaf = leaf_of(alloc, is_virtual, texts, owner, kind, ty)?;
+    let leaf = leaf_of(alloc, line, ty)?;
     add_leaf(alloc, leaves, leaf)
 }
 
@@ -296,31 +285,36 @@ fn is_leaf_text(texts: Reference<'_>, word: &[u8]) -> bool
         && is_kind_word(word)
 }
 
-// Takes a line of a leaf, and says what is wrong with it.
+// Takes a line of a leaf.
 fn read_leaf(
     alloc: Global,
     leaves: &mut Leaves,
     is_virtual: bool,
     texts: Reference<'_>,
     word: &[u8],
-) -> Result<Option<ManifestKind>, NoMemory>
-    ensures { IfOk result
-        (λ fault. leaf_line leaves.old is_virtual (texts_of texts.entry) word.now
-        ≡ taken_or fault leaves.new) }
+) -> LineResult
+    ensures { TakesLine leaves.new result
+        (leaf_line leaves.old is_virtual (texts_of texts.entry) word.now) }
 {
     if !is_leaf_text(texts, word) {
-        return Ok(Some(ManifestKind::BadLine));
+        return Err(LineError::Kind(ManifestKind::BadLine));
     }
     let Some(owner) = leaves.class_of(texts.owner) else {
-        return Ok(Some(ManifestKind::UnknownClass));
+        return Err(LineError::Kind(ManifestKind::UnknownClass));
     };
     if leaves.is_registered(owner, texts.name, texts.descriptor) {
-        return Ok(Some(ManifestKind::Twice));
+        return Err(LineError::Kind(ManifestKind::Twice));
     }
     let Some(kind) = kind_among(word, leaves.classes()) else {
-        return Ok(Some(ManifestKind::UnknownClass));
+        return Err(LineError::Kind(ManifestKind::UnknownClass));
     };
-    read_owned(alloc, leaves, is_virtual, texts, owner, kind)
+    let line = LeafLine {
+        is_virtual,
+        texts,
+        owner,
+        kind,
+    };
+    read_owned(alloc, leaves, line)
 }
 
 // Whether a leaf of a line that begins with this word has a receiver.
@@ -336,50 +330,47 @@ fn is_virtual_word(word: &[u8]) -> Option<bool>
     }
 }
 
-// Takes a line of three tokens, and says what is wrong with it.
+// Takes a line of three tokens.
 fn read_three(
     leaves: &mut Leaves,
     word: &[u8],
     name: &[u8],
     superclass: &[u8],
-) -> Result<Option<ManifestKind>, NoMemory>
-    ensures { IfOk result
-        (λ fault. three_tokens leaves.old word.now name.now superclass.now
-        ≡ taken_or fault leaves.new) }
+) -> LineResult
+    ensures { TakesLine leaves.new result
+        (three_tokens leaves.old word.now name.now superclass.now) }
 {
     if word != b"class".as_slice() {
-        return Ok(Some(ManifestKind::BadLine));
+        return Err(LineError::Kind(ManifestKind::BadLine));
     }
     read_class(leaves, name, superclass)
 }
 
-// Takes a line of five tokens, and says what is wrong with it.
+// Takes a line of five tokens.
 fn read_five(
     alloc: Global,
     leaves: &mut Leaves,
     word: &[u8],
     texts: Reference<'_>,
     kind: &[u8],
-) -> Result<Option<ManifestKind>, NoMemory>
-    ensures { IfOk result
-        (λ fault. five_tokens leaves.old word.now (texts_of texts.entry) kind.now
-        ≡ taken_or fault leaves.new) }
+) -> LineResult
+    ensures { TakesLine leaves.new result
+        (five_tokens leaves.old word.now (texts_of texts.entry) kind.now) }
 {
     let Some(is_virtual) = is_virtual_word(word) else {
-        return Ok(Some(ManifestKind::BadLine));
+        return Err(LineError::Kind(ManifestKind::BadLine));
     };
     read_leaf(alloc, leaves, is_virtual, texts, kind)
 }
 
-// Takes the tokens of a line, and says what is wrong with them.
+// Takes the tokens of a line.
 fn read_tokens(
     alloc: Global,
     leaves: &mut Leaves,
     tokens: &[&[u8]],
-) -> Result<Option<ManifestKind>, NoMemory>
-    ensures { IfOk result
-        (λ fault. tokens_meaning leaves.old (map (λ t. t.now) tokens.now)
-        ≡ taken_or fault leaves.new) }
+) -> LineResult
+    ensures { TakesLine leaves.new result
+        (tokens_meaning leaves.old (map (λ t. t.now) tokens.now)) }
 {
     match tokens {
         [word, name, superclass] => read_three(leaves, word, name, superclass),
@@ -391,23 +382,23 @@ fn read_tokens(
             };
             read_five(alloc, leaves, word, texts, kind)
         }
-        _ => Ok(Some(ManifestKind::BadLine)),
+        _ => Err(LineError::Kind(ManifestKind::BadLine)),
     }
 }
 
-// Takes a line, and says what is wrong with it.
+// Takes a line.
 fn read_line(
     alloc: Global,
     leaves: &mut Leaves,
     line: &[u8],
-) -> Result<Option<ManifestKind>, NoMemory>
-    ensures { IfOk result (λ fault. line_meaning leaves.old line.now ≡ taken_or fault leaves.new) }
+) -> LineResult
+    ensures { TakesLine leaves.new result (line_meaning leaves.old line.now) }
 {
     if !is_plain(line) {
-        return Ok(Some(ManifestKind::BadLine));
+        return Err(LineError::Kind(ManifestKind::BadLine));
     }
     if is_passed(line) {
-        return Ok(None);
+        return Ok(());
     }
     let tokens = split_at_byte(alloc, line, b' ')?;
     read_tokens(alloc, leaves, &tokens)
@@ -420,8 +411,12 @@ fn read_lines(alloc: Global, leaves: &mut Leaves, lines: &[&[u8]]) -> Result<(),
 {
     let mut number = 1u32;
     for line in lines {
-        if let Some(kind) = read_line(alloc, leaves, line)? {
-            return Err(ManifestError::Fault(LineFault { line: number, kind }));
+        match read_line(alloc, leaves, line) {
+            Ok(()) => {}
+            Err(LineError::NoMemory) => return Err(ManifestError::NoMemory),
+            Err(LineError::Kind(kind)) => {
+                return Err(ManifestError::Fault(LineFault { line: number, kind }));
+            }
         }
         number = number.checked_add(1).ok_or(NoMemory)?;
     }

@@ -1,4 +1,5 @@
 mod ArrayTrip
+mod ComponentTrip
 mod HexTrip
 mod ItemTrip
 mod Literals

@@ -36,9 +36,9 @@ pub drop_front : (xs ys : List ℕ) → drop (length xs) (xs ++ ys) ≡ ys
 drop_front [] ys = refl
 drop_front (x ∷ xs) ys = drop_front xs ys
 
-behind_of : (xs : List ℕ) (y : ℕ) (ys : List ℕ) → drop (length xs + 1) (xs ++ y ∷ ys) ≡ ys
-behind_of [] y ys = refl
-behind_of (x ∷ xs) y ys = ap (λ n. drop n (x ∷ (xs ++ y ∷ ys))) one_more ∙ behind_of xs y ys
+after_of : (xs : List ℕ) (y : ℕ) (ys : List ℕ) → drop (length xs + 1) (xs ++ y ∷ ys) ≡ ys
+after_of [] y ys = refl
+after_of (x ∷ xs) y ys = ap (λ n. drop n (x ∷ (xs ++ y ∷ ys))) one_more ∙ after_of xs y ys
   where
     one_more : length (x ∷ xs) + 1 ≡ suc (length xs + 1)
     one_more = omega arith
@@ -51,7 +51,7 @@ cut_found byte front rest lacks =
     ap (λ n. option_map (λ k. (take k whole, drop (k + 1) whole)) (cond (nat_lt n (length whole)) (Some n) None)) place
     ∙ ap (λ t. option_map (λ k. (take k whole, drop (k + 1) whole)) (cond t (Some (length front)) None)) within
     ∙ ap (λ f. Some (f, drop (length front + 1) whole)) (front_of front (byte ∷ rest))
-    ∙ ap (λ r. Some (front, r)) (behind_of front byte rest)
+    ∙ ap (λ r. Some (front, r)) (after_of front byte rest)
 
 -- ---- plain names
 

@@ -19,7 +19,7 @@ no_sign (d ∷ ds) sign low some digits = let range = digit_from_value d digits.
 same : (a : List ℕ) → bytes_eq a a ≡ true
 same a = (bytes_eq-Decides a a).1 refl
 
--- the value of digits behind no sign
+-- the value of digits without a sign
 unsigned_value : (n : ℕ) → n < 2 ^ 64 → digits_value 10 (without_leading_plus (decimal n)) ≡ n
 unsigned_value n small =
     let k = decimal_is_IsNumeral n small in

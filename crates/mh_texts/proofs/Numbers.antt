@@ -15,9 +15,6 @@ none_where : {X : Type 0} (b : Bool) (x : X) → (b ≡ true → ⊥) → None �
 none_where true x not_so = absurd (not_so refl)
 none_where false x not_so = refl
 
-same_bytes : (a b : List ℕ) → bytes_eq a b ≡ true → a ≡ b
-same_bytes a b h = (bytes_eq-Decides a b).0 h
-
 -- ---- numbers with a sign
 
 is_long-fits : (z : ℤ) → is_long z ≡ true → FitsSigned w64 z
@@ -48,9 +45,9 @@ long_of-refused text r e parses refused =
     let parts = and_parts _ _ so in
     elim (or_cases (bytes_eq (signed_decimal (signed_digits_value 10 text)) text) (bytes_eq (codes "-0") text) parts.1) [
       | inl w ↦
-          let read : r ≡ Ok (signed_digits_value 10 text) = parse_long (signed_digits_value 10 text) text r parts.0 (sym (same_bytes _ _ w)) parses in cc
+          let read : r ≡ Ok (signed_digits_value 10 text) = parse_long (signed_digits_value 10 text) text r parts.0 (sym ((bytes_eq-Decides _ _).0 w)) parses in cc
       | inr w ↦
-          let read : r ≡ Ok (pos 0) = parse_minus_zero r (subst (λ t. ParsesSigned w64 10 t r) (sym (same_bytes (codes "-0") text w)) parses) in cc
+          let read : r ≡ Ok (pos 0) = parse_minus_zero r (subst (λ t. ParsesSigned w64 10 t r) (sym ((bytes_eq-Decides (codes "-0") text).0 w)) parses) in cc
     ])
 
 signed-ascii : (z : ℤ) → is_long z ≡ true → IsAscii (signed_decimal z)
@@ -69,8 +66,8 @@ long_of-no_text text no_text =
     none_where (is_long (signed_digits_value 10 text) && writes (signed_digits_value 10 text) text) (signed_digits_value 10 text) (λ so.
     let parts = and_parts _ _ so in
     elim (or_cases (bytes_eq (signed_decimal (signed_digits_value 10 text)) text) (bytes_eq (codes "-0") text) parts.1) [
-      | inl w ↦ no_text (subst IsUtf8 (same_bytes _ _ w) (IsUtf8-from_ascii _ (signed-ascii (signed_digits_value 10 text) parts.0)))
-      | inr w ↦ no_text (subst IsUtf8 (same_bytes (codes "-0") text w) (IsUtf8-from_ascii (codes "-0") minus_zero-ascii))
+      | inl w ↦ no_text (subst IsUtf8 ((bytes_eq-Decides _ _).0 w) (IsUtf8-from_ascii _ (signed-ascii (signed_digits_value 10 text) parts.0)))
+      | inr w ↦ no_text (subst IsUtf8 ((bytes_eq-Decides (codes "-0") text).0 w) (IsUtf8-from_ascii (codes "-0") minus_zero-ascii))
     ])
 
 -- ---- numbers without a sign
@@ -81,7 +78,7 @@ unsigned_of-refused text r e parses refused =
     none_where (nat_lt n (2 ^ 32) && bytes_eq (decimal n) text) n (λ so.
     let parts = and_parts _ _ so in
     let small : n < 2 ^ 32 = ltb-true n (2 ^ 32) parts.0 in
-    let read : r ≡ Ok n = parse-decimal 32 n text r small (omega arith) (sym (same_bytes _ _ parts.1)) parses in cc)
+    let read : r ≡ Ok n = parse-decimal 32 n text r small (omega arith) (sym ((bytes_eq-Decides _ _).0 parts.1)) parses in cc)
 
 pub unsigned_of-no_text : (text : List ℕ) → (IsUtf8 text → ⊥) → None ≡ unsigned_of text
 unsigned_of-no_text text no_text =
@@ -89,7 +86,7 @@ unsigned_of-no_text text no_text =
     none_where (nat_lt n (2 ^ 32) && bytes_eq (decimal n) text) n (λ so.
     let parts = and_parts _ _ so in
     let small : n < 2 ^ 32 = ltb-true n (2 ^ 32) parts.0 in
-    no_text (subst IsUtf8 (same_bytes _ _ parts.1) (IsUtf8-from_ascii _ (IsAscii-decimal n (omega arith)))))
+    no_text (subst IsUtf8 ((bytes_eq-Decides _ _).0 parts.1) (IsUtf8-from_ascii _ (IsAscii-decimal n (omega arith)))))
 
 -- a number that was parsed is the one that is written so, where its own text is the text
 pub unsigned_of-read : (text : List ℕ) (n : ℕ) (b : Bool) → digits_value 10 (without_leading_plus text) < 2 ^ 32 →

@@ -32,8 +32,8 @@ printed_type = refl
 not_cut : shown_text (replicate 1024 97) ≡ replicate 1024 97
 not_cut = refl
 
-cut_behind : shown_text (replicate 1025 97) ≡ replicate 1024 97 ++ codes "..."
-cut_behind = refl
+cut_after : shown_text (replicate 1025 97) ≡ replicate 1024 97 ++ codes "..."
+cut_after = refl
 
 cut_within_an_escape : shown_text (replicate 1023 97 ++ 32 ∷ []) ≡ replicate 1023 97 ++ codes "\\..."
 cut_within_an_escape = refl

@@ -18,7 +18,8 @@ use Rattle.mh_texts.specs.Printed.{component_text, items_text, value_text, shown
 use Rattle.mh_texts.specs.Writable.{IsWritableArray, IsWritable, bare_item, bare_value}
 use Rattle.mh_texts.proofs.ItemTrip.{item_trip}
 use Rattle.mh_texts.proofs.NameTrip.{cut_found, front_of, drop_front}
-use Rattle.mh_texts.proofs.ArrayTrip.{component_trip, no_bracket, listed_trip}
+use Rattle.mh_texts.proofs.ArrayTrip.{listed_trip}
+use Rattle.mh_texts.proofs.ComponentTrip.{component_trip, no_bracket}
 
 -- ---- arrays
 

@@ -32,7 +32,7 @@ by_number rest c is =
     let k = digits_is_IsNumeral 16 false (lit≤ tt) (lit≤ tt) c (omega arith) in
     let same : digits_value_after 16 0 ds ≡ c = k.1 in
     let some : nat_lt 0 (0 + length ds) ≡ true = lt-ltb 0 (0 + length ds) (omega (arith, k.0.0)) in
-    let behind = append_assoc ds (125 ∷ []) rest in
+    let joined = append_assoc ds (125 ∷ []) rest in
     let read = hex_read ds 0 0 (125 ∷ rest) (digits-hex c) (omega (arith, digits-short c low)) (omega (arith, same)) in
     let closed : step (escape.Digits (0 + length ds) (digits_value_after 16 0 ds)) 125 ≡ whole c =
     ap (λ t. if t then option_and_then whole (scalar (digits_value_after 16 0 ds)) else None) some
@@ -41,7 +41,7 @@ by_number rest c is =
     none_in_front (option_map (in_front None) (option_map (in_front None) (characters_from (escape.Digits 0 0) ((ds ++ 125 ∷ []) ++ rest))))
     ∙ none_in_front (option_map (in_front None) (characters_from (escape.Digits 0 0) ((ds ++ 125 ∷ []) ++ rest)))
     ∙ none_in_front (characters_from (escape.Digits 0 0) ((ds ++ 125 ∷ []) ++ rest))
-    ∙ ap (characters_from (escape.Digits 0 0)) behind
+    ∙ ap (characters_from (escape.Digits 0 0)) joined
     ∙ read
     ∙ ap (option_and_then (rest_of rest)) closed
 

@@ -33,7 +33,7 @@ use Rattle.mh_texts.specs.Text.{text_of}
 abbrev pub bool_of : List ℕ → Option Bool
 bool_of text = if bytes_eq text (codes "true") then Some true else (if bytes_eq text (codes "false") then Some false else None)
 
--- a number of the primitive type whose letter, in lower case, stands in front of it
+-- a number of the primitive type whose letter, in lower case, stands before it
 abbrev pub number_of : ℕ → List ℕ → Option Num
 number_of letter text =
     if letter == 122 then option_map num.Z (bool_of text)
@@ -66,7 +66,7 @@ exception_of classes text = option_and_then (if_exception classes) (class_named 
 
 -- ---- items
 
--- what stands behind a letter and a colon: `z i j` are numbers, `Z I J` boxed ones, `s` is a text, `o` an object, `x` an exception
+-- what stands after a letter and a colon: `z i j` are numbers, `Z I J` boxed ones, `s` is a text, `o` an object, `x` an exception
 abbrev pub tagged : List Class → ℕ → List ℕ → Option Cell
 tagged classes letter text =
     if letter == 115 then option_map cell.Text (text_of text)
@@ -132,7 +132,7 @@ literal_of classes token =
     else option_map value_of_item (item_of classes token)
 
 -- an answer that is what was meant, or that nothing was, unless memory ran out
-abbrev pub Reads : {A : Type 0} → Result A LiteralError → Option A → Type 0
-Reads (Ok a) meant = meant ≡ Some a
-Reads (Err literal_error.NoMemory) meant = Unit {0}
-Reads (Err literal_error.Bad) meant = meant ≡ None
+abbrev pub TellsLiteral : {A : Type 0} → Result A LiteralError → Option A → Type 0
+TellsLiteral (Ok a) meant = meant ≡ Some a
+TellsLiteral (Err literal_error.NoMemory) meant = Unit {0}
+TellsLiteral (Err literal_error.Bad) meant = meant ≡ None

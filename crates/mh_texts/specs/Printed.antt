@@ -4,9 +4,7 @@ use Rattle.std.specs.Fmt.{decimal, signed_decimal}
 use Rattle.mh_values.specs.declared.class.Class.{Class}
 use Rattle.mh_values.specs.declared.class.ClassId.{ClassId}
 use Rattle.mh_values.specs.declared.types.Comp.{Comp}
-use Rattle.mh_values.specs.declared.types.Comp.TheVariants as comp
 use Rattle.mh_values.specs.declared.types.Ty.{Ty}
-use Rattle.mh_values.specs.declared.types.Ty.TheVariants as ty
 use Rattle.mh_values.specs.declared.types.MethodTy.{MethodTy}
 use Rattle.mh_values.specs.declared.value.Num.{Num}
 use Rattle.mh_values.specs.declared.value.Num.TheVariants as num
@@ -17,7 +15,7 @@ use Rattle.mh_values.specs.declared.value.Cell.TheVariants as cell
 use Rattle.mh_values.specs.declared.value.Value.{Value}
 use Rattle.mh_values.specs.declared.value.Value.TheVariants as value
 use Rattle.mh_values.specs.Classes.{name_of}
-use Rattle.mh_values.specs.TypeText.{primitive_text}
+use Rattle.mh_values.specs.TypeText.{class_written, component_written, type_written, return_written, method_type_written}
 use Rattle.mh_texts.specs.Text.{escaped, cut, shown_text}
 
 -- a class's name as it is printed
@@ -28,27 +26,23 @@ name_text classes c = escaped (name_of classes c)
 
 -- a class in a printed type
 abbrev pub class_text : List Class → ClassId → List ℕ
-class_text classes c = codes "L" ++ name_text classes c ++ codes ";"
+class_text classes = class_written (name_text classes)
 
 -- the type of an array's items
 abbrev pub component_text : List Class → Comp → List ℕ
-component_text classes (comp.Prim p) = primitive_text p
-component_text classes (comp.Class c) = class_text classes c
+component_text classes = component_written (name_text classes)
 
 -- a type
 abbrev pub type_text : List Class → Ty → List ℕ
-type_text classes (ty.Prim p) = primitive_text p
-type_text classes (ty.Class c) = class_text classes c
-type_text classes (ty.Array c) = codes "[" ++ component_text classes c
+type_text classes = type_written (name_text classes)
 
 -- a return type
 abbrev pub return_text : List Class → Option Ty → List ℕ
-return_text classes None = codes "V"
-return_text classes (Some t) = type_text classes t
+return_text classes = return_written (name_text classes)
 
 -- a method type
 abbrev pub method_type_text : List Class → MethodTy → List ℕ
-method_type_text classes t = codes "(" ++ flat_map (type_text classes) t.params ++ codes ")" ++ return_text classes t.ret
+method_type_text classes = method_type_written (name_text classes)
 
 -- a method type as it is printed
 abbrev pub shown_type : List Class → MethodTy → List ℕ
@@ -94,7 +88,7 @@ item_text classes (cell.Object c k) = object_text classes c k
 item_text classes (cell.Thrown e) = exception_text classes e
 item_text classes cell.Null = codes "null"
 
--- items with a comma between them: behind the first, each has one in front
+-- items with a comma between them: each but the first has one before it
 abbrev pub items_text : List Class → List Cell → List ℕ
 items_text classes [] = []
 items_text classes (item ∷ items) = item_text classes item ++ flat_map (λ other. codes "," ++ item_text classes other) items
@@ -123,7 +117,7 @@ shown_value classes v = cut (value_text classes v)
 abbrev pub said_text : List Class → ClassId → List ℕ → List ℕ
 said_text classes c message = cut (name_text classes c) ++ codes " s:" ++ shown_text message
 
--- a cause behind its exception
+-- a cause after its exception
 abbrev pub cause_text : List Class → Option Cause → List ℕ
 cause_text classes None = []
 cause_text classes (Some cause) = codes " cause " ++ said_text classes cause.class cause.message

@@ -28,9 +28,9 @@ whole c = Some (escape.Outside, Some c)
 abbrev pub goes_on : Escape → Option (Escape × Option ℕ)
 goes_on e = Some (e, None)
 
--- behind a backslash: `\s` is a space, `\c` a comma, `\n` LF, `\\` a backslash, and `\u` begins a number
-abbrev pub behind_backslash : ℕ → Option (Escape × Option ℕ)
-behind_backslash b =
+-- after a backslash: `\s` is a space, `\c` a comma, `\n` LF, `\\` a backslash, and `\u` begins a number
+abbrev pub after_backslash : ℕ → Option (Escape × Option ℕ)
+after_backslash b =
     if b == 115 then whole 32
     else (if b == 99 then whole 44
     else (if b == 110 then whole 10
@@ -42,7 +42,7 @@ abbrev pub one_digit_more : ℕ → ℕ → ℕ → Option (Escape × Option ℕ
 one_digit_more count value digit =
     if nat_lt count 6 && nat_le (16 * value + digit) 0x10FFFF then goes_on (escape.Digits (count + 1) (16 * value + digit)) else None
 
--- within the braces of `\u{..}`: the closing one comes behind one digit or more
+-- within the braces of `\u{..}`: the closing one comes after one digit or more
 abbrev pub within_braces : ℕ → ℕ → ℕ → Option (Escape × Option ℕ)
 within_braces count value b =
     if b == 125 then (if nat_lt 0 count then option_and_then whole (scalar value) else None)
@@ -51,11 +51,11 @@ within_braces count value b =
 -- one byte more of a text: what then goes on, and the character that it ends
 abbrev pub step : Escape → ℕ → Option (Escape × Option ℕ)
 step escape.Outside b = if b == 92 then goes_on escape.Backslash else (if is_graphic b then whole b else None)
-step escape.Backslash b = behind_backslash b
+step escape.Backslash b = after_backslash b
 step escape.Code b = if b == 123 then goes_on (escape.Digits 0 0) else None
 step (escape.Digits count value) b = within_braces count value b
 
--- a character, if there is one, in front of others
+-- a character, if there is one, before others
 abbrev pub in_front : Option ℕ → List ℕ → List ℕ
 in_front None cs = cs
 in_front (Some c) cs = c ∷ cs
@@ -97,7 +97,7 @@ escaped_char c =
 abbrev pub escaped : List ℕ → List ℕ
 escaped cs = flat_map escaped_char cs
 
--- a printed text is cut behind 1,024 characters
+-- a printed text is cut after 1,024 characters
 abbrev pub cut : List ℕ → List ℕ
 cut text = if nat_le (length text) 1024 then text else take 1024 text ++ codes "..."
 

@@ -1,6 +1,6 @@
 ghost use Rattle.std.specs.Prelude.{◌≡◌};
-ghost use Rattle.mh_texts.specs.Literal.{Reads};
-ghost use Rattle.mh_texts.specs.Text.{is_graphic, hex_value, behind_backslash, one_digit_more, within_braces, step, text_of};
+ghost use Rattle.mh_texts.specs.Literal.{TellsLiteral};
+ghost use Rattle.mh_texts.specs.Text.{is_graphic, hex_value, after_backslash, one_digit_more, within_braces, step, text_of};
 
 use crate::LiteralError;
 use mh_base::{Frozen, Seq};
@@ -15,11 +15,11 @@ const MOST_CHARACTERS: usize = 4096;
 pub(crate) enum Escape {
     /// No escape is begun.
     Outside,
-    /// Behind `\`.
+    /// After `\`.
     Backslash,
-    /// Behind `\u`.
+    /// After `\u`.
     Code,
-    /// Behind `\u{` and so many digits of a number.
+    /// After `\u{` and so many digits of a number.
     Digits(u8, u32),
 }
 
@@ -41,9 +41,9 @@ fn hex_value(byte: u8) -> Option<u32>
     }
 }
 
-/// What stands behind a backslash.
-fn behind_backslash(byte: u8) -> Option<(Escape, Option<char>)>
-    ensures { result ≡ behind_backslash byte }
+/// What stands after a backslash.
+fn after_backslash(byte: u8) -> Option<(Escape, Option<char>)>
+    ensures { result ≡ after_backslash byte }
 {
     match byte {
         b's' => Some((Escape::Outside, Some(' '))),
@@ -92,7 +92,7 @@ impl Escape {
             Escape::Outside if byte == b'\\' => Some((Escape::Backslash, None)),
             Escape::Outside if is_graphic(byte) => Some((Escape::Outside, Some(char::from(byte)))),
             Escape::Outside => None,
-            Escape::Backslash => behind_backslash(byte),
+            Escape::Backslash => after_backslash(byte),
             Escape::Code if byte == b'{' => Some((Escape::Digits(0, 0), None)),
             Escape::Code => None,
             Escape::Digits(count, value) => within_braces(count, value, byte),
@@ -102,7 +102,7 @@ impl Escape {
 
 /// The characters that a text with escapes writes.
 pub(crate) fn read_text(alloc: Global, bytes: &[u8]) -> Result<Str, LiteralError>
-    ensures { Reads result (text_of bytes.now) }
+    ensures { TellsLiteral result (text_of bytes.now) }
 {
     let mut text = Seq::new(alloc);
     let mut escape = Escape::Outside;

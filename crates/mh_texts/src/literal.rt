@@ -2,7 +2,7 @@ ghost use Rattle.std.specs.Prelude.{◌≡◌, map};
 ghost use Rattle.std.specs.Option.{option_copied};
 ghost use Rattle.mh_values.specs.Array.{value_of_item};
 ghost use Rattle.mh_values.specs.Descriptor.{type_desc};
-ghost use Rattle.mh_texts.specs.Literal.{bool_of, number_of, has_own_literal, object_of, exception_of, tagged, item_of, component_of, items_of, listed, unclosed, array_of_literal, literal_of, Reads};
+ghost use Rattle.mh_texts.specs.Literal.{bool_of, number_of, has_own_literal, object_of, exception_of, tagged, item_of, component_of, items_of, listed, unclosed, array_of_literal, literal_of, TellsLiteral};
 
 use crate::escape::read_text;
 use crate::number::{read_int, read_long, read_unsigned};
@@ -67,7 +67,7 @@ fn read_bool(text: &[u8]) -> Option<bool>
     }
 }
 
-/// The number that stands behind a primitive type's letter in lower case.
+/// The number that stands after a primitive type's letter in lower case.
 fn read_number(letter: u8, text: &[u8]) -> Option<Num>
     ensures { result ≡ number_of letter text.now }
 {
@@ -102,30 +102,30 @@ fn read_object(classes: &Classes, text: &[u8]) -> Option<Cell>
 }
 
 /// The exception of a class, with an empty message.
-fn read_exception(alloc: Global, classes: &Classes, name: &[u8]) -> Option<Cell>
+fn read_exception(classes: &Classes, name: &[u8]) -> Option<Cell>
     ensures { result ≡ exception_of classes.now name.now }
 {
     let class = classes.find(name)?;
     if classes.subclass(class, ClassId::THROWABLE) {
-        Some(Cell::Thrown(Exc::bare(alloc, class)))
+        Some(Cell::Thrown(Exc::bare(class)))
     } else {
         None
     }
 }
 
-/// What stands behind a letter and a colon.
+/// What stands after a letter and a colon.
 fn read_tagged(
     alloc: Global,
     classes: &Classes,
     letter: u8,
     text: &[u8],
 ) -> Result<Cell, LiteralError>
-    ensures { Reads result (tagged classes.now letter text.now) }
+    ensures { TellsLiteral result (tagged classes.now letter text.now) }
 {
     let read = match letter {
         b's' => Some(Cell::Text(read_text(alloc, text)?)),
         b'o' => read_object(classes, text),
-        b'x' => read_exception(alloc, classes, text),
+        b'x' => read_exception(classes, text),
         b'a'..=u8::MAX => read_number(letter, text).map(Cell::Prim),
         _ => read_number(letter + 32, text).map(Cell::Boxed),
     };
@@ -134,7 +134,7 @@ fn read_tagged(
 
 /// The value of a token that is no array's literal.
 fn read_item(alloc: Global, classes: &Classes, token: &[u8]) -> Result<Cell, LiteralError>
-    ensures { Reads result (item_of classes.now token.now) }
+    ensures { TellsLiteral result (item_of classes.now token.now) }
 {
     match token {
         [letter, b':', text @ ..] => read_tagged(alloc, classes, *letter, text),
@@ -175,7 +175,7 @@ fn read_items(
     component: Comp,
     texts: &[&[u8]],
 ) -> Result<Cells, LiteralError>
-    ensures { Reads result (items_of classes.now component (map (λ x. x.now) texts.now)) }
+    ensures { TellsLiteral result (items_of classes.now component (map (λ x. x.now) texts.now)) }
 {
     let mut items = Seq::new(alloc);
     for text in texts {
@@ -195,7 +195,7 @@ fn read_listed(
     component: Comp,
     text: &[u8],
 ) -> Result<Cells, LiteralError>
-    ensures { Reads result (listed classes.now component text.now) }
+    ensures { TellsLiteral result (listed classes.now component text.now) }
 {
     if text.is_empty() {
         return Ok(Frozen::new());
@@ -216,7 +216,7 @@ fn unclosed(text: &[u8]) -> Option<&[u8]>
 
 /// The array that `COMP[ITEM,ITEM]` writes.
 fn read_array(alloc: Global, classes: &Classes, text: &[u8]) -> Result<Value, LiteralError>
-    ensures { Reads result (array_of_literal classes.now text.now) }
+    ensures { TellsLiteral result (array_of_literal classes.now text.now) }
 {
     let Some((component, rest)) = split_once(text, b'[') else {
         return Err(LiteralError::Bad);
@@ -235,12 +235,12 @@ fn read_array(alloc: Global, classes: &Classes, text: &[u8]) -> Result<Value, Li
     }
 }
 
-/// Reads the literal of a value: `z:`, `i:` and `j:` a number of a primitive type, `Z:`, `I:` and
+/// TellsLiteral the literal of a value: `z:`, `i:` and `j:` a number of a primitive type, `Z:`, `I:` and
 /// `J:` a boxed one, `s:` a text, `null`, `o:CLASS#N` an object, `x:CLASS` an exception with an empty
 /// message, `a:COMP[ITEM,ITEM]` an array. In a text `\s` is a space, `\c` a comma, `\n` LF, `\\` a
 /// backslash, and `\u{H}` the character of a hexadecimal number.
 pub fn read_literal(alloc: Global, token: &[u8], classes: &Classes) -> Result<Value, LiteralError>
-    ensures { Reads result (literal_of classes.now token.now) }
+    ensures { TellsLiteral result (literal_of classes.now token.now) }
 {
     match token {
         [b'a', b':', text @ ..] => read_array(alloc, classes, text),

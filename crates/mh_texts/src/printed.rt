@@ -202,7 +202,7 @@ fn push_item(bytes: &mut Vec<u8>, classes: &Classes, item: &Cell) -> Result<(), 
     }
 }
 
-/// Writes items, each behind a comma.
+/// Writes items, each after a comma.
 fn push_more(bytes: &mut Vec<u8>, classes: &Classes, items: &[Cell]) -> Result<(), NoMemory>
     ensures { OnOk result (bytes.new.items
         ≡ bytes.old.items ++ flat_map (λ item. codes "," ++ item_text classes.now item) items.now) }
@@ -272,7 +272,7 @@ fn push_type(bytes: &mut Vec<u8>, classes: &Classes, ty: Ty) -> Result<(), NoMem
     }
 }
 
-/// Writes types, one behind the other.
+/// Writes types, one after the other.
 fn push_types(bytes: &mut Vec<u8>, classes: &Classes, types: &[Ty]) -> Result<(), NoMemory>
     ensures { OnOk result (bytes.new.items
         ≡ bytes.old.items ++ flat_map (type_text classes.now) types.now) }

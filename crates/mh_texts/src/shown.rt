@@ -8,7 +8,7 @@ use mh_base::NoMemory;
 use mh_values::{Cause, ClassId, Classes, Exc, MethodTy, Value};
 use std::alloc::Global;
 
-/// A text as it is printed: with its escapes, and cut behind 1,024 characters, followed by `...`.
+/// A text as it is printed: with its escapes, and cut after 1,024 characters, followed by `...`.
 pub fn show_text(alloc: Global, text: &[char]) -> Result<Vec<u8>, NoMemory>
     ensures { IfOk result (λ shown. shown.items ≡ shown_text text.now) }
 {
@@ -60,9 +60,10 @@ fn show_said(
     Ok(said)
 }
 
-/// What stands behind an exception that has a cause.
+/// What stands after an exception that has a cause.
 fn show_cause(alloc: Global, classes: &Classes, cause: Option<&Cause>) -> Result<Vec<u8>, NoMemory>
-    ensures { IfOk result (λ shown. shown.items ≡ cause_text classes.now (option_copied cause.entry)) }
+    ensures { IfOk result
+        (λ shown. shown.items ≡ cause_text classes.now (option_copied cause.entry)) }
 {
     let mut shown = Vec::new(alloc);
     if let Some(cause) = cause {
@@ -73,7 +74,7 @@ fn show_cause(alloc: Global, classes: &Classes, cause: Option<&Cause>) -> Result
     Ok(shown)
 }
 
-/// An exception as it is printed: `CLASS s:MESSAGE`, and ` cause CLASS s:MESSAGE` behind it where it
+/// An exception as it is printed: `CLASS s:MESSAGE`, and ` cause CLASS s:MESSAGE` after it where it
 /// has a cause. Each class and each message is cut by itself.
 pub fn show_exc(alloc: Global, exc: &Exc, classes: &Classes) -> Result<Vec<u8>, NoMemory>
     ensures { IfOk result (λ shown. shown.items ≡ shown_exception classes.now exc.now) }

@@ -58,7 +58,7 @@ pub fn check_bind(
     let Some(parameter) = t.params.as_slice().get(place) else {
         return Err(refused(alloc, b"bind"));
     };
-    if let Some(exc) = misfit(alloc, v, *parameter, classes) {
+    if let Some(exc) = misfit(v, *parameter, classes) {
         return Err(CheckError::Refused(exc.with_message(alloc, b"bind")?));
     }
     let params = spliced(alloc, t.params.as_slice(), place, 1, &[])?;

@@ -32,7 +32,7 @@ pub fn check_constant(
     let Some(ret) = ty else {
         return Err(refused(alloc, b"constant"));
     };
-    if let Some(exc) = misfit(alloc, v, ret, classes) {
+    if let Some(exc) = misfit(v, ret, classes) {
         return Err(CheckError::Refused(exc.with_message(alloc, b"constant")?));
     }
     let params = Seq::new(alloc);

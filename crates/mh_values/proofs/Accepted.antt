@@ -1,17 +1,17 @@
 -- The first byte of a type, and what is then spelled.
 use Rattle.std.proofs.Common.{◌≡◌, refl, sym, ap, subst, ◌∙◌, suc, ℕ, ◌==◌, inl, inr, false, if◌then◌else◌, lit≤, List, [], ◌∷◌, ◌++◌, replicate, None, Some, append_assoc, arith}
 use Rattle.std.proofs.lemmas.Bool.{cases_Bool, eqb-true, ne_eqb}
-use Rattle.mh_values.specs.declared.grammar.Place.{Place}
-use Rattle.mh_values.specs.declared.grammar.Place.TheVariants as place
-use Rattle.mh_values.specs.declared.grammar.Standing.{Standing}
-use Rattle.mh_values.specs.declared.grammar.Standing.TheVariants as standing
-use Rattle.mh_values.specs.Grammar.{is_base, behind, element, begun, slots_from}
+use Rattle.mh_values.specs.declared.descriptor.Place.{Place}
+use Rattle.mh_values.specs.declared.descriptor.Place.TheVariants as place
+use Rattle.mh_values.specs.declared.descriptor.Standing.{Standing}
+use Rattle.mh_values.specs.declared.descriptor.Standing.TheVariants as standing
+use Rattle.mh_values.specs.Grammar.{is_base, after_type, element, begun, slots_from}
 use Rattle.mh_values.specs.Spelling.{Element, element_slots, letter, named, element_text, IsElement, spelled_slots}
 use Rattle.mh_values.proofs.Goes.{After, DimensionsFrom, NameFrom, Goes, BeginsType}
 
 -- ---- one byte more
 
-pub after_whole : (p : Place) (text : List ℕ) → Goes (behind p) text → After p text
+pub after_whole : (p : Place) (text : List ℕ) → Goes (after_type p) text → After p text
 after_whole (place.Parameter n) text h = h
 after_whole place.Listed text h = h
 after_whole place.Last text h = h
@@ -33,7 +33,7 @@ begins_element p b bs s told goes =
     elim (cases_Bool (b == 76)) [
       | inl e ↦
           let is : Some (standing.Name p false) ≡ Some s =
-              sym (ap (λ t. if t then Some (standing.Name p false) else (if is_base b then Some (behind p) else None)) e) ∙ told in
+          sym (ap (λ t. if t then Some (standing.Name p false) else (if is_base b then Some (after_type p) else None)) e) ∙ told in
           let n : NameFrom p false bs = subst (λ t. Goes t bs) (sym (some_is _ _ is)) goes in
           record {
             element = named n.name;
@@ -45,8 +45,8 @@ begins_element p b bs s told goes =
           }
       | inr e ↦ elim (cases_Bool (is_base b)) [
         | inl base ↦
-            let is : Some (behind p) ≡ Some s = sym (ap (λ t. if t then Some (standing.Name p false) else (if is_base b then Some (behind p) else None)) e ∙
-                ap (λ t. if t then Some (behind p) else None) base) ∙ told in
+            let is : Some (after_type p) ≡ Some s = sym (ap (λ t. if t then Some (standing.Name p false) else (if is_base b then Some (after_type p) else None)) e ∙
+            ap (λ t. if t then Some (after_type p) else None) base) ∙ told in
             record {
               element = letter b;
               rest = bs;
@@ -56,8 +56,8 @@ begins_element p b bs s told goes =
               is = refl;
             }
         | inr base ↦
-            let is : None ≡ Some s = sym (ap (λ t. if t then Some (standing.Name p false) else (if is_base b then Some (behind p) else None)) e ∙
-                ap (λ t. if t then Some (behind p) else None) base) ∙ told in
+            let is : None ≡ Some s = sym (ap (λ t. if t then Some (standing.Name p false) else (if is_base b then Some (after_type p) else None)) e ∙
+            ap (λ t. if t then Some (after_type p) else None) base) ∙ told in
             cc
       ]
     ]

@@ -1,6 +1,6 @@
 -- Types below types: a value of the one has the other.
-use Rattle.std.proofs.Common.{◌≡◌, refl, sym, ap, subst, ◌∙◌, ◌==◌, Bool, true, false, ◌||◌, length, List, ◌++◌, drop}
-use Rattle.std.proofs.lemmas.Bool.{eqb-true, eq-eqb}
+use Rattle.std.proofs.Common.{◌≡◌, refl, sym, ap, subst, ◌∙◌, ◌==◌, Bool, true, false, ◌||◌, List, ◌++◌, drop}
+use Rattle.std.proofs.lemmas.Bool.{eqb-true, eq-eqb, and_parts, and_from}
 use Rattle.std.proofs.lemmas.List.{take-append-drop}
 use Rattle.mh_values.specs.declared.class.Class.{Class}
 use Rattle.mh_values.specs.declared.class.ClassId.{ClassId}
@@ -14,11 +14,11 @@ use Rattle.mh_values.specs.declared.value.Cell.TheVariants as cell
 use Rattle.mh_values.specs.declared.value.Value.{Value}
 use Rattle.mh_values.specs.declared.value.Value.TheVariants as value
 use Rattle.mh_values.specs.Array.{value_of_item, item_type}
-use Rattle.mh_values.specs.Class.{IsSubclass, itself, above, is_subclass, builtin_classes, object_class, string_class, throwable_class, internal_error_class, wrong_method_type_class, class_cast_class, null_pointer_class, illegal_argument_class, arithmetic_class}
+use Rattle.mh_values.specs.Class.{is_subclass, builtin_classes, object_class, string_class, throwable_class, internal_error_class, wrong_method_type_class, class_cast_class, null_pointer_class, illegal_argument_class, arithmetic_class}
 use Rattle.mh_values.specs.Classes.{AreClasses}
 use Rattle.mh_values.specs.HasType.{primitive_of, wrapper_of, is_component_below, is_item_of, are_items_of, has_type, is_type_below}
-use Rattle.mh_values.proofs.Subclasses.{reaches-sound, is_subclass-complete, is_subclass-itself}
-use Rattle.mh_values.proofs.SameTypes.{both, both-true, same_primitive-is, same_primitive-itself, same_class-is}
+use Rattle.mh_values.proofs.Subclasses.{is_subclass-trans, is_subclass-itself}
+use Rattle.mh_values.proofs.SameTypes.{same_primitive-is, same_primitive-itself, same_class-is}
 
 -- the built-in classes stand in front
 in_front : (classes : List Class) → AreClasses classes → classes ≡ builtin_classes ++ drop 28 classes
@@ -64,39 +64,27 @@ object-top classes are d h =
     let q : ((0 == d.0) || false) ≡ true = subst P (in_front classes are) h in
     eq-eqb d.0 0 (sym (eqb-true 0 d.0 (or_false (0 == d.0) q)))
 
--- ---- classes below classes
-
-way_on : (classes : List Class) (a b c : ClassId) → IsSubclass classes a b → IsSubclass classes b c → IsSubclass classes a c
-way_on classes a b c itself more = more
-way_on classes a b c (above {b = d} is way) more = above is (way_on classes d b c way more)
-
-pub is_subclass-trans : (classes : List Class) → AreClasses classes → (a b c : ClassId) → is_subclass classes a b ≡ true → is_subclass classes b c ≡ true →
-    is_subclass classes a c ≡ true
-is_subclass-trans classes are a b c h k =
-    is_subclass-complete classes are.ordered.ascending a c
-    (way_on classes a b c (reaches-sound (length classes) classes a b h) (reaches-sound (length classes) classes b c k))
-
 -- ---- components and items
 
 pub component_below-itself : (classes : List Class) (c : Comp) → is_component_below classes c c ≡ true
 component_below-itself classes (comp.Prim p) = same_primitive-itself p
 component_below-itself classes (comp.Class c) = is_subclass-itself classes c
 
-component_below-trans : (classes : List Class) → AreClasses classes → (a b c : Comp) → is_component_below classes a b ≡ true →
+pub component_below-trans : (classes : List Class) → AreClasses classes → (a b c : Comp) → is_component_below classes a b ≡ true →
     is_component_below classes b c ≡ true → is_component_below classes a c ≡ true
 component_below-trans classes are (comp.Prim p) (comp.Prim q) c h k =
     let P : Primitive → Type 0 = λ r. is_component_below classes (comp.Prim r) c ≡ true in subst P (sym (same_primitive-is p q h)) k
-component_below-trans classes are (comp.Class a) (comp.Class b) (comp.Class c) h k = is_subclass-trans classes are a b c h k
+component_below-trans classes are (comp.Class a) (comp.Class b) (comp.Class c) h k = is_subclass-trans classes are.ordered.ascending a b c h k
 component_below-trans classes are a b c h k = absurd cc
 
 pub item-below : (classes : List Class) → AreClasses classes → (c d : Comp) → is_component_below classes c d ≡ true → (i : Cell) → is_item_of classes c i ≡ true
     → is_item_of classes d i ≡ true
 item-below classes are (comp.Prim p) (comp.Prim q) h i k =
     let P : Primitive → Type 0 = λ r. is_item_of classes (comp.Prim r) i ≡ true in subst P (same_primitive-is p q h) k
-item-below classes are (comp.Class c) (comp.Class d) h (cell.Boxed n) k = is_subclass-trans classes are (wrapper_of (primitive_of n)) c d k h
-item-below classes are (comp.Class c) (comp.Class d) h (cell.Text s) k = is_subclass-trans classes are string_class c d k h
-item-below classes are (comp.Class c) (comp.Class d) h (cell.Object a n) k = is_subclass-trans classes are a c d k h
-item-below classes are (comp.Class c) (comp.Class d) h (cell.Thrown e) k = is_subclass-trans classes are e.class c d k h
+item-below classes are (comp.Class c) (comp.Class d) h (cell.Boxed n) k = is_subclass-trans classes are.ordered.ascending (wrapper_of (primitive_of n)) c d k h
+item-below classes are (comp.Class c) (comp.Class d) h (cell.Text s) k = is_subclass-trans classes are.ordered.ascending string_class c d k h
+item-below classes are (comp.Class c) (comp.Class d) h (cell.Object a n) k = is_subclass-trans classes are.ordered.ascending a c d k h
+item-below classes are (comp.Class c) (comp.Class d) h (cell.Thrown e) k = is_subclass-trans classes are.ordered.ascending e.class c d k h
 item-below classes are (comp.Class c) (comp.Class d) h cell.Null k = refl
 item-below classes are c d h i k = absurd cc
 
@@ -116,21 +104,21 @@ pub value-below : (classes : List Class) → AreClasses classes → (s t : Ty) �
     has_type classes v t ≡ true
 value-below classes are (ty.Prim p) (ty.Prim q) h v k =
     let P : Primitive → Type 0 = λ r. has_type classes v (ty.Prim r) ≡ true in subst P (same_primitive-is p q h) k
-value-below classes are (ty.Class c) (ty.Class d) h (value.Boxed n) k = is_subclass-trans classes are (wrapper_of (primitive_of n)) c d k h
-value-below classes are (ty.Class c) (ty.Class d) h (value.Text s) k = is_subclass-trans classes are string_class c d k h
-value-below classes are (ty.Class c) (ty.Class d) h (value.Object a n) k = is_subclass-trans classes are a c d k h
-value-below classes are (ty.Class c) (ty.Class d) h (value.Thrown e) k = is_subclass-trans classes are e.class c d k h
+value-below classes are (ty.Class c) (ty.Class d) h (value.Boxed n) k = is_subclass-trans classes are.ordered.ascending (wrapper_of (primitive_of n)) c d k h
+value-below classes are (ty.Class c) (ty.Class d) h (value.Text s) k = is_subclass-trans classes are.ordered.ascending string_class c d k h
+value-below classes are (ty.Class c) (ty.Class d) h (value.Object a n) k = is_subclass-trans classes are.ordered.ascending a c d k h
+value-below classes are (ty.Class c) (ty.Class d) h (value.Thrown e) k = is_subclass-trans classes are.ordered.ascending e.class c d k h
 value-below classes are (ty.Class c) (ty.Class d) h (value.Array a items) k =
-    let q = both (c.0 == object_class.0) (are_items_of classes a items) k in
+    let q = and_parts (c.0 == object_class.0) (are_items_of classes a items) k in
     let P : ClassId → Type 0 = λ b. is_subclass classes b d ≡ true in
-    both-true _ _ (object-top classes are d (subst P (same_class-is c object_class q.0) h)) q.1
+    and_from _ _ (object-top classes are d (subst P (same_class-is c object_class q.0) h)) q.1
 value-below classes are (ty.Class c) (ty.Class d) h value.Null k = refl
 value-below classes are (ty.Array c) (ty.Class d) h (value.Array a items) k =
-    both-true _ _ h (both (is_component_below classes a c) (are_items_of classes a items) k).1
+    and_from _ _ h (and_parts (is_component_below classes a c) (are_items_of classes a items) k).1
 value-below classes are (ty.Array c) (ty.Class d) h value.Null k = refl
 value-below classes are (ty.Array c) (ty.Array d) h (value.Array a items) k =
-    let q = both (is_component_below classes a c) (are_items_of classes a items) k in
-    both-true _ _ (component_below-trans classes are a c d q.0 h) q.1
+    let q = and_parts (is_component_below classes a c) (are_items_of classes a items) k in
+    and_from _ _ (component_below-trans classes are a c d q.0 h) q.1
 value-below classes are (ty.Array c) (ty.Array d) h value.Null k = refl
 value-below classes are s t h v k = absurd cc
 

@@ -74,8 +74,11 @@ int_to_void : desc builtin_classes (codes "(I)V") ≡ Ok (record { params = ty.P
 int_to_void = refl
 
 of_all_sorts : desc builtin_classes
-    (codes "(Z[JLjava/lang/String;)[Ljava/lang/Object;") ≡ Ok (record { params = ty.Prim primitive.Z ∷ ty.Array (comp.Prim primitive.J) ∷ ty.Class string_class
-    ∷ []; ret = Some (ty.Array (comp.Class object_class)) })
+    (codes "(Z[JLjava/lang/String;)[Ljava/lang/Object;") ≡ Ok (record {
+      params = ty.Prim primitive.Z ∷ ty.Array (comp.Prim primitive.J) ∷ ty.Class string_class
+          ∷ [];
+      ret = Some (ty.Array (comp.Class object_class));
+    })
 of_all_sorts = refl
 
 two_dimensions : desc builtin_classes (codes "(I[[J)V") ≡ Err (descriptor.Unsupported 2)
@@ -96,8 +99,11 @@ left_first = refl
 left_out_return : desc builtin_classes (codes "(I)[F") ≡ Err (descriptor.Unsupported 3)
 left_out_return = refl
 
-parenthesis_in_a_name : desc (builtin_classes ++ class_below (codes "a)b") 0 ∷ []) (codes "(La)b;)V") ≡ Ok (record { params = ty.Class (class_at 28) ∷ []; ret =
-    None })
+parenthesis_in_a_name : desc (builtin_classes ++ class_below (codes "a)b") 0 ∷ []) (codes "(La)b;)V") ≡ Ok (record {
+  params = ty.Class (class_at 28) ∷ [];
+  ret =
+      None;
+})
 parenthesis_in_a_name = refl
 
 listed : types_desc builtin_classes (codes "I[ZLjava/lang/Long;") ≡ Ok (ty.Prim primitive.I ∷ ty.Array (comp.Prim primitive.Z) ∷ ty.Class long_class ∷ [])

@@ -2,21 +2,22 @@
 use Rattle.std.proofs.Common.{◌≡◌, refl, sym, ap, subst, ◌∙◌, suc, ℕ, ◌+◌, ◌<◌, ◌≤◌, true, if◌then◌else◌, List, [], ◌∷◌, ◌++◌, length, take, inl, inr, Option, None, Some, arith}
 use Rattle.std.proofs.lemmas.Bool.{cases_Bool}
 use Rattle.std.specs.Option.{option_map_or}
-use Rattle.mh_values.specs.declared.grammar.Place.{Place}
-use Rattle.mh_values.specs.declared.grammar.Place.TheVariants as place
-use Rattle.mh_values.specs.declared.grammar.Standing.{Standing}
-use Rattle.mh_values.specs.declared.grammar.Standing.TheVariants as standing
-use Rattle.mh_values.specs.Grammar.{behind, next, is_end, first_bad, descriptor_fault}
+use Rattle.mh_values.specs.declared.descriptor.Place.{Place}
+use Rattle.mh_values.specs.declared.descriptor.Place.TheVariants as place
+use Rattle.mh_values.specs.declared.descriptor.Standing.{Standing}
+use Rattle.mh_values.specs.declared.descriptor.Standing.TheVariants as standing
+use Rattle.mh_values.specs.Grammar.{after_type, next, is_end, first_bad, descriptor_fault}
 use Rattle.mh_values.specs.Spelling.{IsFirstBad}
-use Rattle.mh_values.proofs.Complete.{Accepts, accepts_on, descriptor_complete}
+use Rattle.mh_values.proofs.Beginnings.{Accepts, accepts_on}
+use Rattle.mh_values.proofs.Complete.{descriptor_complete}
 use Rattle.mh_values.proofs.Sound.{descriptor_sound}
 
 -- ---- from each place some text goes on to its end
 
-accepts_behind : (p : Place) → (rest : List ℕ) × Accepts (behind p) rest
-accepts_behind (place.Parameter n) = (41 ∷ 86 ∷ [], λ at. refl)
-accepts_behind place.Listed = ([], λ at. refl)
-accepts_behind place.Last = ([], λ at. refl)
+accepts_after : (p : Place) → (rest : List ℕ) × Accepts (after_type p) rest
+accepts_after (place.Parameter n) = (41 ∷ 86 ∷ [], λ at. refl)
+accepts_after place.Listed = ([], λ at. refl)
+accepts_after place.Last = ([], λ at. refl)
 
 accepts_from : (s : Standing) → (rest : List ℕ) × Accepts s rest
 accepts_from standing.Front = (40 ∷ 41 ∷ 86 ∷ [], λ at. refl)
@@ -24,11 +25,13 @@ accepts_from (standing.Parameters n) = (41 ∷ 86 ∷ [], λ at. refl)
 accepts_from standing.Close = (86 ∷ [], λ at. refl)
 accepts_from standing.Alone = (73 ∷ [], λ at. refl)
 accepts_from (standing.Types some) = (73 ∷ [], λ at. refl)
-accepts_from (standing.Dimensions p k) = let rest = accepts_behind p in (73 ∷ rest.0, accepts_on (standing.Dimensions p k) (behind p) 73 rest.0 refl rest.1)
+accepts_from (standing.Dimensions p k) = let rest = accepts_after p in (73 ∷ rest.0, accepts_on (standing.Dimensions p k) (after_type p) 73 rest.0 refl rest.1)
 accepts_from (standing.Name p has) =
-    let rest = accepts_behind p in
-    (97 ∷ 59 ∷ rest.0, accepts_on (standing.Name p has) (standing.Name p true) 97 (59 ∷ rest.0) refl (accepts_on (standing.Name p true) (behind p) 59 rest.0
-        refl rest.1))
+    let rest = accepts_after p in (
+      97 ∷ 59 ∷ rest.0,
+      accepts_on (standing.Name p has) (standing.Name p true) 97 (59 ∷ rest.0) refl (accepts_on (standing.Name p true) (after_type p) 59 rest.0
+          refl rest.1),
+    )
 accepts_from standing.End = ([], λ at. refl)
 
 -- ---- where a text goes wrong
@@ -59,7 +62,7 @@ wrong_later s n b bs k told wrong = record {
       let shorter : k < length bs = omega arith in
       let later : first_bad at s (take (suc k + 1) (b ∷ bs) ++ rest) ≡ first_bad (at + 1) n (take (k + 1) bs ++ rest) =
       ap (λ j. first_bad at s (take j (b ∷ bs) ++ rest)) one_more ∙ ap (λ o. option_map_or (λ m. first_bad (at + 1) m (take (k + 1) bs ++ rest)) o (Some at))
-          told in
+      told in
       wrong.here shorter rest (at + 1) (sym later ∙ none);
 }
   where

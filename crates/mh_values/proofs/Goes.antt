@@ -1,16 +1,16 @@
 -- What may follow from each place within a text that is spelled by the grammar.
 use Rattle.std.proofs.Common.{◌≡◌, ℕ, ◌+◌, ◌<◌, ◌≤◌, Bool, true, false, List, [], ◌∷◌, ◌++◌, length, replicate, Option}
 use Rattle.std.specs.List.{list_all}
-use Rattle.mh_values.specs.declared.grammar.Place.{Place}
-use Rattle.mh_values.specs.declared.grammar.Place.TheVariants as place
-use Rattle.mh_values.specs.declared.grammar.Standing.{Standing}
-use Rattle.mh_values.specs.declared.grammar.Standing.TheVariants as standing
+use Rattle.mh_values.specs.declared.descriptor.Place.{Place}
+use Rattle.mh_values.specs.declared.descriptor.Place.TheVariants as place
+use Rattle.mh_values.specs.declared.descriptor.Standing.{Standing}
+use Rattle.mh_values.specs.declared.descriptor.Standing.TheVariants as standing
 use Rattle.mh_values.specs.Grammar.{slots_from}
 use Rattle.mh_values.specs.Spelling.{Element, Spelled, element_text, spelled_text, is_name_byte, IsElement, IsSpelled, AreSpelled, spelled_slots, all_slots, texts_of, IsReturn, return_spelled, IsMethodDescriptor}
 
 -- ---- what may follow from where a text stands
 
--- parameters behind others of so many slots, `)` and a return type
+-- parameters after others of so many slots, `)` and a return type
 pub record ParametersFrom (n : ℕ) (text : List ℕ) : Type 0 where
   pub params : List Spelled
   pub ret : Option Spelled
@@ -19,20 +19,20 @@ pub record ParametersFrom (n : ℕ) (text : List ℕ) : Type 0 where
   pub few : n ≤ 255 → n + all_slots params ≤ 255
   pub is : text ≡ texts_of params ++ 41 ∷ return_spelled ret
 
--- types, one behind the other
+-- types, one after the other
 pub record TypesFrom (some : Bool) (text : List ℕ) : Type 0 where
   pub types : List Spelled
   pub spelled : AreSpelled types
   pub one : some ≡ false → 0 < length types
   pub is : text ≡ texts_of types
 
--- what may stand behind a type
+-- what may stand after a type
 abbrev pub After : Place → List ℕ → Type 0
 After (place.Parameter n) text = ParametersFrom n text
 After place.Listed text = TypesFrom true text
 After place.Last text = text ≡ []
 
--- an element behind more dimensions
+-- an element after more dimensions
 pub record DimensionsFrom (p : Place) (k : ℕ) (text : List ℕ) : Type 0 where
   pub more : ℕ
   pub element : Element
@@ -66,7 +66,7 @@ Goes (standing.Dimensions p k) text = DimensionsFrom p k text
 Goes (standing.Name p has) text = NameFrom p has text
 Goes standing.End text = text ≡ []
 
--- a type, and what may stand behind it
+-- a type, and what may stand after it
 pub record BeginsType (p : Place) (b : ℕ) (text : List ℕ) : Type 0 where
   pub type : Spelled
   pub rest : List ℕ

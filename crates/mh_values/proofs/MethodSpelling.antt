@@ -1,24 +1,25 @@
 -- The text of a method type is a method descriptor, byte by byte.
 use Rattle.std.proofs.Common.{◌≡◌, refl, sym, subst, ap, ◌∙◌, ℕ, ◌+◌, ◌≤◌, Bool, true, List, [], ◌∷◌, ◌++◌, length, Option, None, Some, length-append, arith, append_assoc}
+use Rattle.std.proofs.lemmas.Bool.{and_parts}
 use Rattle.std.specs.List.{list_all, flat_map}
 use Rattle.std.specs.Prelude.{nat_le}
 use Rattle.std.proofs.lemmas.Bool.Decides.{nat_tests}
 use Rattle.std.proofs.lemmas.List.Sums.{sum_by-cons}
 use Rattle.std.proofs.lemmas.List.{append-nil}
-use Rattle.mh_values.specs.declared.grammar.Standing.TheVariants as standing
+use Rattle.mh_values.specs.declared.descriptor.Standing.TheVariants as standing
 use Rattle.mh_values.specs.Grammar.{first_bad, descriptor_fault}
 use Rattle.mh_values.specs.declared.class.Class.{Class}
 use Rattle.mh_values.specs.declared.types.Primitive.TheVariants as primitive
 use Rattle.mh_values.specs.declared.types.Ty.{Ty}
 use Rattle.mh_values.specs.declared.types.Ty.TheVariants as ty
 use Rattle.mh_values.specs.Classes.{name_of}
-use Rattle.mh_values.specs.declared.grammar.Place.TheVariants as place
+use Rattle.mh_values.specs.declared.descriptor.Place.TheVariants as place
 use Rattle.mh_values.specs.Slots.{slots_of, slots_of_all}
 use Rattle.mh_values.specs.declared.types.MethodTy.{MethodTy}
 use Rattle.mh_values.specs.TypeText.{type_text, return_text, method_type_text}
-use Rattle.mh_values.proofs.TypeSpelling.{is_type_named, begun_bad, class-joined, type-read, both-true}
+use Rattle.mh_values.proofs.TypeSpelling.{is_type_named, begun_bad, class-joined, type-read}
 
--- where the first byte of a type leads behind parameters that take so many slots
+-- where the first byte of a type leads after parameters that take so many slots
 param-begun : (classes : List Class) (at s : ℕ) (t : Ty) (rest : List ℕ) → nat_le (s + slots_of t) 255 ≡ true →
     first_bad at (standing.Parameters s) (type_text classes t ++ rest) ≡ begun_bad at (place.Parameter (s + slots_of t)) (type_text classes t ++ rest)
 param-begun classes at s (ty.Prim primitive.Z) rest few = rw few refl
@@ -32,14 +33,14 @@ param-begun classes at s (ty.Array c) rest few = rw few refl
 within_slots : (n : ℕ) → n ≤ 255 → nat_le n 255 ≡ true
 within_slots n h = grind (arith, nat_tests)
 
--- behind all parameters
+-- after all parameters
 params-read : (classes : List Class) (at s : ℕ) (ts : List Ty) (rest : List ℕ) → list_all (is_type_named classes) ts ≡ true → s + slots_of_all ts ≤ 255 →
     first_bad at (standing.Parameters s) (flat_map (type_text classes) ts ++ rest) ≡ first_bad (at + length (flat_map (type_text classes) ts))
     (standing.Parameters (s + slots_of_all ts)) rest
 params-read classes at s [] rest good few =
     ap (λ n. first_bad n (standing.Parameters s) rest) (omega arith) ∙ ap (λ n. first_bad (at + 0) (standing.Parameters n) rest) (omega arith)
 params-read classes at s (t ∷ ts) rest good few =
-    let parts = both-true (is_type_named classes t) (list_all (is_type_named classes) ts) good in
+    let parts = and_parts (is_type_named classes t) (list_all (is_type_named classes) ts) good in
     let all : slots_of_all (t ∷ ts) ≡ slots_of t + slots_of_all ts = sum_by-cons slots_of t ts in
     let first = type_text classes t in
     let more = flat_map (type_text classes) ts in
@@ -59,7 +60,7 @@ abbrev pub is_return_named : List Class → Option Ty → Bool
 is_return_named classes None = true
 is_return_named classes (Some t) = is_type_named classes t
 
--- where the first byte of a type leads behind the parameters
+-- where the first byte of a type leads after the parameters
 close-begun : (classes : List Class) (at : ℕ) (t : Ty) (rest : List ℕ) → first_bad at standing.Close (type_text classes t ++ rest) ≡ begun_bad at place.Last
     (type_text classes t ++ rest)
 close-begun classes at (ty.Prim primitive.Z) rest = refl

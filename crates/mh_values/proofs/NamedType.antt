@@ -1,6 +1,6 @@
 -- A class, as `Lname;`, is a type.
 use Rattle.std.proofs.Common.{◌≡◌, true, List, ℕ, [], ◌∷◌, ◌++◌, None}
-use Rattle.mh_values.specs.declared.grammar.Place.TheVariants as place
+use Rattle.mh_values.specs.declared.descriptor.Place.TheVariants as place
 use Rattle.mh_values.specs.Grammar.{type_fault}
 use Rattle.mh_values.proofs.TypeSpelling.{class-read, is_name}
 

@@ -1,5 +1,6 @@
 -- The text of a method type means that type.
 use Rattle.std.proofs.Common.{◌≡◌, refl, sym, ap, ◌∙◌, ℕ, ◌+◌, ◌-◌, ◌<◌, ◌==◌, true, false, List, [], ◌∷◌, ◌++◌, length, map, take, Option, None, Some, Ok, codes, slice_get, arith, append_assoc, length-append}
+use Rattle.std.proofs.lemmas.Bool.{and_parts, not-true}
 use Rattle.std.specs.List.{list_all, flat_map}
 use Rattle.std.specs.Option.{option_map_or}
 use Rattle.std.proofs.Math.Seq.{take-append_seam}
@@ -16,15 +17,15 @@ use Rattle.mh_values.specs.Classes.{name_of, IsDistinct}
 use Rattle.mh_values.specs.TypeText.{type_text, component_text, return_text, method_type_text}
 use Rattle.mh_values.specs.Descriptor.{pieces, type_meant, class_meant, types_meant, return_meant, method_meant, method_of, last_of, desc, unless_bad}
 use Rattle.mh_values.proofs.LastTwo.{all_but_two, the_last}
-use Rattle.mh_values.proofs.TypeSpelling.{is_name, is_name_byte, is_type_named, is_component_named, class-joined, both-true, not-true}
+use Rattle.mh_values.proofs.TypeSpelling.{is_name, is_name_byte, is_type_named, is_component_named, class-joined}
 use Rattle.mh_values.proofs.MethodSpelling.{IsWritable, is_return_named, method-read}
 
 -- a name and its `;` are one piece
 name-piece : (name rest : List ℕ) → list_all is_name_byte name ≡ true → pieces true (name ++ 59 ∷ rest) ≡ (name ++ 59 ∷ []) ∷ pieces false rest
 name-piece [] rest good = refl
 name-piece (b ∷ bs) rest good =
-    let parts = both-true (is_name_byte b) (list_all is_name_byte bs) good in
-    let plain = both-true _ _ parts.0 in
+    let parts = and_parts (is_name_byte b) (list_all is_name_byte bs) good in
+    let plain = and_parts _ _ parts.0 in
     let inside : (b == 59) ≡ false = not-true _ plain.0 in
     rw (inside, name-piece bs rest parts.1) refl
 
@@ -59,7 +60,7 @@ types-pieces : (classes : List Class) (ts : List Ty) (rest : List ℕ) → list_
     pieces false (flat_map (type_text classes) ts ++ rest) ≡ map (type_text classes) ts ++ pieces false rest
 types-pieces classes [] rest good = refl
 types-pieces classes (t ∷ ts) rest good =
-    let parts = both-true (is_type_named classes t) (list_all (is_type_named classes) ts) good in
+    let parts = and_parts (is_type_named classes t) (list_all (is_type_named classes) ts) good in
     ap (pieces false) (append_assoc (type_text classes t) (flat_map (type_text classes) ts) rest)
     ∙ type-piece classes t (flat_map (type_text classes) ts ++ rest) parts.0
     ∙ ap (λ ps. type_text classes t ∷ ps) (types-pieces classes ts rest parts.1)
@@ -128,8 +129,7 @@ return-means : (classes : List Class) (at : ℕ) (ret : Option Ty) → IsDistinc
 return-means classes at None distinct of = refl
 return-means classes at (Some t) distinct of = rw (no_void classes t, type-means classes at t distinct of) refl
 
--- ---- the text of a method type is read back as that type
-
+-- the text of a method type is read back as that type
 pub desc-text : (classes : List Class) (t : MethodTy) → IsDistinct classes → IsWritable classes t → AreTypesOf classes t.params → IsReturnOf classes t.ret →
     desc classes (method_type_text classes t) ≡ Ok t
 desc-text classes t distinct writable params ret =

@@ -1,6 +1,6 @@
 -- The tests of equal types, in both directions.
-use Rattle.std.proofs.Common.{◌≡◌, refl, ap, ap₂, ◌∙◌, suc, ◌<◌, length, arith, ◌==◌, Bool, true, false, ◌&&◌, List, [], ◌∷◌, ◌++◌, Option, Some, None}
-use Rattle.std.proofs.lemmas.Bool.{eqb-true, eq-eqb}
+use Rattle.std.proofs.Common.{◌≡◌, refl, ap, ap₂, ◌∙◌, suc, ◌<◌, length, arith, ◌==◌, true, false, ◌&&◌, List, [], ◌∷◌, ◌++◌, Option, Some, None}
+use Rattle.std.proofs.lemmas.Bool.{eqb-true, eq-eqb, and_parts, and_from, and_right}
 use Rattle.mh_values.specs.declared.class.ClassId.{ClassId}
 use Rattle.mh_values.specs.declared.types.Primitive.{Primitive}
 use Rattle.mh_values.specs.declared.types.Primitive.TheVariants as primitive
@@ -12,14 +12,8 @@ use Rattle.mh_values.specs.declared.types.MethodTy.{MethodTy}
 use Rattle.mh_values.specs.Class.{class_at}
 use Rattle.mh_values.specs.HasType.{is_same_primitive}
 use Rattle.mh_values.specs.Same.{is_same_component, is_same_type, is_same_return, are_same_types, begins_with_types, is_same_method_type}
-
--- the two halves of a test that both must pass
-pub both : (a b : Bool) → (a && b) ≡ true → (a ≡ true) × (b ≡ true)
-both true b h = (refl, h)
-both false b h = absurd cc
-
-pub both-true : (a b : Bool) → a ≡ true → b ≡ true → (a && b) ≡ true
-both-true a b h k = cc
+-- the names by which the crates above know the two halves of a test
+pub use Rattle.std.proofs.lemmas.Bool.{and_parts as both, and_from as both-true}
 
 pub same_class-is : (c d : ClassId) → (c.0 == d.0) ≡ true → c ≡ d
 same_class-is c d h = ap class_at (eqb-true c.0 d.0 h)
@@ -67,48 +61,44 @@ same_return-itself (Some t) = same_type-itself t
 pub same_types-is : (ss ts : List Ty) → are_same_types ss ts ≡ true → ss ≡ ts
 same_types-is [] [] h = refl
 same_types-is (s ∷ ss) (t ∷ ts) h =
-    let q = both (is_same_type s t) (are_same_types ss ts) h in
+    let q = and_parts (is_same_type s t) (are_same_types ss ts) h in
     ap₂ ◌∷◌ (same_type-is s t q.0) (same_types-is ss ts q.1)
 same_types-is ss ts h = absurd cc
 
 pub same_types-itself : (ts : List Ty) → are_same_types ts ts ≡ true
 same_types-itself [] = refl
-same_types-itself (t ∷ ts) = both-true _ _ (same_type-itself t) (same_types-itself ts)
+same_types-itself (t ∷ ts) = and_from _ _ (same_type-itself t) (same_types-itself ts)
 
 -- a list that begins with others is they and a rest
 pub begins_with-rest : (ts ss : List Ty) → begins_with_types ts ss ≡ true → (rest : List Ty) × (ts ≡ ss ++ rest)
 begins_with-rest ts [] h = (ts, refl)
 begins_with-rest [] (s ∷ ss) h = absurd cc
 begins_with-rest (t ∷ ts) (s ∷ ss) h =
-    let q = both (is_same_type t s) (begins_with_types ts ss) h in
+    let q = and_parts (is_same_type t s) (begins_with_types ts ss) h in
     let r = begins_with-rest ts ss q.1 in
     (r.0, ap₂ ◌∷◌ (same_type-is t s q.0) r.1)
 
 pub begins_with-append : (ss rest : List Ty) → begins_with_types (ss ++ rest) ss ≡ true
 begins_with-append [] rest = refl
-begins_with-append (s ∷ ss) rest = both-true _ _ (same_type-itself s) (begins_with-append ss rest)
+begins_with-append (s ∷ ss) rest = and_from _ _ (same_type-itself s) (begins_with-append ss rest)
 
 abbrev pub method_type : List Ty → Option Ty → MethodTy
 method_type params ret = record { params = params; ret = ret }
 
 pub same_method_type-is : (s t : MethodTy) → is_same_method_type s t ≡ true → s ≡ t
 same_method_type-is s t h =
-    let q = both (are_same_types s.params t.params) (is_same_return s.ret t.ret) h in
+    let q = and_parts (are_same_types s.params t.params) (is_same_return s.ret t.ret) h in
     ap₂ method_type (same_types-is s.params t.params q.0) (same_return-is s.ret t.ret q.1)
 
 pub same_method_type-itself : (t : MethodTy) → is_same_method_type t t ≡ true
-same_method_type-itself t = both-true _ _ (same_types-itself t.params) (same_return-itself t.ret)
+same_method_type-itself t = and_from _ _ (same_types-itself t.params) (same_return-itself t.ret)
 
 -- ---- lengths
-
-and_false : (b : Bool) → (b && false) ≡ false
-and_false true = refl
-and_false false = refl
 
 pub too_short : (ts ss : List Ty) → length ts < length ss → begins_with_types ts ss ≡ false
 too_short ts [] h = absurd (omega arith)
 too_short [] (s ∷ ss) h = refl
-too_short (t ∷ ts) (s ∷ ss) h = ap (λ b. is_same_type t s && b) (too_short ts ss (omega (arith, h))) ∙ and_false (is_same_type t s)
+too_short (t ∷ ts) (s ∷ ss) h = ap (λ b. is_same_type t s && b) (too_short ts ss (omega (arith, h))) ∙ and_right (is_same_type t s) false refl
 
 pub of_one_length : (ts ss : List Ty) → length ts ≡ length ss → begins_with_types ts ss ≡ are_same_types ts ss
 of_one_length [] [] h = refl
@@ -121,4 +111,4 @@ of_other_length [] [] h = absurd (h refl)
 of_other_length [] (s ∷ ss) h = refl
 of_other_length (t ∷ ts) [] h = refl
 of_other_length (t ∷ ts) (s ∷ ss) h =
-    ap (λ b. is_same_type t s && b) (of_other_length ts ss (λ e. h (ap suc e))) ∙ and_false (is_same_type t s)
+    ap (λ b. is_same_type t s && b) (of_other_length ts ss (λ e. h (ap suc e))) ∙ and_right (is_same_type t s) false refl

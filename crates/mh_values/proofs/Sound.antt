@@ -3,9 +3,9 @@ use Rattle.std.proofs.Common.{◌≡◌, refl, sym, ap, subst, ◌∙◌, ℕ, �
 use Rattle.std.proofs.lemmas.List.{append-nil}
 use Rattle.std.proofs.lemmas.Bool.{cases_Bool, eqb-true, leb-true}
 use Rattle.std.specs.Option.{option_map_or}
-use Rattle.mh_values.specs.declared.grammar.Place.TheVariants as place
-use Rattle.mh_values.specs.declared.grammar.Standing.{Standing}
-use Rattle.mh_values.specs.declared.grammar.Standing.TheVariants as standing
+use Rattle.mh_values.specs.declared.descriptor.Place.TheVariants as place
+use Rattle.mh_values.specs.declared.descriptor.Standing.{Standing}
+use Rattle.mh_values.specs.declared.descriptor.Standing.TheVariants as standing
 use Rattle.mh_values.specs.Grammar.{begun, slots_from, parameter, next, is_end, first_bad, descriptor_fault}
 use Rattle.mh_values.specs.Spelling.{spelled_text, texts_of, return_spelled, IsMethodDescriptor}
 use Rattle.mh_values.proofs.Accepted.{begins_type, some_is}
@@ -64,7 +64,7 @@ parameters_step n b s bs told goes =
           elim (cases_Bool (nat_le (n + slots_from b) 255)) [
             | inl few ↦
                 let begun_so : begun (place.Parameter (n + slots_from b)) b ≡ Some s =
-                    sym (ap (λ t. if t then begun (place.Parameter (n + slots_from b)) b else None) few) ∙ more in
+                sym (ap (λ t. if t then begun (place.Parameter (n + slots_from b)) b else None) few) ∙ more in
                 one_more n b (b ∷ bs) (leb-true _ _ few) (begins_type (place.Parameter (n + slots_from b)) b bs s begun_so goes)
             | inr few ↦ let is : None ≡ Some s = sym (ap (λ t. if t then begun (place.Parameter (n + slots_from b)) b else None) few) ∙ more in cc
           ]

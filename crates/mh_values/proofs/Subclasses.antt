@@ -92,6 +92,18 @@ is_subclass-top classes a b is other =
 pub is_subclass-itself : (classes : List Class) (a : ClassId) → is_subclass classes a a ≡ true
 is_subclass-itself classes a = reaches-here (length classes) classes a
 
+-- ---- one way after another
+
+IsSubclass-trans : (classes : List Class) (a b c : ClassId) → IsSubclass classes a b → IsSubclass classes b c → IsSubclass classes a c
+IsSubclass-trans classes a b c itself more = more
+IsSubclass-trans classes a b c (above {b = d} is rest) more = above is (IsSubclass-trans classes d b c rest more)
+
+pub is_subclass-trans : (classes : List Class) → IsAscending classes → (a b c : ClassId) → is_subclass classes a b ≡ true → is_subclass classes b c ≡ true →
+    is_subclass classes a c ≡ true
+is_subclass-trans classes ascending a b c h k =
+    is_subclass-complete classes ascending a c
+    (IsSubclass-trans classes a b c (reaches-sound (length classes) classes a b h) (reaches-sound (length classes) classes b c k))
+
 -- ---- the tests of two classes that a walk makes
 
 pub other_class : (a b : ClassId) → true ≡ not (a.0 == b.0) → a ≡ b → ⊥

@@ -1,10 +1,11 @@
 -- The text of a type is a type, byte by byte.
 use Rattle.std.proofs.Common.{◌≡◌, refl, ap, ◌∙◌, ℕ, ◌+◌, ◌==◌, Bool, true, false, not, ◌&&◌, ◌||◌, List, [], ◌∷◌, ◌++◌, length, Option, Some, codes, length-append, arith, append_assoc}
+use Rattle.std.proofs.lemmas.Bool.{and_parts, not-true}
 use Rattle.std.specs.List.{list_all}
 use Rattle.std.specs.Option.{option_map_or}
-use Rattle.mh_values.specs.declared.grammar.Place.{Place}
-use Rattle.mh_values.specs.declared.grammar.Standing.TheVariants as standing
-use Rattle.mh_values.specs.Grammar.{behind, begun, first_bad, within_name}
+use Rattle.mh_values.specs.declared.descriptor.Place.{Place}
+use Rattle.mh_values.specs.declared.descriptor.Standing.TheVariants as standing
+use Rattle.mh_values.specs.Grammar.{after_type, begun, first_bad, within_name}
 use Rattle.mh_values.specs.declared.class.Class.{Class}
 use Rattle.mh_values.specs.declared.types.Primitive.TheVariants as primitive
 use Rattle.mh_values.specs.declared.types.Comp.{Comp}
@@ -23,38 +24,29 @@ abbrev pub is_name : List ℕ → Bool
 is_name [] = false
 is_name (b ∷ bs) = list_all is_name_byte (b ∷ bs)
 
-pub not-true : (b : Bool) → not b ≡ true → b ≡ false
-not-true true h = absurd cc
-not-true false h = refl
-
-pub both-true : (a b : Bool) → (a && b) ≡ true → (a ≡ true) × (b ≡ true)
-both-true true true h = (refl, refl)
-both-true true false h = (refl, h)
-both-true false b h = absurd cc
-
 -- a byte of a name goes on with the name
 goes_on : (p : Place) (has : Bool) (b : ℕ) → is_name_byte b ≡ true → within_name p has b ≡ Some (standing.Name p true)
 goes_on p has b h =
-    let parts = both-true _ _ h in
+    let parts = and_parts _ _ h in
     let ends : (b == 59) ≡ false = not-true _ parts.0 in
     let bad : (b == 46 || b == 91) ≡ false = not-true _ parts.1 in
     rw (ends, bad)
 
--- behind a name and its `;`
+-- after a name and its `;`
 name-read : (at : ℕ) (p : Place) (name rest : List ℕ) → list_all is_name_byte name ≡ true → first_bad at (standing.Name p true) (name ++ 59 ∷ rest) ≡ first_bad
-    (at + length name + 1) (behind p) rest
-name-read at p [] rest good = ap (λ n. first_bad n (behind p) rest) (omega arith)
+    (at + length name + 1) (after_type p) rest
+name-read at p [] rest good = ap (λ n. first_bad n (after_type p) rest) (omega arith)
 name-read at p (b ∷ bs) rest good =
-    let parts = both-true (is_name_byte b) (list_all is_name_byte bs) good in
-    rw (goes_on p true b parts.0) (name-read (at + 1) p bs rest parts.1 ∙ ap (λ n. first_bad n (behind p) rest) (omega arith))
+    let parts = and_parts (is_name_byte b) (list_all is_name_byte bs) good in
+    rw (goes_on p true b parts.0) (name-read (at + 1) p bs rest parts.1 ∙ ap (λ n. first_bad n (after_type p) rest) (omega arith))
 
 -- the same from the name's first byte on
 pub class-read : (at : ℕ) (p : Place) (name rest : List ℕ) → is_name name ≡ true → first_bad at (standing.Name p false) (name ++ 59 ∷ rest) ≡ first_bad
-    (at + length name + 1) (behind p) rest
+    (at + length name + 1) (after_type p) rest
 class-read at p [] rest good = absurd cc
 class-read at p (b ∷ bs) rest good =
-    let parts = both-true (is_name_byte b) (list_all is_name_byte bs) good in
-    rw (goes_on p false b parts.0) (name-read (at + 1) p bs rest parts.1 ∙ ap (λ n. first_bad n (behind p) rest) (omega arith))
+    let parts = and_parts (is_name_byte b) (list_all is_name_byte bs) good in
+    rw (goes_on p false b parts.0) (name-read (at + 1) p bs rest parts.1 ∙ ap (λ n. first_bad n (after_type p) rest) (omega arith))
 
 -- a component whose class has a name that may stand in a descriptor
 abbrev pub is_component_named : List Class → Comp → Bool
@@ -77,23 +69,23 @@ pub class-joined : (name rest : List ℕ) → (codes "L" ++ name ++ codes ";") +
 class-joined name rest = ap (λ xs. 76 ∷ xs) (append_assoc name (59 ∷ []) rest)
 
 component-read : (classes : List Class) (at : ℕ) (p : Place) (c : Comp) (rest : List ℕ) → is_component_named classes c ≡ true →
-    first_bad at (standing.Dimensions p 1) (component_text classes c ++ rest) ≡ first_bad (at + length (component_text classes c)) (behind p) rest
+    first_bad at (standing.Dimensions p 1) (component_text classes c ++ rest) ≡ first_bad (at + length (component_text classes c)) (after_type p) rest
 component-read classes at p (comp.Prim primitive.Z) rest good = refl
 component-read classes at p (comp.Prim primitive.I) rest good = refl
 component-read classes at p (comp.Prim primitive.J) rest good = refl
 component-read classes at p (comp.Class c) rest good =
     ap (first_bad at (standing.Dimensions p 1)) (class-joined (name_of classes c) rest)
     ∙ class-read (at + 1) p (name_of classes c) rest good
-    ∙ ap (λ n. first_bad n (behind p) rest) (omega (arith, length-append (name_of classes c) (59 ∷ [])))
+    ∙ ap (λ n. first_bad n (after_type p) rest) (omega (arith, length-append (name_of classes c) (59 ∷ [])))
 
 pub type-read : (classes : List Class) (at : ℕ) (p : Place) (t : Ty) (rest : List ℕ) → is_type_named classes t ≡ true →
-    begun_bad at p (type_text classes t ++ rest) ≡ first_bad (at + length (type_text classes t)) (behind p) rest
+    begun_bad at p (type_text classes t ++ rest) ≡ first_bad (at + length (type_text classes t)) (after_type p) rest
 type-read classes at p (ty.Prim primitive.Z) rest good = refl
 type-read classes at p (ty.Prim primitive.I) rest good = refl
 type-read classes at p (ty.Prim primitive.J) rest good = refl
 type-read classes at p (ty.Class c) rest good =
     ap (begun_bad at p) (class-joined (name_of classes c) rest)
     ∙ class-read (at + 1) p (name_of classes c) rest good
-    ∙ ap (λ n. first_bad n (behind p) rest) (omega (arith, length-append (name_of classes c) (59 ∷ [])))
+    ∙ ap (λ n. first_bad n (after_type p) rest) (omega (arith, length-append (name_of classes c) (59 ∷ [])))
 type-read classes at p (ty.Array c) rest good =
-    component-read classes (at + 1) p c rest good ∙ ap (λ n. first_bad n (behind p) rest) (omega arith)
+    component-read classes (at + 1) p c rest good ∙ ap (λ n. first_bad n (after_type p) rest) (omega arith)

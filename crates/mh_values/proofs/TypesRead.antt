@@ -1,31 +1,31 @@
--- Types read one behind the other.
+-- Types read one after the other.
 use Rattle.std.proofs.Common.{◌≡◌, refl, sym, ap, subst, ℕ, ◌+◌, ◌≤◌, ◌==◌, Bool, true, false, ◌||◌, if◌then◌else◌, List, [], ◌∷◌, length, take, Result, Ok, Err, arith}
 use Rattle.std.proofs.lemmas.List.Sums.{sum_by-cons, sum_by-take-le}
 use Rattle.std.specs.Result.{IsErrAnd}
 use Rattle.mh_values.specs.declared.descriptor.DescriptorError.{DescriptorError}
 use Rattle.mh_values.specs.declared.descriptor.DescriptorError.TheVariants as descriptor
-use Rattle.mh_values.specs.Descriptor.{found_then, pieces, ends_type, longer, bytes_of, Means}
+use Rattle.mh_values.specs.Descriptor.{found_then, pieces, ends_type, longer, bytes_of, TellsType}
 
 -- a refusal of a part is that of the whole
-pub Means-part : {A B : Type 0} (e : DescriptorError) (meant : Result A DescriptorError) (next : A → Result B DescriptorError) → Means {A = A} (Err e) meant →
-    Means {A = B} (Err e) (found_then meant next)
-Means-part descriptor.NoMemory meant next is = tt
-Means-part (descriptor.Bad at) meant next is = ap (λ r. found_then r next) is
-Means-part (descriptor.NoClass at len) meant next is = ap (λ r. found_then r next) is
-Means-part (descriptor.Unsupported at) meant next is = ap (λ r. found_then r next) is
+pub TellsType-part : {A B : Type 0} (e : DescriptorError) (meant : Result A DescriptorError) (next : A → Result B DescriptorError) → TellsType {A = A} (Err e) meant →
+    TellsType {A = B} (Err e) (found_then meant next)
+TellsType-part descriptor.NoMemory meant next is = tt
+TellsType-part (descriptor.Bad at) meant next is = ap (λ r. found_then r next) is
+TellsType-part (descriptor.NoClass at len) meant next is = ap (λ r. found_then r next) is
+TellsType-part (descriptor.Unsupported at) meant next is = ap (λ r. found_then r next) is
 
 -- a refusal is the answer, whichever it is
-pub Means-err : {A : Type 0} (e : DescriptorError) (meant : Result A DescriptorError) → meant ≡ Err e → Means {A = A} (Err e) meant
-Means-err descriptor.NoMemory meant is = tt
-Means-err (descriptor.Bad at) meant is = is
-Means-err (descriptor.NoClass at len) meant is = is
-Means-err (descriptor.Unsupported at) meant is = is
+pub TellsType-err : {A : Type 0} (e : DescriptorError) (meant : Result A DescriptorError) → meant ≡ Err e → TellsType {A = A} (Err e) meant
+TellsType-err descriptor.NoMemory meant is = tt
+TellsType-err (descriptor.Bad at) meant is = is
+TellsType-err (descriptor.NoClass at len) meant is = is
+TellsType-err (descriptor.Unsupported at) meant is = is
 
 -- an error that `?` hands on
-pub Means-handed : {A : Type 0} (r : Result A DescriptorError) (e : DescriptorError) (meant : Result A DescriptorError) → IsErrAnd r (λ y. y ≡ e) →
-    Means {A = A} (Err e) meant → Means r meant
-Means-handed (Ok a) e meant given is = absurd given
-Means-handed {A} (Err y) e meant given is = subst (λ x. Means {A = A} (Err x) meant) (sym given) is
+pub TellsType-handed : {A : Type 0} (r : Result A DescriptorError) (e : DescriptorError) (meant : Result A DescriptorError) → IsErrAnd r (λ y. y ≡ e) →
+    TellsType {A = A} (Err e) meant → TellsType r meant
+TellsType-handed (Ok a) e meant given is = absurd given
+TellsType-handed {A} (Err y) e meant given is = subst (λ x. TellsType {A = A} (Err x) meant) (sym given) is
 
 -- ---- the pieces have all bytes of the text
 
@@ -41,7 +41,7 @@ pieces-bytes in_name [] = refl
 pieces-bytes in_name (b ∷ bs) =
     let ended : bytes_of ((b ∷ []) ∷ pieces false bs) ≡ length (b ∷ bs) = omega (arith, bytes_of-cons (b ∷ []) (pieces false bs), pieces-bytes false bs) in
     let more : bytes_of (longer b (pieces (in_name || b == 76) bs)) ≡ length (b ∷ bs) =
-        omega (arith, longer-bytes b (pieces (in_name || b == 76) bs), pieces-bytes (in_name || b == 76) bs) in
+    omega (arith, longer-bytes b (pieces (in_name || b == 76) bs), pieces-bytes (in_name || b == 76) bs) in
     elim (ends_type in_name b) as (λ t. bytes_of (if t then (b ∷ []) ∷ pieces false bs else longer b (pieces (in_name || b == 76) bs)) ≡ length (b ∷ bs)) [
       | true ↦ ended
       | false ↦ more

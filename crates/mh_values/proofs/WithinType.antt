@@ -2,10 +2,10 @@
 use Rattle.std.proofs.Common.{◌≡◌, refl, sym, ap, subst, ◌∙◌, suc, ℕ, ◌+◌, ◌==◌, inl, inr, Bool, true, ◌||◌, if◌then◌else◌, nat_le, List, [], ◌∷◌, None, Some, arith}
 use Rattle.std.proofs.lemmas.Bool.{cases_Bool, eqb-true, leb-true, and_from, not_from_false, or_from}
 use Rattle.std.specs.List.{list_all}
-use Rattle.mh_values.specs.declared.grammar.Place.{Place}
-use Rattle.mh_values.specs.declared.grammar.Standing.{Standing}
-use Rattle.mh_values.specs.declared.grammar.Standing.TheVariants as standing
-use Rattle.mh_values.specs.Grammar.{behind, element, next}
+use Rattle.mh_values.specs.declared.descriptor.Place.{Place}
+use Rattle.mh_values.specs.declared.descriptor.Standing.{Standing}
+use Rattle.mh_values.specs.declared.descriptor.Standing.TheVariants as standing
+use Rattle.mh_values.specs.Grammar.{after_type, element, next}
 use Rattle.mh_values.specs.Spelling.{is_name_byte}
 use Rattle.mh_values.proofs.Accepted.{begins_element, some_is, after_whole}
 use Rattle.mh_values.proofs.Goes.{DimensionsFrom, NameFrom, Goes}
@@ -15,7 +15,7 @@ dimensions_step p k b s bs told goes =
     elim (cases_Bool (b == 91)) [
       | inl e ↦
           let more : (if nat_le (k + 1) 255 then Some (standing.Dimensions p (k + 1)) else None) ≡ Some s =
-              sym (ap (λ t. if t then (if nat_le (k + 1) 255 then Some (standing.Dimensions p (k + 1)) else None) else element p b) e) ∙ told in
+          sym (ap (λ t. if t then (if nat_le (k + 1) 255 then Some (standing.Dimensions p (k + 1)) else None) else element p b) e) ∙ told in
           elim (cases_Bool (nat_le (k + 1) 255)) [
             | inl few ↦
                 let is : Some (standing.Dimensions p (k + 1)) ≡ Some s = sym (ap (λ t. if t then Some (standing.Dimensions p (k + 1)) else None) few) ∙ more in
@@ -33,8 +33,8 @@ dimensions_step p k b s bs told goes =
           ]
       | inr e ↦
           let begins =
-              begins_element p b bs s (sym (ap (λ t. if t then (if nat_le (k + 1) 255 then Some (standing.Dimensions p (k + 1)) else None) else element p b) e)
-              ∙ told) goes in
+          begins_element p b bs s (sym (ap (λ t. if t then (if nat_le (k + 1) 255 then Some (standing.Dimensions p (k + 1)) else None) else element p b) e)
+          ∙ told) goes in
           record {
             more = 0;
             element = begins.element;
@@ -50,12 +50,12 @@ pub name_step : (p : Place) (has : Bool) (b : ℕ) (s : Standing) (bs : List ℕ
 name_step p has b s bs told goes =
     elim (cases_Bool (b == 59)) [
       | inl e ↦
-          let more : (if has then Some (behind p) else None) ≡ Some s =
-              sym (ap (λ t. if t then (if has then Some (behind p) else None) else (if b == 46 || b == 91 then None else Some (standing.Name p true))) e) ∙
-              told in
+          let more : (if has then Some (after_type p) else None) ≡ Some s =
+          sym (ap (λ t. if t then (if has then Some (after_type p) else None) else (if b == 46 || b == 91 then None else Some (standing.Name p true))) e) ∙
+          told in
           elim (cases_Bool has) [
             | inl some ↦
-                let is : Some (behind p) ≡ Some s = sym (ap (λ t. if t then Some (behind p) else None) some) ∙ more in
+                let is : Some (after_type p) ≡ Some s = sym (ap (λ t. if t then Some (after_type p) else None) some) ∙ more in
                 record {
                   name = [];
                   rest = bs;
@@ -64,12 +64,12 @@ name_step p has b s bs told goes =
                   after = after_whole p bs (subst (λ t. Goes t bs) (sym (some_is _ _ is)) goes);
                   is = ap (λ c. c ∷ bs) (eqb-true b 59 e);
                 }
-            | inr some ↦ let is : None ≡ Some s = sym (ap (λ t. if t then Some (behind p) else None) some) ∙ more in cc
+            | inr some ↦ let is : None ≡ Some s = sym (ap (λ t. if t then Some (after_type p) else None) some) ∙ more in cc
           ]
       | inr e ↦
           let more : (if b == 46 || b == 91 then None else Some (standing.Name p true)) ≡ Some s =
-              sym (ap (λ t. if t then (if has then Some (behind p) else None) else (if b == 46 || b == 91 then None else Some (standing.Name p true))) e) ∙
-              told in
+          sym (ap (λ t. if t then (if has then Some (after_type p) else None) else (if b == 46 || b == 91 then None else Some (standing.Name p true))) e) ∙
+          told in
           elim (cases_Bool (b == 46 || b == 91)) [
             | inl bad ↦ let is : None ≡ Some s = sym (ap (λ t. if t then None else Some (standing.Name p true)) bad) ∙ more in cc
             | inr bad ↦

@@ -32,7 +32,7 @@ item_of_value (value.Thrown e) = Some (cell.Thrown e)
 item_of_value (value.Array c items) = None
 item_of_value value.Null = Some cell.Null
 
--- an item in front of items, where all are there
+-- an item before items, where all are there
 abbrev pub item_and_more : Option Cell → Option (List Cell) → Option (List Cell)
 item_and_more (Some item) (Some items) = Some (item ∷ items)
 item_and_more _ _ = None

@@ -23,7 +23,7 @@ class_named classes name = named_from 0 classes name
 abbrev pub class_of : List ℕ → Option ClassId → Class
 class_of name superclass = record { name = name; superclass = superclass }
 
--- each class stands behind its superclass
+-- each class stands after its superclass
 abbrev pub IsAscending : List Class → Type 0
 IsAscending classes = (a b : ClassId) → superclass_of classes a ≡ Some b → b.0 < a.0
 
@@ -31,12 +31,12 @@ IsAscending classes = (a b : ClassId) → superclass_of classes a ≡ Some b →
 abbrev pub IsDistinct : List Class → Type 0
 IsDistinct classes = (c : ClassId) → c.0 < length classes → class_named classes (name_of classes c) ≡ Some c
 
--- classes in order: each behind its superclass, no two of one name
+-- classes in order: each after its superclass, no two of one name
 pub record AreOrdered (classes : List Class) : Type 0 where
   pub ascending : IsAscending classes
   pub distinct : IsDistinct classes
 
--- as many classes as are built in, and as many as may be declared behind them
+-- as many classes as are built in, and as many as may be declared after them
 abbrev pub most_classes : ℕ
 most_classes = 28 + 1024
 

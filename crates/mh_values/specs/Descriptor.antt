@@ -20,12 +20,12 @@ use Rattle.mh_values.specs.Grammar.{descriptor_fault, type_fault, types_fault}
 abbrev pub ends_type : Bool → ℕ → Bool
 ends_type in_name b = if in_name then b == 59 else not (b == 91 || b == 76)
 
--- a byte in front of the first piece
+-- a byte before the first piece
 abbrev pub longer : ℕ → List (List ℕ) → List (List ℕ)
 longer b [] = (b ∷ []) ∷ []
 longer b (piece ∷ pieces) = (b ∷ piece) ∷ pieces
 
--- a text cut behind each of its types, from within a name or not; a parenthesis is a piece too
+-- a text cut after each of its types, from within a name or not; a parenthesis is a piece too
 abbrev pub pieces : Bool → List ℕ → List (List ℕ)
 pieces in_name [] = []
 pieces in_name (b ∷ bs) = if ends_type in_name b then (b ∷ []) ∷ pieces false bs else longer b (pieces (in_name || b == 76) bs)
@@ -77,7 +77,7 @@ return_meant classes at text = if option_map_or (λ b. b == 86) (slice_get text 
 abbrev pub last_of : List (List ℕ) → List ℕ
 last_of texts = unwrap_or (slice_get texts (length texts - 1)) []
 
--- the method type of the pieces behind `(`, which end at a place: `)` and the return type are the last two
+-- the method type of the pieces after `(`, which end at a place: `)` and the return type are the last two
 abbrev pub method_of : List Class → ℕ → List (List ℕ) → Result MethodTy DescriptorError
 method_of classes end parts =
     found_then (types_meant classes 1 (take (length parts - 2) parts)) (λ params.
@@ -112,7 +112,7 @@ abbrev pub bytes_of : List (List ℕ) → ℕ
 bytes_of texts = sum_by (λ text. length text) texts
 
 -- an answer that is what the text means, unless memory ran out
-abbrev pub Means : {A : Type 0} → Result A DescriptorError → Result A DescriptorError → Type 0
-Means (Ok a) meant = meant ≡ Ok a
-Means (Err descriptor.NoMemory) meant = Unit {0}
-Means (Err error) meant = meant ≡ Err error
+abbrev pub TellsType : {A : Type 0} → Result A DescriptorError → Result A DescriptorError → Type 0
+TellsType (Ok a) meant = meant ≡ Ok a
+TellsType (Err descriptor.NoMemory) meant = Unit {0}
+TellsType (Err error) meant = meant ≡ Err error

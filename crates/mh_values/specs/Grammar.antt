@@ -1,24 +1,24 @@
 -- Method descriptors and other texts of types, byte by byte: which byte continues one (JVMS SE 17, 4.3.2 and 4.3.3).
 use Rattle.std.specs.Prelude.{ℕ, ◌+◌, ◌==◌, nat_le, Bool, true, false, ◌||◌, if◌then◌else◌, List, [], ◌∷◌, Option, None, Some}
 use Rattle.std.specs.Option.{option_map_or}
-use Rattle.mh_values.specs.declared.grammar.Place.{Place}
-use Rattle.mh_values.specs.declared.grammar.Place.TheVariants as place
-use Rattle.mh_values.specs.declared.grammar.Standing.{Standing}
-use Rattle.mh_values.specs.declared.grammar.Standing.TheVariants as standing
+use Rattle.mh_values.specs.declared.descriptor.Place.{Place}
+use Rattle.mh_values.specs.declared.descriptor.Place.TheVariants as place
+use Rattle.mh_values.specs.declared.descriptor.Standing.{Standing}
+use Rattle.mh_values.specs.declared.descriptor.Standing.TheVariants as standing
 
 -- a primitive type, by its letter: one of B C D F I J S Z
 abbrev pub is_base : ℕ → Bool
 is_base b = b == 66 || b == 67 || b == 68 || b == 70 || b == 73 || b == 74 || b == 83 || b == 90
 
--- behind a whole type
-abbrev pub behind : Place → Standing
-behind (place.Parameter slots) = standing.Parameters slots
-behind place.Listed = standing.Types true
-behind place.Last = standing.End
+-- after a whole type
+abbrev pub after_type : Place → Standing
+after_type (place.Parameter slots) = standing.Parameters slots
+after_type place.Listed = standing.Types true
+after_type place.Last = standing.End
 
 -- a type that is no array begins with `L` or is one letter
 abbrev pub element : Place → ℕ → Option Standing
-element p b = if b == 76 then Some (standing.Name p false) else (if is_base b then Some (behind p) else None)
+element p b = if b == 76 then Some (standing.Name p false) else (if is_base b then Some (after_type p) else None)
 
 -- a type begins with `[` or with what is no array
 abbrev pub begun : Place → ℕ → Option Standing
@@ -32,7 +32,7 @@ within_array p dimensions b =
 -- a name has one or more bytes other than `;`, `.` and `[`, and ends with `;`
 abbrev pub within_name : Place → Bool → ℕ → Option Standing
 within_name p has_bytes b =
-    if b == 59 then (if has_bytes then Some (behind p) else None)
+    if b == 59 then (if has_bytes then Some (after_type p) else None)
     else (if b == 46 || b == 91 then None else Some (standing.Name p true))
 
 -- the slots of a parameter, by its first byte: J and D take two
@@ -43,7 +43,7 @@ slots_from b = if b == 74 || b == 68 then 2 else 1
 abbrev pub parameter : ℕ → ℕ → Option Standing
 parameter slots b = if nat_le (slots + slots_from b) 255 then begun (place.Parameter (slots + slots_from b)) b else None
 
--- behind one more byte, where the text may go on with it
+-- after one more byte, where the text may go on with it
 abbrev pub next : Standing → ℕ → Option Standing
 next standing.Front b = if b == 40 then Some (standing.Parameters 0) else None
 next (standing.Parameters slots) b = if b == 41 then Some standing.Close else parameter slots b

@@ -13,5 +13,3 @@ pub mod Same
 pub mod Slots
 pub mod Spelling
 pub mod TypeText
-pub mod Exc
-pub mod Kept

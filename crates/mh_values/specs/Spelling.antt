@@ -54,7 +54,7 @@ abbrev pub all_slots : List Spelled → ℕ
 all_slots [] = 0
 all_slots (t ∷ ts) = spelled_slots t + all_slots ts
 
--- the texts of types, one behind the other
+-- the texts of types, one after the other
 abbrev pub texts_of : List Spelled → List ℕ
 texts_of [] = []
 texts_of (t ∷ ts) = spelled_text t ++ texts_of ts
@@ -78,7 +78,7 @@ pub record IsMethodDescriptor (text : List ℕ) : Type 0 where
   pub few : all_slots params ≤ 255
   pub is : text ≡ 40 ∷ (texts_of params ++ 41 ∷ return_spelled ret)
 
--- the first place at which a text continues no method descriptor: what stands in front of it begins one, and with the byte there it begins none
+-- the first place at which a text continues no method descriptor: what stands before it begins one, and with the byte there it begins none
 pub record IsFirstBad (text : List ℕ) (at : ℕ) : Type 0 where
   pub within : at ≤ length text
   pub before : (rest : List ℕ) × IsMethodDescriptor (take at text ++ rest)

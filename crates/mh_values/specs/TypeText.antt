@@ -1,4 +1,4 @@
--- Types as descriptors (JVMS SE 17, 4.3.2 and 4.3.3).
+-- Types as descriptors (JVMS SE 17, 4.3.2 and 4.3.3), also where the names of classes are written in another way.
 use Rattle.std.specs.Prelude.{ℕ, List, ◌++◌, codes, flat_map, Option, Some, None}
 use Rattle.mh_values.specs.declared.class.Class.{Class}
 use Rattle.mh_values.specs.declared.class.ClassId.{ClassId}
@@ -11,36 +11,56 @@ use Rattle.mh_values.specs.declared.types.Ty.TheVariants as ty
 use Rattle.mh_values.specs.declared.types.MethodTy.{MethodTy}
 use Rattle.mh_values.specs.Classes.{name_of}
 
--- the name of a class of the list
-abbrev pub name_of_class : List Class → ClassId → List ℕ
-name_of_class classes c = name_of classes c
-
 -- the letter of a primitive type
 abbrev pub primitive_text : Primitive → List ℕ
 primitive_text primitive.Z = codes "Z"
 primitive_text primitive.I = codes "I"
 primitive_text primitive.J = codes "J"
 
+-- ---- by what is written as the name of a class
+
+-- a class
+abbrev pub class_written : (ClassId → List ℕ) → ClassId → List ℕ
+class_written name c = codes "L" ++ name c ++ codes ";"
+
+-- the items of an array
+abbrev pub component_written : (ClassId → List ℕ) → Comp → List ℕ
+component_written name (comp.Prim p) = primitive_text p
+component_written name (comp.Class c) = class_written name c
+
+-- a type
+abbrev pub type_written : (ClassId → List ℕ) → Ty → List ℕ
+type_written name (ty.Prim p) = primitive_text p
+type_written name (ty.Class c) = class_written name c
+type_written name (ty.Array c) = codes "[" ++ component_written name c
+
+-- a return type
+abbrev pub return_written : (ClassId → List ℕ) → Option Ty → List ℕ
+return_written name None = codes "V"
+return_written name (Some t) = type_written name t
+
+-- a method type
+abbrev pub method_type_written : (ClassId → List ℕ) → MethodTy → List ℕ
+method_type_written name t = codes "(" ++ flat_map (type_written name) t.params ++ codes ")" ++ return_written name t.ret
+
+-- ---- by the names of classes themselves
+
 -- a class in a descriptor
 abbrev pub class_text : List Class → ClassId → List ℕ
-class_text classes c = codes "L" ++ name_of_class classes c ++ codes ";"
+class_text classes = class_written (name_of classes)
 
 -- the descriptor of the items of an array
 abbrev pub component_text : List Class → Comp → List ℕ
-component_text classes (comp.Prim p) = primitive_text p
-component_text classes (comp.Class c) = class_text classes c
+component_text classes = component_written (name_of classes)
 
 -- the descriptor of a type
 abbrev pub type_text : List Class → Ty → List ℕ
-type_text classes (ty.Prim p) = primitive_text p
-type_text classes (ty.Class c) = class_text classes c
-type_text classes (ty.Array c) = codes "[" ++ component_text classes c
+type_text classes = type_written (name_of classes)
 
 -- the descriptor of a return type
 abbrev pub return_text : List Class → Option Ty → List ℕ
-return_text classes None = codes "V"
-return_text classes (Some t) = type_text classes t
+return_text classes = return_written (name_of classes)
 
 -- the descriptor of a method type
 abbrev pub method_type_text : List Class → MethodTy → List ℕ
-method_type_text classes t = codes "(" ++ flat_map (type_text classes) t.params ++ codes ")" ++ return_text classes t.ret
+method_type_text classes = method_type_written (name_of classes)

@@ -41,7 +41,7 @@ const BUILTIN: [(&str, Option<u32>); 28] = [
     ("java/lang/StackOverflowError", Some(18)),
 ];
 
-/// Puts the class of a row behind the others.
+/// Puts the class of a row after the others.
 fn add_row(registry: &mut Registry, name: &str, superclass: Option<u32>) -> Result<(), NoMemory>
     requires new { IsTrue (may_follow registry.old (class_of_row name.now superclass)) }
     requires few { length registry.old < 2 ^ 32 }

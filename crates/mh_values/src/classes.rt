@@ -46,7 +46,7 @@ impl From<NoMemory> for DeclareError {
     }
 }
 
-/// The classes of a run: those that are built in, and behind them those that were declared.
+/// The classes of a run: those that are built in, and after them those that were declared.
 #[derive(Drop)]
 pub struct Classes {
     registry: Registry,

@@ -9,7 +9,7 @@ use std::alloc::Global;
 
 impl Exc {
     /// An exception with an empty message. It takes no memory.
-    pub fn bare(_alloc: Global, class: ClassId) -> Exc
+    pub fn bare(class: ClassId) -> Exc
         ensures { result ≡ bare class }
     {
         Exc {
@@ -19,7 +19,7 @@ impl Exc {
 
     /// An exception that says this.
     pub fn of(alloc: Global, parts: ExcParts) -> Result<Exc, NoMemory>
-        ensures { IfOk result (λ e. e ≡ record { class = parts.class; message = parts.message; cause = parts.cause }) }
+        ensures { IfOk result (λ e. e ≡ parts) }
     {
         Ok(Exc {
             kept: ExcKept::Said(Shared::new(alloc, parts)?),

@@ -4,12 +4,10 @@
 mod builtin;
 mod class;
 mod classes;
-mod copies;
+mod copy;
 mod descriptor;
 mod exception;
-mod grammar;
 mod known;
-mod meaning;
 mod registry;
 mod same;
 mod types;
@@ -18,8 +16,10 @@ mod value;
 
 pub use class::{Class, ClassId};
 pub use classes::{Classes, DeclareError, MOST_CLASSES};
-pub use descriptor::{BadAt, DescriptorError, descriptor_text, type_text, types_text};
-pub use meaning::{read_descriptor, read_type, read_types};
+pub use descriptor::{
+    BadAt, DescriptorError, descriptor_text, read_descriptor, read_type, read_types, type_text,
+    types_text,
+};
 pub use same::{
     are_same_types, begins_with_types, is_same_method_type, is_same_return, is_same_type,
 };

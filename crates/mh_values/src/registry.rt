@@ -61,11 +61,11 @@ impl Registry {
         self.numbers.get(name).copied()
     }
 
-    /// Puts a class behind the others, and its number where its name is the key.
+    /// Puts a class after the others, and its number where its name is the key.
     fn put(&mut self, key: Vec<u8>, class: Class) -> Result<(), NoMemory>
         requires key { key.items ≡ class.name }
         requires new { class_named self.old class.name ≡ None }
-        requires behind { IsWithin (length self.old) class.superclass }
+        requires below { IsWithin (length self.old) class.superclass }
         requires few { length self.old < 2 ^ 32 }
         ensures ok { OnOk result (self.new ≡ self.old ++ class ∷ []) }
         ensures ordered { OnOk result (AreOrdered self.new) }
@@ -80,10 +80,10 @@ impl Registry {
         Ok(())
     }
 
-    /// Puts a class behind the others.
+    /// Puts a class after the others.
     pub(crate) fn add(&mut self, name: &[u8], superclass: Option<ClassId>) -> Result<(), NoMemory>
         requires new { class_named self.old name.now ≡ None }
-        requires behind { IsWithin (length self.old) superclass }
+        requires below { IsWithin (length self.old) superclass }
         requires few { length self.old < 2 ^ 32 }
         ensures ok { OnOk result (self.new ≡ self.old ++ class_of name.now superclass ∷ []) }
         ensures ordered { OnOk result (AreOrdered self.new) }

@@ -1,3 +1,6 @@
+ghost use Rattle.std.specs.Prelude.{◌≡◌};
+ghost use Rattle.mh_values.specs.Array.{item_type};
+
 use crate::ClassId;
 use mh_base::Seq;
 
@@ -14,6 +17,18 @@ pub enum Primitive {
 pub enum Comp {
     Prim(Primitive),
     Class(ClassId),
+}
+
+impl Comp {
+    /// The type of the items.
+    pub fn item_type(self) -> Ty
+        ensures { result ≡ item_type self }
+    {
+        match self {
+            Comp::Prim(primitive) => Ty::Prim(primitive),
+            Comp::Class(class) => Ty::Class(class),
+        }
+    }
 }
 
 /// The type of a value (JVMS SE 17, 4.3.2).

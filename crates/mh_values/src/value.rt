@@ -35,19 +35,18 @@ pub(crate) enum ExcKept {
     Said(Shared<ExcParts>),
 }
 
-/// An exception. A copy shares what it says, so it takes no memory. Contracts see its class, its
-/// message, and what it was caused by.
+/// An exception. A copy shares what it says, so it takes no memory. Contracts see what it says.
 #[derive(Debug, Drop)]
 pub struct Exc {
     pub(crate) kept: ExcKept,
 }
 
 impl Model for Exc {
-    ghost use Rattle.mh_values.specs.Exc.{ExcView};
+    ghost use Rattle.mh_values.specs.declared.value.ExcParts.{ExcParts};
 
-    ghost Value = { ExcView };
+    ghost Value = { ExcParts };
 
-    ghost use Rattle.mh_values.specs.Kept.{kept_exc};
+    ghost use Rattle.mh_values.specs.Exception.{kept_exc};
 
     ghost view = { λ e. kept_exc e.kept };
 }

@@ -83,7 +83,7 @@ fn value(alloc: Global, given: Kept) -> Value {
         Boxed(number) => Value::Boxed(number),
         Null => Value::Null,
         Text => Value::Text(Frozen::new()),
-        Thrown(class) => Value::Thrown(Exc::bare(alloc, class)),
+        Thrown(class) => Value::Thrown(Exc::bare(class)),
     }
 }
 
@@ -128,7 +128,7 @@ fn is_converted(
     };
     let v = value(alloc, before);
     if has_type(&v, by.from, classes) {
-        left_of(convert(alloc, by, v, classes)) == after
+        left_of(convert(by, v, classes)) == after
     } else {
         false
     }
@@ -159,8 +159,8 @@ static FITTED: [(Ty, Kept, Kept); 10] = [
 
 /// Whether a bound value becomes what is wanted, and is a misfit where that is an exception.
 fn is_fitted(alloc: Global, (to, before, after): (Ty, Kept, Kept), classes: &Classes) -> bool {
-    let refused = misfit(alloc, &value(alloc, before), to, classes).is_some();
-    let fitted = left_of(fit(alloc, value(alloc, before), to, classes));
+    let refused = misfit(&value(alloc, before), to, classes).is_some();
+    let fitted = left_of(fit(value(alloc, before), to, classes));
     refused == matches!(after, Thrown(_)) && fitted == after
 }
 

@@ -36,7 +36,7 @@ fn value(alloc: Global, seen_as: Seen) -> Value {
         Is(number) => Value::Prim(number),
         Text => Value::Text(Frozen::new()),
         Object => Value::Object(ClassId::OBJECT, 0),
-        Thrown(class) => Value::Thrown(Exc::bare(alloc, class)),
+        Thrown(class) => Value::Thrown(Exc::bare(class)),
         Null | Nothing => Value::Null,
     }
 }

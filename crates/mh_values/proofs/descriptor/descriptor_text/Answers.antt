@@ -12,4 +12,4 @@ returns-clause-accepted c = on_ok_weaker c.text_from.result (descriptor_sound c.
 pub returns-clause-refused : goal.returns-clause-refused
 returns-clause-refused c =
     IfErr-weaker c.text_from.result (λ bad. descriptor_fault c.args.bytes.now ≡ Some bad.at) (λ bad. IsFirstBad c.args.bytes.now bad.at)
-        (λ bad told. descriptor_first_bad c.args.bytes.now bad.at told) c.text_from.ensures.bad
+    (λ bad told. descriptor_first_bad c.args.bytes.now bad.at told) c.text_from.ensures.bad

@@ -1,5 +1,6 @@
 use Rattle.mh_leaves.proofs.Numbering.{grown-further, number_at-kept}
-use Rattle.mh_leaves.proofs.Finding.{leaf_at-grown, leaf_at-same, leaf_at-more, by_texts-grown, by_texts-inserted, on_err}
+use Rattle.mh_leaves.proofs.Finding.{leaf_at-grown, by_texts-grown}
+use Rattle.mh_leaves.proofs.WrittenKeys.{leaf_at-same, leaf_at-more, by_texts-inserted, on_err}
 use Rattle.mh_leaves.proofs.index.Index.add.Goals as goal
 
 pub returns-in_err-name-clause-err : goal.returns-in_err-name-clause-err

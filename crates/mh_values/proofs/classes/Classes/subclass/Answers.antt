@@ -7,7 +7,7 @@ use Rattle.mh_values.proofs.classes.Classes.subclass.Goals as goal
 ends : (c : goal.In_default) → is_subclass c.args.self.now c.args.class c.args.above ≡ false
 ends c =
     let top = is_subclass-top c.args.self.now c.loop-above.class c.args.above (sym c.in_default.ensures.superclass) (other_class c.loop-above.class c.args.above
-        c.loop-above-test.ensures) in
+    c.loop-above-test.ensures) in
     sym c.loop-above.invariant ∙ top
 
 pub returns-in_default-clause-reached : goal.returns-in_default-clause-reached
@@ -25,7 +25,7 @@ pub loop-above-preserved : goal.loop-above-preserved
 loop-above-preserved c =
     let ascending = c.in-Some.ensures.classes.ordered.ascending in
     sym (is_subclass-up c.args.self.now ascending c.loop-above.class c.args.above c.in-Some.superclass (sym c.in-Some.ensures.superclass)
-        (other_class c.loop-above.class c.args.above c.loop-above-test.ensures)) ∙ c.loop-above.invariant
+    (other_class c.loop-above.class c.args.above c.loop-above-test.ensures)) ∙ c.loop-above.invariant
 
 -- at the class itself the way is found
 found : (c : goal.After-loop-above) → is_subclass c.args.self.now c.args.class c.args.above ≡ true

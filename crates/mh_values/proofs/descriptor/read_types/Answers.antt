@@ -1,7 +1,7 @@
 use Rattle.std.proofs.Common.{◌≡◌, ◌∙◌, ap, false, map, length, arith}
 use Rattle.mh_values.specs.Descriptor.{bytes_of}
 use Rattle.mh_values.proofs.TypesRead.{pieces-bytes}
-use Rattle.mh_values.proofs.meaning.read_types.Goals as goal
+use Rattle.mh_values.proofs.descriptor.read_types.Goals as goal
 
 pub types_of-requires : goal.types_of-requires
 types_of-requires c =

@@ -2,7 +2,7 @@ use Rattle.std.proofs.Common.{◌≡◌, ◌∙◌, ap, false, map, length, drop
 use Rattle.std.proofs.lemmas.List.{take_rest}
 use Rattle.mh_values.specs.Descriptor.{bytes_of, pieces}
 use Rattle.mh_values.proofs.TypesRead.{pieces-bytes}
-use Rattle.mh_values.proofs.meaning.read_descriptor.Goals as goal
+use Rattle.mh_values.proofs.descriptor.read_descriptor.Goals as goal
 
 pub method_of-requires-clause-texts : goal.method_of-requires-clause-texts
 method_of-requires-clause-texts c =

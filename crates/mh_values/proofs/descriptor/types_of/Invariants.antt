@@ -1,6 +1,6 @@
 use Rattle.std.proofs.Common.{◌≡◌, ◌+◌, ◌++◌, map, drop, Ok}
 use Rattle.mh_values.specs.Descriptor.{bytes_of, found_then, types_meant}
-use Rattle.mh_values.proofs.meaning.types_of.Given as goal
+use Rattle.mh_values.proofs.descriptor.types_of.Given as goal
 
 abbrev pub invariant-loop-text : goal.invariant-loop-text
 invariant-loop-text l = record {

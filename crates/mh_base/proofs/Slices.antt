@@ -1,0 +1,28 @@
+-- The items of a list that is longer, and an answer that is the first of two.
+use Rattle.std.proofs.Common.{◌≡◌, refl, zero, suc, ℕ, ◌<◌, ◌⊎◌, inl, inr, List, [], ◌∷◌, ◌++◌, length, slice_get, Option, None, Some, arith}
+use Rattle.std.specs.Option.{option_or}
+
+-- an item of the front of a list
+pub slice_get-front : {A : Type 0} (xs ys : List A) (i : ℕ) → i < length xs → slice_get (xs ++ ys) i ≡ slice_get xs i
+slice_get-front [] ys i within = absurd (omega (arith, within))
+slice_get-front (x ∷ xs) ys zero within = refl
+slice_get-front (x ∷ xs) ys (suc i) within = slice_get-front xs ys i (omega arith)
+
+-- the item at the end
+pub slice_get-end : {A : Type 0} (xs : List A) (y : A) → slice_get (xs ++ y ∷ []) (length xs) ≡ Some y
+slice_get-end [] y = refl
+slice_get-end (x ∷ xs) y = slice_get-end xs y
+
+-- an item of a list with one more at its end: it was there, or it is that one
+pub slice_get-push : {A : Type 0} (xs : List A) (y z : A) (i : ℕ) → slice_get (xs ++ y ∷ []) i ≡ Some z → ((i < length xs) × (slice_get xs i ≡ Some z))
+    ⊎ ((i ≡ length xs) × (y ≡ z))
+slice_get-push [] y z zero h = inr (refl, cc)
+slice_get-push [] y z (suc i) h = cc
+slice_get-push (x ∷ xs) y z zero h = inl (omega arith, h)
+slice_get-push (x ∷ xs) y z (suc i) h =
+    elim (slice_get-push xs y z i h) [ inl w ↦ inl (omega (arith, w.0), w.1) | inr w ↦ inr (omega (arith, w.0), w.1) ]
+
+-- where there is no second answer, the first counts
+pub option_or-none : {A : Type 0} (o : Option A) → option_or o None ≡ o
+option_or-none None = refl
+option_or-none (Some x) = refl

@@ -1,0 +1,68 @@
+-- The printed component type of an array reads back.
+use Rattle.std.proofs.Common.{◌≡◌, refl, sym, ap, subst, ◌∙◌, zero, suc, codes, ℕ, ◌-◌, ◌<◌, ◌==◌, true, false, not, if◌then◌else◌, List, [], ◌∷◌, ◌++◌, length, take, map, flat_map, None, Some, Ok, Err, option_map, option_and_then, length-append, lit<, arith}
+use Rattle.std.proofs.lemmas.Bool.{and_parts, and_from, or_from}
+use Rattle.std.proofs.lemmas.List.{append-nil}
+use Rattle.std.proofs.lemmas.List.Concat.{flat_map-cons}
+use Rattle.std.proofs.lemmas.List.Splits.{slice_split_none, slice_split_at}
+use Rattle.std.specs.List.{All, list_all, slice_split}
+use Rattle.std.specs.Option.{option_map_or}
+use Rattle.mh_values.specs.declared.class.Class.{Class}
+use Rattle.mh_values.specs.declared.class.ClassId.{ClassId}
+use Rattle.mh_values.specs.declared.descriptor.DescriptorError.TheVariants as descriptor
+use Rattle.mh_values.specs.declared.types.Comp.{Comp}
+use Rattle.mh_values.specs.declared.types.Comp.TheVariants as comp
+use Rattle.mh_values.specs.declared.types.Primitive.TheVariants as primitive
+use Rattle.mh_values.specs.declared.types.Ty.TheVariants as ty
+use Rattle.mh_values.specs.declared.value.Num.TheVariants as num
+use Rattle.mh_values.specs.declared.value.Cell.{Cell}
+use Rattle.mh_values.specs.declared.value.Cell.TheVariants as cell
+use Rattle.mh_values.specs.Array.{item_type}
+use Rattle.mh_values.specs.Classes.{AreClasses, name_of}
+use Rattle.mh_values.specs.Descriptor.{found_then, class_meant, type_meant, unless_bad, type_desc}
+use Rattle.mh_values.specs.Grammar.{type_fault}
+use Rattle.mh_values.specs.HasType.{is_item_of, are_items_of}
+use Rattle.mh_values.proofs.NamedType as named
+use Rattle.mh_values.proofs.TypeSpelling.{is_name, is_name_byte}
+use Rattle.mh_texts.specs.Literal.{component_of, if_item, items_of, listed, item_of}
+use Rattle.mh_texts.specs.Printed.{name_text, component_text, item_text, items_text}
+use Rattle.mh_texts.specs.Writable.{is_plain, IsPlainClass, AreWritable, IsWritableComponent, bare_item}
+use Rattle.mh_texts.proofs.ItemTrip.{item_trip, no_comma_in_item}
+use Rattle.mh_texts.proofs.NameTrip.{Lacks, Lacks-append, front_of, plain_byte, plain_lacks, class_text_is}
+
+plain_is_name_byte : (name : List ℕ) → list_all is_plain name ≡ true → list_all is_name_byte name ≡ true
+plain_is_name_byte [] plain = refl
+plain_is_name_byte (b ∷ bs) plain =
+    let parts = and_parts (is_plain b) (list_all is_plain bs) plain in
+    let byte = plain_byte b parts.0 in
+    and_from _ _ (and_from _ _ (ap not byte.no_end) (ap not (or_from _ _ byte.no_dot byte.no_bracket))) (plain_is_name_byte bs parts.1)
+
+plain_is_name : (name : List ℕ) → 0 < length name → list_all is_plain name ≡ true → is_name name ≡ true
+plain_is_name [] some plain = absurd (omega (arith, some))
+plain_is_name (b ∷ bs) some plain = plain_is_name_byte (b ∷ bs) plain
+
+named_type : (classes : List Class) (c : ClassId) → AreClasses classes → IsPlainClass classes c → type_desc classes (76 ∷ (name_of classes c ++ 59 ∷ [])) ≡ Ok
+    (ty.Class c)
+named_type classes c sound is =
+    let name : List ℕ = name_of classes c in
+    let good : type_fault (76 ∷ (name ++ 59 ∷ [])) ≡ None = named.named_type name (plain_is_name name is.named is.plain) in
+    let long : length (name ++ 59 ∷ []) - 1 ≡ length name = omega (arith, length-append name (59 ∷ [])) in
+    let inner : take (length (name ++ 59 ∷ []) - 1) (name ++ 59 ∷ []) ≡ name = ap (λ n. take n (name ++ 59 ∷ [])) long ∙ front_of name (59 ∷ []) in
+    ap (λ o. unless_bad o (type_meant classes 0 (76 ∷ (name ++ 59 ∷ [])))) good
+    ∙ ap (λ n. found_then (class_meant classes 1 n) (λ d. Ok (item_type d))) inner
+    ∙ ap (λ o. found_then (option_map_or (λ d. Ok (comp.Class d)) o (Err (descriptor.NoClass 1 (length name)))) (λ d. Ok (item_type d)))
+        (sound.ordered.distinct c is.listed)
+
+pub component_trip : (classes : List Class) (c : Comp) → AreClasses classes → IsWritableComponent classes c →
+    component_of (type_desc classes (component_text classes c)) ≡ Some c
+component_trip classes (comp.Prim primitive.Z) sound is = refl
+component_trip classes (comp.Prim primitive.I) sound is = refl
+component_trip classes (comp.Prim primitive.J) sound is = refl
+component_trip classes (comp.Class c) sound is =
+    ap (λ name. component_of (type_desc classes (76 ∷ (name ++ 59 ∷ [])))) (class_text_is classes c is) ∙ ap component_of (named_type classes c sound is)
+
+pub no_bracket : (classes : List Class) (c : Comp) → IsWritableComponent classes c → Lacks 91 (component_text classes c)
+no_bracket classes (comp.Prim primitive.Z) is = (refl, tt)
+no_bracket classes (comp.Prim primitive.I) is = (refl, tt)
+no_bracket classes (comp.Prim primitive.J) is = (refl, tt)
+no_bracket classes (comp.Class c) is =
+    (refl, Lacks-append 91 (name_text classes c) (codes ";") (subst (Lacks 91) (sym (class_text_is classes c is)) (plain_lacks _ is.plain).brackets) (refl, tt))
