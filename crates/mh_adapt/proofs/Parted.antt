@@ -4,7 +4,7 @@ use Rattle.mh_values.specs.declared.types.MethodTy.{MethodTy}
 use Rattle.mh_values.specs.declared.value.Value.{Value}
 use Rattle.mh_values.specs.HasType.{HaveTypes}
 use Rattle.mh_leaf.specs.LeafTable.{LeafTable}
-use Rattle.mh_tree.specs.Rows.{Checked}
+use Rattle.mh_tree.specs.Rows.{TypeOrRefusal}
 use Rattle.mh_tree.specs.Tree.{Tree, weight}
 use Rattle.mh_tree.specs.Typing.{type_of, with_type, held_before, sides}
 use Rattle.mh_tree.specs.Meaning.{mean}
@@ -20,7 +20,7 @@ use Rattle.mh_handle.specs.Stands.{HandleView, IsMade, Stands, handle_body}
 use Rattle.mh_handle.proofs.Standing.{stands-grown}
 
 -- a tree of two others, by the row and the key of a combinator with a part
-pub record IsOfTwo (table : LeafTable) (row : MethodTy → ℕ → MethodTy → ℕ → Checked) (key_of : MethodTy → Key) (a b t : Tree) : Type 0 where
+pub record IsOfTwo (table : LeafTable) (row : MethodTy → ℕ → MethodTy → ℕ → TypeOrRefusal) (key_of : MethodTy → Key) (a b t : Tree) : Type 0 where
   pub typed : type_of table t ≡ with_type (type_of table a) (λ ty. with_type (type_of table b) (λ part. row ty (weight a) part (weight b)))
   pub weighed : weight t ≡ 1 + weight a + weight b
   pub holds : sides table t ≡ sides table a ++ held_before (type_of table b) (sides table b)
@@ -37,7 +37,7 @@ pub record DoesAs (table : LeafTable) (h : HandleView) (k : Key) (f : Field) (u 
   pub returns : IsSound table.classes (mean table t) u
 
 pub stands-parted :
-    (table : LeafTable) (h h' g : HandleView) (a b t : Tree) (row : MethodTy → ℕ → MethodTy → ℕ → Checked) (key_of : MethodTy → Key) (u : MethodTy) (f : Field)
+    (table : LeafTable) (h h' g : HandleView) (a b t : Tree) (row : MethodTy → ℕ → MethodTy → ℕ → TypeOrRefusal) (key_of : MethodTy → Key) (u : MethodTy) (f : Field)
         →
     IsOfTwo table row key_of a b t →
     row h.ty h.weight g.ty g.weight ≡ Ok u →

@@ -8,7 +8,7 @@ use Rattle.mh_values.specs.Classes.{AreClasses}
 use Rattle.mh_values.specs.Same.{is_same_method_type}
 use Rattle.mh_leaf.specs.LeafTable.{LeafTable}
 use Rattle.mh_tree.specs.Tree.{Tree}
-use Rattle.mh_tree.specs.Rows.{Checked, astype_row}
+use Rattle.mh_tree.specs.Rows.{TypeOrRefusal, astype_row}
 use Rattle.mh_tree.specs.declared.error.CheckError.{CheckError}
 use Rattle.mh_tree.specs.declared.error.CheckError.TheVariants as check
 use Rattle.mh_tree.proofs.RowParts.{astype_row-parts}
@@ -43,7 +43,7 @@ found-row classes own w asked u row = let P : MethodTy → Type 0 = λ a. astype
     subst P (sym (astype_row-parts classes own w asked u row).2) row
 
 pub used-obeys :
-    (row : Checked) (classes : List Class) (asked : MethodTy) (old : HandleView) (r : Result Handle HandleError) →
+    (row : TypeOrRefusal) (classes : List Class) (asked : MethodTy) (old : HandleView) (r : Result Handle HandleError) →
     row ≡ Ok asked → IsAccepted r → IfOk r (IsUsedAs classes asked old) → Obeys row r
 used-obeys row classes asked old (Ok h) is accepted used = is ∙ ap Ok (sym used.ty)
 used-obeys row classes asked old (Err NoMemory) is accepted used = tt

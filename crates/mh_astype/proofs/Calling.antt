@@ -12,7 +12,7 @@ use Rattle.mh_values.proofs.SameTypes.{both}
 use Rattle.mh_convert.specs.Conversion.{is_trivial_ret}
 use Rattle.mh_leaf.specs.LeafTable.{LeafTable}
 use Rattle.mh_tree.specs.Tree.{Tree, AsType}
-use Rattle.mh_tree.specs.Rows.{Checked, astype_row}
+use Rattle.mh_tree.specs.Rows.{TypeOrRefusal, astype_row}
 use Rattle.mh_tree.specs.Meaning.{Done, known, mean, or_throw, conv_all, conv_result}
 use Rattle.mh_tree.proofs.RowParts.{astype_row-parts}
 use Rattle.mh_tree.proofs.SoundConversions.{conv_all-converts}
@@ -121,5 +121,5 @@ kept-is b cs classes own own' asked true-is is c o = sym (ap₂ (λ (d : List Cl
 pub answer-one : (ran ran' : Done) (keys keys' : ℕ) (a : AnswerView) → ran ≡ ran' → keys ≡ keys' → IsAnswer ran keys a → IsAnswer ran' keys' a
 answer-one ran ran' keys keys' a e k h = record { ran_is = h.ran_is ∙ e; keys_are = h.keys_are ∙ k }
 
-pub refusal-is : (row row' : Checked) (asked : MethodTy) (o : Option Exc) (e : Exc) → o ≡ Some e → IsRefusal row asked o → row ≡ row' → row' ≡ Err e
+pub refusal-is : (row row' : TypeOrRefusal) (asked : MethodTy) (o : Option Exc) (e : Exc) → o ≡ Some e → IsRefusal row asked o → row ≡ row' → row' ≡ Err e
 refusal-is row row' asked o e is h same = sym same ∙ subst (λ v. IsRefusal row asked v) is h

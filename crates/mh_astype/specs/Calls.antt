@@ -6,7 +6,7 @@ use Rattle.mh_values.specs.declared.value.Exc.{Exc}
 use Rattle.mh_values.specs.Same.{is_same_method_type}
 use Rattle.mh_leaf.specs.LeafTable.{LeafTable}
 use Rattle.mh_tree.specs.Tree.{Tree, AsType}
-use Rattle.mh_tree.specs.Rows.{Checked, astype_row}
+use Rattle.mh_tree.specs.Rows.{TypeOrRefusal, astype_row}
 use Rattle.mh_tree.specs.Typing.{type_of}
 use Rattle.mh_setonce.specs.Walks.{Lacks}
 use Rattle.mh_edit.specs.declared.key.Key.{Key}
@@ -19,7 +19,7 @@ use Rattle.mh_handle.specs.Passes.{PassView, AsksFor, NotAsked, Draws, DrawsAtMo
 use Rattle.mh_handle.specs.Recipe.{convert_keys, recipe}
 
 -- a number that depends on a type, 0 where there is none
-abbrev pub at_type : Checked → (MethodTy → ℕ) → ℕ
+abbrev pub at_type : TypeOrRefusal → (MethodTy → ℕ) → ℕ
 at_type (Ok t) count = count t
 at_type (Err e) count = 0
 
@@ -35,7 +35,7 @@ generic_keys table t asked =
     else at_type (type_of table (AsType t asked)) (λ u. length (recipe table (AsType t asked))))
 
 -- keys that depend on a type, none where there is none
-abbrev pub unless_refused : Checked → List Key → List Key
+abbrev pub unless_refused : TypeOrRefusal → List Key → List Key
 unless_refused (Ok t) keys = keys
 unless_refused (Err e) keys = []
 
@@ -59,6 +59,6 @@ AsksBy recipe (k ∷ keys) old new (Err (FormsFull drawn)) =
     NotAsked (recipe ++ k ∷ keys) old new × Draws drawn old.seat new.seat × (16384 < drawn) × Lacks recipe_of new.nodes (recipe ++ k ∷ keys)
 
 -- the refusal of a use as a type, if it is refused
-abbrev pub IsRefusal : Checked → MethodTy → Option Exc → Type 0
+abbrev pub IsRefusal : TypeOrRefusal → MethodTy → Option Exc → Type 0
 IsRefusal row asked (Some e) = row ≡ Err e
 IsRefusal row asked None = row ≡ Ok asked

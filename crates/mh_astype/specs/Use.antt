@@ -4,7 +4,7 @@ use Rattle.mh_values.specs.declared.class.Class.{Class}
 use Rattle.mh_values.specs.declared.types.MethodTy.{MethodTy}
 use Rattle.mh_values.specs.Same.{is_same_method_type}
 use Rattle.mh_tree.specs.Tree.{Tree, AsType}
-use Rattle.mh_tree.specs.Rows.{Checked, astype_row}
+use Rattle.mh_tree.specs.Rows.{TypeOrRefusal, astype_row}
 use Rattle.mh_form.specs.declared.field.Field.{Field}
 use Rattle.mh_edit.specs.declared.key.Key.{Key}
 use Rattle.mh_handle.specs.declared.error.HandleError.{HandleError}
@@ -21,7 +21,7 @@ abbrev pub used_as : MethodTy → MethodTy → Tree → Tree
 used_as own asked t = if is_same_method_type own asked then t else AsType t asked
 
 -- the type of a handle that is used as a type, or the exception with which that is refused
-abbrev pub use_row : List Class → MethodTy → ℕ → MethodTy → Checked
+abbrev pub use_row : List Class → MethodTy → ℕ → MethodTy → TypeOrRefusal
 use_row classes own weight asked = if is_same_method_type own asked then Ok own else astype_row classes own weight asked
 
 -- the key of the conversions, none where nothing changes

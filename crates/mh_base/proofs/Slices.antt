@@ -1,5 +1,5 @@
 -- The items of a list that is longer, and an answer that is the first of two.
-use Rattle.std.proofs.Common.{◌≡◌, refl, zero, suc, ℕ, ◌<◌, ◌⊎◌, inl, inr, List, [], ◌∷◌, ◌++◌, length, slice_get, Option, None, Some, arith}
+use Rattle.std.proofs.Common.{◌≡◌, refl, ap, zero, suc, ℕ, ◌<◌, ◌⊎◌, inl, inr, List, [], ◌∷◌, ◌++◌, length, slice_get, Option, None, Some, arith}
 use Rattle.std.specs.Option.{option_or}
 
 -- an item of the front of a list
@@ -14,13 +14,12 @@ slice_get-end [] y = refl
 slice_get-end (x ∷ xs) y = slice_get-end xs y
 
 -- an item of a list with one more at its end: it was there, or it is that one
-pub slice_get-push : {A : Type 0} (xs : List A) (y z : A) (i : ℕ) → slice_get (xs ++ y ∷ []) i ≡ Some z → ((i < length xs) × (slice_get xs i ≡ Some z))
+pub slice_get-push : {A : Type 0} (xs : List A) (y : A) (i : ℕ) (z : A) → slice_get (xs ++ y ∷ []) i ≡ Some z → (slice_get xs i ≡ Some z)
     ⊎ ((i ≡ length xs) × (y ≡ z))
-slice_get-push [] y z zero h = inr (refl, cc)
-slice_get-push [] y z (suc i) h = cc
-slice_get-push (x ∷ xs) y z zero h = inl (omega arith, h)
-slice_get-push (x ∷ xs) y z (suc i) h =
-    elim (slice_get-push xs y z i h) [ inl w ↦ inl (omega (arith, w.0), w.1) | inr w ↦ inr (omega (arith, w.0), w.1) ]
+slice_get-push [] y zero z h = inr (refl, cc)
+slice_get-push [] y (suc i) z h = cc
+slice_get-push (x ∷ xs) y zero z h = inl h
+slice_get-push (x ∷ xs) y (suc i) z h = elim (slice_get-push xs y i z h) [ inl w ↦ inl w | inr w ↦ inr (ap suc w.0, w.1) ]
 
 -- where there is no second answer, the first counts
 pub option_or-none : {A : Type 0} (o : Option A) → option_or o None ≡ o

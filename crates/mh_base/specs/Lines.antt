@@ -46,3 +46,9 @@ abbrev pub TakesLine : {T S K : Type 0} → S → Result T (LineError K) → Res
 TakesLine new (Ok done) meaning = meaning ≡ Ok new
 TakesLine new (Err line_error.NoMemory) meaning = Unit {0}
 TakesLine new (Err (line_error.Kind kind)) meaning = meaning ≡ Err kind
+
+-- the same of a reader that answers with a value: Ok where that is the meaning's value
+abbrev pub TellsLine : {S K : Type 0} → Result S (LineError K) → Result S K → Type 0
+TellsLine (Ok got) meaning = meaning ≡ Ok got
+TellsLine (Err line_error.NoMemory) meaning = Unit {0}
+TellsLine (Err (line_error.Kind kind)) meaning = meaning ≡ Err kind

@@ -11,7 +11,7 @@ use Rattle.mh_values.specs.Array.{item_type}
 use Rattle.mh_values.specs.Classes.{AreClasses}
 use Rattle.mh_values.specs.Computation.{spliced}
 use Rattle.mh_leaf.specs.LeafTable.{LeafTable}
-use Rattle.mh_tree.specs.Rows.{Checked, component_of, ends_with, illegal, limited, provided, spread_row, taking}
+use Rattle.mh_tree.specs.Rows.{TypeOrRefusal, component_of, ends_with, illegal, limited, provided, spread_row, taking}
 use Rattle.mh_tree.specs.Tree.{Tree}
 use Rattle.mh_tree.specs.Tree as tree
 use Rattle.mh_tree.proofs.Provided.{provided-parts, provided_some-parts}
@@ -45,7 +45,7 @@ spread-light : (t : MethodTy) (weight : ℕ) (array : Option Ty) (count : ℕ) (
 spread-light t weight array count u row =
     let word = codes "spread" in
     let made : Comp → MethodTy = λ c. taking (spliced (length t.params - count) count (ty.Array c ∷ []) t.params) t in
-    let within : Comp → Checked = λ c. limited word (1 + weight) (made c) in
+    let within : Comp → TypeOrRefusal = λ c. limited word (1 + weight) (made c) in
     let q = provided_some-parts (component_of array) (illegal word) (λ c. provided (ends_with t.params count (item_type c)) (illegal word) (within c)) u row in
     let r = provided-parts (ends_with t.params count (item_type q.0)) (illegal word) (within q.0) u q.2 in
     (limited-low word (1 + weight) (made q.0) u r.1).1
@@ -56,7 +56,7 @@ module _
   where
     row : spread_row used.ty used.weight array count ≡ Ok s.own
     row =
-        let both : ◌≡◌ {A = Checked} (Ok used.ty) (Ok s.asked) = sym obeys ∙ found.used in
+        let both : ◌≡◌ {A = TypeOrRefusal} (Ok used.ty) (Ok s.asked) = sym obeys ∙ found.used in
         let is : used.ty ≡ s.asked = cc in
         (λ i. spread_row (is i) (made_by.weight i) array count) ∙ found.own
 

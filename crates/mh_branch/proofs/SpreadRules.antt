@@ -9,7 +9,7 @@ use Rattle.mh_values.specs.declared.types.MethodTy.{MethodTy}
 use Rattle.mh_values.specs.declared.value.Exc.{Exc}
 use Rattle.mh_tree.specs.declared.error.CheckError.{CheckError}
 use Rattle.mh_tree.specs.declared.error.CheckError.TheVariants as check
-use Rattle.mh_tree.specs.Rows.{Checked, component_of, illegal, provided, provided_some, spread_row}
+use Rattle.mh_tree.specs.Rows.{TypeOrRefusal, component_of, illegal, provided, provided_some, spread_row}
 use Rattle.mh_tree.specs.Typing.{with_type}
 use Rattle.mh_edit.specs.declared.key.Key.{Key}
 use Rattle.mh_handle.specs.declared.error.HandleError.{HandleError}
@@ -29,7 +29,7 @@ module _ (classes : List Class) (t : MethodTy) (weight : ℕ) (array : Option Ty
   refusal : Exc
   refusal = illegal (codes "spread")
 
-  uses : Comp → Checked
+  uses : Comp → TypeOrRefusal
   uses c = with_type (use_row classes t weight (taking_items t c count)) (λ a. spread_row a (use_weight t weight (taking_items t c count)) array count)
 
   -- the rule, where there is a component and there are so many parameters
@@ -62,7 +62,7 @@ module _ (classes : List Class) (t : MethodTy) (weight : ℕ) (array : Option Ty
   used-error u asked e (Ok h) row used obeys is = absurd is
   used-error u asked NoMemory (Err x) row used obeys is = subst (λ v. Obeys (spread_use_row classes t weight array count) (Err v)) (sym is) tt
   used-error u asked (FormsFull drawn) (Err x) row used obeys is = subst (λ v. Obeys (spread_use_row classes t weight array count) (Err v)) (sym is) (u, row)
-  used-error u asked (Refused e) (Err x) row used obeys is = let both : ◌≡◌ {A = Checked} (Ok asked) (Err e) = sym used ∙ obeys in absurd cc
+  used-error u asked (Refused e) (Err x) row used obeys is = let both : ◌≡◌ {A = TypeOrRefusal} (Ok asked) (Err e) = sym used ∙ obeys in absurd cc
 
   pub keys-are : (c : Comp) (asked : MethodTy) → component_of array ≡ Some c → asked ≡ taking_items t c count →
       use_keys classes t asked ≡ item_keys classes t array count
@@ -88,14 +88,14 @@ room-left recipe (k ∷ keys) old mid g room made = left-after (recipe ++ k ∷ 
 
 -- an error before the first edit was made, or by it
 pub makes-first : (recipe keys keys' more : List Key) (old new : PassView) (e : HandleError) (r : Result Handle HandleError) → keys ≡ keys' →
-    MakesBy recipe keys old new (Err e) → IsErrAnd r (λ x. x ≡ e) → (row : Checked) (u : MethodTy) → row ≡ Ok u → Obeys row (Err e) →
+    MakesBy recipe keys old new (Err e) → IsErrAnd r (λ x. x ≡ e) → (row : TypeOrRefusal) (u : MethodTy) → row ≡ Ok u → Obeys row (Err e) →
     MakesBoth recipe keys' more old new r
 makes-first recipe keys keys' more old new e (Ok h) same made is row u typed obeys = absurd is
 makes-first recipe keys keys' more old new NoMemory (Err x) same made is row u typed obeys =
     subst (λ v. MakesBoth recipe keys' more old new (Err v)) (sym is) (inl (subst (λ ks. MakesBy recipe ks old new (Err NoMemory)) same made))
 makes-first recipe keys keys' more old new (FormsFull drawn) (Err x) same made is row u typed obeys =
     subst (λ v. MakesBoth recipe keys' more old new (Err v)) (sym is) (inl (subst (λ ks. MakesBy recipe ks old new (Err (FormsFull drawn))) same made))
-makes-first recipe keys keys' more old new (Refused e) (Err x) same made is row u typed obeys = let both : ◌≡◌ {A = Checked} (Ok u) (Err e) =
+makes-first recipe keys keys' more old new (Refused e) (Err x) same made is row u typed obeys = let both : ◌≡◌ {A = TypeOrRefusal} (Ok u) (Err e) =
     sym typed ∙ obeys in absurd cc
 
 pub makes-second : (recipe keys more : List Key) (old mid new : PassView) (g : Handle) (r : Result Handle HandleError) → MakesBy recipe keys old mid (Ok g) →

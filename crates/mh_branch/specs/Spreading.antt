@@ -6,7 +6,7 @@ use Rattle.mh_values.specs.declared.types.Comp.{Comp}
 use Rattle.mh_values.specs.declared.types.Ty.{Ty}
 use Rattle.mh_values.specs.declared.types.MethodTy.{MethodTy}
 use Rattle.mh_values.specs.Array.{item_type}
-use Rattle.mh_tree.specs.Rows.{Checked, component_of, illegal, provided, provided_some, spread_row}
+use Rattle.mh_tree.specs.Rows.{TypeOrRefusal, component_of, illegal, provided, provided_some, spread_row}
 use Rattle.mh_tree.specs.Tree.{Tree}
 use Rattle.mh_tree.specs.Typing.{with_type}
 use Rattle.mh_tree.specs.declared.error.CheckError.{CheckError}
@@ -29,7 +29,7 @@ abbrev pub at_component : Option Ty → (Comp → List Key) → List Key
 at_component array keys = option_map_or keys (component_of array) []
 
 -- the rule of a spread: the type is an array's, and there are so many parameters; then the use as the type that takes the items; then Spread
-abbrev pub spread_use_row : List Class → MethodTy → ℕ → Option Ty → ℕ → Checked
+abbrev pub spread_use_row : List Class → MethodTy → ℕ → Option Ty → ℕ → TypeOrRefusal
 spread_use_row classes t weight array count =
     provided_some (component_of array) (illegal (codes "spread")) (λ c.
     provided (nat_le count (length t.params)) (illegal (codes "spread"))

@@ -48,7 +48,7 @@ law-Gather count b old fits leaves fields c args n held long =
     λ v. Refines (and_then r n (λ s k. run_body old senses (spliced pos count (s ∷ []) args) k)) (run_body new v args n) in
     subst Q (sym (map-append (sense leaves) fields (field.Comp c ∷ []))) (subst P put done)
 
--- the places of the old parameters, where the last of the arguments is an array whose items were put behind a check
+-- the places of the old parameters, where the last of the arguments is an array whose items were put after a check
 picked-spread :
     (args items : List Slot) (zero_slot : Slot) (pos count rest : ℕ) →
     length args ≡ pos + 1 →
@@ -65,7 +65,7 @@ picked-spread args items z pos count rest long none many =
     picked-table env args (z ∷ items) pos 1 rest (range_with_len (pos + 2) count) items (append_assoc args (z ∷ []) items) (omega arith)
     (picked-range env (pos + 2) count (omega arith) ∙ ap Some last)
 
--- a check, and the items behind it
+-- a check, and the items after it
 run-spread :
     (old : FormBody) (senses : List Sense) (s : Slot) (args : List Slot) (n pos count rest : ℕ) (r : Ran (List Slot)) →
     length args ≡ pos + 1 →

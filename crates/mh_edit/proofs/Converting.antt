@@ -1,6 +1,7 @@
 -- The law of Convert: arguments converted from left to right, and then the result.
 use Rattle.std.proofs.Common.{◌≡◌, refl, subst, Option, Some, None, ℕ, suc, ◌+◌, List, [], ◌∷◌, ◌++◌, sym, ap, ◌∙◌, add-zero, length, length-append, arith}
 use Rattle.std.specs.Prelude.{slice_get}
+use Rattle.mh_base.proofs.Slices.{slice_get-end}
 use Rattle.mh_values.specs.Computation.{Ran, Refines, and_then, found}
 use Rattle.mh_form.specs.declared.basic.Basic.{Basic}
 use Rattle.mh_form.specs.declared.basic.Basic.TheVariants.{L, I, J}
@@ -10,7 +11,7 @@ use Rattle.mh_form.specs.Run.{Sense, step, run_names, picked, picked_more, with_
 use Rattle.mh_form.proofs.Refines.{refines-refl, refines-trans, refines-and_then}
 use Rattle.mh_edit.specs.Applied.{conv_name, conv_names, conv_table}
 use Rattle.mh_edit.specs.Law.{converting_slots}
-use Rattle.mh_edit.proofs.Renaming.{slice_get-append_left, slice_get-end}
+use Rattle.mh_edit.proofs.Renaming.{slice_get-append_left}
 
 -- what comes at the end may be replaced by what does more, over lists that begin alike
 refines-over :

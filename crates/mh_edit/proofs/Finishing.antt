@@ -2,7 +2,8 @@
 use Rattle.std.proofs.Common.{◌≡◌, refl, subst, Option, Some, None, ℕ, ◌+◌, List, [], ◌∷◌, ◌++◌, sym, ap, ◌∙◌, length, map}
 use Rattle.std.specs.Prelude.{slice_get}
 use Rattle.std.specs.Option.{option_map}
-use Rattle.std.proofs.lemmas.List.{append-nil}
+use Rattle.std.proofs.lemmas.List.{append-nil, map-id}
+use Rattle.mh_base.proofs.Slices.{slice_get-end}
 use Rattle.mh_values.specs.Computation.{Ran, Gave, Threw, Stuck, Refines, and_then, after, found}
 use Rattle.mh_form.specs.declared.basic.BasicRet.{BasicRet}
 use Rattle.mh_form.specs.declared.basic.BasicRet.TheVariants.{V, Is}
@@ -17,13 +18,9 @@ use Rattle.mh_form.proofs.Refines.{refines-refl, refines-trans, refines-and_then
 use Rattle.mh_edit.specs.Applied.{finishing, out_of}
 use Rattle.mh_edit.specs.Law.{returned}
 use Rattle.mh_edit.specs.Rename.{renamed}
-use Rattle.mh_edit.proofs.Renaming.{step-renamed, slice_get-end}
+use Rattle.mh_edit.proofs.Renaming.{step-renamed}
 use Rattle.mh_edit.proofs.RenamedSlots.{Extends, Renames}
 use Rattle.mh_edit.proofs.Reframing.{run_names-append, refines-end}
-
-map-same : (ps : List ℕ) → map (λ i. i) ps ≡ ps
-map-same [] = refl
-map-same (p ∷ ps) = ap (λ v. p ∷ v) (map-same ps)
 
 option_map-same : (p : Option ℕ) → option_map (λ i. i) p ≡ p
 option_map-same None = refl
@@ -31,14 +28,14 @@ option_map-same (Some p) = refl
 
 renamed-same : (x : Name) → renamed (λ i. i) x ≡ x
 renamed-same (Get f) = refl
-renamed-same (Call f args) = ap (Call f) (map-same args)
-renamed-same (Link f args) = ap (Link f) (map-same args)
-renamed-same (Select i f g args) = ap (Select i f g) (map-same args)
-renamed-same (Guarded f c h args kept) = ap (λ v. Guarded f c h v kept) (map-same args)
+renamed-same (Call f args) = ap (Call f) (map-id args)
+renamed-same (Link f args) = ap (Link f) (map-id args)
+renamed-same (Select i f g args) = ap (Select i f g) (map-id args)
+renamed-same (Guarded f c h args kept) = ap (λ v. Guarded f c h v kept) (map-id args)
 renamed-same (Conv f i) = refl
 renamed-same (Cast f i) = refl
 renamed-same (Ret f i) = ap (Ret f) (option_map-same i)
-renamed-same (MakeArray f args) = ap (MakeArray f) (map-same args)
+renamed-same (MakeArray f args) = ap (MakeArray f) (map-id args)
 renamed-same (CheckArray i count) = refl
 renamed-same (Elem i k) = refl
 renamed-same (Raise i) = refl

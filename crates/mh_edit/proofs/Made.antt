@@ -3,6 +3,7 @@ use Rattle.std.proofs.Common.{◌≡◌, refl, sym, ap, ◌∙◌, Bool, true, f
 use Rattle.std.specs.Prelude.{IsTrue, is_some, not, ◌==◌}
 use Rattle.std.specs.Option.{option_map}
 use Rattle.std.proofs.lemmas.List.{length-map}
+use Rattle.std.proofs.lemmas.Bool.{false_from_ne_true, not-true}
 use Rattle.mh_values.specs.Computation.{spliced}
 use Rattle.mh_form.specs.declared.basic.Basic.{Basic}
 use Rattle.mh_form.specs.declared.basic.BasicRet.{BasicRet}
@@ -19,14 +20,6 @@ use Rattle.mh_edit.proofs.Converted.{length-conv_params}
 use Rattle.mh_edit.proofs.Fitting.{first-true, second-true, same-number, at-most}
 use Rattle.mh_edit.proofs.Places.{length-spliced}
 
-not-true : (b : Bool) → (b ≡ true → ⊥) → b ≡ false
-not-true true h = absurd (h refl)
-not-true false h = refl
-
-lone : (b : Bool) → not b ≡ true → b ≡ false
-lone true h = absurd cc
-lone false h = refl
-
 -- what nothing has
 nothing-has :
     (body : FormBody) → is_nothing body ≡ true → (length body.params ≡ 0) × (body.fields ≡ 0) × (length body.names ≡ 0) × (is_some body.out ≡ false)
@@ -36,7 +29,7 @@ nothing-has body h =
       same-number (length body.params) 0 (first-true (length body.params == 0) _ h),
       same-number body.fields 0 (first-true (body.fields == 0) _ rest),
       same-number (length body.names) 0 (first-true (length body.names == 0) _ more),
-      lone (is_some body.out) (second-true (length body.names == 0) _ more),
+      not-true (is_some body.out) (second-true (length body.names == 0) _ more),
     )
 
 nothing-if :
@@ -50,7 +43,7 @@ made-if :
     (body : FormBody) →
     (length body.params ≡ 0 → body.fields ≡ 0 → length body.names ≡ 0 → is_some body.out ≡ false → ⊥) →
     is_nothing body ≡ false
-made-if body h = not-true (is_nothing body) (λ is. let q = nothing-has body is in h q.0 q.1 q.2 q.3)
+made-if body h = false_from_ne_true (is_nothing body) (λ is. let q = nothing-has body is in h q.0 q.1 q.2 q.3)
 
 -- a body with a name is made
 named-made : (body : FormBody) (x : Name) (xs : List Name) → body.names ≡ x ∷ xs → is_nothing body ≡ false
@@ -99,18 +92,18 @@ made-applied (GuardRoot shape test) body h = named-made (applied (GuardRoot shap
 made-applied (CatchRoot shape handler) body h = named-made (applied (CatchRoot shape handler) body) _ [] refl
 made-applied (Bind pos) body h = named-made (applied (Bind pos) body) _ _ refl
 made-applied (Add pos basics) body h =
-    let was = lone (is_nothing body) (first-true (not (is_nothing body)) _ h) in
+    let was = not-true (is_nothing body) (first-true (not (is_nothing body)) _ h) in
     let within = at-most pos (length body.params) (second-true (not (is_nothing body)) _ h) in
     let size = length-spliced pos 0 basics body.params (omega arith) in
     reframed-made body (spliced pos 0 basics body.params) [] _ 0 was (λ none. omega arith)
 made-applied (Permute basics reorder) body h =
-    let was = lone (is_nothing body) (first-true (not (is_nothing body)) _ h) in
+    let was = not-true (is_nothing body) (first-true (not (is_nothing body)) _ h) in
     reframed-made body basics [] reorder 0 was (names-remain basics reorder body.params (second-true (not (is_nothing body)) _ h))
 made-applied (Collect pos basics ret) body h = named-made (applied (Collect pos basics ret) body) _ _ refl
 made-applied (Fold pos count ret) body h = named-made (applied (Fold pos count ret) body) _ _ refl
 made-applied (FilterReturn ret) body h = finished-made (λ out. Link body.fields (places_of out)) ret body
 made-applied (Convert entries Keep) body h =
-    let was = lone (is_nothing body) (first-true (not (is_nothing body)) _ h) in
+    let was = not-true (is_nothing body) (first-true (not (is_nothing body)) _ h) in
     let each = same-number (length entries) (length body.params) (second-true (not (is_nothing body)) _ h) in
     let size = length-conv_params entries body.params each in
     reframed-made body (conv_params entries body.params) _ _ _ was (λ none. omega arith)

@@ -5,6 +5,7 @@ use Rattle.std.specs.List.{range_with_len}
 use Rattle.std.proofs.Math.Seq.{take-append_seam}
 use Rattle.std.proofs.lemmas.List.{drop-append-le, take-append-le}
 use Rattle.std.proofs.lemmas.Option.{slice_get-get_or}
+use Rattle.mh_base.proofs.Slices.{slice_get-end}
 use Rattle.mh_values.specs.Computation.{spliced}
 use Rattle.mh_form.specs.declared.basic.BasicRet.{BasicRet}
 use Rattle.mh_form.specs.declared.basic.BasicRet.TheVariants.{V, Is}
@@ -13,7 +14,7 @@ use Rattle.mh_form.specs.Slots.{none_as_zero}
 use Rattle.mh_form.specs.Run.{Sense, picked, picked_more}
 use Rattle.mh_edit.specs.Applied.{given}
 use Rattle.mh_edit.specs.Rename.{table}
-use Rattle.mh_edit.proofs.Renaming.{slice_get-append_left, slice_get-end}
+use Rattle.mh_edit.proofs.Renaming.{slice_get-append_left}
 use Rattle.mh_edit.proofs.RenamedSlots.{Extends}
 use Rattle.mh_edit.proofs.Reframing.{picked_more-parts}
 
@@ -97,6 +98,6 @@ extends-more senses more = record { finds = λ f s h. slice_get-append_left sens
 pub extends-same : (senses : List Sense) → Extends senses senses
 extends-same senses = record { finds = λ f s h. h }
 
--- the new field is found behind the old ones
+-- the new field is found after the old ones
 pub new-field : (senses : List Sense) (x : Sense) (f : ℕ) → length senses ≡ f → slice_get (senses ++ x ∷ []) f ≡ Some x
 new-field senses x f is = rw (← is) (slice_get-end senses x)

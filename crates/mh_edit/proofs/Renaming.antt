@@ -1,6 +1,7 @@
 -- Renaming the places of a list of names leaves its run as it was on the renamed slots.
 use Rattle.std.proofs.Common.{◌≡◌, refl, subst, ℕ, zero, suc, ◌+◌, List, [], ◌∷◌, ◌++◌, Some, ap, ◌∙◌, ◌⊎◌, inl, inr, length-append, map, length, arith}
 use Rattle.std.specs.Prelude.{slice_get, if◌then◌else◌}
+use Rattle.mh_base.proofs.Slices.{slice_get-push, slice_get-end}
 use Rattle.mh_values.specs.Computation.{Ran, Gave, Refines, found}
 use Rattle.mh_form.specs.declared.name.Name.{Name}
 use Rattle.mh_form.specs.declared.name.Name.TheVariants.{Get, Call, Link, Select, Guarded, Conv, Cast, Ret, MakeArray, CheckArray, Elem, Raise}
@@ -49,27 +50,11 @@ step-renamed (Elem i k) to ss ss' old new n ext ren =
     refines-at to old new i (λ s. found (item_in s k) (λ item. Gave item [])) ren
 step-renamed (Raise i) to ss ss' old new n ext ren = refines-at to old new i raised_slot ren
 
--- what stands in a list with one more element
-slice_get-push :
-    {A : Type 0} →
-    (xs : List A) (y : A) (i : ℕ) (t : A) →
-    slice_get (xs ++ y ∷ []) i ≡ Some t →
-    (slice_get xs i ≡ Some t) ⊎ ((i ≡ length xs) × (y ≡ t))
-slice_get-push [] y zero t h = inr (refl, cc)
-slice_get-push [] y (suc i) t h = absurd cc
-slice_get-push (x ∷ xs) y zero t h = inl h
-slice_get-push (x ∷ xs) y (suc i) t h =
-    elim (slice_get-push xs y i t h) [ inl e ↦ inl e | inr e ↦ inr (ap suc e.0, e.1) ]
-
 pub slice_get-append_left :
     {A : Type 0} → (xs ys : List A) (i : ℕ) (t : A) → slice_get xs i ≡ Some t → slice_get (xs ++ ys) i ≡ Some t
 slice_get-append_left [] ys i t h = absurd cc
 slice_get-append_left (x ∷ xs) ys zero t h = h
 slice_get-append_left (x ∷ xs) ys (suc i) t h = slice_get-append_left xs ys i t h
-
-pub slice_get-end : {A : Type 0} → (xs : List A) (y : A) → slice_get (xs ++ y ∷ []) (length xs) ≡ Some y
-slice_get-end [] y = refl
-slice_get-end (x ∷ xs) y = slice_get-end xs y
 
 renames-push : (to : ℕ → ℕ) (old new : List Slot) (s : Slot) → Renames to old new → Renames to (old ++ s ∷ []) (new ++ s ∷ [])
 renames-push to old new s ren =

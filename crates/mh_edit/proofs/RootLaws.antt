@@ -5,6 +5,7 @@ use Rattle.std.specs.List.{range_with_len}
 use Rattle.std.proofs.Math.Seq.{take-append_seam}
 use Rattle.std.specs.declared.sync.Arc.{Arc}
 use Rattle.std.specs.declared.alloc.Global.{Global}
+use Rattle.mh_base.proofs.Slices.{slice_get-end}
 use Rattle.mh_values.specs.declared.class.ClassId.{ClassId}
 use Rattle.mh_values.specs.declared.value.Value.TheVariants as value
 use Rattle.mh_values.specs.Computation.{Ran, Refines, and_then, found, guarded}
@@ -25,7 +26,6 @@ use Rattle.mh_form.proofs.Refines.{refines-refl, refines-is, refines-and_then}
 use Rattle.mh_edit.specs.Applied.{applied, out_of}
 use Rattle.mh_edit.specs.declared.key.Key.TheVariants.{LeafRoot, ConstRoot, IdentityRoot, ThrowRoot, GuardRoot, CatchRoot}
 use Rattle.mh_edit.specs.Law.{LeafRootLaw, ConstRootLaw, IdentityRootLaw, ThrowRootLaw, GuardRootLaw, CatchRootLaw, returned}
-use Rattle.mh_edit.proofs.Renaming.{slice_get-end}
 use Rattle.mh_edit.proofs.Places.{picked-all, picked-range}
 use Rattle.mh_edit.proofs.Parts.{run-part}
 use Rattle.mh_edit.proofs.Finishing.{returned-end}
@@ -63,7 +63,7 @@ law-ThrowRoot ret old leaves (slot.L (value.Thrown e)) k = refl
 law-ThrowRoot ret old leaves (slot.L (value.Array c x)) k = refl
 law-ThrowRoot ret old leaves (slot.L value.Null) k = refl
 
--- all arguments, also where a slot was put behind them
+-- all arguments, also where a slot was put after them
 picked-front : (args more : List Slot) (m : ℕ) → length args ≡ m → picked (args ++ more) (range_with_len 0 m) ≡ Some args
 picked-front args more m long =
     picked-range (args ++ more) 0 m (omega (arith, length-append args more))

@@ -1,4 +1,4 @@
--- Bodies in which new parameters and names stand before the old names, or a name behind them, with the old places renamed.
+-- Bodies in which new parameters and names stand before the old names, or a name after them, with the old places renamed.
 use Rattle.std.specs.Prelude.{ℕ, ◌+◌, ◌-◌, List, [], ◌∷◌, ◌++◌, length, Option, map, nat_lt, if◌then◌else◌, slice_index}
 use Rattle.std.specs.List.{range_with_len}
 use Rattle.std.specs.Option.{option_map}

@@ -1,4 +1,4 @@
-//! Bodies with names before the old ones, or a name behind them.
+//! Bodies with names before the old ones, or a name after them.
 
 ghost use Rattle.std.specs.Prelude.{◌≡◌, ◌+◌, ◌-◌, ◌≤◌, ◌++◌, IfOk, length};
 ghost use Rattle.mh_values.specs.Computation.{spliced};

@@ -16,7 +16,7 @@ pub enum RetEntry {
 
 /// An edit of a form, by basic types and positions alone, so that handles share the form that it
 /// makes (the idea of OpenJDK's `LambdaFormEditor`). A root makes a form of nothing. What the new
-/// form uses beside its arguments it finds in new fields behind the old ones, in the order named
+/// form uses beside its arguments it finds in new fields after the old ones, in the order named
 /// here.
 #[derive(Drop)]
 pub enum Key {

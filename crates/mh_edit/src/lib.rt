@@ -1,7 +1,7 @@
 //! Edits of forms: fifteen kinds of key, the body that each makes of another, and its law.
 #![tactic(auto)]
 
-mod copies;
+mod copy;
 mod edit;
 mod fit;
 mod frame;

@@ -73,7 +73,7 @@ fn rename(alloc: Global, to: Renaming<'_>, name: &Name) -> Result<Name, NoMemory
     })
 }
 
-/// The old names behind new ones, with their places renamed.
+/// The old names after new ones, with their places renamed.
 pub(crate) fn rename_all(
     alloc: Global,
     to: Renaming<'_>,

@@ -23,15 +23,15 @@ use Rattle.mh_form.specs.declared.field.Field.TheVariants as field
 use Rattle.mh_form.specs.Slots.{called, filled, holds_one, is_caught, converted, ret_converted, made_array, checked_array, item_in, raised_slot}
 
 -- what runs on a list of slots, where n leaf calls were made before
-abbrev pub Part : Type 0
-Part = List Slot → ℕ → Ran (Option Slot)
+abbrev pub SlotRun : Type 0
+SlotRun = List Slot → ℕ → Ran (Option Slot)
 
 -- what a field stands for: a slot, a leaf, a part, the exceptions that a class takes, a conversion, a return conversion, or the making of arrays of a
 -- component type
 pub data Sense : Type 0 where
   IsSlot : Slot → Sense
-  IsLeaf : Part → Sense
-  IsPart : Part → Sense
+  IsLeaf : SlotRun → Sense
+  IsPart : SlotRun → Sense
   IsClass : (Exc → Bool) → Sense
   IsConv : (Slot → Ran Slot) → Sense
   IsRet : (Option Slot → Ran (Option Slot)) → Sense
@@ -43,12 +43,12 @@ slot_of (IsSlot s) = Some s
 slot_of _ = None
 
 -- the leaf of a field
-abbrev pub leaf_of : Sense → Option Part
+abbrev pub leaf_of : Sense → Option SlotRun
 leaf_of (IsLeaf f) = Some f
 leaf_of _ = None
 
 -- the part of a field
-abbrev pub part_of : Sense → Option Part
+abbrev pub part_of : Sense → Option SlotRun
 part_of (IsPart f) = Some f
 part_of _ = None
 
@@ -85,7 +85,7 @@ field_of kind senses f = of_kind kind (slice_get senses f)
 abbrev pub with_field : {A B : Type 0} → (Sense → Option A) → List Sense → ℕ → (A → Ran B) → Ran B
 with_field kind senses f next = found (field_of kind senses f) next
 
--- a slot in front of slots, where all are there
+-- a slot before slots, where all are there
 abbrev pub picked_more : Option Slot → Option (List Slot) → Option (List Slot)
 picked_more (Some s) (Some ss) = Some (s ∷ ss)
 picked_more _ _ = None
@@ -145,7 +145,7 @@ abbrev pub ended : Option ℕ → List Slot → ℕ → Ran (Option Slot)
 ended out slots n = with_result out slots (λ r. Gave r [])
 
 -- a body on fields of which it is known what they stand for
-abbrev pub run_body : FormBody → List Sense → Part
+abbrev pub run_body : FormBody → List Sense → SlotRun
 run_body body senses slots n = run_names body.names senses slots n (ended body.out)
 
 -- what each field stands for; a part stands for its own run
@@ -164,11 +164,11 @@ abbrev mutual
   senses_of table (more_of-Field f rest) = sense table f ∷ senses_of table rest
 
 -- a body on fields
-abbrev pub run_on : LeafTable → FormBody → List Field → Part
+abbrev pub run_on : LeafTable → FormBody → List Field → SlotRun
 run_on table body fields = run_body body (map (sense table) fields)
 
 -- a body on the fields that it is bound to
-abbrev pub run_bound : LeafTable → Bound → Part
+abbrev pub run_bound : LeafTable → Bound → SlotRun
 run_bound table bound = run_on table bound.body.now bound.fields.items
 
 -- an outcome with the leaf calls that were made

@@ -54,7 +54,7 @@ pub fn erase(value: Value) -> Slot
     }
 }
 
-/// How many slots a run mostly puts behind its arguments, at most.
+/// How many slots a run mostly puts after its arguments, at most.
 const ROOM_FOR_NAMES: usize = 8;
 
 /// Puts a copy of a value at the end of slots, as a slot.

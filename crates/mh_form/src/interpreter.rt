@@ -17,7 +17,7 @@ use mh_values::{Calls, ClassId, Exc, Value};
 use std::alloc::Global;
 
 /// A part that is guarded: its field, the class of exceptions that are handled, the field of the
-/// handler, and how many arguments the handler takes behind the exception.
+/// handler, and how many arguments the handler takes after the exception.
 #[derive(Clone, Copy)]
 struct Guard {
     part: u32,
@@ -49,7 +49,7 @@ fn run_part(
     }
 }
 
-/// A run behind these leaf calls.
+/// A run after these leaf calls.
 fn after_calls(calls: Calls, ran: Ran) -> Result<Ran, NoMemory>
     ensures { IfOk result (λ r. ran_of_run r ≡ after calls (ran_of_run ran)) }
 {

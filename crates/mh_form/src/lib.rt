@@ -5,8 +5,7 @@ mod array;
 mod basic;
 mod body;
 mod convert;
-mod copies;
-mod duplicate;
+mod copy;
 mod erasure;
 mod field;
 mod interpreter;
@@ -20,7 +19,7 @@ mod slots;
 
 pub use basic::{Basic, BasicRet, Basics, Shape};
 pub use body::FormBody;
-pub use duplicate::{copy_bound, copy_field, copy_fields};
+pub use copy::{copy_bound, copy_field, copy_fields};
 pub use erasure::{all_typed, basic_of, erase, erase_all, shape, typed};
 pub use field::{Bound, Field, Fields};
 pub use interpreter::run;

@@ -148,5 +148,5 @@ pub(crate) fn throw(alloc: Global, slot: u32, slots: &Slots) -> Result<Stepped, 
     if at >= slots.len() {
         unreachable!()
     }
-    Ok(end(alloc, raise(alloc, slots.get(at).copy(alloc)?)))
+    Ok(end(alloc, raise(slots.get(at).copy(alloc)?)))
 }

@@ -97,7 +97,7 @@ pub(crate) fn filled(ran: Ran) -> Stepped
 }
 
 /// The exception that throwing a slot throws.
-pub(crate) fn raise(alloc: Global, slot: Slot) -> Exc
+pub(crate) fn raise(slot: Slot) -> Exc
     requires { raised_slot {B = Slot} slot ≢ Stuck }
     ensures { raised_slot {B = Slot} slot ≡ Threw result [] }
 {

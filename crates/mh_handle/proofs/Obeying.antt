@@ -5,7 +5,7 @@ use Rattle.mh_values.specs.declared.types.MethodTy.{MethodTy}
 use Rattle.mh_tree.specs.declared.error.CheckError.{CheckError}
 use Rattle.mh_tree.specs.declared.error.CheckError.TheVariants as check
 use Rattle.mh_tree.specs.Check.{Tells}
-use Rattle.mh_tree.specs.Rows.{Checked}
+use Rattle.mh_tree.specs.Rows.{TypeOrRefusal}
 use Rattle.mh_form.specs.declared.field.Field.{Field}
 use Rattle.mh_edit.specs.declared.key.Key.{Key}
 use Rattle.mh_handle.specs.declared.error.HandleError.{HandleError}
@@ -20,11 +20,11 @@ use Rattle.mh_handle.specs.Works.{IsAccepted, Makes}
 
 -- ---- a refusal by the rule
 
-refusal-obeys : (row : Checked) (e : CheckError) → Tells (Err e) row → Obeys row (Err (of_check e))
+refusal-obeys : (row : TypeOrRefusal) (e : CheckError) → Tells (Err e) row → Obeys row (Err (of_check e))
 refusal-obeys row check.NoMemory tells = tt
 refusal-obeys row (check.Refused e) tells = tells
 
-pub refused-obeys : (row : Checked) (e : CheckError) (r : Result Handle HandleError) → Tells (Err e) row → IsErrAnd r (λ x. x ≡ of_check e) → Obeys row r
+pub refused-obeys : (row : TypeOrRefusal) (e : CheckError) (r : Result Handle HandleError) → Tells (Err e) row → IsErrAnd r (λ x. x ≡ of_check e) → Obeys row r
 refused-obeys row e (Ok h) tells is = absurd is
 refused-obeys row e (Err x) tells is = subst (λ v. Obeys row (Err v)) (sym is) (refusal-obeys row e tells)
 
@@ -40,7 +40,7 @@ refused-makes recipe pass e (Err x) is = subst (λ v. Makes recipe pass pass (Er
 -- ---- a handle that was made, or want of memory or of numbers
 
 pub grown-obeys :
-    (row : Checked) (old : HandleView) (t : MethodTy) (weight : ℕ) (sides : List MethodTy) (k : Key) (fields : List Field) (r : Result Handle HandleError) →
+    (row : TypeOrRefusal) (old : HandleView) (t : MethodTy) (weight : ℕ) (sides : List MethodTy) (k : Key) (fields : List Field) (r : Result Handle HandleError) →
     row ≡ Ok t →
     IsAccepted r →
     IfOk r (λ h. Grows old h t weight sides k fields) →
@@ -52,7 +52,7 @@ grown-obeys row old t weight sides k fields (Err (handle.Refused e)) is accepted
 
 -- ---- want of memory
 
-pub memory-obeys : (row : Checked) (r : Result Handle HandleError) → IsErrAnd r (λ x. x ≡ handle.NoMemory) → Obeys row r
+pub memory-obeys : (row : TypeOrRefusal) (r : Result Handle HandleError) → IsErrAnd r (λ x. x ≡ handle.NoMemory) → Obeys row r
 memory-obeys row (Ok h) is = absurd is
 memory-obeys row (Err x) is = subst (λ v. Obeys row (Err v)) (sym is) tt
 

@@ -4,7 +4,7 @@ use Rattle.std.specs.Prelude.{slice_get, slice_index_or, Option, None, IfOk, IfS
 use denote.Ref.{Bor}
 use Rattle.std.specs.List.{All}
 use Rattle.std.proofs.lemmas.List.Elements.{All-append}
-use Rattle.mh_setonce.specs.Walks.{StartsWith, Lacks, Has, Distinct, Finds}
+use Rattle.mh_setonce.specs.Walks.{StartsWith, Lacks, Has, Distinct, FindsNode}
 use Rattle.mh_edit.specs.declared.key.Key.{Key}
 use Rattle.mh_edit.proofs.Renaming.{slice_get-append_left}
 use Rattle.mh_setonce.proofs.Nodes.{at_push}
@@ -74,7 +74,7 @@ form-of recipe nodes form once has = (
 -- a form that was found is the one of its recipe
 pub found-form :
     {E : Type 0} (recipe : List Key) (nodes : List FormView) (r : Result (Option (Bor FormView)) E) →
-    Distinct recipe_of nodes → IfOk r (Finds recipe_of nodes recipe) → IfOk r (λ found. IfSome found (λ form. IsFormOf recipe nodes form.now))
+    Distinct recipe_of nodes → IfOk r (FindsNode recipe_of nodes recipe) → IfOk r (λ found. IfSome found (λ form. IsFormOf recipe nodes form.now))
 found-form recipe nodes (Ok None) once finds = tt
 found-form recipe nodes (Ok (Some form)) once finds = form-of recipe nodes form.now once finds
 found-form recipe nodes (Err e) once finds = tt
@@ -82,7 +82,7 @@ found-form recipe nodes (Err e) once finds = tt
 -- and so is one that was asked for
 pub seen-form :
     (recipe : List Key) (nodes asked : List FormView) (r : Option (Bor FormView)) →
-    AreLearnt nodes asked → Distinct recipe_of nodes → Finds recipe_of asked recipe r → IfSome r (λ form. IsFormOf recipe nodes form.now)
+    AreLearnt nodes asked → Distinct recipe_of nodes → FindsNode recipe_of asked recipe r → IfSome r (λ form. IsFormOf recipe nodes form.now)
 seen-form recipe nodes asked None learnt once finds = tt
 seen-form recipe nodes asked (Some form) learnt once finds =
     let at = learnt finds.0 form.now finds.1 in

@@ -8,7 +8,7 @@ use Rattle.mh_convert.specs.Conversion.{is_trivial, is_trivial_ret}
 use Rattle.mh_leaf.specs.LeafTable.{LeafTable}
 use Rattle.mh_tree.specs.Tree.{Tree}
 use Rattle.mh_tree.specs.Tree as tree
-use Rattle.mh_tree.specs.Rows.{Checked, component_of}
+use Rattle.mh_tree.specs.Rows.{TypeOrRefusal, component_of}
 use Rattle.mh_tree.specs.Typing.{type_of}
 use Rattle.mh_form.specs.declared.basic.Basic.{Basic}
 use Rattle.mh_form.specs.Erasure.{basic_of, basic_ret_of, shape_of}
@@ -18,7 +18,7 @@ use Rattle.mh_edit.specs.declared.key.RetEntry.{RetEntry}
 use Rattle.mh_edit.specs.declared.key.RetEntry.TheVariants as entry
 
 -- the keys that depend on a type, none where there is none
-abbrev pub at_type : Checked → (MethodTy → List Key) → List Key
+abbrev pub at_type : TypeOrRefusal → (MethodTy → List Key) → List Key
 at_type (Ok t) keys = keys t
 at_type (Err e) keys = []
 

@@ -12,7 +12,7 @@ use Rattle.mh_tree.specs.Sound.{IsSound}
 use Rattle.mh_form.specs.declared.body.FormBody.{FormBody}
 use Rattle.mh_form.specs.declared.field.Field.{Field}
 use Rattle.mh_form.specs.Erasure.{basic_of, erased, erased_ran}
-use Rattle.mh_form.specs.Run.{Part, run_on}
+use Rattle.mh_form.specs.Run.{SlotRun, run_on}
 use Rattle.mh_edit.specs.Fit.{is_nothing}
 use Rattle.mh_handle.specs.Form.{FormView, body_of}
 use Rattle.mh_handle.specs.Recipe.{recipe}
@@ -30,7 +30,7 @@ abbrev pub handle_body : HandleView → FormBody
 handle_body h = body_of h.form.recipe
 
 -- the run of the handle's form on its fields
-abbrev pub handle_run : LeafTable → HandleView → Part
+abbrev pub handle_run : LeafTable → HandleView → SlotRun
 handle_run table h = run_on table (handle_body h) h.fields
 
 -- a body that does something: it has a name, or a result

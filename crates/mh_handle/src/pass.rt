@@ -1,6 +1,6 @@
 ghost use Rattle.std.specs.Prelude.{◌≡◌, ◌≤◌, ◌++◌, ◌∷◌, [], length, OnOk, OnErr, IfOk, IfSome, List, ℕ};
 ghost use Rattle.mh_setonce.specs.Puts.{PutIn, Refused};
-ghost use Rattle.mh_setonce.specs.Walks.{Distinct, Finds, Has, Lacks, StartsWith};
+ghost use Rattle.mh_setonce.specs.Walks.{Distinct, FindsNode, Has, Lacks, StartsWith};
 ghost use Rattle.mh_handle.specs.Form.{FormView, body_of};
 ghost use Rattle.mh_handle.specs.Index.{recipe_of};
 ghost use Rattle.mh_handle.specs.Passes.{AsksShown, IsFormOf, Learns, Makes, pass_at};
@@ -64,7 +64,7 @@ impl<'t> FormPass<'t> {
 
     /// The form of a recipe and one more key, if it was asked for. It takes no memory.
     pub(crate) fn seen(&self, recipe: &Recipe, key: &Key) -> Option<&'t Form>
-        ensures seen { Finds recipe_of self.now.asked (recipe.now ++ key.now ∷ []) result }
+        ensures seen { FindsNode recipe_of self.now.asked (recipe.now ++ key.now ∷ []) result }
         ensures form { IfSome result (λ form. IsFormOf (recipe.now ++ key.now ∷ [])
             self.now.nodes form.now) }
     {
@@ -79,7 +79,7 @@ impl<'t> FormPass<'t> {
     ) -> Result<Option<&'t Form>, NoMemory>
         requires { self.old.cells ≡ chain.now }
         ensures learns { Learns self.old self.new }
-        ensures found { IfOk result (Finds recipe_of self.new.nodes recipe.now) }
+        ensures found { IfOk result (FindsNode recipe_of self.new.nodes recipe.now) }
         ensures form { IfOk result (λ found. IfSome found
             (λ form. IsFormOf recipe.now self.new.nodes form.now)) }
     {

@@ -1,5 +1,5 @@
 ghost use Rattle.std.specs.Prelude.{◌≡◌, ◌++◌, ◌∷◌, [], length, OnOk, OnErr, IfOk};
-ghost use Rattle.mh_setonce.specs.Walks.{Lacks, Finds};
+ghost use Rattle.mh_setonce.specs.Walks.{Lacks, FindsNode};
 ghost use Rattle.mh_handle.specs.Index.{recipe_of};
 
 use crate::form::Form;
@@ -52,7 +52,7 @@ impl<'t> SeenForms<'t> {
 
     /// The form of a recipe and one more key, if it was asked for. It takes no memory.
     pub(crate) fn find(&self, recipe: &Recipe, key: &Key) -> Option<&'t Form>
-        ensures { Finds recipe_of self.now (recipe.now ++ key.now ∷ []) result }
+        ensures { FindsNode recipe_of self.now (recipe.now ++ key.now ∷ []) result }
     {
         let mut place = self.newest[recipe.hash_then(key) as usize];
         while place > 0 {

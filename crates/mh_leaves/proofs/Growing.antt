@@ -20,9 +20,9 @@ named_from-within n [] name c h = absurd cc
 named_from-within n (x ∷ xs) name c h =
     let later : named_from (n + 1) xs name ≡ Some c → c.0 < n + suc (length xs) = λ k. omega (arith, named_from-within (n + 1) xs name c k) in
     let here : Some (class_at n) ≡ Some c → c.0 < n + suc (length xs) = λ k. let e : n ≡ c.0 = ap (λ o. option_map_or (λ (d : ClassId). d.0) o 0) k in
-        omega (arith, e) in
+    omega (arith, e) in
     elim (bytes_eq x.name name) as (λ b. (if b then Some (class_at n) else named_from (n + 1) xs name) ≡ Some c → c.0 < n + suc (length xs))
-        [ true ↦ here | false ↦ later ] h
+    [ true ↦ here | false ↦ later ] h
 
 pub class_named-within : (classes : List Class) (name : List ℕ) (c : ClassId) → class_named classes name ≡ Some c → c.0 < length classes
 class_named-within classes name c h = omega (arith, named_from-within 0 classes name c h)

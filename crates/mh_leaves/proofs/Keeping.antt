@@ -84,4 +84,4 @@ pub popped-pushed : (old pushed popped : List Leaf) (leaf : Leaf) (n : ℕ) → 
     popped ≡ old
 popped-pushed old pushed popped leaf n put out counted =
     out ∙ ap₂ take (let e : n - 1 ≡ length old = omega (arith, counted) in e) put ∙ take-append-le (length old) old (leaf ∷ []) (omega arith) ∙
-        take_all (length old) old (omega arith)
+    take_all (length old) old (omega arith)

@@ -90,7 +90,7 @@ position_from-push f n (x ∷ xs) y =
     let later : position_from f (n + 1) (xs ++ y ∷ []) ≡ option_or (position_from f (n + 1) xs) (cond (f y) (Some (n + suc (length xs))) None) =
     position_from-push f (n + 1) xs y ∙ ap (λ k. option_or (position_from f (n + 1) xs) (cond (f y) (Some k) None)) (omega arith) in
     elim (f x) as (λ b. cond b (Some n) (position_from f (n + 1) (xs ++ y ∷ [])) ≡ option_or (cond b (Some n) (position_from f (n + 1) xs))
-        (cond (f y) (Some (n + suc (length xs))) None)) [
+    (cond (f y) (Some (n + suc (length xs))) None)) [
       | true ↦ refl
       | false ↦ later
     ]
@@ -104,7 +104,7 @@ pub position-push : {A : Type 0} (f : A → Bool) (xs : List A) (y : A) → (f y
     position f (xs ++ y ∷ []) ≡ cond (f y) (Some (length xs)) (position f xs)
 position-push f xs y new =
     position_from-zero f (xs ++ y ∷ []) ∙ position_from-push f 0 xs y ∙ ap (λ o. option_or o (cond (f y) (Some (0 + length xs)) None))
-        (sym (position_from-zero f xs))
+    (sym (position_from-zero f xs))
     ∙ elim (cases_Bool (f y)) [
       | inl e ↦
           ap (λ o. option_or o (cond (f y) (Some (0 + length xs)) None)) (not_some (position f xs) (position-any f xs ∙ new e))

@@ -53,7 +53,7 @@ written-at texts old new owner i j n name descriptor apart is_name is_descriptor
 written-at texts old new owner i j n name descriptor apart is_name is_descriptor writes o a b (Some k) (Some l) is_a is_b =
     writes (o, k, l) ∙ ap (λ t. cond t (Some n) (get key_cmp old (o, k, l))) (key_test (owner, i, j) (o, k, l)
     ∙ ap₂ (λ s t. (owner == o && s) && t) (sym (same_number texts name a i k apart is_name is_a))
-        (sym (same_number texts descriptor b j l apart is_descriptor is_b)))
+    (sym (same_number texts descriptor b j l apart is_descriptor is_b)))
 
 -- one more leaf is found
 pub leaf_at-more : (before texts : Texts) (old new : Found) (owner i j n : ℕ) (name descriptor : List ℕ) → AreByTexts before old → AreGrown before texts →

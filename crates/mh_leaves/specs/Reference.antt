@@ -38,7 +38,7 @@ if_named texts = if is_class_name texts.owner && is_method_name texts.name then 
 abbrev pub reference_of : List ℕ → Option Texts
 reference_of text =
     option_and_then (λ front. option_and_then (λ back. if_named (record { owner = front.0; name = back.0; descriptor = back.1 })) (cut_at 58 front.1))
-        (cut_at 46 text)
+    (cut_at 46 text)
 
 -- the texts that a reference has
 abbrev pub texts_of : Reference → Texts

@@ -12,7 +12,9 @@ ghost use Rattle.mh_leaves.specs.declared.manifest.ManifestError.TheVariants.{No
 use crate::kinds::{is_kind_word, is_well_typed, kind_among};
 use crate::leaves::MOST_LEAVES;
 use crate::{Leaves, Reference, is_class_name, is_method_name};
-use mh_base::{LineError, LineFault, NoMemory, Seq, is_passed, is_plain, split_at_byte, split_once};
+use mh_base::{
+    LineError, LineFault, NoMemory, Seq, is_passed, is_plain, split_at_byte, split_once,
+};
 use mh_leaf::{Kind, Leaf};
 use mh_values::{
     ClassId, Classes, DescriptorError, MOST_SLOTS, MethodTy, Ty, all_slots, descriptor_text,
@@ -108,11 +110,7 @@ struct LeafLine<'b> {
 }
 
 // Declares a class below one that is there.
-fn add_class(
-    leaves: &mut Leaves,
-    name: &[u8],
-    superclass: ClassId,
-) -> LineResult
+fn add_class(leaves: &mut Leaves, name: &[u8], superclass: ClassId) -> LineResult
     requires new { class_named leaves.old.classes name.now ≡ None }
     requires superclass { superclass.0 < length leaves.old.classes }
     ensures { TakesLine leaves.new result (class_added leaves.old name.now superclass) }
@@ -125,11 +123,7 @@ fn add_class(
 }
 
 // Takes a line `class NAME SUPER`.
-fn read_class(
-    leaves: &mut Leaves,
-    name: &[u8],
-    superclass: &[u8],
-) -> LineResult
+fn read_class(leaves: &mut Leaves, name: &[u8], superclass: &[u8]) -> LineResult
     ensures { TakesLine leaves.new result (class_line leaves.old name.now superclass.now) }
 {
     if !(is_class_name(name) && is_class_name(superclass)) {
@@ -166,11 +160,7 @@ fn handle_type(
 }
 
 // Registers a leaf.
-fn add_leaf(
-    alloc: Global,
-    leaves: &mut Leaves,
-    leaf: Leaf,
-) -> LineResult
+fn add_leaf(alloc: Global, leaves: &mut Leaves, leaf: Leaf) -> LineResult
     requires owner { leaf.owner.0 < length leaves.old.classes }
     requires new { list_any (has_texts leaf.owner leaf.name leaf.descriptor) leaves.old.leaves
         ≡ false }
@@ -242,7 +232,8 @@ pub fn type_of(
 // The leaf of a line with a type, which lacks the receiver.
 fn leaf_of(alloc: Global, line: LeafLine<'_>, ty: MethodTy) -> Result<Leaf, NoMemory>
     ensures { IfOk result
-        (λ leaf. leaf ≡ leaf_of line.is_virtual (texts_of line.entry.texts) line.owner line.kind ty) }
+        (λ leaf. leaf ≡ leaf_of line.entry.is_virtual (texts_of line.entry.texts)
+        line.entry.owner line.entry.kind ty) }
 {
     let ty = handle_type(alloc, line.is_virtual, line.owner, ty)?;
     let name = Seq::copy_of(alloc, line.texts.name)?;
@@ -263,7 +254,8 @@ fn read_owned(alloc: Global, leaves: &mut Leaves, line: LeafLine<'_>) -> LineRes
     requires new { list_any (has_texts line.owner line.texts.name.now line.texts.descriptor.now)
         leaves.old.leaves ≡ false }
     ensures { TakesLine leaves.new result
-        (owned_leaf leaves.old line.is_virtual (texts_of line.entry.texts) line.owner line.kind) }
+        (owned_leaf leaves.old line.entry.is_virtual (texts_of line.entry.texts)
+        line.entry.owner line.entry.kind) }
 {
     if !has_known_classes(alloc, leaves.classes(), line.texts.descriptor)? {
         return Err(LineError::Kind(ManifestKind::UnknownClass));
@@ -331,12 +323,7 @@ fn is_virtual_word(word: &[u8]) -> Option<bool>
 }
 
 // Takes a line of three tokens.
-fn read_three(
-    leaves: &mut Leaves,
-    word: &[u8],
-    name: &[u8],
-    superclass: &[u8],
-) -> LineResult
+fn read_three(leaves: &mut Leaves, word: &[u8], name: &[u8], superclass: &[u8]) -> LineResult
     ensures { TakesLine leaves.new result
         (three_tokens leaves.old word.now name.now superclass.now) }
 {
@@ -364,11 +351,7 @@ fn read_five(
 }
 
 // Takes the tokens of a line.
-fn read_tokens(
-    alloc: Global,
-    leaves: &mut Leaves,
-    tokens: &[&[u8]],
-) -> LineResult
+fn read_tokens(alloc: Global, leaves: &mut Leaves, tokens: &[&[u8]]) -> LineResult
     ensures { TakesLine leaves.new result
         (tokens_meaning leaves.old (map (λ t. t.now) tokens.now)) }
 {
@@ -387,11 +370,7 @@ fn read_tokens(
 }
 
 // Takes a line.
-fn read_line(
-    alloc: Global,
-    leaves: &mut Leaves,
-    line: &[u8],
-) -> LineResult
+fn read_line(alloc: Global, leaves: &mut Leaves, line: &[u8]) -> LineResult
     ensures { TakesLine leaves.new result (line_meaning leaves.old line.now) }
 {
     if !is_plain(line) {

@@ -4,14 +4,14 @@ use Rattle.std.specs.List.{All}
 use Rattle.std.specs.Str.{bytes_eq}
 use Rattle.std.proofs.lemmas.Bool.{cases_Bool}
 use Rattle.std.proofs.lemmas.List.Elements.{All-nil, All-cons, All-head, All-tail, All-push}
-use Rattle.mh_base.specs.Lines.{tokens_of, is_passed, behind, built_from}
+use Rattle.mh_base.specs.Lines.{tokens_of, is_passed, after_line, built_from}
 use Rattle.mh_base.specs.declared.lines.LineFault.{LineFault}
 use Rattle.mh_leaf.specs.LeafTable.{LeafTable}
 use Rattle.mh_plan.specs.declared.call.Call.{Call}
 use Rattle.mh_plan.specs.declared.kinds.PlanError.{PlanError}
 use Rattle.mh_plan.specs.declared.kinds.PlanKind.{PlanKind}
 use Rattle.mh_plan.specs.declared.kinds.PlanKind.TheVariants.{NoSite}
-use Rattle.mh_plan.specs.Fault.{Tells}
+use Rattle.mh_plan.specs.Fault.{TellsLines}
 use Rattle.mh_plan.specs.Plan.{leaf_call, with_call, call_put, call_line, tokens_meaning, line_meaning, line_counted, none_counted, faultless, plan_of}
 use Rattle.mh_plan.specs.Results.{IsCallOf, AreCallsOf}
 use Rattle.mh_plan.proofs.FoundCalls.{leaf_call-fits}
@@ -68,20 +68,20 @@ line-fits table threads next line all is =
 
 -- ---- plans
 
-behind-fits : (table : LeafTable) (n : ℕ) (r : Result (List (List Call)) PlanKind) (rest : List (List Call) → Result (List (List Call)) (LineFault PlanKind))
-    (threads : List (List Call)) → ((next : List (List Call)) → r ≡ Ok next → rest next ≡ Ok threads → AreCallsOf table threads) → behind n r rest ≡ Ok threads
+after_line-fits : (table : LeafTable) (n : ℕ) (r : Result (List (List Call)) PlanKind) (rest : List (List Call) → Result (List (List Call)) (LineFault PlanKind))
+    (threads : List (List Call)) → ((next : List (List Call)) → r ≡ Ok next → rest next ≡ Ok threads → AreCallsOf table threads) → after_line n r rest ≡ Ok threads
     → AreCallsOf table threads
-behind-fits table n (Err kind) rest threads goes is = cc
-behind-fits table n (Ok next) rest threads goes is = goes next refl is
+after_line-fits table n (Err kind) rest threads goes is = cc
+after_line-fits table n (Ok next) rest threads goes is = goes next refl is
 
 lines-fit : (table : LeafTable) (n : ℕ) (so_far threads : List (List Call)) (lines : List (List ℕ)) → AreCallsOf table so_far →
     built_from (line_meaning table) n so_far lines ≡ Ok threads → AreCallsOf table threads
 lines-fit table n so_far threads [] all is = let same : so_far ≡ threads = cc in subst (AreCallsOf table) same all
 lines-fit table n so_far threads (line ∷ lines) all is =
-    behind-fits table n (line_meaning table so_far line) (λ next. built_from (line_meaning table) (n + 1) next lines) threads
+    after_line-fits table n (line_meaning table so_far line) (λ next. built_from (line_meaning table) (n + 1) next lines) threads
     (λ next taken rest. lines-fit table (n + 1) next threads lines (line-fits table so_far next line all taken) rest) is
 
--- what goes on behind a good part is good itself
+-- what goes on after a good part is good itself
 first_part : {A B : Type 0} (r : Result A (LineFault PlanKind)) (next : A → Result B (LineFault PlanKind)) (b : B) → faultless r next ≡ Ok b →
     (a : A) × (r ≡ Ok a) × (next a ≡ Ok b)
 first_part (Err fault) next b is = cc
@@ -93,7 +93,7 @@ plan_of-calls table lines threads is =
     lines-fit table 1 [] threads lines (All-nil (All (IsCallOf table))) counted.2
 
 -- what a reader of plans answers
-pub told-calls : (table : LeafTable) (lines : List (List ℕ)) (r : Result (List (List Call)) PlanError) → Tells r (plan_of table lines) →
+pub told-calls : (table : LeafTable) (lines : List (List ℕ)) (r : Result (List (List Call)) PlanError) → TellsLines r (plan_of table lines) →
     IfOk r (AreCallsOf table)
 told-calls table lines (Ok threads) told = plan_of-calls table lines threads told
 told-calls table lines (Err e) told = tt

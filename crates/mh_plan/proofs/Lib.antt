@@ -1,6 +1,6 @@
 pub mod Running
 pub mod Tokens
-pub mod Behind
+pub mod ReadOn
 pub mod Threads
 pub mod Fitting
 pub mod FoundCalls

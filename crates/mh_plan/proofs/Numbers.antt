@@ -96,9 +96,9 @@ front-told : (bs : List Basic) (ns : List ℕ) → map basic_at (take (length bs
 front-told [] ns = refl
 front-told (b ∷ bs) ns = ap₂ (λ y ys. y ∷ ys) (basic-told b) (front-told bs ns)
 
-behind-told : (bs : List Basic) (ns : List ℕ) → drop (length bs) (map basic_number bs ++ ns) ≡ ns
-behind-told [] ns = refl
-behind-told (b ∷ bs) ns = behind-told bs ns
+after-told : (bs : List Basic) (ns : List ℕ) → drop (length bs) (map basic_number bs ++ ns) ≡ ns
+after-told [] ns = refl
+after-told (b ∷ bs) ns = after-told bs ns
 
 shape-told : (s : Shape) → shape_at (ret_number s.ret ∷ map basic_number s.params) ≡ s
 shape-told s = ap₂ (λ (ps : List Basic) (r : BasicRet). record { params = ps; ret = r }) (basics-told s.params) (ret-told s.ret)
@@ -112,7 +112,7 @@ key-told (key.GuardRoot s n) = ap (λ t. key.GuardRoot t n) (shape-told s)
 key-told (key.CatchRoot s n) = ap (λ t. key.CatchRoot t n) (shape-told s)
 key-told (key.Bind n) = refl
 key-told (key.Add n bs) = ap (key.Add n) (basics-told bs)
-key-told (key.Permute bs ns) = ap₂ key.Permute (front-told bs ns) (behind-told bs ns)
+key-told (key.Permute bs ns) = ap₂ key.Permute (front-told bs ns) (after-told bs ns)
 key-told (key.Collect n bs r) = ap₂ (key.Collect n) (basics-told bs) (ret-told r)
 key-told (key.Fold n m r) = ap (key.Fold n m) (ret-told r)
 key-told (key.FilterReturn r) = ap key.FilterReturn (ret-told r)

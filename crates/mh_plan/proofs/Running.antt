@@ -23,7 +23,7 @@ lines-said : (classes : List Class) (answers : List Answer) → flat_map (λ ans
 lines-said classes [] = refl
 lines-said classes (answer ∷ answers) = ap (λ x. result_line classes (result_said answer) ++ x) (lines-said classes answers)
 
--- behind the lines of all answers
+-- after the lines of all answers
 pub results_text-whole : (classes : List Class) (answers : List Answer) (i : ℕ) (old new : List ℕ) → length answers ≤ i →
     new ≡ old ++ flat_map (λ answer. result_line classes (result_said answer)) (take i answers) → new ≡ old ++ results_text classes (thread_said answers)
 results_text-whole classes answers i old new all is =

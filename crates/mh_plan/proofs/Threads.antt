@@ -1,4 +1,4 @@
--- Calls that are put behind those of the last thread.
+-- Calls that are put after those of the last thread.
 use Rattle.std.proofs.Common.{◌≡◌, refl, sym, ◌∙◌, ap, List, [], ◌∷◌, ◌++◌}
 use Rattle.mh_plan.specs.declared.call.Call.{Call}
 use Rattle.mh_plan.specs.Plan.{with_call}

@@ -7,11 +7,11 @@ use Rattle.mh_plan.specs.declared.kinds.PlanError.{PlanError}
 use Rattle.mh_plan.specs.declared.kinds.PlanError.TheVariants.{NoMemory, Fault}
 
 -- the value, or the fault that counts; want of memory says nothing
-abbrev pub Tells : {A : Type 0} → Result A PlanError → Result A (LineFault PlanKind) → Type 0
-Tells (Ok got) meaning = meaning ≡ Ok got
-Tells (Err NoMemory) meaning = Unit {0}
-Tells (Err (Fault fault)) meaning = meaning ≡ Err fault
+abbrev pub TellsLines : {A : Type 0} → Result A PlanError → Result A (LineFault PlanKind) → Type 0
+TellsLines (Ok got) meaning = meaning ≡ Ok got
+TellsLines (Err NoMemory) meaning = Unit {0}
+TellsLines (Err (Fault fault)) meaning = meaning ≡ Err fault
 
 -- the same of a whole plan
 abbrev pub TellsPlan : Result (List (List Call)) PlanError → Result (List (List Call)) (LineFault PlanKind) → Type 0
-TellsPlan result meaning = Tells result meaning
+TellsPlan result meaning = TellsLines result meaning

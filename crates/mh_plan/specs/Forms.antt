@@ -7,7 +7,7 @@ use Rattle.mh_values.specs.Same.{is_same_method_type}
 use Rattle.mh_leaf.specs.LeafTable.{LeafTable}
 use Rattle.mh_tree.specs.Tree.{Tree}
 use Rattle.mh_tree.specs.Tree as tree
-use Rattle.mh_tree.specs.Rows.{Checked}
+use Rattle.mh_tree.specs.Rows.{TypeOrRefusal}
 use Rattle.mh_tree.specs.Typing.{type_of}
 use Rattle.mh_edit.specs.declared.key.Key.{Key}
 use Rattle.mh_handle.specs.Recipe.{recipe}
@@ -16,7 +16,7 @@ use Rattle.mh_plan.specs.declared.call.Call.TheVariants.{Exact, Generic}
 use Rattle.mh_plan.specs.SameRecipes.{same_recipe}
 
 -- edits that depend on a type, none where there is none
-abbrev pub at_type : Checked → (MethodTy → List (List Key)) → List (List Key)
+abbrev pub at_type : TypeOrRefusal → (MethodTy → List (List Key)) → List (List Key)
 at_type (Ok t) edits = edits t
 at_type (Err e) edits = []
 

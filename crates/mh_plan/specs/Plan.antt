@@ -131,29 +131,29 @@ leaf_call table word subject asked args =
     provided_some (type_if_read (desc table.classes asked)) BadType (λ t.
     provided_some (arguments_of table.classes args t.params) BadArguments (λ values. Ok (call_by word leaf t values))))
 
--- a call behind those of the last thread
+-- a call after those of the last thread
 abbrev pub with_call : List (List Call) → Call → List (List Call)
 with_call [] call = []
 with_call (calls ∷ []) call = (calls ++ call ∷ []) ∷ []
 with_call (calls ∷ more) call = calls ∷ with_call more call
 
--- the threads behind a call
+-- the threads after a call
 abbrev pub call_put : List (List Call) → Result Call PlanKind → Result (List (List Call)) PlanKind
 call_put threads (Ok call) = Ok (with_call threads call)
 call_put threads (Err kind) = Err kind
 
--- the threads behind a call of a leaf; there are no sites that `indy` could call
+-- the threads after a call of a leaf; there are no sites that `indy` could call
 abbrev pub call_line : LeafTable → List (List Call) → List ℕ → List ℕ → List ℕ → List (List ℕ) → Result (List (List Call)) PlanKind
 call_line table threads word subject asked args =
     if bytes_eq word (codes "indy") then Err NoSite else call_put threads (leaf_call table word subject asked args)
 
--- the threads behind a line that counts: two tokens are a site's call without arguments, one begins a thread
+-- the threads after a line that counts: two tokens are a site's call without arguments, one begins a thread
 abbrev pub tokens_meaning : LeafTable → List (List Call) → List (List ℕ) → Result (List (List Call)) PlanKind
 tokens_meaning table threads (word ∷ subject ∷ asked ∷ args) = call_line table threads word subject asked args
 tokens_meaning table threads (word ∷ subject ∷ []) = Err NoSite
 tokens_meaning table threads _ = Ok (threads ++ [] ∷ [])
 
--- the threads behind a line, or what is wrong with the line
+-- the threads after a line, or what is wrong with the line
 abbrev pub line_meaning : LeafTable → List (List Call) → List ℕ → Result (List (List Call)) PlanKind
 line_meaning table threads line = if is_passed line then Ok threads else tokens_meaning table threads (tokens_of line)
 

@@ -1,15 +1,25 @@
-ghost use Rattle.std.specs.Prelude.{◌≡◌, [], map, IfOk, OnOk};
-ghost use Rattle.mh_base.specs.Lines.{taken_or, built_from};
-ghost use Rattle.mh_plan.specs.Plan.{leaf_named, call_by, leaf_call, with_call, call_put, call_line, tokens_meaning, line_meaning};
-ghost use Rattle.mh_plan.specs.Fault.{Tells};
+ghost use Rattle.std.specs.Prelude.{◌≡◌, [], map, OnOk};
+ghost use Rattle.mh_base.specs.Lines.{TakesLine, TellsLine, built_from};
+ghost use Rattle.mh_plan.specs.Plan.{leaf_named, call_by, leaf_call, with_call, call_line, tokens_meaning, line_meaning};
+ghost use Rattle.mh_plan.specs.Fault.{TellsLines};
 
 use crate::arguments::read_arguments;
-use crate::counting::leaf_texts;
+use crate::grammar::leaf_texts;
+use crate::kinds::LineResult;
 use crate::{Call, PlanError, PlanKind, ThreadCalls};
-use mh_base::{LineFault, NoMemory, Seq, is_passed, split_at_byte};
+use mh_base::{LineError, LineFault, NoMemory, Seq, is_passed, split_at_byte};
 use mh_leaves::{How, Leaves, type_of};
 use mh_values::{Items, LeafId, MethodTy};
 use std::alloc::Global;
+
+// The tokens of a call of a leaf.
+#[derive(Clone, Copy)]
+struct CallTokens<'b> {
+    word: &'b [u8],
+    subject: &'b [u8],
+    asked: &'b [u8],
+    args: &'b [&'b [u8]],
+}
 
 // The leaf of a reference.
 fn leaf_named(leaves: &Leaves, token: &[u8]) -> Option<LeafId>
@@ -32,31 +42,29 @@ fn call_by(word: &[u8], leaf: LeafId, ty: MethodTy, values: Items) -> Call
     }
 }
 
-// The call of a leaf by a type, or what is wrong with it.
+// The call of a leaf by a type.
 fn read_call(
     alloc: Global,
     leaves: &Leaves,
-    word: &[u8],
-    subject: &[u8],
-    asked: &[u8],
-    args: &[&[u8]],
-) -> Result<Result<Call, PlanKind>, NoMemory>
-    ensures { IfOk result
-        (λ call. call ≡ leaf_call leaves.now word.now subject.now asked.now (map (λ t. t.now) args.now)) }
+    line: CallTokens<'_>,
+) -> Result<Call, LineError<PlanKind>>
+    ensures { TellsLine result (leaf_call leaves.now line.entry.word.now line.entry.subject.now
+        line.entry.asked.now (map (λ t. t.now) line.entry.args.now)) }
 {
-    let Some(leaf) = leaf_named(leaves, subject) else {
-        return Ok(Err(PlanKind::NoLeaf));
+    let Some(leaf) = leaf_named(leaves, line.subject) else {
+        return Err(LineError::Kind(PlanKind::NoLeaf));
     };
-    let Some(ty) = type_of(alloc, leaves.classes(), asked)? else {
-        return Ok(Err(PlanKind::BadType));
+    let Some(ty) = type_of(alloc, leaves.classes(), line.asked)? else {
+        return Err(LineError::Kind(PlanKind::BadType));
     };
-    let Some(values) = read_arguments(alloc, leaves.classes(), args, ty.params.as_slice())? else {
-        return Ok(Err(PlanKind::BadArguments));
+    let params = ty.params.as_slice();
+    let Some(values) = read_arguments(alloc, leaves.classes(), line.args, params)? else {
+        return Err(LineError::Kind(PlanKind::BadArguments));
     };
-    Ok(Ok(call_by(word, leaf, ty, values)))
+    Ok(call_by(line.word, leaf, ty, values))
 }
 
-// Puts a call behind those of the last thread.
+// Puts a call after those of the last thread.
 fn add_call(threads: &mut Vec<ThreadCalls>, call: Call) -> Result<(), NoMemory>
     ensures { OnOk result (threads.new.items ≡ with_call threads.old.items call) }
 {
@@ -68,79 +76,65 @@ fn add_call(threads: &mut Vec<ThreadCalls>, call: Call) -> Result<(), NoMemory>
     Ok(())
 }
 
-// Takes a call of a leaf, and says what is wrong with it.
-fn put_call(
-    threads: &mut Vec<ThreadCalls>,
-    call: Result<Call, PlanKind>,
-) -> Result<Option<PlanKind>, NoMemory>
-    ensures { IfOk result
-        (λ fault. call_put threads.old.items call ≡ taken_or fault threads.new.items) }
-{
-    match call {
-        Err(kind) => Ok(Some(kind)),
-        Ok(call) => {
-            add_call(threads, call)?;
-            Ok(None)
-        }
-    }
-}
-
-// Takes a call, and says what is wrong with it.
+// Takes a call.
 fn read_call_line(
     alloc: Global,
     leaves: &Leaves,
     threads: &mut Vec<ThreadCalls>,
-    word: &[u8],
-    subject: &[u8],
-    asked: &[u8],
-    args: &[&[u8]],
-) -> Result<Option<PlanKind>, NoMemory>
-    ensures { IfOk result
-        (λ fault. call_line leaves.now threads.old.items word.now subject.now asked.now
-        (map (λ t. t.now) args.now) ≡ taken_or fault threads.new.items) }
+    line: CallTokens<'_>,
+) -> LineResult
+    ensures { TakesLine threads.new.items result
+        (call_line leaves.now threads.old.items line.entry.word.now line.entry.subject.now
+        line.entry.asked.now (map (λ t. t.now) line.entry.args.now)) }
 {
-    if word == b"indy".as_slice() {
-        return Ok(Some(PlanKind::NoSite));
+    if line.word == b"indy".as_slice() {
+        return Err(LineError::Kind(PlanKind::NoSite));
     }
-    let call = read_call(alloc, leaves, word, subject, asked, args)?;
-    put_call(threads, call)
+    let call = read_call(alloc, leaves, line)?;
+    add_call(threads, call)?;
+    Ok(())
 }
 
-// Takes the tokens of a line, and says what is wrong with them.
+// Takes the tokens of a line.
 fn read_tokens(
     alloc: Global,
     leaves: &Leaves,
     threads: &mut Vec<ThreadCalls>,
     tokens: &[&[u8]],
-) -> Result<Option<PlanKind>, NoMemory>
-    ensures { IfOk result
-        (λ fault. tokens_meaning leaves.now threads.old.items (map (λ t. t.now) tokens.now)
-        ≡ taken_or fault threads.new.items) }
+) -> LineResult
+    ensures { TakesLine threads.new.items result
+        (tokens_meaning leaves.now threads.old.items (map (λ t. t.now) tokens.now)) }
 {
     match tokens {
         [word, subject, asked, args @ ..] => {
-            read_call_line(alloc, leaves, threads, word, subject, asked, args)
+            let line = CallTokens {
+                word: *word,
+                subject: *subject,
+                asked: *asked,
+                args,
+            };
+            read_call_line(alloc, leaves, threads, line)
         }
-        [_, _] => Ok(Some(PlanKind::NoSite)),
+        [_, _] => Err(LineError::Kind(PlanKind::NoSite)),
         _ => {
             threads.push(Seq::new(alloc))?;
-            Ok(None)
+            Ok(())
         }
     }
 }
 
-// Takes a line, and says what is wrong with it.
+// Takes a line.
 fn read_line(
     alloc: Global,
     leaves: &Leaves,
     threads: &mut Vec<ThreadCalls>,
     line: &[u8],
-) -> Result<Option<PlanKind>, NoMemory>
-    ensures { IfOk result
-        (λ fault. line_meaning leaves.now threads.old.items line.now ≡ taken_or fault threads.new.items) }
+) -> LineResult
+    ensures { TakesLine threads.new.items result
+        (line_meaning leaves.now threads.old.items line.now) }
 {
     if is_passed(line) {
-        return Ok(None);
+        return Ok(());
     }
     let tokens = split_at_byte(alloc, line, b' ')?;
     read_tokens(alloc, leaves, threads, &tokens)
@@ -152,14 +146,18 @@ pub(crate) fn read_lines(
     leaves: &Leaves,
     lines: &[&[u8]],
 ) -> Result<Seq<ThreadCalls>, PlanError>
-    ensures { Tells result
+    ensures { TellsLines result
         (built_from (line_meaning leaves.now) 1 [] (map (λ l. l.now) lines.now)) }
 {
     let mut threads = Vec::new(alloc);
     let mut number = 1u32;
     for line in lines {
-        if let Some(kind) = read_line(alloc, leaves, &mut threads, line)? {
-            return Err(PlanError::Fault(LineFault { line: number, kind }));
+        match read_line(alloc, leaves, &mut threads, line) {
+            Ok(()) => {}
+            Err(LineError::NoMemory) => return Err(PlanError::NoMemory),
+            Err(LineError::Kind(kind)) => {
+                return Err(PlanError::Fault(LineFault { line: number, kind }));
+            }
         }
         number = number.checked_add(1).ok_or(NoMemory)?;
     }

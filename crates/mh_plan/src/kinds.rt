@@ -2,7 +2,7 @@ ghost use Rattle.std.specs.Prelude.{◌≡◌};
 ghost use Rattle.mh_plan.specs.Plan.{kind_word};
 ghost use Rattle.mh_plan.specs.declared.kinds.PlanError.TheVariants.{NoMemory as WithoutMemory};
 
-use mh_base::{LineFault, NoMemory};
+use mh_base::{LineError, LineFault, NoMemory};
 use std::alloc::AllocError;
 use std::error::Error;
 use std::fmt;
@@ -11,7 +11,7 @@ use std::fmt;
 /// the others, and in it the first kind.
 #[derive(Clone, Copy, Debug, PartialEq, Eq)]
 pub enum PlanKind {
-    /// The line is none of a plan, or a call in front of the first thread.
+    /// The line is none of a plan, or a call before the first thread.
     BadLine,
     /// The thread is past 64, or the call past 10,000 of all threads.
     TooMany,
@@ -40,6 +40,9 @@ impl PlanKind {
         }
     }
 }
+
+/// How a line was taken.
+pub(crate) type LineResult = Result<(), LineError<PlanKind>>;
 
 /// The faulty line of a plan that counts, numbered from 1.
 pub type PlanFault = LineFault<PlanKind>;

@@ -6,6 +6,7 @@ mod arguments;
 mod call;
 mod calls;
 mod counting;
+mod grammar;
 mod kinds;
 mod printing;
 mod reading;

@@ -1,6 +1,6 @@
 ghost use Rattle.std.specs.Prelude.{◌≡◌, map, IfOk};
 ghost use Rattle.mh_plan.specs.Plan.{plan_of, plan};
-ghost use Rattle.mh_plan.specs.Fault.{Tells, TellsPlan};
+ghost use Rattle.mh_plan.specs.Fault.{TellsLines, TellsPlan};
 ghost use Rattle.mh_plan.specs.Results.{AreCallsOf};
 
 use crate::calls::read_lines;
@@ -12,7 +12,7 @@ use std::alloc::Global;
 
 // The calls of a plan's lines.
 fn read_all(alloc: Global, leaves: &Leaves, lines: &[&[u8]]) -> Result<Plan, PlanError>
-    ensures { Tells result (plan_of leaves.now (map (λ l. l.now) lines.now)) }
+    ensures { TellsLines result (plan_of leaves.now (map (λ l. l.now) lines.now)) }
 {
     check_lines(alloc, lines)?;
     read_lines(alloc, leaves, lines)

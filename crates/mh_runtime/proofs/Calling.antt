@@ -5,7 +5,7 @@ use Rattle.mh_values.specs.declared.types.MethodTy.{MethodTy}
 use Rattle.mh_values.specs.Same.{is_same_method_type}
 use Rattle.mh_leaf.specs.LeafTable.{LeafTable}
 use Rattle.mh_tree.specs.Tree.{Tree, weight}
-use Rattle.mh_tree.specs.Rows.{Checked, astype_row}
+use Rattle.mh_tree.specs.Rows.{TypeOrRefusal, astype_row}
 use Rattle.mh_tree.specs.Typing.{with_type}
 use Rattle.mh_edit.specs.declared.key.Key.{Key}
 use Rattle.mh_handle.specs.declared.answer.Answer.{Answer}
@@ -28,7 +28,7 @@ use Rattle.mh_plan.proofs.Recipes.{same_recipe-equivalence}
 -- ---- recipes of a use as another type
 
 -- the recipes of a use, from the type of what is used
-abbrev edits_at : LeafTable → List Key → ℕ → MethodTy → Checked → List (List Key)
+abbrev edits_at : LeafTable → List Key → ℕ → MethodTy → TypeOrRefusal → List (List Key)
 edits_at table r w asked c =
     at_type c (λ own.
     if is_same_method_type own asked then []
@@ -38,7 +38,7 @@ edits_at table r w asked c =
 abbrev Uses : List Key → List Key → List (List Key) → Type 0
 Uses r keys edits = ((keys ≡ []) × (edits ≡ [])) ⊎ (edits ≡ (r ++ keys) ∷ [])
 
-uses-by : (same : Bool) (row : Checked) (r keys : List Key) →
+uses-by : (same : Bool) (row : TypeOrRefusal) (r keys : List Key) →
     Uses r (if same then [] else unless_refused row keys) (if same then [] else at_type row (λ _. (r ++ keys) ∷ []))
 uses-by true row r keys = inl (refl, refl)
 uses-by false (Err e) r keys = inl (refl, refl)

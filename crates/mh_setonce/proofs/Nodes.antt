@@ -4,9 +4,13 @@ use native.Mathlib.Decide.{dec_lt}
 use Rattle.std.proofs.lemmas.Option.{slice_get_read, slice_get_within, slice_get-get_or, slice_get-map, get_or_from_slice_get}
 use Rattle.std.proofs.lemmas.List.{map-append, take_more}
 use Rattle.std.specs.Option.{option_map}
+use Rattle.mh_base.proofs.Slices.{slice_get-push}
 use Rattle.mh_setonce.specs.declared.learnt.Learnt.{Learnt}
 use Rattle.mh_setonce.specs.Walks.{StartsWith, Distinct, Lacks, Has}
 use Rattle.mh_setonce.specs.Rows.{node_of, nodes_of, fact_of, facts_of, Noted, IsWalk, Kept}
+
+-- the name by which a crate above knows the items of a list with one more at its end
+pub use Rattle.mh_base.proofs.Slices.{slice_get-push as at_push}
 
 module _ {V : Type 0} where
   pub node_at : (ls : List (Learnt V)) (i : ℕ) (l : Learnt V) → slice_get ls i ≡ Some l → slice_get (nodes_of ls) i ≡ Some (node_of l)
@@ -26,12 +30,6 @@ module _ {V : Type 0} where
   -- no node before the i-th has the key
   abbrev pub LacksBelow : {K : Type 0} → (V → K) → List V → K → ℕ → Type 0
   LacksBelow key nodes k n = (i : ℕ) (v : V) → i < n → slice_get nodes i ≡ Some v → key v ≢ k
-
-pub at_push : {A : Type 0} (xs : List A) (y : A) (i : ℕ) (z : A) → slice_get (xs ++ y ∷ []) i ≡ Some z → (slice_get xs i ≡ Some z) ⊎ ((i ≡ length xs) × (y ≡ z))
-at_push [] y zero z e = inr (refl, cc)
-at_push [] y (suc i) z e = cc
-at_push (x ∷ xs) y zero z e = inl e
-at_push (x ∷ xs) y (suc i) z e = ⊎_elim inl (λ t. inr (ap suc t.0, t.1)) (at_push xs y i z e)
 
 -- the name of the i-th cell
 pub name_at : {A B : Type 0} (f : A → B) (xs : List A) (i : ℕ) (x : A) → i < length xs → x ≡ slice_index_or xs i x → slice_get (map f xs) i ≡ Some (f x)
@@ -73,12 +71,12 @@ module _ {V K : Type 0} (key : V → K) where
       (λ (p : slice_get (nodes_of ls) i ≡ Some v). ⊎_elim
       (λ (q : slice_get (nodes_of ls) j ≡ Some w). d i j v w p q same)
       (λ (q : (j ≡ n) × (node_of l ≡ w)). absurd (new i v p (same ∙ ap key (sym q.1))))
-      (at_push (nodes_of ls) (node_of l) j w at_j))
+      (slice_get-push (nodes_of ls) (node_of l) j w at_j))
       (λ (p : (i ≡ n) × (node_of l ≡ v)). ⊎_elim
       (λ (q : slice_get (nodes_of ls) j ≡ Some w). absurd (new j w q (sym same ∙ ap key (sym p.1))))
       (λ (q : (j ≡ n) × (node_of l ≡ w)). p.0 ∙ sym q.0)
-      (at_push (nodes_of ls) (node_of l) j w at_j))
-      (at_push (nodes_of ls) (node_of l) i v at_i)
+      (slice_get-push (nodes_of ls) (node_of l) j w at_j))
+      (slice_get-push (nodes_of ls) (node_of l) i v at_i)
 
   pub longer : (cells : List ℕ) (ls : List (Learnt V)) (l : Learnt V) → IsWalk key cells ls → slice_get cells (length ls) ≡ Some l.mark.cell →
       l.mark.value ≡ l.node.now
@@ -126,30 +124,3 @@ module _ {V Z : Type 0} (f : Learnt V → Z) where
       let at = name_at f ls i l in_list is in
       take_more (map f ls) i (f l) (slice_get_within (map f ls) i (f l) at) ∙ ap (λ z. take i (map f ls) ++ z ∷ []) (get_or_from_slice_get (map f ls) i (f l)
           (f l) at)
-
-module _ {V : Type 0} where
-  pub noted_same : (cells cells' : List ℕ) (ls ls' : List (Learnt V)) → cells ≡ cells' → ls' ≡ ls → Noted cells ls → Noted cells' ls'
-  noted_same cells cells' ls ls' c e n i l at = subst (λ z. (slice_get z i ≡ Some l.mark.cell) × (l.mark.value ≡ l.node.now)) c
-      (n i l (subst (λ z. slice_get z i ≡ Some l) e at))
-
-  fact_at : (ls : List (Learnt V)) (i : ℕ) (f : V × (ℕ × V)) → slice_get (facts_of ls) i ≡ Some f → (l : Learnt V) × (slice_get ls i ≡ Some l) × (fact_of l ≡ f)
-  fact_at [] i v e = cc
-  fact_at (x ∷ xs) zero v e = (x, refl, cc)
-  fact_at (x ∷ xs) (suc i) v e = fact_at xs i v e
-
-  noted_facts : (cells : List ℕ) (xs ys : List (Learnt V)) → facts_of xs ≡ facts_of ys → Noted cells ys → Noted cells xs
-  noted_facts cells xs ys e noted i x at =
-      let f : slice_get (facts_of xs) i ≡ Some (fact_of x) = slice_get-map fact_of xs i ∙ ap (option_map fact_of) at in
-      let y = fact_at ys i (fact_of x) (ap (λ z. slice_get z i) (sym e) ∙ f) in
-      let n = noted i y.0 y.1 in
-      subst (λ (z : V × (ℕ × V)). (slice_get cells i ≡ Some z.1.0) × (z.1.1 ≡ z.0)) y.2 n
-
-  nodes_from_facts : (xs : List (Learnt V)) → nodes_of xs ≡ map (λ (f : V × (ℕ × V)). f.0) (facts_of xs)
-  nodes_from_facts [] = refl
-  nodes_from_facts (x ∷ xs) = ap (λ z. node_of x ∷ z) (nodes_from_facts xs)
-
-  pub nodes_facts : (xs ys : List (Learnt V)) → facts_of xs ≡ facts_of ys → nodes_of xs ≡ nodes_of ys
-  nodes_facts xs ys e = nodes_from_facts xs ∙ (ap (map (λ (f : V × (ℕ × V)). f.0)) e ∙ sym (nodes_from_facts ys))
-
-  pub walk_facts : {K : Type 0} (key : V → K) (cells : List ℕ) (xs ys : List (Learnt V)) → facts_of xs ≡ facts_of ys → IsWalk key cells ys → IsWalk key cells xs
-  walk_facts key cells xs ys e w = record { noted = noted_facts cells xs ys e w.noted; distinct = subst (Distinct key) (sym (nodes_facts xs ys e)) w.distinct }

@@ -19,9 +19,9 @@ abbrev pub Has : {V K : Type 0} → (V → K) → List V → K → V → Type 0
 Has key nodes k v = (i : ℕ) × (slice_get nodes i ≡ Some v) × (key v ≡ k)
 
 -- the node with the key, or none where no node has it
-abbrev pub Finds : {V K : Type 0} → (V → K) → List V → K → Option (Bor V) → Type 0
-Finds key nodes k None = Lacks key nodes k
-Finds key nodes k (Some node) = Has key nodes k node.now
+abbrev pub FindsNode : {V K : Type 0} → (V → K) → List V → K → Option (Bor V) → Type 0
+FindsNode key nodes k None = Lacks key nodes k
+FindsNode key nodes k (Some node) = Has key nodes k node.now
 
 -- so many nodes are the length of the shorter walk, and the other one begins with them
 abbrev pub Meet : {V : Type 0} → List V → List V → ℕ → Type 0

@@ -1,6 +1,6 @@
 ghost use Rattle.std.specs.Prelude.{◌≡◌, ℕ, ◌≤◌, [], length, IfOk, IfErr, OnErr, IfSome, IfNone, slice_get, Some};
 ghost use Rattle.once_cell.specs.Once.{cell_name};
-ghost use Rattle.mh_setonce.specs.Walks.{StartsWith, Lacks, Finds, Distinct, Meet};
+ghost use Rattle.mh_setonce.specs.Walks.{StartsWith, Lacks, FindsNode, Distinct, Meet};
 ghost use Rattle.mh_setonce.specs.Puts.{Puts};
 
 use crate::keyed::Keyed;
@@ -60,7 +60,7 @@ impl<V: Keyed> Chain<V> {
         ensures cells { walk.new.cells ≡ walk.old.cells }
         ensures nodes { StartsWith walk.new.nodes walk.old.nodes }
         ensures once { Distinct V.key_of walk.new.nodes }
-        ensures found { IfOk result (Finds V.key_of walk.new.nodes key.now) }
+        ensures found { IfOk result (FindsNode V.key_of walk.new.nodes key.now) }
         ensures seen { OnErr result (Lacks V.key_of walk.old.nodes key.now) }
     {
         if let Some(node) = walk.seen(key) {

@@ -1,6 +1,6 @@
 ghost use Rattle.std.specs.Prelude.{◌≡◌, ◌≢◌, [], length, IfOk, IsTrue};
 ghost use mathlib.Core.Logic.{◌↔◌};
-ghost use Rattle.mh_setonce.specs.Walks.{StartsWith, Lacks, Distinct, Finds};
+ghost use Rattle.mh_setonce.specs.Walks.{StartsWith, Lacks, Distinct, FindsNode};
 ghost use Rattle.mh_setonce.specs.Puts.{TriedOnce};
 
 use crate::chain::Chain;
@@ -68,13 +68,13 @@ impl<'t, V: Keyed> Walk<'t, V> {
     /// The learnt node with the key.
     pub fn seen(&self, key: &V::Key) -> Option<&'t V>
         ensures once { Distinct V.key_of self.now.nodes }
-        ensures seen { Finds V.key_of self.now.nodes key.now result }
+        ensures seen { FindsNode V.key_of self.now.nodes key.now result }
     {
         scan::with_key(self.learnt.as_slice(), key)
     }
 
     pub(crate) fn same(&self, value: &V) -> Option<&'t V>
-        ensures { Finds V.key_of self.now.nodes (V.key_of value.now) result }
+        ensures { FindsNode V.key_of self.now.nodes (V.key_of value.now) result }
     {
         scan::with_key_of(self.learnt.as_slice(), value)
     }

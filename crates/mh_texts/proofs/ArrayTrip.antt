@@ -106,9 +106,9 @@ listed_trip classes c sound [] each typed = refl
 listed_trip classes c sound (item ∷ items) each typed =
     let first : List ℕ = item_text classes item in
     let joined : items_text classes (item ∷ items) ≡ first ++ flat_map (λ u. 44 ∷ u) (map (item_text classes) items) =
-        ap (λ r. first ++ r) (joined_items classes items) in
+    ap (λ r. first ++ r) (joined_items classes items) in
     let some : 0 < length (first ++ flat_map (λ u. 44 ∷ u) (map (item_text classes) items)) =
-        omega (arith, item_some classes item, length-append first (flat_map (λ u. 44 ∷ u) (map (item_text classes) items))) in
+    omega (arith, item_some classes item, length-append first (flat_map (λ u. 44 ∷ u) (map (item_text classes) items))) in
     ap (listed classes c) joined
     ∙ listed_some classes c (first ++ flat_map (λ u. 44 ∷ u) (map (item_text classes) items)) some
     ∙ ap (items_of classes c) (split_joined first (map (item_text classes) items) (no_comma_in_item classes item each.0) (texts_lack classes items each.1))

@@ -50,7 +50,7 @@ named_type classes c sound is =
     ap (λ o. unless_bad o (type_meant classes 0 (76 ∷ (name ++ 59 ∷ [])))) good
     ∙ ap (λ n. found_then (class_meant classes 1 n) (λ d. Ok (item_type d))) inner
     ∙ ap (λ o. found_then (option_map_or (λ d. Ok (comp.Class d)) o (Err (descriptor.NoClass 1 (length name)))) (λ d. Ok (item_type d)))
-        (sound.ordered.distinct c is.listed)
+    (sound.ordered.distinct c is.listed)
 
 pub component_trip : (classes : List Class) (c : Comp) → AreClasses classes → IsWritableComponent classes c →
     component_of (type_desc classes (component_text classes c)) ≡ Some c

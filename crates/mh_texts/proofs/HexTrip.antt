@@ -64,7 +64,7 @@ onto-short m zero n acc small = omega arith
 onto-short zero (suc k) n acc small =
     let none : (n / 16 == 0) ≡ true = eq-eqb (n / 16) 0 (omega arith) in
     subst (λ t. length (if t then digit_glyph false (n % 16) ∷ acc else digits_onto k 16 false (n / 16) (digit_glyph false (n % 16) ∷ acc)) ≤ 1 + length acc)
-        (sym none) (omega arith)
+    (sym none) (omega arith)
 onto-short (suc m) (suc k) n acc small =
     let low : n / 16 < limit m = omega arith in
     let more = onto-short m k (n / 16) (digit_glyph false (n % 16) ∷ acc) low in
@@ -86,7 +86,7 @@ hex_read (d ∷ ds) count n rest hex few low =
     let m : ℕ = n * 16 + digit_value d in
     let same : 16 * n + digit_value d ≡ m = omega arith in
     let within : (nat_lt count 6 && nat_le (16 * n + digit_value d) 0x10FFFF) ≡ true =
-        and_from _ _ (lt-ltb count 6 (omega arith)) (le-leb (16 * n + digit_value d) 0x10FFFF (omega (arith, le_after m ds))) in
+    and_from _ _ (lt-ltb count 6 (omega arith)) (le-leb (16 * n + digit_value d) 0x10FFFF (omega (arith, le_after m ds))) in
     let one : step (escape.Digits count n) d ≡ goes_on (escape.Digits (count + 1) m) =
     ap (λ t. if t then (if nat_lt 0 count then option_and_then whole (scalar n) else None) else option_and_then (one_digit_more count n) (hex_value d)) hex.0.1
     ∙ ap (option_and_then (one_digit_more count n)) hex.0.0

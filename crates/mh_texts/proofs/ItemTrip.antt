@@ -36,7 +36,7 @@ object_trip classes c k sound is own small =
     let found = class_found classes c sound is in
     ap (object_of classes) (number_parts classes (name_text classes c) k)
     ∙ ap (option_and_then (λ parts. option_and_then (λ d. option_and_then (λ n. if_object classes n d) (unsigned_of parts.1)) (class_named classes parts.0)))
-        (cut_found 35 (name_text classes c) (decimal k) (lacks_number classes c is))
+    (cut_found 35 (name_text classes c) (decimal k) (lacks_number classes c is))
     ∙ ap (option_and_then (λ d. option_and_then (λ n. if_object classes n d) (unsigned_of (decimal k)))) found
     ∙ ap (option_and_then (λ n. if_object classes n c)) (unsigned_trip k small)
     ∙ ap (λ t. if t then None else Some (cell.Object c k)) own
@@ -107,8 +107,13 @@ no_comma_in_item classes (cell.Boxed (num.Z b)) is = (refl, (refl, no_comma_in_b
 no_comma_in_item classes (cell.Boxed (num.I n)) is = (refl, (refl, no_comma_in_signed n (int_long n is)))
 no_comma_in_item classes (cell.Boxed (num.J n)) is = (refl, (refl, no_comma_in_signed n is))
 no_comma_in_item classes (cell.Text s) is = (refl, (refl, no_comma_in_text s))
-no_comma_in_item classes (cell.Object c k) is =
-    (refl, (refl, Lacks-append 44 (name_text classes c ++ codes "#") (decimal k) (Lacks-append 44 (name_text classes c) (codes "#")
-        (no_comma_in_name classes c is.0) (refl, tt)) (no_comma_in_decimal k (omega (arith, is.2)))))
+no_comma_in_item classes (cell.Object c k) is = (
+  refl,
+  (
+    refl,
+    Lacks-append 44 (name_text classes c ++ codes "#") (decimal k) (Lacks-append 44 (name_text classes c) (codes "#")
+        (no_comma_in_name classes c is.0) (refl, tt)) (no_comma_in_decimal k (omega (arith, is.2))),
+  ),
+)
 no_comma_in_item classes (cell.Thrown e) is = (refl, (refl, no_comma_in_name classes e.class is.0))
 no_comma_in_item classes cell.Null is = (refl, (refl, (refl, (refl, tt))))

@@ -26,7 +26,7 @@ first_place : (byte : ℕ) (front rest : List ℕ) → Lacks byte front → posi
 first_place byte [] rest lacks = ap (λ t. cond (not t) (1 + position_or_len (λ b. b == byte) rest) 0) (eq-eqb byte byte refl)
 first_place byte (b ∷ front) rest lacks =
     ap (λ t. cond (not t) (1 + position_or_len (λ x. x == byte) (front ++ byte ∷ rest)) 0) lacks.0 ∙ ap (λ n. 1 + n) (first_place byte front rest lacks.1) ∙
-        omega arith
+    omega arith
 
 pub front_of : (xs ys : List ℕ) → take (length xs) (xs ++ ys) ≡ xs
 front_of [] ys = refl

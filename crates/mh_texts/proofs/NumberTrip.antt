@@ -36,7 +36,7 @@ signed_value (pos n) long =
     let small : n < 2 ^ 63 = ltb-true n (2 ^ 63) long in
     let k = decimal_is_IsNumeral n (omega arith) in
     ap (λ t. cond t (neg_ℤ (pos (digits_value 10 (cond t (drop 1 (decimal n)) (without_leading_plus (decimal n))))))
-        (pos (digits_value 10 (cond t (drop 1 (decimal n)) (without_leading_plus (decimal n)))))) (no_sign (decimal n) 45 (lit< tt) k.0.0 k.0.1)
+    (pos (digits_value 10 (cond t (drop 1 (decimal n)) (without_leading_plus (decimal n)))))) (no_sign (decimal n) 45 (lit< tt) k.0.0 k.0.1)
     ∙ ap pos (unsigned_value n (omega arith))
 signed_value (negsuc n) long =
     let small : n < 2 ^ 63 = ltb-true n (2 ^ 63) long in
@@ -45,7 +45,7 @@ signed_value (negsuc n) long =
 pub long_trip : (z : ℤ) → is_long z ≡ true → long_of (signed_decimal z) ≡ Some z
 long_trip z long =
     ap (λ m. if is_long m && (bytes_eq (signed_decimal m) (signed_decimal z) || bytes_eq (codes "-0") (signed_decimal z)) then Some m else None)
-        (signed_value z long)
+    (signed_value z long)
     ∙ ap (λ t. if t then Some z else None) (and_from _ _ long (or_left _ _ (same (signed_decimal z))))
 
 pub int_long : (z : ℤ) → is_int z ≡ true → is_long z ≡ true

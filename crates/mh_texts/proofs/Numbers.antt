@@ -94,6 +94,6 @@ pub unsigned_of-read : (text : List ℕ) (n : ℕ) (b : Bool) → digits_value 1
 unsigned_of-read text n b small is test =
     let fits : nat_lt (digits_value 10 (without_leading_plus text)) (2 ^ 32) ≡ true = lt-ltb _ _ small in
     ap (λ t. if t && bytes_eq (decimal (digits_value 10 (without_leading_plus text))) text then Some (digits_value 10 (without_leading_plus text)) else None)
-        fits
+    fits
     ∙ ap (λ m. if bytes_eq (decimal m) text then Some m else None) (sym is)
     ∙ ap (λ t. if t then Some n else None) (sym test)

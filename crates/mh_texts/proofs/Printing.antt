@@ -21,8 +21,12 @@ printed_array : shown_value builtin_classes (value.Array (comp.Class object_clas
 unfolding digits
 printed_array = refl
 
-printed_exception : shown_exception builtin_classes (record { class = throwable_class; message = codes "/ by"; cause =
-    Some (record { class = class_at 12; message = [] }) }) ≡ codes "java/lang/Throwable s:/\\sby cause java/lang/Error s:"
+printed_exception : shown_exception builtin_classes (record {
+  class = throwable_class;
+  message = codes "/ by";
+  cause =
+      Some (record { class = class_at 12; message = [] });
+}) ≡ codes "java/lang/Throwable s:/\\sby cause java/lang/Error s:"
 printed_exception = refl
 
 printed_type : shown_type builtin_classes (record { params = ty.Prim primitive.Z ∷ ty.Array (comp.Class string_class) ∷ []; ret = None }) ≡ codes

@@ -27,7 +27,7 @@ unclosed_trip : (inside : List ℕ) → unclosed (inside ++ 93 ∷ []) ≡ Some 
 unclosed_trip inside =
     let long : length (inside ++ 93 ∷ []) - 1 ≡ length inside = omega (arith, length-append inside (93 ∷ [])) in
     let last : bytes_eq (drop (length (inside ++ 93 ∷ []) - 1) (inside ++ 93 ∷ [])) (93 ∷ []) ≡ true =
-        ap (λ n. bytes_eq (drop n (inside ++ 93 ∷ [])) (93 ∷ [])) long ∙ ap (λ r. bytes_eq r (93 ∷ [])) (drop_front inside (93 ∷ [])) in
+    ap (λ n. bytes_eq (drop n (inside ++ 93 ∷ [])) (93 ∷ [])) long ∙ ap (λ r. bytes_eq r (93 ∷ [])) (drop_front inside (93 ∷ [])) in
     ap (λ t. if t then Some (take (length (inside ++ 93 ∷ []) - 1) (inside ++ 93 ∷ [])) else None) last
     ∙ ap (λ n. Some (take n (inside ++ 93 ∷ []))) long ∙ ap Some (front_of inside (93 ∷ []))
 
@@ -40,10 +40,10 @@ array_trip classes c items sound is =
     let few : nat_le (length (map bare_item items)) 254 ≡ true = le-leb _ _ (subst (λ n. n ≤ 254) (sym (length-map items bare_item)) is.few) in
     ap (array_of_literal classes) (array_parts (component_text classes c) (items_text classes items))
     ∙ ap (option_and_then (λ parts. option_and_then (λ d. option_and_then (λ inside. option_and_then (if_few d) (listed classes d inside)) (unclosed parts.1))
-        (component_of (type_desc classes parts.0)))) (cut_found 91 (component_text classes c) (items_text classes items ++ 93 ∷ [])
-        (no_bracket classes c is.component))
+    (component_of (type_desc classes parts.0)))) (cut_found 91 (component_text classes c) (items_text classes items ++ 93 ∷ [])
+    (no_bracket classes c is.component))
     ∙ ap (option_and_then (λ d. option_and_then (λ inside. option_and_then (if_few d) (listed classes d inside))
-        (unclosed (items_text classes items ++ 93 ∷ [])))) (component_trip classes c sound is.component)
+    (unclosed (items_text classes items ++ 93 ∷ [])))) (component_trip classes c sound is.component)
     ∙ ap (option_and_then (λ inside. option_and_then (if_few c) (listed classes c inside))) (unclosed_trip (items_text classes items))
     ∙ ap (option_and_then (if_few c)) (listed_trip classes c sound items is.each is.typed)
     ∙ ap (λ t. if t then Some (value.Array c (map bare_item items)) else None) few
@@ -70,4 +70,4 @@ pub round_trip : (classes : List Class) → AreClasses classes → (v : Value) �
     literal_of classes (shown_value classes v) ≡ Some (bare_value v)
 round_trip classes sound v is uncut =
     ap (λ t. literal_of classes (if t then value_text classes v else take 1024 (value_text classes v) ++ codes "...")) (le-leb _ _ uncut) ∙
-        value_trip classes sound v is
+    value_trip classes sound v is

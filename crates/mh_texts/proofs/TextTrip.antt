@@ -49,7 +49,7 @@ by_itself : (rest : List ℕ) (c : ℕ) → (c == 92) ≡ false → is_graphic c
     (characters_from escape.Outside rest)
 by_itself rest c other graphic =
     ap (option_and_then (rest_of rest)) (ap (λ t. if t then goes_on escape.Backslash else (if is_graphic c then whole c else None)) other ∙
-        ap (λ t. if t then whole c else None) graphic)
+    ap (λ t. if t then whole c else None) graphic)
 
 -- one of the four characters that have an escape of their own
 by_escape : (rest : List ℕ) (d : ℕ) (c : ℕ) → (c == d) ≡ true → reads_back rest d → reads_back rest c

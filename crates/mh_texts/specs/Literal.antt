@@ -100,7 +100,7 @@ abbrev pub items_of : List Class → Comp → List (List ℕ) → Option (List C
 items_of classes component [] = Some []
 items_of classes component (text ∷ texts) =
     option_and_then (λ item. option_map (λ items. item ∷ items) (items_of classes component texts)) (option_and_then (if_item classes component)
-        (item_of classes text))
+    (item_of classes text))
 
 -- the items between the brackets; commas separate them
 abbrev pub listed : List Class → Comp → List ℕ → Option (List Cell)
@@ -121,7 +121,7 @@ array_of_literal classes text =
     option_and_then (λ parts.
     option_and_then (λ component.
     option_and_then (λ inside. option_and_then (if_few component) (listed classes component inside)) (unclosed parts.1))
-        (component_of (type_desc classes parts.0))) (cut_at 91 text)
+    (component_of (type_desc classes parts.0))) (cut_at 91 text)
 
 -- ---- values
 

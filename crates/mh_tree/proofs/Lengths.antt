@@ -1,21 +1,18 @@
 -- Lists of different lengths do not agree place by place.
 use Rattle.std.proofs.Common.{◌≡◌, refl, ap, ◌∙◌, suc, Bool, true, false, ◌&&◌, ℕ, List, [], ◌∷◌, length, Some}
 use Rattle.std.specs.Prelude.{slice_get}
+use Rattle.std.proofs.lemmas.Bool.{and_right}
 use Rattle.mh_values.specs.declared.class.Class.{Class}
 use Rattle.mh_values.specs.declared.types.Ty.{Ty}
 use Rattle.mh_values.specs.Same.{is_same_return}
 use Rattle.mh_convert.specs.Conversion.{can}
 use Rattle.mh_tree.specs.Rows.{can_all, names_types}
 
-and_false : (b : Bool) → (b && false) ≡ false
-and_false true = refl
-and_false false = refl
-
 pub can_all-lengths : (classes : List Class) (ss ts : List Ty) → (length ss ≡ length ts → ⊥) → can_all classes ss ts ≡ false
 can_all-lengths classes [] [] h = absurd (h refl)
 can_all-lengths classes [] (t ∷ ts) h = refl
 can_all-lengths classes (s ∷ ss) [] h = refl
-can_all-lengths classes (s ∷ ss) (t ∷ ts) h = ap (λ b. can classes s t && b) (can_all-lengths classes ss ts (λ e. h (ap suc e))) ∙ and_false (can classes s t)
+can_all-lengths classes (s ∷ ss) (t ∷ ts) h = ap (λ b. can classes s t && b) (can_all-lengths classes ss ts (λ e. h (ap suc e))) ∙ and_right (can classes s t) false refl
 
 pub names_types-lengths : (params : List Ty) (reorder : List ℕ) (types : List Ty) → (length reorder ≡ length types → ⊥) →
     names_types params reorder types ≡ false
@@ -24,4 +21,4 @@ names_types-lengths params [] (t ∷ ts) h = refl
 names_types-lengths params (i ∷ is) [] h = refl
 names_types-lengths params (i ∷ is) (t ∷ ts) h =
     ap (λ b. is_same_return (slice_get params i) (Some t) && b) (names_types-lengths params is ts (λ e. h (ap suc e)))
-    ∙ and_false (is_same_return (slice_get params i) (Some t))
+    ∙ and_right (is_same_return (slice_get params i) (Some t)) false refl

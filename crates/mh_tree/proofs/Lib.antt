@@ -7,6 +7,7 @@ pub mod Provided
 pub mod Registered
 pub mod Returning
 pub mod RowParts
+pub mod RowPartsAdapters
 pub mod SoundAdapters
 pub mod SoundBranches
 pub mod SoundConversions

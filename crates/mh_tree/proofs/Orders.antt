@@ -14,7 +14,7 @@ use Rattle.mh_tree.specs.Tree as tree
 use Rattle.mh_tree.specs.Typing.{arity}
 use Rattle.mh_tree.specs.Meaning.{mean, picked}
 
--- the item at a place, and then those behind it
+-- the item at a place, and then those after it
 opened : {A : Type 0} → (xs : List A) (a : ℕ) → drop a xs ≡ option_to_list (slice_get xs a) ++ drop (suc a) xs
 opened [] zero = refl
 opened [] (suc a) = refl
@@ -32,7 +32,7 @@ nothing : {A : Type 0} → (n : ℕ) → take {A = A} n [] ≡ []
 nothing zero = refl
 nothing (suc n) = refl
 
--- one item, if it is there, and as many as are wanted behind it
+-- one item, if it is there, and as many as are wanted after it
 one-more : {A : Type 0} → (o : Option A) (xs : List A) (n a : ℕ) → slice_get xs a ≡ o → option_to_list o ++ take n (drop (suc a) xs) ≡ take (suc n) (drop a xs)
 one-more (Some x) xs n a is = ap (take (suc n)) (ap (λ o. option_to_list o ++ drop (suc a) xs) (sym is) ∙ sym (opened xs a))
 one-more {A} None xs n a is =
@@ -69,10 +69,10 @@ spliced-back place put xs low =
     let rest = drop (place + 0) xs in
     let e : length front ≡ place = length-take-le place xs low in
     let before : take place (front ++ (put ++ rest)) ≡ front = subst (λ m. take m (front ++ (put ++ rest)) ≡ front) e (take-append_seam front (put ++ rest)) in
-    let behind : drop (place + length put) (front ++ (put ++ rest)) ≡ rest =
+    let after : drop (place + length put) (front ++ (put ++ rest)) ≡ rest =
     subst (λ m. drop (m + length put) (front ++ (put ++ rest)) ≡ rest) e (drop-append-add front (put ++ rest) (length put) ∙ drop-append_seam put rest) in
     let same : place + 0 ≡ place = omega arith in
-    ap₂ (λ ys zs. ys ++ zs) before behind ∙ (ap (λ m. front ++ drop m xs) same ∙ take-append-drop place xs)
+    ap₂ (λ ys zs. ys ++ zs) before after ∙ (ap (λ m. front ++ drop m xs) same ∙ take-append-drop place xs)
 
 -- the order that passes each argument to its own place, and any of them to the parameters that a Drop put in
 abbrev pub back_order : ℕ → List ℕ → ℕ → List ℕ

@@ -2,10 +2,10 @@
 use Rattle.std.proofs.Common.{◌≡◌, refl, ℕ, zero, suc, subst, true, List, [], ◌∷◌, Some}
 use Rattle.std.specs.Prelude.{slice_get, All}
 use Rattle.std.proofs.lemmas.List.Elements.{All-head, All-tail}
+use Rattle.std.proofs.lemmas.Bool.{and_from}
 use Rattle.mh_values.specs.declared.class.Class.{Class}
 use Rattle.mh_values.specs.Class.{throwable_class}
 use Rattle.mh_values.specs.Classes.{AreClasses}
-use Rattle.mh_values.proofs.SameTypes.{both-true}
 use Rattle.mh_values.proofs.Subclasses.{is_subclass-complete}
 use Rattle.mh_leaf.specs.declared.leaf.Kind.{Kind}
 use Rattle.mh_leaf.specs.declared.leaf.Kind.TheVariants as kind
@@ -25,7 +25,7 @@ each classes are [] all l leaf is = absurd cc
 each classes are (first ∷ leaves) all zero leaf is =
     let here = All-head (IsLeafOf classes) first leaves all in
     let e : first ≡ leaf = cc in
-    subst (λ x. is_well_typed classes x ≡ true) e (both-true _ _ here.typed (throws classes are first.kind here.throws))
+    subst (λ x. is_well_typed classes x ≡ true) e (and_from _ _ here.typed (throws classes are first.kind here.throws))
 each classes are (first ∷ leaves) all (suc l) leaf is = each classes are leaves (All-tail (IsLeafOf classes) first leaves all) l leaf is
 
 pub registered-well_typed : (table : LeafTable) → AreClasses table.classes → AreRegistered table → IsWellTyped table

@@ -136,10 +136,10 @@ fold-sound classes body part t weight place c c_weight u sound part-sound typed 
     let taken = gives_at-taken c.ret place t.params q.0 in
     let have' : HaveTypes classes args (folded t place c) = subst (λ (m : MethodTy). HaveTypes classes args m.params) q.2 have in
     let rest = begins_with-rest (drop place (folded t place c)) c.params q.1 in
-    let behind : HaveTypes classes (drop place args) (c.params ++ rest.0) =
+    let after : HaveTypes classes (drop place args) (c.params ++ rest.0) =
         subst (HaveTypes classes (drop place args)) rest.1 (types-drop classes args (folded t place c) place have') in
     let run : Option Value → ℕ → Done = λ r k. body (spliced place 0 (option_to_list r) args) k in
-    let first = part-sound (part_of place (length c.params) args) n (types-front classes (drop place args) c.params rest.0 behind) in
+    let first = part-sound (part_of place (length c.params) args) n (types-front classes (drop place args) c.params rest.0 after) in
     let done = returns-then classes (part (part_of place (length c.params) args) n) c.ret t.ret n run first (λ r k given.
     sound (spliced place 0 (option_to_list r) args) k
     (types-splice classes args (option_to_list r) t.params [] place (count_of c.ret) low have' (subst (HaveTypes classes (option_to_list r)) (sym taken)

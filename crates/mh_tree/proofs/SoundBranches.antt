@@ -1,6 +1,7 @@
 -- Branches end as their types say, where their parts do.
 use Rattle.std.proofs.Common.{◌≡◌, sym, subst, ℕ, ◌-◌, true, false, Bool, List, [], ◌∷◌, take, length, Option, Some, None, Ok, arith}
 use Rattle.std.specs.Prelude.{option_to_list}
+use Rattle.std.proofs.lemmas.Bool.{and_parts}
 use Rattle.mh_values.specs.declared.class.Class.{Class}
 use Rattle.mh_values.specs.declared.class.ClassId.{ClassId}
 use Rattle.mh_values.specs.declared.types.Ty.{Ty}
@@ -17,7 +18,7 @@ use Rattle.mh_values.specs.HasType.{HaveTypes, is_type_below}
 use Rattle.mh_values.specs.Returns.{Returns}
 use Rattle.mh_values.specs.Same.{begins_with_types}
 use Rattle.mh_values.proofs.BelowTypes.{value-below}
-use Rattle.mh_values.proofs.SameTypes.{both, same_return-is, same_method_type-is, begins_with-rest}
+use Rattle.mh_values.proofs.SameTypes.{same_return-is, same_method_type-is, begins_with-rest}
 use Rattle.mh_leaf.specs.Outcome.{boolean_type}
 use Rattle.mh_leaf.proofs.ArgumentTypes.{is_boolean}
 use Rattle.mh_tree.specs.Rows.{takes_exception, guard_row, catch_row}
@@ -66,7 +67,7 @@ pub handler-typed : (classes : List Class) → AreClasses classes → (class : C
     HaveTypes classes (value.Thrown e ∷ take (length params - 1) args) params
 handler-typed classes are class [] types args e takes below have = absurd cc
 handler-typed classes are class (first ∷ others) types args e takes below have =
-    let q = both (is_type_below classes (ty.Class class) first) (begins_with_types types others) takes in
+    let q = and_parts (is_type_below classes (ty.Class class) first) (begins_with_types types others) takes in
     let count : length others ≡ length (first ∷ others) - 1 = omega arith in (
       value-below classes are (ty.Class class) first q.0 (value.Thrown e) below,
       subst (λ m. HaveTypes classes (take m args) others) count (first-typed classes args types others q.1 have),

@@ -2,6 +2,7 @@
 use Rattle.std.proofs.Common.{◌≡◌, refl, sym, subst, ℕ, true, false, Bool, cond, List, [], ◌∷◌, Option, Some, None, is_some, Result, Ok, Err}
 use Rattle.std.specs.Prelude.{option_to_list}
 use Rattle.std.specs.Result.{result_map_both}
+use Rattle.std.proofs.lemmas.Bool.{and_parts}
 use Rattle.mh_values.specs.declared.class.Class.{Class}
 use Rattle.mh_values.specs.declared.types.Primitive.TheVariants as primitive
 use Rattle.mh_values.specs.declared.types.Ty.{Ty}
@@ -14,7 +15,6 @@ use Rattle.mh_values.specs.Classes.{AreClasses}
 use Rattle.mh_values.specs.Computation.{Gave, found, and_then}
 use Rattle.mh_values.specs.HasType.{has_type, HaveTypes}
 use Rattle.mh_values.specs.Returns.{Returns}
-use Rattle.mh_values.proofs.SameTypes.{both}
 use Rattle.mh_convert.specs.declared.conv.Conv.{Conv}
 use Rattle.mh_convert.specs.Conversion.{can, conv, default_of, value_conversion, ret_conversion_of, ret_conv}
 use Rattle.mh_convert.proofs.Typed.{conv-typed, conv-throws}
@@ -54,7 +54,7 @@ pub conv_all-converts : (classes : List Class) → AreClasses classes → (ss ts
 conv_all-converts classes are [] [] vs allowed have = tt
 conv_all-converts classes are (s ∷ ss) (t ∷ ts) [] allowed have = absurd have
 conv_all-converts classes are (s ∷ ss) (t ∷ ts) (v ∷ vs) allowed have =
-    let q = both (can classes s t) (can_all classes ss ts) allowed in
+    let q = and_parts (can classes s t) (can_all classes ss ts) allowed in
     in_front classes (conv classes s t v) (conv_all classes ss ts vs) t ts (conv-converts classes are s t v q.0 have.0)
     (conv_all-converts classes are ss ts vs q.1 have.1)
 conv_all-converts classes are [] (t ∷ ts) vs allowed have = absurd cc

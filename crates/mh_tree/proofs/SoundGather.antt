@@ -2,6 +2,7 @@
 use Rattle.std.proofs.Common.{◌≡◌, refl, sym, subst, ℕ, zero, suc, ◌-◌, ◌≤◌, true, List, [], ◌∷◌, take, drop, length, replicate, Option, Some, None, Result, Ok, Err, arith}
 use Rattle.std.specs.Prelude.{slice_get}
 use Rattle.std.proofs.lemmas.List.{length-replicate}
+use Rattle.std.proofs.lemmas.Bool.{and_from}
 use Rattle.mh_values.specs.declared.class.Class.{Class}
 use Rattle.mh_values.specs.declared.types.Comp.{Comp}
 use Rattle.mh_values.specs.declared.types.Comp.TheVariants as comp
@@ -18,7 +19,6 @@ use Rattle.mh_values.specs.Computation.{found, spliced}
 use Rattle.mh_values.specs.HasType.{has_type, HaveTypes, is_type_below, is_item_of, are_items_of}
 use Rattle.mh_values.specs.Returns.{Returns}
 use Rattle.mh_values.proofs.BelowTypes.{component_below-itself, value-below, internal_error-below}
-use Rattle.mh_values.proofs.SameTypes.{both-true}
 use Rattle.mh_tree.specs.Rows.{component_of, takes_array, gather_row}
 use Rattle.mh_tree.specs.Meaning.{Done, or_throw, part_of}
 use Rattle.mh_tree.specs.Sound.{Body, IsSound}
@@ -48,7 +48,7 @@ item-there classes c v typed = absurd cc
 
 more-items : (classes : List Class) (c : Comp) (o : Option Cell) (os : Option (List Cell)) → IsItem classes c o → AreItems classes c os →
     AreItems classes c (item_and_more o os)
-more-items classes c (Some i) (Some items) h k = both-true _ _ h k
+more-items classes c (Some i) (Some items) h k = and_from _ _ h k
 more-items classes c (Some i) None h k = tt
 more-items classes c None os h k = tt
 
@@ -61,7 +61,7 @@ items-there classes c (suc count) (v ∷ vs) have =
 
 array-made : (classes : List Class) → AreClasses classes → (c : Comp) (o : Option (List Cell)) → AreItems classes c o →
     Converts classes (array_or_nested c o) (ty.Array c)
-array-made classes are c (Some items) h = both-true _ _ (component_below-itself classes c) h
+array-made classes are c (Some items) h = and_from _ _ (component_below-itself classes c) h
 array-made classes are c None h = internal_error-below classes are
 
 pub array-converts : (classes : List Class) → AreClasses classes → (c : Comp) (count : ℕ) (vs : List Value) →

@@ -13,7 +13,8 @@ use Rattle.mh_values.specs.Classes.{AreClasses}
 use Rattle.mh_values.specs.Computation.{found}
 use Rattle.mh_values.specs.HasType.{has_type}
 use Rattle.mh_values.specs.Returns.{Returns}
-use Rattle.mh_values.proofs.BelowTypes.{is_subclass-trans, class_cast-below, null_pointer-below}
+use Rattle.mh_values.proofs.BelowTypes.{class_cast-below, null_pointer-below}
+use Rattle.mh_values.proofs.Subclasses.{is_subclass-trans}
 use Rattle.mh_values.proofs.SameTypes.{method_type}
 use Rattle.mh_convert.specs.Conversion.{fit}
 use Rattle.mh_convert.proofs.Typed.{fit-typed}
@@ -47,7 +48,7 @@ identity-sound classes t u typed =
 
 thrown-returns : (classes : List Class) → AreClasses classes → (class : ClassId) → is_subclass classes class throwable_class ≡ true →
     (ret : Option Ty) (v : Value) → has_type classes v (ty.Class class) ≡ true → Returns classes (thrown v) ret
-thrown-returns classes are class below ret (value.Thrown e) h = is_subclass-trans classes are e.class class throwable_class h below
+thrown-returns classes are class below ret (value.Thrown e) h = is_subclass-trans classes are.ordered.ascending e.class class throwable_class h below
 thrown-returns classes are class below ret value.Null h = null_pointer-below classes are
 thrown-returns classes are class below ret v h = class_cast-below classes are
 

@@ -2,7 +2,7 @@
 use Rattle.std.proofs.Common.{◌≡◌, refl, sym, subst, ◌∙◌, ℕ, ◌+◌, ◌-◌, ◌≤◌, ◌==◌, true, false, Bool, cond, List, [], ◌∷◌, ◌++◌, take, drop, length, map, Option, Some, Ok, nat_le, codes, length-take-le, arith}
 use Rattle.std.specs.Prelude.{slice_get}
 use Rattle.std.specs.List.{list_all}
-use Rattle.std.proofs.lemmas.Bool.{eqb-true}
+use Rattle.std.proofs.lemmas.Bool.{eqb-true, and_parts}
 use Rattle.std.proofs.lemmas.List.{length-drop, take_all}
 use Rattle.mh_values.specs.declared.class.Class.{Class}
 use Rattle.mh_values.specs.declared.types.Comp.{Comp}
@@ -21,7 +21,7 @@ use Rattle.mh_values.specs.HasType.{has_type, HaveTypes, is_component_below, is_
 use Rattle.mh_values.specs.Returns.{Returns}
 use Rattle.mh_values.specs.Same.{is_same_type}
 use Rattle.mh_values.proofs.BelowTypes.{item-below, item-typed, null_pointer-below, illegal_argument-below}
-use Rattle.mh_values.proofs.SameTypes.{both, same_type-is}
+use Rattle.mh_values.proofs.SameTypes.{same_type-is}
 use Rattle.mh_tree.specs.Rows.{spread_row}
 use Rattle.mh_tree.specs.Meaning.{Done}
 use Rattle.mh_tree.specs.Sound.{Body, IsSound}
@@ -39,8 +39,8 @@ items-typed classes are c d below [] [] h same e = tt
 items-typed classes are c d below [] (t ∷ types) h same e = absurd (omega (arith, e))
 items-typed classes are c d below (i ∷ items) [] h same e = absurd (omega (arith, e))
 items-typed classes are c d below (i ∷ items) (t ∷ types) h same e =
-    let q = both (is_item_of classes c i) (are_items_of classes c items) h in
-    let r = both (is_same_type t (item_type d)) (list_all (λ t. is_same_type t (item_type d)) types) same in
+    let q = and_parts (is_item_of classes c i) (are_items_of classes c items) h in
+    let r = and_parts (is_same_type t (item_type d)) (list_all (λ t. is_same_type t (item_type d)) types) same in
     let more : length items ≡ length types = omega (arith, e) in (
       subst (λ x. has_type classes (value_of_item i) x ≡ true) (sym (same_type-is t (item_type d) r.0))
           (item-typed classes d i (item-below classes are c d below i q.0)),
@@ -72,7 +72,7 @@ pub spreads : (classes : List Class) → AreClasses classes → (d : Comp) (coun
 spreads classes are d count value.Null types typed same e =
     of_null classes are (count == 0) types (λ zero_count. no_types types (e ∙ eqb-true count 0 zero_count))
 spreads classes are d count (value.Array c items) types typed same e =
-    let q = both (is_component_below classes c d) (are_items_of classes c items) typed in
+    let q = and_parts (is_component_below classes c d) (are_items_of classes c items) typed in
     of_items classes are (length items == count) (map value_of_item items) types (λ of_count.
     items-typed classes are c d q.0 items types q.1 same (eqb-true (length items) count of_count ∙ sym e))
 spreads classes are d count v types typed same e = absurd cc
@@ -101,7 +101,7 @@ pub spread-sound : (classes : List Class) → AreClasses classes → (body : Bod
 spread-sound classes are body t weight array count u sound typed args n have =
     let q = spread_row-parts t weight array count u typed in
     let place = length t.params - count in
-    let last = both (nat_le count (length t.params)) (list_all (λ p. is_same_type p (item_type q.0)) (drop place t.params)) q.2 in
+    let last = and_parts (nat_le count (length t.params)) (list_all (λ p. is_same_type p (item_type q.0)) (drop place t.params)) q.2 in
     let low : place ≤ length t.params = omega arith in
     let within : count ≤ length t.params = at_most count (length t.params) last.0 in
     let have' : HaveTypes classes args (spliced place count (ty.Array q.0 ∷ []) t.params) = subst (λ (m : MethodTy). HaveTypes classes args m.params) q.3 have

@@ -20,7 +20,7 @@ use Rattle.mh_leaf.specs.WellTyped.{IsWellTyped}
 use Rattle.mh_leaf.proofs.Outcomes.{leaf-returns}
 use Rattle.mh_tree.specs.Tree.{Tree, weight}
 use Rattle.mh_tree.specs.Tree as tree
-use Rattle.mh_tree.specs.Rows.{Checked, component_of, leaf_row, bind_row, drop_row, permute_row, filter_row, filterret_row, fold_row, collect_row, spread_row, gather_row, astype_row, guard_row, catch_row}
+use Rattle.mh_tree.specs.Rows.{TypeOrRefusal, component_of, leaf_row, bind_row, drop_row, permute_row, filter_row, filterret_row, fold_row, collect_row, spread_row, gather_row, astype_row, guard_row, catch_row}
 use Rattle.mh_tree.specs.Typing.{with_type, type_of, arity_of}
 use Rattle.mh_tree.specs.Meaning.{mean, known, fitted, or_throw, part_of, conv_all, conv_result, decided, is_caught}
 use Rattle.mh_tree.specs.Sound.{IsSound}
@@ -32,7 +32,7 @@ use Rattle.mh_tree.proofs.SoundGather.{gather-sound}
 use Rattle.mh_tree.proofs.SoundConversions.{astype-sound}
 use Rattle.mh_tree.proofs.SoundBranches.{guard-sound, catch-sound}
 
-same_type : (t u : MethodTy) → ◌≡◌ {A = Checked} (Ok t) (Ok u) → t ≡ u
+same_type : (t u : MethodTy) → ◌≡◌ {A = TypeOrRefusal} (Ok t) (Ok u) → t ≡ u
 same_type t u h = cc
 
 leaf-sound : (table : LeafTable) → IsWellTyped table → (l : LeafId) (o : Option Leaf) (u : MethodTy) → slice_get table.leaves l.0 ≡ o → leaf_row o ≡ Ok u →

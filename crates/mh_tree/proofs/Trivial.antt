@@ -2,6 +2,7 @@
 use Rattle.std.proofs.Common.{◌≡◌, refl, ap, ap₂, ◌∙◌, ℕ, true, false, Bool, cond, ◌&&◌, List, [], ◌∷◌, ◌++◌, append-nil, Option, Some, None, Result, Ok}
 use Rattle.std.specs.Prelude.{option_to_list}
 use Rattle.std.specs.Result.{result_map_both}
+use Rattle.std.proofs.lemmas.Bool.{and_parts}
 use Rattle.mh_values.specs.declared.class.Class.{Class}
 use Rattle.mh_values.specs.declared.types.Ty.{Ty}
 use Rattle.mh_values.specs.declared.types.MethodTy.{MethodTy}
@@ -13,7 +14,6 @@ use Rattle.mh_values.specs.Computation.{Gave, Threw, Stuck, after, and_then, fou
 use Rattle.mh_values.specs.HasType.{HaveTypes}
 use Rattle.mh_values.specs.Returns.{Returns}
 use Rattle.mh_values.proofs.BelowTypes.{type_below-itself, value-below}
-use Rattle.mh_values.proofs.SameTypes.{both}
 use Rattle.mh_convert.specs.declared.conv.Conv.{Conv}
 use Rattle.mh_convert.specs.Conversion.{conv, is_trivial, is_trivial_ret, value_conversion, ret_conv}
 use Rattle.mh_convert.proofs.Typed.{trivial-allowed, trivial-keeps}
@@ -42,7 +42,7 @@ pub trivial-typed : (classes : List Class) → AreClasses classes → (ss ts : L
 trivial-typed classes are [] [] vs same have = have
 trivial-typed classes are (s ∷ ss) (t ∷ ts) [] same have = absurd have
 trivial-typed classes are (s ∷ ss) (t ∷ ts) (v ∷ vs) same have =
-    let q = both (is_trivial classes s t) (are_trivial classes ss ts) same in
+    let q = and_parts (is_trivial classes s t) (are_trivial classes ss ts) same in
     (value-below classes are s t q.0 v have.0, trivial-typed classes are ss ts vs q.1 have.1)
 trivial-typed classes are [] (t ∷ ts) vs same have = absurd cc
 trivial-typed classes are (s ∷ ss) [] vs same have = absurd cc
@@ -54,7 +54,7 @@ trivial-args classes are [] [] [] same have = refl
 trivial-args classes are [] [] (v ∷ vs) same have = absurd have
 trivial-args classes are (s ∷ ss) (t ∷ ts) [] same have = absurd have
 trivial-args classes are (s ∷ ss) (t ∷ ts) (v ∷ vs) same have =
-    let q = both (is_trivial classes s t) (are_trivial classes ss ts) same in
+    let q = and_parts (is_trivial classes s t) (are_trivial classes ss ts) same in
     ap₂ then_others (trivial-keeps classes are s t v q.0 have.0) (trivial-args classes are ss ts vs q.1 have.1)
 trivial-args classes are [] (t ∷ ts) vs same have = absurd cc
 trivial-args classes are (s ∷ ss) [] vs same have = absurd cc
@@ -94,7 +94,7 @@ pub astype-trivial : (table : LeafTable) → IsWellTyped table → (t : Tree) (t
     is_used_trivially table.classes ty asked ≡ true → HaveTypes table.classes args asked.params → mean table (tree.AsType t asked) args n ≡ mean table t args n
 astype-trivial table are t ty asked args n typed same have =
     let classes = table.classes in
-    let q = both (are_trivial classes asked.params ty.params) (is_trivial_ret classes ty.ret asked.ret) same in
+    let q = and_parts (are_trivial classes asked.params ty.params) (is_trivial_ret classes ty.ret asked.ret) same in
     let run : MethodTy → Done = λ own. or_throw (conv_all classes asked.params own.params args) (λ converted. and_then (mean table t converted n) n
         (λ r k. conv_result classes own.ret asked.ret r)) in
     let own : HaveTypes classes args ty.params = trivial-typed classes are.classes asked.params ty.params args q.0 have in
@@ -109,7 +109,7 @@ pub astype-twice : (table : LeafTable) → IsWellTyped table → (t : Tree) (ty 
     is_used_trivially table.classes between asked ≡ true → HaveTypes table.classes args asked.params →
     mean table (tree.AsType (tree.AsType t between) asked) args n ≡ mean table t args n
 astype-twice table are t ty between asked args n typed typed_between same same_again have =
-    let q = both (are_trivial table.classes asked.params between.params) (is_trivial_ret table.classes between.ret asked.ret) same_again in
+    let q = and_parts (are_trivial table.classes asked.params between.params) (is_trivial_ret table.classes between.ret asked.ret) same_again in
     astype-trivial table are (tree.AsType t between) between asked args n typed_between same_again have
     ∙ astype-trivial table are t ty between args n typed same (trivial-typed table.classes are.classes asked.params between.params args q.0 have)
 

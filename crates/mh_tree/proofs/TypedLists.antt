@@ -2,13 +2,14 @@
 use Rattle.std.proofs.Common.{◌≡◌, refl, sym, subst, ap, ◌∙◌, ℕ, zero, suc, ◌+◌, ◌≤◌, true, List, [], ◌∷◌, ◌++◌, take, drop, length, length-take-le, Some, arith}
 use Rattle.std.specs.Prelude.{slice_get, option_to_list}
 use Rattle.std.proofs.lemmas.List.{take-append-drop}
+use Rattle.std.proofs.lemmas.Bool.{and_parts}
 use Rattle.mh_values.specs.declared.class.Class.{Class}
 use Rattle.mh_values.specs.declared.types.Ty.{Ty}
 use Rattle.mh_values.specs.declared.value.Value.{Value}
 use Rattle.mh_values.specs.Computation.{spliced}
 use Rattle.mh_values.specs.HasType.{has_type, HaveTypes}
 use Rattle.mh_values.specs.Same.{is_same_return}
-use Rattle.mh_values.proofs.SameTypes.{both, same_return-is}
+use Rattle.mh_values.proofs.SameTypes.{same_return-is}
 use Rattle.mh_tree.specs.Meaning.{picked}
 use Rattle.mh_tree.specs.Rows.{names_types}
 
@@ -58,7 +59,7 @@ types-picked classes args params [] [] h named = tt
 types-picked classes args params [] (t ∷ types) h named = absurd cc
 types-picked classes args params (i ∷ reorder) [] h named = absurd cc
 types-picked classes args params (i ∷ reorder) (t ∷ types) h named =
-    let q = both (is_same_return (slice_get params i) (Some t)) (names_types params reorder types) named in
+    let q = and_parts (is_same_return (slice_get params i) (Some t)) (names_types params reorder types) named in
     let v = types-get classes args params i t h (same_return-is (slice_get params i) (Some t) q.0) in
     types-join classes (option_to_list (slice_get args i)) (picked args reorder) (t ∷ []) types
     (subst (λ o. HaveTypes classes (option_to_list o) (t ∷ [])) (sym v.1) (v.2, tt)) (types-picked classes args params reorder types h q.1)

@@ -3,10 +3,10 @@ use Rattle.std.specs.Prelude.{◌≡◌, Result, Ok, Err}
 use Rattle.mh_values.specs.declared.types.MethodTy.{MethodTy}
 use Rattle.mh_tree.specs.declared.error.CheckError.{CheckError}
 use Rattle.mh_tree.specs.declared.error.CheckError.TheVariants as check
-use Rattle.mh_tree.specs.Rows.{Checked}
+use Rattle.mh_tree.specs.Rows.{TypeOrRefusal}
 
 -- the very type, or the very refusal; want of memory tells nothing
-abbrev pub Tells : Result MethodTy CheckError → Checked → Type 0
+abbrev pub Tells : Result MethodTy CheckError → TypeOrRefusal → Type 0
 Tells (Ok t) row = row ≡ Ok t
 Tells (Err (check.Refused e)) row = row ≡ Err e
 Tells (Err check.NoMemory) row = Unit {0}

@@ -18,7 +18,7 @@ use Rattle.mh_leaf.specs.LeafTable.{LeafTable}
 use Rattle.mh_leaf.specs.Outcome.{leaf_mean}
 use Rattle.mh_tree.specs.Tree.{Tree}
 use Rattle.mh_tree.specs.Tree as tree
-use Rattle.mh_tree.specs.Rows.{Checked, component_of, mismatch}
+use Rattle.mh_tree.specs.Rows.{TypeOrRefusal, component_of, mismatch}
 use Rattle.mh_tree.specs.Typing.{type_of, arity}
 
 -- how a call of a tree ends, nothing being returned where its return type is void
@@ -26,7 +26,7 @@ abbrev pub Done : Type 0
 Done = Ran (Option Value)
 
 -- goes on with a type that is known
-abbrev pub known : {A : Type 0} → Checked → (MethodTy → Ran A) → Ran A
+abbrev pub known : {A : Type 0} → TypeOrRefusal → (MethodTy → Ran A) → Ran A
 known (Ok t) next = next t
 known (Err e) next = Stuck
 
@@ -59,7 +59,7 @@ picked xs (i ∷ places) = option_to_list (slice_get xs i) ++ picked xs places
 abbrev pub part_of : {A : Type 0} → ℕ → ℕ → List A → List A
 part_of place count args = take count (drop place args)
 
--- a value in front of values, where none throws
+-- a value before values, where none throws
 abbrev pub value_and_more : Value → Result (List Value) Exc → Result (List Value) Exc
 value_and_more v (Ok vs) = Ok (v ∷ vs)
 value_and_more v (Err e) = Err e
@@ -134,7 +134,7 @@ abbrev pub exact : LeafTable → Tree → MethodTy → List Value → ℕ → Do
 exact table t asked args n = known (type_of table t) (λ ty. exact_at table t ty asked args n)
 
 -- a call of what may have no type
-abbrev pub unless_refused : Checked → Done → Done
+abbrev pub unless_refused : TypeOrRefusal → Done → Done
 unless_refused (Ok t) run = run
 unless_refused (Err e) run = Threw e []
 

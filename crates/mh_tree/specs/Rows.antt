@@ -22,30 +22,30 @@ use Rattle.mh_leaf.specs.declared.leaf.Leaf.{Leaf}
 use Rattle.mh_leaf.specs.Outcome.{boolean_type}
 
 -- a type, or the exception of a refusal
-abbrev pub Checked : Type 0
-Checked = Result MethodTy Exc
+abbrev pub TypeOrRefusal : Type 0
+TypeOrRefusal = Result MethodTy Exc
 
 -- an IllegalArgumentException with a word as its message
 abbrev pub illegal : List ℕ → Exc
 illegal word = saying illegal_argument_class word
 
 -- goes on where the condition holds, and is refused where it does not
-abbrev pub provided : Bool → Exc → Checked → Checked
+abbrev pub provided : Bool → Exc → TypeOrRefusal → TypeOrRefusal
 provided true e next = next
 provided false e next = Err e
 
 -- goes on with what is there, and is refused where nothing is
-abbrev pub provided_some : {A : Type 0} → Option A → Exc → (A → Checked) → Checked
+abbrev pub provided_some : {A : Type 0} → Option A → Exc → (A → TypeOrRefusal) → TypeOrRefusal
 provided_some (Some a) e next = next a
 provided_some None e next = Err e
 
 -- goes on where the value fits, and is refused with the fit's exception under the combinator's word where it does not
-abbrev pub provided_fit : Result Value Exc → List ℕ → Checked → Checked
+abbrev pub provided_fit : Result Value Exc → List ℕ → TypeOrRefusal → TypeOrRefusal
 provided_fit (Ok v) word next = next
 provided_fit (Err e) word next = Err (with_message word e)
 
 -- a type within the limits: at most 254 slots, and a weight of at most 256
-abbrev pub limited : List ℕ → ℕ → MethodTy → Checked
+abbrev pub limited : List ℕ → ℕ → MethodTy → TypeOrRefusal
 limited word weight t =
     provided (nat_le (slots_of_all t.params) 254) (illegal word)
     (provided (nat_le weight 256) (saying internal_error_class (codes "weight")) (Ok t))
@@ -58,7 +58,7 @@ taking params t = record { params = params; ret = t.ret }
 abbrev pub count_of : Option Ty → ℕ
 count_of ret = length (option_to_list ret)
 
--- the result of a part serves as the parameter at a place; a void part may stand in front of any parameter and behind the last
+-- the result of a part serves as the parameter at a place; a void part may stand before any parameter and after the last
 abbrev pub gives_at : Option Ty → ℕ → List Ty → Bool
 gives_at None place params = nat_le place (length params)
 gives_at (Some r) place params = is_same_return (slice_get params place) (Some r)
@@ -74,35 +74,35 @@ takes_array classes c None = false
 takes_array classes c (Some t) = is_type_below classes (ty.Array c) t
 
 -- a leaf has the type with which it is registered
-abbrev pub leaf_row : Option Leaf → Checked
+abbrev pub leaf_row : Option Leaf → TypeOrRefusal
 leaf_row (Some leaf) = Ok leaf.ty
 leaf_row None = Err (bare illegal_argument_class)
 
 -- a constant takes nothing and gives a value that fits its type, which is not void
-abbrev pub constant_row : List Class → Option Ty → Value → Checked
+abbrev pub constant_row : List Class → Option Ty → Value → TypeOrRefusal
 constant_row classes t v =
     provided_some t (illegal (codes "constant")) (λ r.
     provided_fit (fit classes v r) (codes "constant") (limited (codes "constant") 1 (record { params = []; ret = Some r })))
 
 -- an identity takes a value and gives it, so its type is not void
-abbrev pub identity_row : Option Ty → Checked
+abbrev pub identity_row : Option Ty → TypeOrRefusal
 identity_row t =
     provided_some t (illegal (codes "identity")) (λ r. limited (codes "identity") 1 (record { params = r ∷ []; ret = Some r }))
 
 -- what throws takes an exception, of a class at or below Throwable, and may have any return type
-abbrev pub throw_row : List Class → Option Ty → ClassId → Checked
+abbrev pub throw_row : List Class → Option Ty → ClassId → TypeOrRefusal
 throw_row classes ret class =
     provided (is_subclass classes class throwable_class) (illegal (codes "throw"))
     (limited (codes "throw") 1 (record { params = ty.Class class ∷ []; ret = ret }))
 
 -- Bind takes out a parameter, which the value fits
-abbrev pub bind_row : List Class → MethodTy → ℕ → ℕ → Value → Checked
+abbrev pub bind_row : List Class → MethodTy → ℕ → ℕ → Value → TypeOrRefusal
 bind_row classes t weight place v =
     provided_some (slice_get t.params place) (illegal (codes "bind")) (λ p.
     provided_fit (fit classes v p) (codes "bind") (limited (codes "bind") (1 + weight) (taking (spliced place 1 [] t.params) t)))
 
 -- Drop puts in parameters
-abbrev pub drop_row : MethodTy → ℕ → ℕ → List Ty → Checked
+abbrev pub drop_row : MethodTy → ℕ → ℕ → List Ty → TypeOrRefusal
 drop_row t weight place types =
     provided (nat_le place (length t.params)) (illegal (codes "drop"))
     (limited (codes "drop") (1 + weight) (taking (spliced place 0 types t.params) t))
@@ -114,19 +114,19 @@ names_types params (i ∷ reorder) (t ∷ types) = is_same_return (slice_get par
 names_types params _ _ = false
 
 -- Permute has the type that is asked for, whose named parameters are those of the part
-abbrev pub permute_row : MethodTy → ℕ → MethodTy → List ℕ → Checked
+abbrev pub permute_row : MethodTy → ℕ → MethodTy → List ℕ → TypeOrRefusal
 permute_row t weight asked reorder =
     provided (names_types asked.params reorder t.params && is_same_return asked.ret t.ret) (illegal (codes "permute"))
     (limited (codes "permute") (1 + weight) asked)
 
 -- FilterArg takes what the filter takes, in the place of the parameter for which the filter gives a value
-abbrev pub filter_row : MethodTy → ℕ → ℕ → MethodTy → ℕ → Checked
+abbrev pub filter_row : MethodTy → ℕ → ℕ → MethodTy → ℕ → TypeOrRefusal
 filter_row t weight place f f_weight =
     provided (length f.params == 1 && is_some f.ret && gives_at f.ret place t.params) (illegal (codes "filter"))
     (limited (codes "filter") (1 + weight + f_weight) (taking (spliced place 1 f.params t.params) t))
 
 -- FilterRet returns what the filter makes of the result, if there is one
-abbrev pub filterret_row : MethodTy → ℕ → MethodTy → ℕ → Checked
+abbrev pub filterret_row : MethodTy → ℕ → MethodTy → ℕ → TypeOrRefusal
 filterret_row t weight f f_weight =
     provided (are_same_types f.params (option_to_list t.ret)) (illegal (codes "filterret"))
     (limited (codes "filterret") (1 + weight + f_weight) (record { params = t.params; ret = f.ret }))
@@ -136,13 +136,13 @@ abbrev pub folded : MethodTy → ℕ → MethodTy → List Ty
 folded t place c = spliced place (count_of c.ret) [] t.params
 
 -- Fold takes out the parameter that the combiner computes of those that follow
-abbrev pub fold_row : MethodTy → ℕ → ℕ → MethodTy → ℕ → Checked
+abbrev pub fold_row : MethodTy → ℕ → ℕ → MethodTy → ℕ → TypeOrRefusal
 fold_row t weight place c c_weight =
     provided (gives_at c.ret place t.params && begins_with_types (drop place (folded t place c)) c.params) (illegal (codes "fold"))
     (limited (codes "fold") (1 + weight + c_weight) (taking (folded t place c) t))
 
 -- Collect takes what the filter takes, in the place of the parameter for which the filter gives a value, if it gives one
-abbrev pub collect_row : MethodTy → ℕ → ℕ → MethodTy → ℕ → Checked
+abbrev pub collect_row : MethodTy → ℕ → ℕ → MethodTy → ℕ → TypeOrRefusal
 collect_row t weight place f f_weight =
     provided (gives_at f.ret place t.params) (illegal (codes "collect"))
     (limited (codes "collect") (1 + weight + f_weight) (taking (spliced place (count_of f.ret) f.params t.params) t))
@@ -152,14 +152,14 @@ abbrev pub ends_with : List Ty → ℕ → Ty → Bool
 ends_with params count t = nat_le count (length params) && list_all (λ p. is_same_type p t) (drop (length params - count) params)
 
 -- Spread takes an array in the place of the last parameters, which have its component's type
-abbrev pub spread_row : MethodTy → ℕ → Option Ty → ℕ → Checked
+abbrev pub spread_row : MethodTy → ℕ → Option Ty → ℕ → TypeOrRefusal
 spread_row t weight array count =
     provided_some (component_of array) (illegal (codes "spread")) (λ c.
     provided (ends_with t.params count (item_type c)) (illegal (codes "spread"))
     (limited (codes "spread") (1 + weight) (taking (spliced (length t.params - count) count (ty.Array c ∷ []) t.params) t)))
 
 -- Gather takes up to 254 items in the place of the last parameter, to which their array is passed
-abbrev pub gather_row : List Class → MethodTy → ℕ → Option Ty → ℕ → Checked
+abbrev pub gather_row : List Class → MethodTy → ℕ → Option Ty → ℕ → TypeOrRefusal
 gather_row classes t weight array count =
     provided_some (component_of array) (illegal (codes "gather")) (λ c.
     provided (nat_lt 0 (length t.params) && takes_array classes c (slice_get t.params (length t.params - 1)) && nat_lt count 255)
@@ -182,12 +182,12 @@ mismatch classes t asked =
     saying wrong_method_type_class (codes "have " ++ method_type_text classes t ++ codes " want " ++ method_type_text classes asked)
 
 -- AsType has the type that is asked for, where the part may be used as it
-abbrev pub astype_row : List Class → MethodTy → ℕ → MethodTy → Checked
+abbrev pub astype_row : List Class → MethodTy → ℕ → MethodTy → TypeOrRefusal
 astype_row classes t weight asked =
     provided (can_be_used_as classes t asked) (mismatch classes t asked) (limited (codes "astype") (1 + weight) asked)
 
 -- Guard has the type of both branches; the test gives a boolean, and takes the first parameters of that type
-abbrev pub guard_row : MethodTy → ℕ → MethodTy → ℕ → MethodTy → ℕ → Checked
+abbrev pub guard_row : MethodTy → ℕ → MethodTy → ℕ → MethodTy → ℕ → TypeOrRefusal
 guard_row c c_weight t weight e e_weight =
     provided (is_same_method_type e t && is_same_return c.ret (Some boolean_type) && begins_with_types t.params c.params) (illegal (codes "guard"))
     (limited (codes "guard") (1 + c_weight + weight + e_weight) t)
@@ -202,7 +202,7 @@ abbrev pub handles : List Class → ClassId → MethodTy → MethodTy → Bool
 handles classes class h t = takes_exception classes class h.params t.params && is_same_return h.ret t.ret
 
 -- Catch has the type of its target; the class is at or below Throwable, and the handler takes its exceptions
-abbrev pub catch_row : List Class → MethodTy → ℕ → ClassId → MethodTy → ℕ → Checked
+abbrev pub catch_row : List Class → MethodTy → ℕ → ClassId → MethodTy → ℕ → TypeOrRefusal
 catch_row classes t weight class h h_weight =
     provided (is_subclass classes class throwable_class && handles classes class h t) (illegal (codes "catch"))
     (limited (codes "catch") (1 + weight + h_weight) t)

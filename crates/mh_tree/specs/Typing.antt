@@ -4,15 +4,15 @@ use Rattle.mh_values.specs.declared.types.MethodTy.{MethodTy}
 use Rattle.mh_leaf.specs.LeafTable.{LeafTable}
 use Rattle.mh_tree.specs.Tree.{Tree, weight}
 use Rattle.mh_tree.specs.Tree as tree
-use Rattle.mh_tree.specs.Rows.{Checked, leaf_row, constant_row, identity_row, throw_row, bind_row, drop_row, permute_row, filter_row, filterret_row, fold_row, collect_row, spread_row, gather_row, astype_row, guard_row, catch_row}
+use Rattle.mh_tree.specs.Rows.{TypeOrRefusal, leaf_row, constant_row, identity_row, throw_row, bind_row, drop_row, permute_row, filter_row, filterret_row, fold_row, collect_row, spread_row, gather_row, astype_row, guard_row, catch_row}
 
 -- goes on with the type of a part, or is refused as the part is
-abbrev pub with_type : Checked → (MethodTy → Checked) → Checked
+abbrev pub with_type : TypeOrRefusal → (MethodTy → TypeOrRefusal) → TypeOrRefusal
 with_type (Ok t) next = next t
 with_type (Err e) next = Err e
 
 -- the type of a tree over the leaves of a table
-abbrev pub type_of : LeafTable → Tree → Checked
+abbrev pub type_of : LeafTable → Tree → TypeOrRefusal
 type_of table (tree.Leaf l) = leaf_row (slice_get table.leaves l.0)
 type_of table (tree.Constant t v) = constant_row table.classes t v
 type_of table (tree.Identity t) = identity_row t
@@ -38,7 +38,7 @@ type_of table (tree.Catch t class h) =
     with_type (type_of table t) (λ ty. with_type (type_of table h) (λ handler. catch_row table.classes ty (weight t) class handler (weight h)))
 
 -- how many parameters a type has
-abbrev pub arity_of : Checked → ℕ
+abbrev pub arity_of : TypeOrRefusal → ℕ
 arity_of (Ok t) = length t.params
 arity_of (Err e) = 0
 
@@ -46,8 +46,8 @@ arity_of (Err e) = 0
 abbrev pub arity : LeafTable → Tree → ℕ
 arity table t = arity_of (type_of table t)
 
--- a type in front of others, where there is one
-abbrev pub held_before : Checked → List MethodTy → List MethodTy
+-- a type before others, where there is one
+abbrev pub held_before : TypeOrRefusal → List MethodTy → List MethodTy
 held_before (Ok t) others = t ∷ others
 held_before (Err e) others = others
 

@@ -71,7 +71,7 @@ pub fn check_bind(
 }
 
 /// The type of a tree with parameters that are dropped (`MethodHandles.dropArguments`, SE 17).
-/// Refused where the place is behind the end.
+/// Refused where the place is after the end.
 pub fn check_drop(
     alloc: Global,
     t: &MethodTy,
@@ -173,7 +173,7 @@ pub fn check_fold(
 
 /// The type of a tree one of whose arguments a filter makes of any number of its own, or before
 /// which a void filter runs (`MethodHandles.collectArguments`, SE 17). Refused where the filter
-/// gives a value that is not of the parameter's type, or none and the place is behind the end.
+/// gives a value that is not of the parameter's type, or none and the place is after the end.
 pub fn check_collect(
     alloc: Global,
     t: &MethodTy,

@@ -23,8 +23,8 @@ superclass_of-some classes a b h = found_in (slice_get classes a.0) b h
 pub ascending-add : (xs : List Class) (y : Class) → IsAscending xs → IsWithin (length xs) y.superclass → IsAscending (xs ++ y ∷ [])
 ascending-add xs y old within a b h =
     let f = superclass_of-some (xs ++ y ∷ []) a b h in
-    elim (slice_get-push xs y f.0 a.0 f.1) [
-      | inl w ↦ old a b (ap (λ o. option_map_or (λ class. class.superclass) o None) w.1 ∙ f.2)
+    elim (slice_get-push xs y a.0 f.0 f.1) [
+      | inl w ↦ old a b (ap (λ o. option_map_or (λ class. class.superclass) o None) w ∙ f.2)
       | inr w ↦ subst (λ n. b.0 < n) (sym w.0) (within b (ap (λ (z : Class). z.superclass) w.1 ∙ f.2))
     ]
 

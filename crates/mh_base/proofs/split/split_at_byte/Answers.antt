@@ -7,4 +7,4 @@ pub returns-clause-pieces : goal.returns-clause-pieces
 returns-clause-pieces c =
     map_from_collect _ c.collect.ensures.ran
     (YieldsList-from_slice_split _ (λ b. b == c.args.at) c.args.bytes.now c.split.ensures.rest c.split.ensures.done c.split.ensures.closure
-        (λ x b q called. search rules))
+    (λ x b q called. search rules))

@@ -1,12 +1,12 @@
 use Rattle.std.proofs.Common.{◌≡◌, sym, ap, ◌∙◌, ◌+◌, true, cond, Ok}
 use Rattle.mh_values.specs.Same.{is_same_method_type}
 use Rattle.mh_values.proofs.SameTypes.{same_method_type-is}
-use Rattle.mh_tree.specs.Rows.{Checked, astype_row}
+use Rattle.mh_tree.specs.Rows.{TypeOrRefusal, astype_row}
 use Rattle.mh_branch.proofs.spreading.check_use.Goals as goal
 
 pub returns-then-is_same_method_type : goal.returns-then-is_same_method_type
 returns-then-is_same_method_type c =
     let same : is_same_method_type c.args.t.now c.args.asked.now ≡ true = sym c.is_same_method_type.ensures ∙ c.if-is_same_method_type.true in
-    let row : Checked = astype_row c.args.classes.now c.args.t.now c.args.weight c.args.asked.now in
+    let row : TypeOrRefusal = astype_row c.args.classes.now c.args.t.now c.args.weight c.args.asked.now in
     (ap (λ b. cond b (Ok c.args.t.now) row) same ∙ ap Ok (same_method_type-is c.args.t.now c.args.asked.now same), sym
         (ap (λ b. cond b c.args.weight (1 + c.args.weight)) same))

@@ -1,5 +1,5 @@
 use Rattle.std.proofs.Common.{sym}
-use Rattle.mh_plan.proofs.Behind.{arguments_of-other}
+use Rattle.mh_plan.proofs.ReadOn.{arguments_of-other}
 use Rattle.mh_plan.proofs.arguments.read_arguments.Goals as goal
 
 pub returns-then-tokens-types : goal.returns-then-tokens-types

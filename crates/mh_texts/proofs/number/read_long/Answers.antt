@@ -9,4 +9,4 @@ returns-in_default c = long_of-no_text c.args.bytes.now c.in_default.ensures.cas
 pub returns-in_default-parse : goal.returns-in_default-parse
 returns-in_default-parse c =
     long_of-refused c.in-Ok.text.now c.parse.result c.in_default-parse.field-0 c.parse.ensures.value.0 c.in_default-parse.is ∙
-        ap long_of c.in-Ok.ensures.cases.0
+    ap long_of c.in-Ok.ensures.cases.0

@@ -10,16 +10,16 @@ returns-in_default c = unsigned_of-no_text c.args.bytes.now c.in_default.ensures
 pub returns-in_default-parse : goal.returns-in_default-parse
 returns-in_default-parse c =
     unsigned_of-refused c.in-Ok.text.now c.parse.result c.in_default-parse.field-0 c.parse.ensures.value.0 c.in_default-parse.is ∙
-        ap unsigned_of c.in-Ok.ensures.cases.0
+    ap unsigned_of c.in-Ok.ensures.cases.0
 
 pub returns-then-eq : goal.returns-then-eq
 returns-then-eq c =
     let parsed = c.in-Ok-parse.ensures.value.0 in
     sym (unsigned_of-read c.in-Ok.text.now c.in-Ok-parse.number true parsed.0.1 parsed.1 (c.if-eq.ensures ∙ ap (λ t. bytes_eq t c.in-Ok.text.now)
-        c.format.ensures.text)) ∙ ap unsigned_of c.in-Ok.ensures.cases.0
+    c.format.ensures.text)) ∙ ap unsigned_of c.in-Ok.ensures.cases.0
 
 pub returns-else-eq : goal.returns-else-eq
 returns-else-eq c =
     let parsed = c.in-Ok-parse.ensures.value.0 in
     sym (unsigned_of-read c.in-Ok.text.now c.in-Ok-parse.number false parsed.0.1 parsed.1 (c.if-eq.ensures ∙ ap (λ t. bytes_eq t c.in-Ok.text.now)
-        c.format.ensures.text)) ∙ ap unsigned_of c.in-Ok.ensures.cases.0
+    c.format.ensures.text)) ∙ ap unsigned_of c.in-Ok.ensures.cases.0

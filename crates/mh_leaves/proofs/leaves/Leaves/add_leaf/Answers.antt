@@ -19,7 +19,7 @@ invariant_of-self-in-Ok c =
     let finds : FindsOneMore c.self.inside.index c.add.new.self read.owner read.name read.descriptor c.len-number.result =
     subst (λ (name : List ℕ). FindsOneMore c.self.inside.index c.add.new.self read.owner name read.descriptor c.len-number.result) c.as_slice-name.ensures
     (subst (λ (descriptor : List ℕ). FindsOneMore c.self.inside.index c.add.new.self read.owner c.as_slice-name.result.now descriptor c.len-number.result)
-        c.as_slice-descriptor.ensures
+    c.as_slice-descriptor.ensures
     c.in-Ok.ensures.ok) in
     kept-more c.self.inside.classes old.items c.push.new.self.items leaf read c.self.inside.index c.add.new.self c.len-number.result c.self.invariant
     (subst (λ (t : LeafTable). IsLeafOf t.classes leaf) (sym c.self.view_is) c.requires.leaf)
@@ -32,5 +32,5 @@ invariant_of-self-in_default c =
     let counted : vec_len c.push.new.self ≡ length c.self.inside.leaves.items + 1 = omega (arith, c.in_ok-push.ensures.len) in
     kept-same c.self.inside.classes c.self.inside.leaves.items c.pop.new.self.items c.self.inside.index c.add.new.self c.self.invariant
     (popped-pushed c.self.inside.leaves.items c.push.new.self.items c.pop.new.self.items c.args.leaf (vec_len c.push.new.self) c.in_ok-push.ensures.items
-        c.pop.ensures.rest counted)
+    c.pop.ensures.rest counted)
     c.in_default.ensures.err

@@ -8,7 +8,7 @@ pub returns-in_err-at-clause-found : goal.returns-in_err-at-clause-found
 returns-in_err-at-clause-found c =
     c.from_residual.ensures
     ∙ sym (position-none (has_texts c.args.owner c.args.name.now c.args.descriptor.now) (is_way c.args.how) c.args.self.now.leaves
-        (sym c.in_err-at.ensures.found))
+    (sym c.in_err-at.ensures.found))
 
 pub returns-then-is_way-clause-found : goal.returns-then-is_way-clause-found
 returns-then-is_way-clause-found c =

@@ -1,5 +1,5 @@
 use Rattle.std.proofs.Common.{ap, ◌∙◌, sym, refl}
-use Rattle.mh_setonce.proofs.Nodes.{noted_same}
+use Rattle.mh_setonce.proofs.Facts.{noted_same}
 use Rattle.mh_setonce.proofs.chain.Chain.meet.Goals as goal
 
 pub meet_all-requires : goal.meet_all-requires

@@ -2,7 +2,7 @@ use Rattle.std.proofs.Common.{◌≡◌, ℕ, List, ap, ◌∙◌}
 use Rattle.mh_setonce.specs.declared.learnt.Learnt.{Learnt}
 use Rattle.mh_setonce.specs.Views.{WalkView}
 use Rattle.mh_setonce.specs.Rows.{facts_of, nodes_of}
-use Rattle.mh_setonce.proofs.Nodes.{walk_facts, nodes_facts}
+use Rattle.mh_setonce.proofs.Facts.{walk_facts, nodes_facts}
 use Rattle.mh_setonce.proofs.walk.Walk.copy.Goals as goal
 
 view_of : {V : Type 0} → List ℕ → List V → WalkView V

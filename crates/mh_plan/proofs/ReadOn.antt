@@ -5,9 +5,9 @@ use Rattle.mh_values.specs.declared.types.Ty.{Ty}
 use Rattle.mh_values.specs.declared.value.Value.{Value}
 use Rattle.mh_plan.specs.Plan.{argument_of, arguments_of}
 
--- values, and those that are left behind them
-abbrev pub behind : List Value → Option (List Value) → Option (List Value)
-behind front rest = option_map (λ vs. front ++ vs) rest
+-- values, and those that are left after them
+abbrev pub read_on : List Value → Option (List Value) → Option (List Value)
+read_on front rest = option_map (λ vs. front ++ vs) rest
 
 none_left : (o : Option Value) (rest : Option (List Value)) → rest ≡ None → option_and_then (λ v. option_map (λ vs. v ∷ vs) rest) o ≡ None
 none_left None rest none = refl

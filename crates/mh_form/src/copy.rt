@@ -1,6 +1,52 @@
-use crate::{Basic, BasicRet, FormBody, Name, Shape, Slot};
+ghost use Rattle.std.specs.Prelude.{◌≡◌, IfOk, map};
+ghost use Rattle.mh_leaf.specs.LeafTable.{LeafTable};
+ghost use Rattle.mh_form.specs.Run.{run_bound, sense};
+
+use crate::{Basic, BasicRet, Bound, Field, Fields, FormBody, Name, Shape, Slot};
 use mh_base::{Copied, NoMemory};
 use std::alloc::Global;
+use std::sync::Arc;
+
+/// A copy of a field, which stands for the same. A part is shared, so its copy takes no memory.
+pub fn copy_field<'t>(alloc: Global, field: &Field<'t>) -> Result<Field<'t>, NoMemory>
+    ensures { (table : LeafTable) → IfOk result (λ copy. sense table copy ≡ sense table field.now) }
+{
+    match field {
+        Field::Val(slot) => Ok(Field::Val(slot.copy(alloc)?)),
+        Field::Leaf(leaf) => Ok(Field::Leaf(*leaf)),
+        Field::Part(part) => Ok(Field::Part(Arc::try_clone(part)?)),
+        Field::Class(class) => Ok(Field::Class(*class)),
+        Field::Conv(conv) => Ok(Field::Conv(*conv)),
+        Field::Ret(conv) => Ok(Field::Ret(*conv)),
+        Field::Comp(comp) => Ok(Field::Comp(*comp)),
+    }
+}
+
+/// A copy of a body with its fields: the same body, and copies of the fields.
+pub fn copy_bound<'t>(alloc: Global, bound: &Bound<'t>) -> Result<Bound<'t>, NoMemory>
+    ensures same { (table : LeafTable) →
+        IfOk result (λ copy. run_bound table copy ≡ run_bound table bound.now) }
+    ensures body { IfOk result (λ copy. copy.body.now ≡ bound.now.body.now) }
+    ensures fields { (table : LeafTable) → IfOk result
+        (λ copy. map (sense table) copy.fields.items ≡ map (sense table) bound.now.fields.items) }
+{
+    Ok(Bound {
+        body: bound.body,
+        fields: copy_fields(alloc, bound.fields.as_slice())?,
+    })
+}
+
+/// Copies of fields, in their order.
+pub fn copy_fields<'t>(alloc: Global, fields: &[Field<'t>]) -> Result<Fields<'t>, NoMemory>
+    ensures { (table : LeafTable) → IfOk result
+        (λ copies. map (sense table) copies.items ≡ map (sense table) fields.now) }
+{
+    let mut copies = Vec::with_capacity(alloc, fields.len())?;
+    for field in fields {
+        copies.push(copy_field(alloc, field)?)?;
+    }
+    Ok(copies)
+}
 
 impl Copied for Basic {
     fn copy(&self, _alloc: Global) -> Result<Basic, NoMemory> {

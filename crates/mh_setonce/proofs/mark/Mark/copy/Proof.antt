@@ -1,4 +1,4 @@
--- `again` copies what the token knows.
+-- `copy` copies what the token knows.
 use Rattle.std.proofs.Common.{◌≡◌, ℕ, [], ◌∷◌, refl}
 use mir.Syntax.{a_type, named}
 use mir.Val.{Val, vptr}
@@ -22,13 +22,13 @@ use denote.Triple.Walked.{Stays, stay_dropped, walk_of, Goes-dropped}
 use Rattle.std.proofs.raw_atomic.Walks.{proved, leaves}
 use Rattle.mh_setonce.specs.contracts.mark.Mark as Mark
 use Rattle.mh_setonce.proofs.Made.{token_val, mark_made}
-use Rattle.mh_setonce.specs.contracts.mark.Mark.again.{ended, clauses}
-use Rattle.mh_setonce.specs.contracts.mark.Mark.again.Key.{name as #self}
-use Rattle.mh_setonce.proofs.mark.Mark.again.Statement.{statement}
-use Rattle.mh_setonce.proofs.mark.Mark.again.Code as code
+use Rattle.mh_setonce.specs.contracts.mark.Mark.copy.{ended, clauses}
+use Rattle.mh_setonce.specs.contracts.mark.Mark.copy.Key.{name as #self}
+use Rattle.mh_setonce.proofs.mark.Mark.copy.Statement.{statement}
+use Rattle.mh_setonce.proofs.mark.Mark.copy.Code as code
 
-pub again_spec : {M : Type 1} → statement M
-again_spec 𝓤 𝓛 𝓜 𝓡 wired T L =
+pub copy_spec : {M : Type 1} → statement M
+copy_spec 𝓤 𝓛 𝓜 𝓡 wired T L =
     let H = 𝓛.H in let 𝓣 = tables 𝓤 H 𝓜 𝓡 𝓡.env in let R : RattleType = param 0 T in let En = ended T in let S : RattleType = Mark.the_row R in
     let inst = layouts (a_type ∷ []) (T, tt) in let fn = inst_fn inst code.function in let c = clauses T 𝓛 𝓜.mem 𝓡.returns in
     let self = RefOf (0 ∷ []) tt (plain (λ _. S)) (λ _. tt) in let hs : Stays En.signature.params En.kept = (stay_dropped self yes, tt) in
