@@ -54,7 +54,7 @@ slice_get-later [] ys j = ap (slice_get ys) (zero-add j)
 slice_get-later (x ∷ xs) ys j =
     let e : suc (length xs) + j ≡ suc (length xs + j) = omega arith in ap (slice_get (x ∷ (xs ++ ys))) e ∙ slice_get-later xs ys j
 
--- the fields of conversions, in front of others
+-- the fields of conversions, before others
 pub conv-at :
     (leaves : LeafTable) (convs : List Conversion) (more : List Sense) (j : ℕ) (g : Slot → Ran Slot) →
     slice_get (map (converted leaves.classes) convs) j ≡ Some g →

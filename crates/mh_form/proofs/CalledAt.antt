@@ -108,7 +108,7 @@ at-none classes slots ts ps vs i t p h k none =
 
 pub at-next :
     (classes : List Class) (slots : List Slot) (ts : List Ty) (ps : List ℕ) (vs ws : List Value) (i : ℕ) (t : Ty) (p : ℕ) (v : Value)
-        (all : Option (List Value)) →
+    (all : Option (List Value)) →
     all ≡ typed_on vs (typed_at classes slots (drop i ts) (drop i ps)) →
     slice_get ts i ≡ Some t →
     slice_get ps i ≡ Some p →

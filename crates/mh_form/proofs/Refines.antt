@@ -27,7 +27,7 @@ pub refines-and_then :
     Refines (and_then x n f) (and_then y n g)
 refines-and_then (Gave a calls) y n f g h fg =
     subst (λ v. Refines (and_then (Gave a calls) n f) (and_then v n g)) h (refines-after calls (f a (raised n calls)) (g a (raised n calls))
-        (fg a (raised n calls)))
+    (fg a (raised n calls)))
 refines-and_then (Threw e calls) y n f g h fg = ap (λ v. and_then v n g) h
 refines-and_then Stuck y n f g h fg = tt
 

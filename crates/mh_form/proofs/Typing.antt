@@ -25,7 +25,7 @@ typed-step :
     slice_get tys i ≡ Some t →
     slice_get slots i ≡ Some s →
     typed_on vs (all_typed classes (drop i tys) (drop i slots)) ≡ typed_on vs
-        (value_and_more (typed classes t s) (all_typed classes (drop (i + 1) tys) (drop (i + 1) slots)))
+    (value_and_more (typed classes t s) (all_typed classes (drop (i + 1) tys) (drop (i + 1) slots)))
 typed-step classes tys slots vs i t s h k = ap (typed_on vs) (ap₂ (all_typed classes) (drop-at tys i t h) (drop-at slots i s k))
 
 pub typed_on-more :

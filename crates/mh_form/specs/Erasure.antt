@@ -69,7 +69,7 @@ typed classes (ty.Class c) (slot.L v) = where_typed classes (ty.Class c) v
 typed classes (ty.Array c) (slot.L v) = where_typed classes (ty.Array c) v
 typed classes _ _ = None
 
--- a value in front of values, where all are there
+-- a value before values, where all are there
 abbrev pub value_and_more : Option Value → Option (List Value) → Option (List Value)
 value_and_more (Some v) (Some vs) = Some (v ∷ vs)
 value_and_more _ _ = None

@@ -7,7 +7,7 @@ ghost use Rattle.mh_values.specs.declared.value.Value.TheVariants as value;
 ghost use Rattle.mh_form.specs.declared.slot.Slot.TheVariants as slot;
 
 use crate::bodies::{gives, naming, one_place};
-use mh_base::{NoMemory, Seq};
+use mh_base::{Frozen, NoMemory, Seq};
 use mh_form::{Field, Name, Slot};
 use mh_values::{Cell, ClassId, Comp, Num, Primitive, Value};
 use std::alloc::Global;
@@ -19,7 +19,7 @@ fn ints(alloc: Global, first: i32, second: i32) -> Result<Slot, NoMemory>
         (cell.Prim (num.I first) ∷ cell.Prim (num.I second) ∷ []))) }
 {
     let items = vec![in alloc; Cell::Prim(Num::I(first)), Cell::Prim(Num::I(second))]?;
-    let cells = Seq::from_vec(items);
+    let cells = Frozen::of(alloc, Seq::from_vec(items))?;
     Ok(Slot::L(Value::Array(Comp::Prim(Primitive::I), cells)))
 }
 

@@ -143,7 +143,7 @@ static TICKS: [(u32, &str); 3] = [
 fn parts_are_told_of_the_calls_before_them(rt: HostRuntime) -> Result<(), Fail> {
     let leaves = host(rt.alloc())?;
     for (n, wanted) in TICKS.iter().copied() {
-        assert!(rt; ticks(rt.alloc(), &leaves, n, wanted)?);
+        assert!(rt; ticks(rt.alloc(), &leaves, n, wanted)?, "after {n} calls");
     }
     Ok(())
 }

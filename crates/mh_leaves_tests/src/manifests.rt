@@ -85,7 +85,7 @@ static MANIFESTS: [(&str, Told); 20] = [
 fn the_first_faulty_line_has_the_lowest_kind(rt: HostRuntime) -> Result<(), Fail> {
     let alloc = rt.alloc();
     for (manifest, want) in MANIFESTS.iter().copied() {
-        assert!(rt; read(alloc, manifest.as_bytes())? == want);
+        assert!(rt; read(alloc, manifest.as_bytes())? == want, "{manifest}");
     }
     Ok(())
 }
@@ -138,7 +138,7 @@ static LEAVES_OF_LONGS: [(&str, u32, Told); 3] = [
 #[test]
 fn a_leaf_takes_at_most_255_slots(rt: HostRuntime) -> Result<(), Fail> {
     for (word, count, want) in LEAVES_OF_LONGS.iter().copied() {
-        assert!(rt; registers(rt.alloc(), word, count, want)?);
+        assert!(rt; registers(rt.alloc(), word, count, want)?, "{word} with {count} longs");
     }
     Ok(())
 }
@@ -174,7 +174,8 @@ fn leaves_are_found_by_their_texts(rt: HostRuntime) -> Result<(), Fail> {
     let manifest = b"class a java/lang/Object\nstatic a f (II)I iadd\nvirtual a f (I)I tick\n";
     let leaves = read_manifest(rt.alloc(), manifest).map_err(|_| NoMemory)?;
     for row in FOUND.iter().copied() {
-        assert!(rt; is_found(&leaves, row));
+        let (owner, name, descriptor, how, _) = row;
+        assert!(rt; is_found(&leaves, row), "{owner}.{name}:{descriptor} {how:?}");
     }
     Ok(())
 }

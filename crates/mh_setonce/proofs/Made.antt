@@ -22,10 +22,10 @@ pub mark_made : {M : Type 1} {𝓤 : Ura M} (𝓛 : Logic 𝓤) (R : RattleType)
     → ent 𝓤 (sem 𝓛 (shows_value R γ x)) (sem 𝓛 ((Mark.the_row R).own_val (record { marker = record {}; cell = γ; value = x }) (token_val ∷ [])))
 mark_made 𝓛 R γ x = let F = (Struct (shape (Mark.the_type R))).own_val (tt, tt) (token_val ∷ []) in
     qed 𝓛 (‵ (shows_value R γ x) ∷ []) ∵ use0 𝓛 (‵ F) (makes_shadow 𝓛 F (λ vss. (tt, ((λ uss. (tt, tt)), tt)))
-        ((vstruct vnil ∷ [], tt), (refl, ((tt, (refl, tt)), tt)))) $ done !
+    ((vstruct vnil ∷ [], tt), (refl, ((tt, (refl, tt)), tt)))) $ done !
 
 pub one_value : {M : Type 1} {𝓤 : Ura M} (𝓛 : Logic 𝓤) (R : RattleType) (γ : ℕ) (x y : R.Denot) →
     ent 𝓤 (sep 𝓤 (sem 𝓛 (shows_value R γ x)) (sem 𝓛 (shows_value R γ y))) (fact 𝓤 (x ≡ y))
 one_value {𝓤 = 𝓤} 𝓛 R γ x y = let P = 𝓛.A.res γ (mark R γ x) in let Q = 𝓛.A.res γ (mark R γ y) in
     via 𝓤 _ (via 𝓤 _ (conj_i 𝓤 P Q (fst∗ 𝓤 P Q) (snd∗ 𝓤 P Q)) (𝓛.names.res_one γ (mark R γ x) (mark R γ y))) (fact_mono 𝓤 (mark R γ x ≡ mark R γ y) (x ≡ y)
-        (λ e. R.coded.inj x y (ap second e)))
+    (λ e. R.coded.inj x y (ap second e)))

@@ -8,7 +8,6 @@ use Rattle.mh_base.proofs.Slices.{slice_get-push}
 use Rattle.mh_setonce.specs.declared.learnt.Learnt.{Learnt}
 use Rattle.mh_setonce.specs.Walks.{StartsWith, Distinct, Lacks, Has}
 use Rattle.mh_setonce.specs.Rows.{node_of, nodes_of, fact_of, facts_of, Noted, IsWalk, Kept}
-
 -- the name by which a crate above knows the items of a list with one more at its end
 pub use Rattle.mh_base.proofs.Slices.{slice_get-push as at_push}
 
@@ -112,10 +111,10 @@ module _ {V K : Type 0} (key : V → K) where
   pub put_walk : (cells : List ℕ) (ls same more : List (Learnt V)) (l : Learnt V) (v : V) (n a : ℕ) → IsWalk key cells ls → n ≡ length ls →
       slice_get cells n ≡ Some a
       → (l.mark.cell ≡ a) × (l.mark.value ≡ l.node.now) → same ≡ ls → more ≡ same ++ l ∷ [] → l.node.now ≡ v → Lacks key (nodes_of ls) (key v) →
-          IsWalk key cells more
+      IsWalk key cells more
   put_walk cells ls same more l v n a walk len cell note is more_is node new =
       subst (IsWalk key cells) (sym (more_is ∙ ap (λ z. z ++ l ∷ []) is)) (longer cells ls l walk (ap (slice_get cells) (sym len) ∙
-          (cell ∙ ap Some (sym note.0))) note.1 (λ i w at e. new i w at (e ∙ ap key node)))
+      (cell ∙ ap Some (sym note.0))) note.1 (λ i w at e. new i w at (e ∙ ap key node)))
 
 module _ {V Z : Type 0} (f : Learnt V → Z) where
   pub taken : (ls : List (Learnt V)) (i : ℕ) (l : Learnt V) → i < length ls → l ≡ slice_index_or ls i l →
@@ -123,4 +122,4 @@ module _ {V Z : Type 0} (f : Learnt V → Z) where
   taken ls i l in_list is =
       let at = name_at f ls i l in_list is in
       take_more (map f ls) i (f l) (slice_get_within (map f ls) i (f l) at) ∙ ap (λ z. take i (map f ls) ++ z ∷ []) (get_or_from_slice_get (map f ls) i (f l)
-          (f l) at)
+      (f l) at)

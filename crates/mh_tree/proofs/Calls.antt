@@ -101,7 +101,7 @@ pub collect-calls :
     calls_made (mean table (tree.Collect t place f) args n)
     ≡ calls_made (mean table f (part_of place (arity table f) args) n)
     ++ calls_made (next_run (mean table f (part_of place (arity table f) args) n) n (λ r k. mean table t (spliced place (arity table f) (option_to_list r) args)
-        k))
+    k))
 collect-calls table t place f args n h =
     calls-in-order (mean table f (part_of place (arity table f) args) n) n (λ r k. mean table t (spliced place (arity table f) (option_to_list r) args) k) h
 

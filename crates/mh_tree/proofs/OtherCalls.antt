@@ -50,7 +50,7 @@ pub astype-calls :
 astype-calls table t ty asked args converted n typed conv ends =
     let classes = table.classes in
     let run : MethodTy → Done = λ own. or_throw (conv_all classes asked.params own.params args)
-        (λ xs. and_then (mean table t xs n) n (λ r k. conv_result classes own.ret asked.ret r)) in
+    (λ xs. and_then (mean table t xs n) n (λ r k. conv_result classes own.ret asked.ret r)) in
     let next : Option Value → ℕ → Done = λ r k. conv_result classes ty.ret asked.ret r in
     let is : mean table (tree.AsType t asked) args n ≡ and_then (mean table t converted n) n next =
     ap (λ o. known o run) typed ∙ ap (λ x. or_throw x (λ xs. and_then (mean table t xs n) n next)) conv in

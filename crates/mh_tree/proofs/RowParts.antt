@@ -47,7 +47,7 @@ spread_row-parts t weight array count u h =
     let made : Comp → MethodTy = λ c. taking (spliced (length t.params - count) count (ty.Array c ∷ []) t.params) t in
     let within : Comp → TypeOrRefusal = λ c. limited (codes "spread") (1 + weight) (made c) in
     let q = provided_some-parts (component_of array) (illegal (codes "spread")) (λ c. provided (ends_with t.params count (item_type c))
-        (illegal (codes "spread")) (within c)) u h in
+    (illegal (codes "spread")) (within c)) u h in
     let r = provided-parts (ends_with t.params count (item_type q.0)) (illegal (codes "spread")) (within q.0) u q.2 in
     (q.0, q.1, r.0, limited-is (codes "spread") (1 + weight) (made q.0) u r.1)
 
@@ -62,7 +62,7 @@ gather_row-parts classes t weight array count u h =
     let takes : Comp → Bool = λ c. takes_array classes c (slice_get t.params (length t.params - 1)) in
     let few = nat_lt count 255 in
     let q = provided_some-parts (component_of array) (illegal (codes "gather")) (λ c. provided (some && takes c && few) (illegal (codes "gather")) (within c)) u
-        h in
+    h in
     let r = provided-parts (some && takes q.0 && few) (illegal (codes "gather")) (within q.0) u q.2 in
     let s = and_parts (some && takes q.0) few r.0 in
     (q.0, q.1, (and_parts some (takes q.0) s.0).1, limited-is (codes "gather") (1 + weight) (made q.0) u r.1)

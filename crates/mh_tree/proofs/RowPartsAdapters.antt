@@ -60,7 +60,7 @@ pub filterret_row-parts : (t : MethodTy) (weight : ℕ) (f : MethodTy) (f_weight
 filterret_row-parts t weight f f_weight u h =
     let made = method_type t.params f.ret in
     let q = provided-parts (are_same_types f.params (option_to_list t.ret)) (illegal (codes "filterret")) (limited (codes "filterret") (1 + weight + f_weight)
-        made) u h in
+    made) u h in
     (q.0, limited-is (codes "filterret") (1 + weight + f_weight) made u q.1)
 
 pub fold_row-parts : (t : MethodTy) (weight place : ℕ) (c : MethodTy) (c_weight : ℕ) (u : MethodTy) → fold_row t weight place c c_weight ≡ Ok u →

@@ -87,13 +87,13 @@ collect-sound classes body part t weight place f f_weight u sound part-sound typ
     let low = gives_at-within f.ret place t.params q.0 in
     let taken = gives_at-taken f.ret place t.params q.0 in
     let have' : HaveTypes classes args (spliced place (count_of f.ret) f.params t.params) = subst (λ (m : MethodTy). HaveTypes classes args m.params) q.1 have
-        in
+    in
     let run : Option Value → ℕ → Done = λ r k. body (spliced place (length f.params) (option_to_list r) args) k in
     let first = part-sound (part_of place (length f.params) args) n (types-part classes args t.params f.params place (count_of f.ret) low have') in
     let done = returns-then classes (part (part_of place (length f.params) args) n) f.ret t.ret n run first (λ r k given.
     sound (spliced place (length f.params) (option_to_list r) args) k
     (types-splice classes args (option_to_list r) t.params f.params place (count_of f.ret) low have' (subst (HaveTypes classes (option_to_list r)) (sym taken)
-        given))) in
+    given))) in
     subst (λ (m : MethodTy). Returns classes (and_then (part (part_of place (length f.params) args) n) n run) m.ret) (sym q.1) done
 
 pub filter-sound : (classes : List Class) (body part : Body) (t : MethodTy) (weight place : ℕ) (f : MethodTy) (f_weight : ℕ) (u : MethodTy) →
@@ -104,15 +104,15 @@ filter-sound classes body part t weight place f f_weight u sound part-sound type
     let low = gives_at-within f.ret place t.params q.2 in
     let one = is_one f.ret q.1 in
     let taken : take 1 (drop place t.params) ≡ option_to_list f.ret = ap (λ c. take c (drop place t.params)) (sym one) ∙ gives_at-taken f.ret place t.params q.2
-        in
+    in
     let have' : HaveTypes classes args (spliced place 1 f.params t.params) = subst (λ (m : MethodTy). HaveTypes classes args m.params) q.3 have in
     let run : Option Value → ℕ → Done = λ r k. body (spliced place 1 (option_to_list r) args) k in
     let own : HaveTypes classes (part_of place 1 args) f.params = subst (λ c. HaveTypes classes (part_of place c args) f.params) q.0
-        (types-part classes args t.params f.params place 1 low have') in
+    (types-part classes args t.params f.params place 1 low have') in
     let first = part-sound (part_of place 1 args) n own in
     let done = returns-then classes (part (part_of place 1 args) n) f.ret t.ret n run first (λ r k given.
     let put = types-splice classes args (option_to_list r) t.params f.params place 1 low have' (subst (HaveTypes classes (option_to_list r)) (sym taken) given)
-        in
+    in
     sound (spliced place 1 (option_to_list r) args) k (subst (λ c. HaveTypes classes (spliced place c (option_to_list r) args) t.params) q.0 put)) in
     subst (λ (m : MethodTy). Returns classes (and_then (part (part_of place 1 args) n) n run) m.ret) (sym q.3) done
 
@@ -137,11 +137,11 @@ fold-sound classes body part t weight place c c_weight u sound part-sound typed 
     let have' : HaveTypes classes args (folded t place c) = subst (λ (m : MethodTy). HaveTypes classes args m.params) q.2 have in
     let rest = begins_with-rest (drop place (folded t place c)) c.params q.1 in
     let after : HaveTypes classes (drop place args) (c.params ++ rest.0) =
-        subst (HaveTypes classes (drop place args)) rest.1 (types-drop classes args (folded t place c) place have') in
+    subst (HaveTypes classes (drop place args)) rest.1 (types-drop classes args (folded t place c) place have') in
     let run : Option Value → ℕ → Done = λ r k. body (spliced place 0 (option_to_list r) args) k in
     let first = part-sound (part_of place (length c.params) args) n (types-front classes (drop place args) c.params rest.0 after) in
     let done = returns-then classes (part (part_of place (length c.params) args) n) c.ret t.ret n run first (λ r k given.
     sound (spliced place 0 (option_to_list r) args) k
     (types-splice classes args (option_to_list r) t.params [] place (count_of c.ret) low have' (subst (HaveTypes classes (option_to_list r)) (sym taken)
-        given))) in
+    given))) in
     subst (λ (m : MethodTy). Returns classes (and_then (part (part_of place (length c.params) args) n) n run) m.ret) (sym q.2) done

@@ -59,7 +59,7 @@ guard-sound classes test body other c c_weight t weight e e_weight u test-sound 
     (test-sound (take (length c.params) args) n (first-typed classes args t.params c.params q.2 have)) (λ r k given.
     decided-returns classes r (body args k) (other args k) t.ret
     (subst (λ ret. HaveTypes classes (option_to_list r) (option_to_list ret)) (same_return-is c.ret (Some boolean_type) q.1) given) (sound args k have)
-        (other' args k have)))
+    (other' args k have)))
 
 -- the arguments of a handler: the exception, and the first ones of the target
 pub handler-typed : (classes : List Class) → AreClasses classes → (class : ClassId) (params types : List Ty) (args : List Value) (e : Exc) →
@@ -79,10 +79,10 @@ pub catch-sound : (classes : List Class) → AreClasses classes → (body handle
 catch-sound classes are body handler t weight class h h_weight u sound handler-sound typed =
     let q = catch_row-parts classes t weight class h h_weight u typed in
     subst (IsSound classes (λ args n. guarded (body args n) (is_caught classes class) n (λ e k. handler (value.Thrown e ∷ take (length h.params - 1) args) k)))
-        (sym q.3)
+    (sym q.3)
     (λ args n have.
     returns-guarded classes (body args n) t.ret (is_caught classes class) n (λ e k. handler (value.Thrown e ∷ take (length h.params - 1) args) k)
-        (sound args n have)
+    (sound args n have)
     (λ e k below.
     subst (Returns classes (handler (value.Thrown e ∷ take (length h.params - 1) args) k)) (same_return-is h.ret t.ret q.2)
     (handler-sound (value.Thrown e ∷ take (length h.params - 1) args) k (handler-typed classes are class h.params t.params args e q.1 below have))))

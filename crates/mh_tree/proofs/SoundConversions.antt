@@ -109,10 +109,10 @@ pub astype-sound : (classes : List Class) → AreClasses classes → (body : Bod
 astype-sound classes are body t weight asked u sound typed =
     let q = astype_row-parts classes t weight asked u typed in
     subst (IsSound classes (λ args n. or_throw (conv_all classes asked.params t.params args) (λ converted. and_then (body converted n) n
-        (λ r k. conv_result classes t.ret asked.ret r)))) (sym q.2)
+    (λ r k. conv_result classes t.ret asked.ret r)))) (sym q.2)
     (λ args n have.
     throw-returns classes (conv_all classes asked.params t.params args) t.params asked.ret (λ converted. and_then (body converted n) n
-        (λ r k. conv_result classes t.ret asked.ret r))
+    (λ r k. conv_result classes t.ret asked.ret r))
     (conv_all-converts classes are asked.params t.params args q.0 have) (λ converted have'.
     returns-then classes (body converted n) t.ret asked.ret n (λ r k. conv_result classes t.ret asked.ret r) (sound converted n have')
     (λ r k given. conv_result-returns classes are t.ret asked.ret r q.1 given)))

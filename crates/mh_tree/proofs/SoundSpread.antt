@@ -105,9 +105,9 @@ spread-sound classes are body t weight array count u sound typed args n have =
     let low : place ≤ length t.params = omega arith in
     let within : count ≤ length t.params = at_most count (length t.params) last.0 in
     let have' : HaveTypes classes args (spliced place count (ty.Array q.0 ∷ []) t.params) = subst (λ (m : MethodTy). HaveTypes classes args m.params) q.3 have
-        in
+    in
     let v = types-get classes args (spliced place count (ty.Array q.0 ∷ []) t.params) place (ty.Array q.0) have' (spliced_at t.params place count (ty.Array q.0)
-        low) in
+    low) in
     let many : length (drop place t.params) ≡ count = omega (arith, length-drop place t.params) in
     let fits : length (drop place t.params) ≤ count = omega (arith, many) in
     let all : take count (drop place t.params) ≡ drop place t.params = take_all count (drop place t.params) fits in

@@ -50,8 +50,8 @@ mean-sound table are (tree.Throw ret class) u typed = throw-sound table.classes 
 mean-sound table are (tree.Bind t place v) u typed =
     let q = with_type-parts (type_of table t) (λ ty. bind_row table.classes ty (weight t) place v) u typed in
     subst (λ c. IsSound table.classes
-        (λ args n. known c (λ ty. found (slice_get ty.params place) (λ p. fitted (fit table.classes v p) (λ w. mean table t (spliced place 0 (w ∷ []) args)
-        n)))) u) (sym q.1)
+    (λ args n. known c (λ ty. found (slice_get ty.params place) (λ p. fitted (fit table.classes v p) (λ w. mean table t (spliced place 0 (w ∷ []) args)
+    n)))) u) (sym q.1)
     (bind-sound table.classes (mean table t) q.0 (weight t) place v u (mean-sound table are t q.0 q.1) q.2)
 mean-sound table are (tree.Drop t place types) u typed =
     let q = with_type-parts (type_of table t) (λ ty. drop_row ty (weight t) place types) u typed in
@@ -63,58 +63,58 @@ mean-sound table are (tree.FilterArg t place f) u typed =
     let q = with_type-parts (type_of table t) (λ ty. with_type (type_of table f) (λ part. filter_row ty (weight t) place part (weight f))) u typed in
     let r = with_type-parts (type_of table f) (λ part. filter_row q.0 (weight t) place part (weight f)) u q.2 in
     filter-sound table.classes (mean table t) (mean table f) q.0 (weight t) place r.0 (weight f) u (mean-sound table are t q.0 q.1)
-        (mean-sound table are f r.0 r.1) r.2
+    (mean-sound table are f r.0 r.1) r.2
 mean-sound table are (tree.FilterRet t f) u typed =
     let q = with_type-parts (type_of table t) (λ ty. with_type (type_of table f) (λ part. filterret_row ty (weight t) part (weight f))) u typed in
     let r = with_type-parts (type_of table f) (λ part. filterret_row q.0 (weight t) part (weight f)) u q.2 in
     filterret-sound table.classes (mean table t) (mean table f) q.0 (weight t) r.0 (weight f) u (mean-sound table are t q.0 q.1)
-        (mean-sound table are f r.0 r.1) r.2
+    (mean-sound table are f r.0 r.1) r.2
 mean-sound table are (tree.Fold t place c) u typed =
     let q = with_type-parts (type_of table t) (λ ty. with_type (type_of table c) (λ part. fold_row ty (weight t) place part (weight c))) u typed in
     let r = with_type-parts (type_of table c) (λ part. fold_row q.0 (weight t) place part (weight c)) u q.2 in
     subst (λ o. IsSound table.classes (λ args n. and_then (mean table c (part_of place (arity_of o) args) n) n
-        (λ r k. mean table t (spliced place 0 (option_to_list r) args) k)) u) (sym r.1)
+    (λ r k. mean table t (spliced place 0 (option_to_list r) args) k)) u) (sym r.1)
     (fold-sound table.classes (mean table t) (mean table c) q.0 (weight t) place r.0 (weight c) u (mean-sound table are t q.0 q.1)
-        (mean-sound table are c r.0 r.1) r.2)
+    (mean-sound table are c r.0 r.1) r.2)
 mean-sound table are (tree.Collect t place f) u typed =
     let q = with_type-parts (type_of table t) (λ ty. with_type (type_of table f) (λ part. collect_row ty (weight t) place part (weight f))) u typed in
     let r = with_type-parts (type_of table f) (λ part. collect_row q.0 (weight t) place part (weight f)) u q.2 in
     subst (λ o. IsSound table.classes (λ args n. and_then (mean table f (part_of place (arity_of o) args) n) n
-        (λ r k. mean table t (spliced place (arity_of o) (option_to_list r) args) k)) u) (sym r.1)
+    (λ r k. mean table t (spliced place (arity_of o) (option_to_list r) args) k)) u) (sym r.1)
     (collect-sound table.classes (mean table t) (mean table f) q.0 (weight t) place r.0 (weight f) u (mean-sound table are t q.0 q.1)
-        (mean-sound table are f r.0 r.1) r.2)
+    (mean-sound table are f r.0 r.1) r.2)
 mean-sound table are (tree.Spread t array count) u typed =
     let q = with_type-parts (type_of table t) (λ ty. spread_row ty (weight t) array count) u typed in
     subst (λ o. IsSound table.classes (λ args n. found (slice_get args (arity_of o - count)) (λ v. and_then (spread_values count v) n
-        (λ items k. mean table t (spliced (arity_of o - count) 1 items args) k))) u) (sym q.1)
+    (λ items k. mean table t (spliced (arity_of o - count) 1 items args) k))) u) (sym q.1)
     (spread-sound table.classes are.classes (mean table t) q.0 (weight t) array count u (mean-sound table are t q.0 q.1) q.2)
 mean-sound table are (tree.Gather t array count) u typed =
     let q = with_type-parts (type_of table t) (λ ty. gather_row table.classes ty (weight t) array count) u typed in
     subst (λ o. IsSound table.classes (λ args n. found (component_of array) (λ c. or_throw (array_of c (part_of (arity_of o - 1) count args))
-        (λ v. mean table t (spliced (arity_of o - 1) count (v ∷ []) args) n))) u) (sym q.1)
+    (λ v. mean table t (spliced (arity_of o - 1) count (v ∷ []) args) n))) u) (sym q.1)
     (gather-sound table.classes are.classes (mean table t) q.0 (weight t) array count u (mean-sound table are t q.0 q.1) q.2)
 mean-sound table are (tree.AsType t asked) u typed =
     let q = with_type-parts (type_of table t) (λ ty. astype_row table.classes ty (weight t) asked) u typed in
     subst (λ o. IsSound table.classes (λ args n. known o (λ ty. or_throw (conv_all table.classes asked.params ty.params args)
-        (λ converted. and_then (mean table t converted n) n (λ r k. conv_result table.classes ty.ret asked.ret r)))) u) (sym q.1)
+    (λ converted. and_then (mean table t converted n) n (λ r k. conv_result table.classes ty.ret asked.ret r)))) u) (sym q.1)
     (astype-sound table.classes are.classes (mean table t) q.0 (weight t) asked u (mean-sound table are t q.0 q.1) q.2)
 mean-sound table are (tree.Guard c t e) u typed =
     let p = with_type-parts (type_of table c)
-        (λ test. with_type (type_of table t) (λ ty. with_type (type_of table e) (λ other. guard_row test (weight c) ty (weight t) other (weight e)))) u typed in
+    (λ test. with_type (type_of table t) (λ ty. with_type (type_of table e) (λ other. guard_row test (weight c) ty (weight t) other (weight e)))) u typed in
     let q = with_type-parts (type_of table t) (λ ty. with_type (type_of table e) (λ other. guard_row p.0 (weight c) ty (weight t) other (weight e))) u p.2 in
     let r = with_type-parts (type_of table e) (λ other. guard_row p.0 (weight c) q.0 (weight t) other (weight e)) u q.2 in
     subst (λ o. IsSound table.classes (λ args n. and_then (mean table c (take (arity_of o) args) n) n
-        (λ r k. decided r (mean table t args k) (mean table e args k))) u) (sym p.1)
+    (λ r k. decided r (mean table t args k) (mean table e args k))) u) (sym p.1)
     (guard-sound table.classes (mean table c) (mean table t) (mean table e) p.0 (weight c) q.0 (weight t) r.0 (weight e) u (mean-sound table are c p.0 p.1)
-        (mean-sound table are t q.0 q.1) (mean-sound table are e r.0 r.1) r.2)
+    (mean-sound table are t q.0 q.1) (mean-sound table are e r.0 r.1) r.2)
 mean-sound table are (tree.Catch t class h) u typed =
     let q = with_type-parts (type_of table t) (λ ty. with_type (type_of table h) (λ handler. catch_row table.classes ty (weight t) class handler (weight h))) u
-        typed in
+    typed in
     let r = with_type-parts (type_of table h) (λ handler. catch_row table.classes q.0 (weight t) class handler (weight h)) u q.2 in
     subst (λ o. IsSound table.classes (λ args n. guarded (mean table t args n) (is_caught table.classes class) n
-        (λ e k. mean table h (value.Thrown e ∷ take (arity_of o - 1) args) k)) u) (sym r.1)
+    (λ e k. mean table h (value.Thrown e ∷ take (arity_of o - 1) args) k)) u) (sym r.1)
     (catch-sound table.classes are.classes (mean table t) (mean table h) q.0 (weight t) class r.0 (weight h) u (mean-sound table are t q.0 q.1)
-        (mean-sound table are h r.0 r.1) r.2)
+    (mean-sound table are h r.0 r.1) r.2)
 
 -- on arguments of its parameter types
 pub mean-returns : (table : LeafTable) → IsWellTyped table → (t : Tree) (u : MethodTy) (args : List Value) (n : ℕ) → type_of table t ≡ Ok u →

@@ -73,7 +73,7 @@ trivial-result classes are None None r same have = refl
 trivial-result classes are (Some s) (Some t) None same have = absurd have
 trivial-result classes are (Some s) (Some t) (Some v) same have =
     ap (λ b. found (value_conversion (cond b (Some (pair s t)) None)) (λ c. or_throw (ret_conv classes c (Some v)) (λ w. Gave w [])))
-        (trivial-allowed classes s t same)
+    (trivial-allowed classes s t same)
     ∙ ended (conv classes s t v) v (trivial-keeps classes are s t v same have.0)
 trivial-result classes are None (Some t) r same have = absurd cc
 trivial-result classes are (Some s) None r same have = absurd cc
@@ -96,11 +96,11 @@ astype-trivial table are t ty asked args n typed same have =
     let classes = table.classes in
     let q = and_parts (are_trivial classes asked.params ty.params) (is_trivial_ret classes ty.ret asked.ret) same in
     let run : MethodTy → Done = λ own. or_throw (conv_all classes asked.params own.params args) (λ converted. and_then (mean table t converted n) n
-        (λ r k. conv_result classes own.ret asked.ret r)) in
+    (λ r k. conv_result classes own.ret asked.ret r)) in
     let own : HaveTypes classes args ty.params = trivial-typed classes are.classes asked.params ty.params args q.0 have in
     ap (λ o. known o run) typed
     ∙ ap (λ x. or_throw x (λ converted. and_then (mean table t converted n) n (λ r k. conv_result classes ty.ret asked.ret r)))
-        (trivial-args classes are.classes asked.params ty.params args q.0 have)
+    (trivial-args classes are.classes asked.params ty.params args q.0 have)
     ∙ kept classes are.classes ty.ret asked.ret (mean table t args n) n q.1 (mean-returns table are t ty args n typed own)
 
 -- nor does an AsType of such an AsType
@@ -126,4 +126,4 @@ pub astype-itself : (table : LeafTable) → IsWellTyped table → (t : Tree) (ty
     HaveTypes table.classes args ty.params → mean table (tree.AsType t ty) args n ≡ mean table t args n
 astype-itself table are t ty args n typed have =
     astype-trivial table are t ty ty args n typed (ap₂ (λ a b. a && b) (are_trivial-itself table.classes ty.params)
-        (is_trivial_ret-itself table.classes ty.ret)) have
+    (is_trivial_ret-itself table.classes ty.ret)) have

@@ -102,5 +102,5 @@ a_void_filter_may_stand_at_the_end :
 unfolding int_wrap
 a_void_filter_may_stand_at_the_end = refl
 
-a_filter_behind_the_end_is_refused : type_of host (tree.Collect (leaf 0) 3 (leaf 7)) ≡ Err (illegal (codes "collect"))
-a_filter_behind_the_end_is_refused = refl
+a_filter_after_the_end_is_refused : type_of host (tree.Collect (leaf 0) 3 (leaf 7)) ≡ Err (illegal (codes "collect"))
+a_filter_after_the_end_is_refused = refl

@@ -1,5 +1,8 @@
 //! Nodes by the texts of their types, for the tests.
 
+ghost use Rattle.std.specs.Prelude.{◌≡◌, IfOk, Ok};
+ghost use Rattle.mh_values.specs.Descriptor.{desc};
+
 use mh_base::NoMemory;
 use mh_leaves::{How, Leaves};
 use mh_tree::{
@@ -13,7 +16,7 @@ use mh_values::{
 use std::alloc::Global;
 
 /// A value that is bound, or that is constant.
-#[derive(Clone, Copy)]
+#[derive(Clone, Copy, Debug)]
 pub enum Given {
     Null,
     Int,
@@ -21,7 +24,7 @@ pub enum Given {
 }
 
 /// What a node of one part adds to it. Types are texts, `V` is void.
-#[derive(Clone, Copy)]
+#[derive(Clone, Copy, Debug)]
 pub enum Adapter {
     Bind(u8, Given),
     Drop(u8, &'static str),
@@ -32,7 +35,7 @@ pub enum Adapter {
 }
 
 /// What a node of two parts adds to them.
-#[derive(Clone, Copy)]
+#[derive(Clone, Copy, Debug)]
 pub enum Joint {
     Filter(u8),
     FilterReturn,
@@ -42,7 +45,7 @@ pub enum Joint {
 }
 
 /// A node: the types of its parts, each a descriptor, and what it adds.
-#[derive(Clone, Copy)]
+#[derive(Clone, Copy, Debug)]
 pub enum Node {
     Leaf,
     Constant(&'static str, Given),
@@ -66,7 +69,9 @@ pub(crate) fn method_type(
     alloc: Global,
     text: &str,
     classes: &Classes,
-) -> Result<MethodTy, NoMemory> {
+) -> Result<MethodTy, NoMemory>
+    ensures { IfOk result (λ ty. desc classes.now text.now ≡ Ok ty) }
+{
     read_descriptor(alloc, text.as_bytes(), classes).map_err(|_| NoMemory)
 }
 

@@ -312,33 +312,41 @@ fn is_told(alloc: Global, leaves: &Leaves, (node, weight, want): Row) -> Result<
     }
 }
 
-/// Whether a check tells what is wanted of each of these nodes.
-fn are_told(alloc: Global, leaves: &Leaves, rows: &[Row]) -> Result<bool, NoMemory> {
+/// The first of these nodes of which a check tells another thing.
+fn first_wrong(
+    alloc: Global,
+    leaves: &Leaves,
+    rows: &[Row],
+) -> Result<Option<(Node, u32)>, NoMemory> {
     for row in rows.iter().copied() {
         if !is_told(alloc, leaves, row)? {
-            return Ok(false);
+            let (node, weight, _) = row;
+            return Ok(Some((node, weight)));
         }
     }
-    Ok(true)
+    Ok(None)
 }
 
 #[test]
 fn nodes_without_parts(rt: HostRuntime) -> Result<(), Fail> {
     let leaves = host(rt.alloc())?;
-    assert!(rt; are_told(rt.alloc(), &leaves, &NO_PART)?);
+    let wrong = first_wrong(rt.alloc(), &leaves, &NO_PART)?;
+    assert!(rt; wrong.is_none(), "{wrong:?}");
     Ok(())
 }
 
 #[test]
 fn nodes_of_one_part(rt: HostRuntime) -> Result<(), Fail> {
     let leaves = host(rt.alloc())?;
-    assert!(rt; are_told(rt.alloc(), &leaves, &ONE_PART)?);
+    let wrong = first_wrong(rt.alloc(), &leaves, &ONE_PART)?;
+    assert!(rt; wrong.is_none(), "{wrong:?}");
     Ok(())
 }
 
 #[test]
 fn nodes_of_more_parts(rt: HostRuntime) -> Result<(), Fail> {
     let leaves = host(rt.alloc())?;
-    assert!(rt; are_told(rt.alloc(), &leaves, &MORE_PARTS)?);
+    let wrong = first_wrong(rt.alloc(), &leaves, &MORE_PARTS)?;
+    assert!(rt; wrong.is_none(), "{wrong:?}");
     Ok(())
 }

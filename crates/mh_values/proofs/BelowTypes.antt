@@ -20,7 +20,7 @@ use Rattle.mh_values.specs.HasType.{primitive_of, wrapper_of, is_component_below
 use Rattle.mh_values.proofs.Subclasses.{is_subclass-trans, is_subclass-itself}
 use Rattle.mh_values.proofs.SameTypes.{same_primitive-is, same_primitive-itself, same_class-is}
 
--- the built-in classes stand in front
+-- the built-in classes come first
 in_front : (classes : List Class) → AreClasses classes → classes ≡ builtin_classes ++ drop 28 classes
 in_front classes are = sym (take-append-drop 28 classes) ∙ ap (λ front. front ++ drop 28 classes) are.builtin
 

@@ -32,8 +32,8 @@ name_without_bytes = refl
 name_with_dots : descriptor_fault (codes "(Ljava.lang.String;)V") ≡ Some 6
 name_with_dots = refl
 
-more_behind : descriptor_fault (codes "()VV") ≡ Some 3
-more_behind = refl
+more_after : descriptor_fault (codes "()VV") ≡ Some 3
+more_after = refl
 
 slots_255 : descriptor_fault (codes "(" ++ replicate 127 74 ++ codes "I)V") ≡ None
 slots_255 = refl

@@ -3,7 +3,7 @@ use Rattle.std.proofs.Common.{◌≡◌, refl, sym, ap, ◌∙◌, ℕ, ◌+◌,
 use Rattle.std.proofs.lemmas.List.{append-nil, take_more, drop_more, drop_all, get_or-drop}
 use Rattle.mh_values.specs.Descriptor.{pieces, ends_type, longer}
 
--- bytes in front of the first piece
+-- bytes before the first piece
 abbrev pub within : List ℕ → List (List ℕ) → List (List ℕ)
 within [] ps = ps
 within (b ∷ bs) ps = longer b (within bs ps)

@@ -31,7 +31,7 @@ front_step b s bs told goes =
       | inr e ↦ let is : None ≡ Some s = sym (ap (λ t. if t then Some (standing.Parameters 0) else None) e) ∙ told in cc
     ]
 
--- a parameter in front of others
+-- a parameter before others
 one_more : (n : ℕ) (b : ℕ) (text : List ℕ) → n + slots_from b ≤ 255 → BeginsType (place.Parameter (n + slots_from b)) b text → ParametersFrom n text
 one_more n b text few begins =
     let rest = begins.after in

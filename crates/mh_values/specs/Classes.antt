@@ -40,7 +40,7 @@ pub record AreOrdered (classes : List Class) : Type 0 where
 abbrev pub most_classes : ℕ
 most_classes = 28 + 1024
 
--- what holds of each list of classes: the built-in ones stand in front
+-- what holds of each list of classes: the built-in ones come first
 pub record AreClasses (classes : List Class) : Type 0 where
   pub builtin : take 28 classes ≡ builtin_classes
   pub few : length classes ≤ most_classes

@@ -1,7 +1,6 @@
 use mh_base::Frozen;
 use mh_convert::{Conv, RetConv, conversion, convert, fit, misfit, ret_conversion};
 use mh_values::{ClassId, Classes, Comp, Exc, Num, Primitive, Ty, Value, has_type};
-use std::alloc::Global;
 use std::test::Fail;
 
 const Z: Ty = Ty::Prim(Primitive::Z);
@@ -56,13 +55,14 @@ static ALLOWED: [(Ty, Ty, bool); 22] = [
 fn allows_the_conversions_of_the_table(rt: HostRuntime) -> Result<(), Fail> {
     let classes = Classes::builtin(rt.alloc())?;
     for (from, to, allowed) in ALLOWED.iter().copied() {
-        assert!(rt; conversion(from, to, &classes).is_some() == allowed);
+        let is_allowed = conversion(from, to, &classes).is_some();
+        assert!(rt; is_allowed == allowed, "{from:?} to {to:?}");
     }
     Ok(())
 }
 
 /// A value before it is converted, and what became of it.
-#[derive(Clone, Copy, PartialEq)]
+#[derive(Clone, Copy, Debug, PartialEq)]
 enum Kept {
     Prim(Num),
     Boxed(Num),
@@ -77,7 +77,7 @@ const CAST: Kept = Thrown(ClassId::CLASS_CAST);
 
 const NULL_POINTER: Kept = Thrown(ClassId::NULL_POINTER);
 
-fn value(alloc: Global, given: Kept) -> Value {
+fn value(given: Kept) -> Value {
     match given {
         Prim(number) => Value::Prim(number),
         Boxed(number) => Value::Boxed(number),
@@ -118,15 +118,11 @@ static CONVERTED: [(Ty, Ty, Kept, Kept); 16] = [
 ];
 
 /// Whether a value has its type and becomes what is wanted.
-fn is_converted(
-    alloc: Global,
-    (from, to, before, after): (Ty, Ty, Kept, Kept),
-    classes: &Classes,
-) -> bool {
+fn is_converted((from, to, before, after): (Ty, Ty, Kept, Kept), classes: &Classes) -> bool {
     let Some(by) = conversion(from, to, classes) else {
         return false;
     };
-    let v = value(alloc, before);
+    let v = value(before);
     if has_type(&v, by.from, classes) {
         left_of(convert(by, v, classes)) == after
     } else {
@@ -138,7 +134,8 @@ fn is_converted(
 fn gives_the_values_of_the_table(rt: HostRuntime) -> Result<(), Fail> {
     let classes = Classes::builtin(rt.alloc())?;
     for row in CONVERTED.iter().copied() {
-        assert!(rt; is_converted(rt.alloc(), row, &classes));
+        let (from, to, before, _) = row;
+        assert!(rt; is_converted(row, &classes), "{before:?} from {from:?} to {to:?}");
     }
     Ok(())
 }
@@ -158,9 +155,9 @@ static FITTED: [(Ty, Kept, Kept); 10] = [
 ];
 
 /// Whether a bound value becomes what is wanted, and is a misfit where that is an exception.
-fn is_fitted(alloc: Global, (to, before, after): (Ty, Kept, Kept), classes: &Classes) -> bool {
-    let refused = misfit(&value(alloc, before), to, classes).is_some();
-    let fitted = left_of(fit(value(alloc, before), to, classes));
+fn is_fitted((to, before, after): (Ty, Kept, Kept), classes: &Classes) -> bool {
+    let refused = misfit(&value(before), to, classes).is_some();
+    let fitted = left_of(fit(value(before), to, classes));
     refused == matches!(after, Thrown(_)) && fitted == after
 }
 
@@ -168,7 +165,8 @@ fn is_fitted(alloc: Global, (to, before, after): (Ty, Kept, Kept), classes: &Cla
 fn fits_bound_values(rt: HostRuntime) -> Result<(), Fail> {
     let classes = Classes::builtin(rt.alloc())?;
     for row in FITTED.iter().copied() {
-        assert!(rt; is_fitted(rt.alloc(), row, &classes));
+        let (to, before, _) = row;
+        assert!(rt; is_fitted(row, &classes), "{before:?} to {to:?}");
     }
     Ok(())
 }
@@ -190,7 +188,7 @@ static RETURNED: [(Option<Ty>, Option<Ty>, Option<RetConv>); 5] = [
 fn converts_returns(rt: HostRuntime) -> Result<(), Fail> {
     let classes = Classes::builtin(rt.alloc())?;
     for (from, to, want) in RETURNED.iter().copied() {
-        assert!(rt; ret_conversion(from, to, &classes) == want);
+        assert!(rt; ret_conversion(from, to, &classes) == want, "{from:?} to {to:?}");
     }
     Ok(())
 }

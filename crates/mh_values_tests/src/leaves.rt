@@ -19,7 +19,7 @@ const TOO_LONG: [char; 15] = [
 ];
 
 /// An argument, or what a leaf gives.
-#[derive(Clone, Copy, PartialEq)]
+#[derive(Clone, Copy, Debug, PartialEq)]
 enum Seen {
     Is(Num),
     Text,
@@ -31,7 +31,7 @@ enum Seen {
 
 use Seen::{Is, Nothing, Null, Object, Text, Thrown};
 
-fn value(alloc: Global, seen_as: Seen) -> Value {
+fn value(seen_as: Seen) -> Value {
     match seen_as {
         Is(number) => Value::Prim(number),
         Text => Value::Text(Frozen::new()),
@@ -44,7 +44,7 @@ fn value(alloc: Global, seen_as: Seen) -> Value {
 fn items(alloc: Global, args: &[Seen]) -> Result<Items, NoMemory> {
     let mut all = Seq::new(alloc);
     for arg in args {
-        all.push(value(alloc, *arg))?;
+        all.push(value(*arg))?;
     }
     Ok(all)
 }
@@ -134,7 +134,7 @@ fn gives(alloc: Global, kind: Kind, args: &[Seen], want: Seen) -> Result<bool, N
 #[test]
 fn each_kind_does_what_the_table_says(rt: HostRuntime) -> Result<(), Fail> {
     for (kind, args, want) in RUNS.iter().copied() {
-        assert!(rt; gives(rt.alloc(), kind, args, want)?);
+        assert!(rt; gives(rt.alloc(), kind, args, want)?, "{kind:?} of {args:?}");
     }
     Ok(())
 }
@@ -229,7 +229,7 @@ fn notes_null(alloc: Global, is_virtual: bool, want: Seen) -> Result<bool, NoMem
 #[test]
 fn a_virtual_leaf_does_not_run_on_null(rt: HostRuntime) -> Result<(), Fail> {
     for (is_virtual, want) in [(true, Thrown(ClassId::NULL_POINTER)), (false, Nothing)] {
-        assert!(rt; notes_null(rt.alloc(), is_virtual, want)?);
+        assert!(rt; notes_null(rt.alloc(), is_virtual, want)?, "virtual: {is_virtual}");
     }
     Ok(())
 }
@@ -266,7 +266,8 @@ fn allows(alloc: Global, kind: Kind, params: &[Ty], ret: Option<Ty>) -> Result<b
 #[test]
 fn kinds_allow_their_types(rt: HostRuntime) -> Result<(), Fail> {
     for (kind, params, ret, allowed) in KIND_TYPES.iter().copied() {
-        assert!(rt; allows(rt.alloc(), kind, params, ret)? == allowed);
+        let is_allowed = allows(rt.alloc(), kind, params, ret)?;
+        assert!(rt; is_allowed == allowed, "{kind:?} of {params:?} to {ret:?}");
     }
     Ok(())
 }

@@ -22,11 +22,14 @@ fn prints(alloc: Global, token: &str, want: &str) -> Result<bool, NoMemory> {
     }
 }
 
-/// The first row whose token is not printed as it should be.
-fn first_wrong(alloc: Global, rows: &[(&str, &str)]) -> Result<Option<usize>, NoMemory> {
-    for (row, (token, want)) in rows.iter().enumerate() {
-        if !prints(alloc, *token, *want)? {
-            return Ok(Some(row));
+/// The first token that is not printed as it should be.
+fn first_wrong<'t>(
+    alloc: Global,
+    rows: &[(&'t str, &'t str)],
+) -> Result<Option<&'t str>, NoMemory> {
+    for (token, want) in rows.iter().copied() {
+        if !prints(alloc, token, want)? {
+            return Ok(Some(token));
         }
     }
     Ok(None)
@@ -114,10 +117,10 @@ static ARRAYS: [(&str, &str); 12] = [
 #[test]
 fn literals_are_read_and_printed(rt: HostRuntime) -> Result<(), Fail> {
     let alloc = rt.alloc();
-    assert!(rt; first_wrong(alloc, &NUMBERS)?.is_none());
-    assert!(rt; first_wrong(alloc, &TEXTS)?.is_none());
-    assert!(rt; first_wrong(alloc, &REFERENCES)?.is_none());
-    assert!(rt; first_wrong(alloc, &ARRAYS)?.is_none());
+    assert_eq!(rt; first_wrong(alloc, &NUMBERS)?, None);
+    assert_eq!(rt; first_wrong(alloc, &TEXTS)?, None);
+    assert_eq!(rt; first_wrong(alloc, &REFERENCES)?, None);
+    assert_eq!(rt; first_wrong(alloc, &ARRAYS)?, None);
     Ok(())
 }
 
@@ -151,9 +154,10 @@ fn is_cut(
 }
 
 #[test]
-fn printed_texts_are_cut_behind_1024_characters(rt: HostRuntime) -> Result<(), Fail> {
+fn printed_texts_are_cut_after_1024_characters(rt: HostRuntime) -> Result<(), Fail> {
     for row in CUT.iter().copied() {
-        assert!(rt; is_cut(rt.alloc(), row)?);
+        let (count, last, ..) = row;
+        assert!(rt; is_cut(rt.alloc(), row)?, "{last:?} after {count}");
     }
     Ok(())
 }
@@ -191,8 +195,9 @@ static LIMITS: [((&str, &str, &str), usize); 2] = [
 #[test]
 fn literals_have_limits(rt: HostRuntime) -> Result<(), Fail> {
     for (token, limit) in LIMITS.iter().copied() {
-        assert!(rt; reads(rt.alloc(), token, limit)?);
-        assert!(rt; !reads(rt.alloc(), token, limit + 1)?);
+        let (front, ..) = token;
+        assert!(rt; reads(rt.alloc(), token, limit)?, "{front} with {limit}");
+        assert!(rt; !reads(rt.alloc(), token, limit + 1)?, "{front} with more than {limit}");
     }
     Ok(())
 }

@@ -1,6 +1,6 @@
 ghost use Rattle.std.specs.Prelude.{◌<◌, length, OnOk};
 
-use mh_base::{NoMemory, Seq};
+use mh_base::{Frozen, NoMemory};
 use mh_values::{
     ClassId, Classes, Comp, DeclareError, DescriptorError, Num, Primitive, Ty, Value, has_type,
     read_descriptor, read_type, read_types, slots,
@@ -67,17 +67,17 @@ static PARENTS: [(&str, &str); 28] = [
     ),
 ];
 
-/// The first row that does not name the class of its number and its superclass.
-fn first_wrong(classes: &Classes, rows: &[(&str, &str)]) -> Option<usize> {
-    for (number, (name, parent)) in rows.iter().enumerate() {
+/// The first name that is not that of the class of its number, below its superclass.
+fn first_wrong<'t>(classes: &Classes, rows: &[(&'t str, &'t str)]) -> Option<&'t str> {
+    for (number, (name, parent)) in rows.iter().copied().enumerate() {
         let Some(class) = classes.find(name.as_bytes()) else {
-            return Some(number);
+            return Some(name);
         };
         if class.0 as usize != number
             || classes.name(class) != name.as_bytes()
             || classes.superclass(class) != classes.find(parent.as_bytes())
         {
-            return Some(number);
+            return Some(name);
         }
     }
     None
@@ -86,7 +86,7 @@ fn first_wrong(classes: &Classes, rows: &[(&str, &str)]) -> Option<usize> {
 #[test]
 fn built_in_classes_stand_below_their_superclasses(rt: HostRuntime) -> Result<(), Fail> {
     let classes = Classes::builtin(rt.alloc())?;
-    assert!(rt; first_wrong(&classes, &PARENTS).is_none());
+    assert_eq!(rt; first_wrong(&classes, &PARENTS), None);
     assert!(rt; classes.len() == 28);
     Ok(())
 }
@@ -138,7 +138,7 @@ static CONSTANTS: [(ClassId, &str); 21] = [
 fn constants_name_their_classes(rt: HostRuntime) -> Result<(), Fail> {
     let classes = Classes::builtin(rt.alloc())?;
     for (class, name) in CONSTANTS.iter().copied() {
-        assert!(rt; classes.name(class) == name.as_bytes());
+        assert!(rt; classes.name(class) == name.as_bytes(), "{name}");
     }
     Ok(())
 }
@@ -205,12 +205,12 @@ static REFUSALS: [(&str, Option<DescriptorError>); 6] = [
 #[test]
 fn descriptors_are_refused_at_their_places(rt: HostRuntime) -> Result<(), Fail> {
     for (text, want) in REFUSALS.iter().copied() {
-        assert!(rt; refusal(rt.alloc(), text)? == want);
+        assert!(rt; refusal(rt.alloc(), text)? == want, "{text}");
     }
     Ok(())
 }
 
-/// The slots of a method type with so many parameters of type `long`, and an `int` behind them.
+/// The slots of a method type with so many parameters of type `long`, and an `int` after them.
 fn slots_of_longs(alloc: Global, count: usize, more: &[u8]) -> Result<u32, DescriptorError> {
     let mut text = Vec::new(alloc);
     text.push(b'(').map_err(NoMemory::from)?;
@@ -268,8 +268,8 @@ static ARRAYS: [(Comp, Ty, bool); 3] = [
 fn arrays_have_the_types_above_their_own(rt: HostRuntime) -> Result<(), Fail> {
     let classes = Classes::builtin(rt.alloc())?;
     for (comp, ty, has) in ARRAYS.iter().copied() {
-        let array = Value::Array(comp, Seq::new(rt.alloc()));
-        assert!(rt; has_type(&array, ty, &classes) == has);
+        let array = Value::Array(comp, Frozen::new());
+        assert!(rt; has_type(&array, ty, &classes) == has, "{comp:?} as {ty:?}");
     }
     Ok(())
 }

@@ -9,5 +9,5 @@ invariant-run-loop-name l =
     record {
       same : run_bound l.leaves l.bound l.fn.args l.n
           ≡ after l.progress.calls (run_names (drop l.name-index l.name-items) (senses_in l.leaves l.bound) l.progress.slots l.count
-              (ended l.bound.body.now.out));
+          (ended l.bound.body.now.out));
     }

@@ -6,7 +6,7 @@ use Rattle.mh_form.proofs.leaf.typed_at.Goals as goal
 pub unreachable-requires : goal.unreachable-requires
 unreachable-requires c =
     c.requires (c.loop-i.invariant ∙ at-short c.args.classes.now c.args.slots.now c.args.types.now c.args.places.now c.loop-i.values c.loop-i.i (omega arith)
-        (omega arith))
+    (omega arith))
 
 pub typed_slot-requires : goal.typed_slot-requires
 typed_slot-requires c =
@@ -17,5 +17,5 @@ typed_slot-requires c =
 pub loop-i-preserved : goal.loop-i-preserved
 loop-i-preserved c =
     at-next c.args.classes.now c.args.slots.now c.args.types.now c.args.places.now c.loop-i.values c.push.new.self c.loop-i.i c.get.result.now
-        c.get-in-loop-i.result.now c.in_ok-value.value _
+    c.get-in-loop-i.result.now c.in_ok-value.value _
     c.loop-i.invariant c.get.ensures c.get-in-loop-i.ensures c.in_ok-value.ensures (grind (arith, common_steps))

@@ -8,7 +8,7 @@ pub call-requires : goal.call-requires
 call-requires c =
     let senses = senses_in c.args.leaves.now c.args.bound.now in
     λ none. c.requires (step-called c.args.leaves.now c.in-Some.leaf senses c.args.field c.args.slots.now c.args.args.now c.args.n (sym c.in-Some.ensures)
-        c.requires ∙ ap filled none)
+    c.requires ∙ ap filled none)
 
 pub returns : goal.returns
 returns c =

@@ -8,4 +8,4 @@ loop-i-preserved g c =
     let a = taken node_of c.args.a.now c.loop-i.i c.index-a-i.result (omega (arith, c.min-count.ensures)) c.index-a-i.is in
     let b = taken node_of c.args.b.now c.loop-i.i c.index-b-i.result (omega (arith, c.min-count.ensures)) c.index-b-i.is in
     a ∙ (ap (λ z. take c.loop-i.i (nodes_of c.args.a.now) ++ z ∷ []) c.agrees.ensures ∙ (ap (λ z. z ++ node_of c.index-b-i.result ∷ []) c.loop-i.invariant ∙
-        sym b))
+    sym b))

@@ -14,7 +14,7 @@ pub invariant_of-self-in-None : goal.invariant_of-self-in-None
 invariant_of-self-in-None g c = put_walk g.V.Keyed.key_of c.self.inside.chain.now c.self.inside.learnt.items c.reserve.new.self.items
     c.push_reserved.new.self.items c.put-one.result.0 c.args.value c.len.result _ c.self.invariant
     (omega (arith, c.len.ensures, c.reserve.ensures.len)) c.in-Some.ensures.name c.put-one.ensures.noted c.reserve.ensures.items c.push_reserved.ensures.items
-        (search rules) (rw (← c.self.view_is) at c.requires.new)
+    (search rules) (rw (← c.self.view_is) at c.requires.new)
 
 pub invariant_of-self-in-Some-back : goal.invariant_of-self-in-Some-back
 invariant_of-self-in-Some-back g c = (stepped_walk g.V.Keyed.key_of c.self.inside.chain.now c.self.inside.learnt.items c.reserve.new.self.items
@@ -33,7 +33,7 @@ pub returns-in-None-clause-once : goal.returns-in-None-clause-once
 returns-in-None-clause-once g c = (put_walk g.V.Keyed.key_of c.self.inside.chain.now c.self.inside.learnt.items c.reserve.new.self.items
     c.push_reserved.new.self.items c.put-one.result.0 c.args.value c.len.result _ c.self.invariant
     (omega (arith, c.len.ensures, c.reserve.ensures.len)) c.in-Some.ensures.name c.put-one.ensures.noted c.reserve.ensures.items c.push_reserved.ensures.items
-        (search rules) (rw (← c.self.view_is) at c.requires.new)).distinct
+    (search rules) (rw (← c.self.view_is) at c.requires.new)).distinct
 
 pub returns-in-Some-back-clause-once : goal.returns-in-Some-back-clause-once
 returns-in-Some-back-clause-once g c = (stepped_walk g.V.Keyed.key_of c.self.inside.chain.now c.self.inside.learnt.items c.reserve.new.self.items
