@@ -53,7 +53,7 @@ run-converting es convs old senses senses' args n ext each long fields =
 -- the same, and then what is done with the result
 run-returning :
     (ret : RetEntry) (c : RetConv) (es : List (Option Basic)) (convs : List (Slot → Ran Slot)) (old : FormBody) (leaves : LeafTable)
-        (senses senses' : List Sense)
+    (senses senses' : List Sense)
     (args : List Slot) (n : ℕ) →
     Extends senses senses' →
     length es ≡ length old.params →

@@ -26,7 +26,7 @@ refines-over (x ∷ xs) senses slots n e f h =
 
 picked-known :
     {B : Type 0} → (s : Slot) (rest : Option (List Slot)) (next : List Slot → Ran B) →
-        Refines (found rest (λ ys. next (s ∷ ys))) (found (picked_more (Some s) rest) next)
+    Refines (found rest (λ ys. next (s ∷ ys))) (found (picked_more (Some s) rest) next)
 picked-known s None next = tt
 picked-known s (Some ys) next = refines-refl (next (s ∷ ys))
 
@@ -75,7 +75,7 @@ converts-run (None ∷ es) (b ∷ params) convs (x ∷ xs) ss env f i p n next e
     (λ j s at. along env (i + 1 + j) (i + suc j) s (omega arith) (args (suc j) s at)) fields)
     (refines-over (conv_names es params f (i + 1)) ss env n _ _
     (λ w k over. picked-first (slice_get w i) x (picked w (conv_table es (i + 1) p)) (λ ys. next ys k)
-        (over i x (along env i (i + 0) x (sym (add-zero i)) (args 0 x refl)))))
+    (over i x (along env i (i + 0) x (sym (add-zero i)) (args 0 x refl)))))
 converts-run (Some b ∷ es) [] convs xs ss env f i p n next each len args fields = absurd (omega arith)
 converts-run (Some b ∷ es) (d ∷ params) [] xs ss env f i p n next each len args fields = tt
 converts-run (Some b ∷ es) (d ∷ params) (c ∷ convs) [] ss env f i p n next each len args fields = tt

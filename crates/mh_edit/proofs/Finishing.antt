@@ -130,7 +130,7 @@ run-finishing last ret old senses senses' args n f ext long ran =
     let P : Ran (Option Slot) → Type 0 = λ v. Refines v (g env k) in
     subst P (sym split)
     (refines-and_then (with_result out env (λ r. filled (f r k))) (step x senses' env k) k (close env) (close env) (ran env k)
-        (λ s i. refines-refl (close env s i))) in
+    (λ s i. refines-refl (close env s i))) in
     let first : Refines (run_names old.names senses args n e) (run_names old.names senses' args n e) =
     run-extended old.names senses senses' args n e ext in
     let second : Refines (run_names old.names senses' args n e) (run_names old.names senses' args n g) =

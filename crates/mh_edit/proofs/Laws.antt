@@ -36,7 +36,7 @@ law-applied (Convert es ret) body h = law-Convert es ret body (same-number _ _ (
 law-applied (Spread count b) body h = law-Spread count b body (has-last body.params count b (second-true _ _ h))
 law-applied (Gather count b) body h =
     let last : length body.params - 1 < length body.params = is-parameter body.params (length body.params - 1) basic.L (second-true (not (is_nothing body)) _ h)
-        in law-Gather count b body (omega arith)
+    in law-Gather count b body (omega arith)
 
 pub law-made :
     (key : Key) (body : FormBody) (r : Result FormBody NoMemory) →

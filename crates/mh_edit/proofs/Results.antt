@@ -36,15 +36,15 @@ link-result run senses f (Some p) env k same = link-found run (run_field senses 
 pub law-FilterReturn : (ret : BasicRet) (old : FormBody) → FilterReturnLaw ret old (applied (FilterReturn ret) old)
 law-FilterReturn ret old leaves fields part args n held long =
     let senses = map (sense leaves) fields in
-    let x = sense leaves (field.SlotRun part) in
+    let x = sense leaves (field.Part part) in
     let senses' = senses ++ x ∷ [] in
     let f = old.fields in
     let run = run_bound leaves part.value in
     let there : slice_get senses' f ≡ Some x = new-field senses x f (length-map fields (sense leaves) ∙ held) in
     let done = run-finishing (λ out. Link f (places_of out)) ret old senses senses' args n (λ r k. run (slots_of_result r) k) (extends-more senses (x ∷ []))
-        long
+    long
     (λ env k. refines-is _ _ (link-result run senses' f old.out env k (λ xs. run-part leaves senses' part f xs k there))) in
     let Q : List Sense → Type 0 =
     λ v. Refines (and_then (run_body old senses args n) n (λ r k. returned ret (run (slots_of_result r) k))) (run_body (applied (FilterReturn ret) old) v args
-        n) in
-    subst Q (sym (map-append (sense leaves) fields (field.SlotRun part ∷ []))) done
+    n) in
+    subst Q (sym (map-append (sense leaves) fields (field.Part part ∷ []))) done

@@ -112,9 +112,9 @@ run-guarded :
     ≡ guarded (run_bound leaves t.value xs n) (is_caught leaves.classes c) n (λ e k. run_bound leaves h.value (slot.L (value.Thrown e) ∷ take kept xs) k)
 run-guarded leaves senses t c h kept xs n part handler =
     ap (λ r. guarded r (is_caught leaves.classes c) n (λ e k. run_field senses 2 (slot.L (value.Thrown e) ∷ take kept xs) k))
-        (run-part leaves senses t 0 xs n part)
+    (run-part leaves senses t 0 xs n part)
     ∙ ap (guarded (run_bound leaves t.value xs n) (is_caught leaves.classes c) n) (λ i e k. run-part leaves senses h 2 (slot.L (value.Thrown e) ∷ take kept xs)
-        k handler i)
+    k handler i)
 
 pub law-CatchRoot :
     (shape : Shape) (kept : ℕ) (old : FormBody) → CatchRootLaw shape.params shape.ret kept (applied (CatchRoot shape kept) old)

@@ -49,7 +49,7 @@ pub then-converted :
     (table : LeafTable) → AreClasses table.classes → (s t : Option Ty) (c : RetConv) (m : Done) (n : ℕ) →
     ret_conversion_of table.classes s t ≡ Some c → Returns table.classes m s →
     and_then (erased_ran m) n (λ r k. ret_entry_on table (ret_entry_of table.classes s t) c r) ≡ erased_ran
-        (and_then m n (λ r k. conv_result table.classes s t r))
+    (and_then m n (λ r k. conv_result table.classes s t r))
 then-converted table are s t c (Gave r calls) n is returns =
     ap (after calls) (result-converted table are s t c r is (returned-typed table.classes r calls s returns))
     ∙ sym (mapped-after erased_option calls (conv_result table.classes s t r))
@@ -84,20 +84,20 @@ module _
         (args : List Value) (n : ℕ) →
         mean table (AsType t asked) args n
         ≡ or_throw (conv_all table.classes asked.params h.ty.params args) (λ vs. and_then (mean table t vs n) n (λ r k. conv_result table.classes h.ty.ret
-            asked.ret r))
+        asked.ret r))
     meaning args n =
         ap (λ c. known c (λ ty. or_throw (conv_all table.classes asked.params ty.params args)
-            (λ vs. and_then (mean table t vs n) n (λ r k. conv_result table.classes ty.ret asked.ret r)))) st.typed
+        (λ vs. and_then (mean table t vs n) n (λ r k. conv_result table.classes ty.ret asked.ret r)))) st.typed
 
     pub sound : IsSound table.classes (mean table (AsType t asked)) asked
     sound =
         subst
         (λ o. IsSound table.classes
         (λ args n. known o (λ ty. or_throw (conv_all table.classes asked.params ty.params args)
-            (λ vs. and_then (mean table t vs n) n (λ r k. conv_result table.classes ty.ret asked.ret r)))) asked)
+        (λ vs. and_then (mean table t vs n) n (λ r k. conv_result table.classes ty.ret asked.ret r)))) asked)
         (sym st.typed)
         (astype-sound table.classes are (mean table t) h.ty h.weight asked asked st.returns
-            (row ∙ ap Ok (astype_row-parts table.classes h.ty h.weight asked u row).2))
+        (row ∙ ap Ok (astype_row-parts table.classes h.ty h.weight asked u row).2))
 
     pub ends : (args : List Value) (n : ℕ) → HaveTypes table.classes args asked.params → erased_ran (mean table (AsType t asked) args n) ≢ Stuck
     ends args n have = returns-runs table.classes (mean table (AsType t asked) args n) asked.ret (sound args n have)
@@ -114,7 +114,7 @@ module _
         (args : List Value) (n : ℕ) → HaveTypes table.classes args asked.params → n < 2 ^ 32 →
         run_on table (applied (Convert (entries_of table.classes asked.params h.ty.params) (ret_entry_of table.classes h.ty.ret asked.ret)) (handle_body h))
         (h.fields ++ (map (λ d. field.Conv d) (convs_of table.classes asked.params h.ty.params) ++ ret_fields (ret_entry_of table.classes h.ty.ret asked.ret)
-            back.0)) (map erased args) n
+        back.0)) (map erased args) n
         ≡ erased_ran (mean table (AsType t asked) args n)
     made-runs args n have low =
         let es = entries_of table.classes asked.params h.ty.params in

@@ -47,11 +47,11 @@ module _
     with-key :
         (number : ℕ) →
         convert_keys table.classes asked h.ty ≡ Convert (entries_of table.classes asked.params h.ty.params) (ret_entry_of table.classes h.ty.ret asked.ret) ∷ []
-            →
+        →
         Stands table
         (viewed number (Convert (entries_of table.classes asked.params h.ty.params) (ret_entry_of table.classes h.ty.ret asked.ret) ∷ [])
         (h.fields ++ (map (λ d. field.Conv d) (convs_of table.classes asked.params h.ty.params) ++ ret_fields (ret_entry_of table.classes h.ty.ret asked.ret)
-            (back table are asked u h t row st).0)))
+        (back table are asked u h t row st).0)))
         (AsType t asked)
     unfolding viewed
     with-key number is =
@@ -63,16 +63,16 @@ module _
         let fields = h.fields ++ (map (λ d. field.Conv d) convs ++ ret_fields re (back table are asked u h t row st).0) in
         let snoc : body_of (h.form.recipe ++ Convert es re ∷ []) ≡ applied (Convert es re) old = body_of-snoc h.form.recipe (Convert es re) in
         let more : length (map (λ d. field.Conv d) convs) ≡ conv_count es = length-map convs (λ d. field.Conv d) ∙ count-convs table.classes asked.params
-            h.ty.params in
+        h.ty.params in
         let first : length fields ≡ length h.fields + length (map (λ d. field.Conv d) convs ++ ret_fields re (back table are asked u h t row st).0) =
-            length-append h.fields (map (λ d. field.Conv d) convs ++ ret_fields re (back table are asked u h t row st).0) in
+        length-append h.fields (map (λ d. field.Conv d) convs ++ ret_fields re (back table are asked u h t row st).0) in
         let second : length (map (λ d. field.Conv d) convs ++ ret_fields re (back table are asked u h t row st).0) ≡ length (map (λ d. field.Conv d) convs) +
-            length (ret_fields re (back table are asked u h t row st).0) =
-            length-append (map (λ d. field.Conv d) convs) (ret_fields re (back table are asked u h t row st).0) in
+        length (ret_fields re (back table are asked u h t row st).0) =
+        length-append (map (λ d. field.Conv d) convs) (ret_fields re (back table are asked u h t row st).0) in
         let third : (applied (Convert es re) old).fields ≡ (old.fields + conv_count es) + length (ret_fields re (back table are asked u h t row st).0) =
-            returning-fields re (back table are asked u h t row st).0 made in
+        returning-fields re (back table are asked u h t row st).0 made in
         let begin : IsMade made = made-reframed old (conv_params es old.params) (conv_names es old.params old.fields 0) (conv_table es 0 (length old.params))
-            (conv_count es) st.begun in
+        (conv_count es) st.begun in
         record {
           typed = type table are asked u h t row st;
           weighed = ap (λ w. 1 + w) st.weighed;
@@ -94,7 +94,7 @@ module _
     without-key :
         (number : ℕ) →
         are_trivial table.classes asked.params h.ty.params ≡ true → is_trivial_ret table.classes h.ty.ret asked.ret ≡ true →
-            convert_keys table.classes asked h.ty ≡ [] →
+        convert_keys table.classes asked h.ty ≡ [] →
         Stands table (viewed number [] h.fields) (AsType t asked)
     unfolding viewed
     without-key number params ret is =
@@ -124,26 +124,26 @@ module _
         let keys : convert_keys table.classes asked h.ty ≡ [] =
         ap (λ b. cond b [] (Convert (entries_of table.classes asked.params h.ty.params) (ret_entry_of table.classes h.ty.ret asked.ret) ∷ [])) is in
         let convs : map (λ d. field.Conv d) (convs_of table.classes asked.params h.ty.params) ≡ [] =
-            ap (map (λ d. field.Conv d)) (none-converted table.classes asked.params h.ty.params p.0) in
+        ap (map (λ d. field.Conv d)) (none-converted table.classes asked.params h.ty.params p.0) in
         let last : ret_fields_of table.classes h.ty.ret asked.ret ≡ [] =
         ap (λ b. cond b [] (map (λ c. field.Ret c) (option_to_list (ret_conversion_of table.classes h.ty.ret asked.ret)))) p.1 in
         let fields : convert_fields table.classes asked h.ty ≡ [] = ap₂ (λ (a b : List Field). a ++ b) convs last in
         subst (λ ks. Stands table (viewed number ks (h.fields ++ convert_fields table.classes asked h.ty)) (AsType t asked)) (sym keys)
         (subst (λ fs. Stands table (viewed number [] fs) (AsType t asked)) (sym (ap (λ fs. h.fields ++ fs) fields ∙ append-nil h.fields))
-            (without-key number p.0 p.1 keys))
+        (without-key number p.0 p.1 keys))
     as-type number false is =
         let keys : convert_keys table.classes asked h.ty ≡ Convert (entries_of table.classes asked.params h.ty.params)
-            (ret_entry_of table.classes h.ty.ret asked.ret) ∷ [] =
+        (ret_entry_of table.classes h.ty.ret asked.ret) ∷ [] =
         ap (λ b. cond b [] (Convert (entries_of table.classes asked.params h.ty.params) (ret_entry_of table.classes h.ty.ret asked.ret) ∷ [])) is in
         let fields : convert_fields table.classes asked h.ty
         ≡ map (λ d. field.Conv d) (convs_of table.classes asked.params h.ty.params) ++ ret_fields (ret_entry_of table.classes h.ty.ret asked.ret)
-            (back table are asked u h t row st).0 =
+        (back table are asked u h t row st).0 =
         ap (λ fs. map (λ d. field.Conv d) (convs_of table.classes asked.params h.ty.params) ++ fs)
         (ret-one (is_trivial_ret table.classes h.ty.ret asked.ret) (basic_ret_of asked.ret) (ret_conversion_of table.classes h.ty.ret asked.ret)
-            (back table are asked u h t row st).0 (back table are asked u h t row st).1) in
+        (back table are asked u h t row st).0 (back table are asked u h t row st).1) in
         subst (λ ks. Stands table (viewed number ks (h.fields ++ convert_fields table.classes asked h.ty)) (AsType t asked)) (sym keys)
         (subst (λ fs. Stands table (viewed number (Convert (entries_of table.classes asked.params h.ty.params) (ret_entry_of table.classes h.ty.ret asked.ret) ∷
-            []) (h.fields ++ fs)) (AsType t asked)) (sym fields)
+        []) (h.fields ++ fs)) (AsType t asked)) (sym fields)
         (with-key number keys))
 
 pub astype-stands :
@@ -156,7 +156,7 @@ unfolding viewed
 astype-stands table are asked u old new t row used st =
     let P : HandleView → Type 0 = λ h. Stands table h (AsType t asked) in
     let made : HandleView = viewed table are asked u old t row st new.form.number (convert_keys table.classes asked old.ty)
-        (old.fields ++ convert_fields table.classes asked old.ty) in
+    (old.fields ++ convert_fields table.classes asked old.ty) in
     let is : new ≡ made =
     λ i. record {
       ty = used.ty i;
@@ -167,4 +167,4 @@ astype-stands table are asked u old new t row used st =
     } in
     subst P (sym is)
     (as-type table are asked u old t row st new.form.number (are_trivial table.classes asked.params old.ty.params && is_trivial_ret table.classes old.ty.ret
-        asked.ret) refl)
+    asked.ret) refl)

@@ -41,7 +41,7 @@ none i j x y p q e = cc
 pub indexed-empty : (forms : List FormView) (newest before : List ℕ) → forms ≡ [] → newest ≡ replicate 4096 0 → before ≡ [] → AreIndexed forms newest before
 indexed-empty forms newest before f n b =
     let index : IsIndex [] newest [] = subst (λ v. IsIndex [] v []) (sym n) (is_index-empty (replicate 4096 0) (length-replicate {A = ℕ} 4096 0) (zeros 4096))
-        in
+    in
     subst (λ v. AreIndexed v newest before) (sym f) (subst (λ v. AreIndexed [] newest v) (sym b) (record { index = index; once = none }))
 
 pub indexed-more : (forms : List FormView) (newest before : List ℕ) (form : FormView) (place : ℕ) → AreIndexed forms newest before

@@ -52,7 +52,7 @@ module _
     first-converted :
         (r : Result Value Exc) (next : List Slot → ℕ → Ran B) →
         and_then (slot_or_throw r) n (λ y k. converting_slots entries convs xs k (λ ys m. next (y ∷ ys) m)) ≡ or_throw (then_others r others)
-            (λ vs. next (map erased vs) n)
+        (λ vs. next (map erased vs) n)
     first-converted (Ok w) next =
         and_then-pure (erased w) n (λ y k. converting_slots entries convs xs k (λ ys m. next (y ∷ ys) m))
         ∙ (same (λ ys m. next (erased w ∷ ys) m) ∙ in_front w others (λ ys. next ys n))
@@ -65,7 +65,7 @@ argument-converted :
     is_trivial classes s t ≡ trivial → can classes s t ≡ true → has_type classes v s ≡ true →
     ((next : List Slot → ℕ → Ran B) → converting_slots entries (map (converted classes) convs) xs n next ≡ or_throw others (λ vs. next (map erased vs) n)) →
     converting_slots ((if trivial then None else Some (basic_of s)) ∷ entries)
-        (map (converted classes) (if trivial then convs else conversion_between s t ∷ convs)) (erased v ∷ xs) n next
+    (map (converted classes) (if trivial then convs else conversion_between s t ∷ convs)) (erased v ∷ xs) n next
     ≡ or_throw (then_others (conv classes s t v) others) (λ vs. next (map erased vs) n)
 argument-converted classes are s t v true entries convs xs n others next is allowed have same =
     same (λ ys m. next (erased v ∷ ys) m)
@@ -90,7 +90,7 @@ arguments-converted classes are (s ∷ ss) (t ∷ ts) [] n next allowed have = a
 arguments-converted classes are (s ∷ ss) (t ∷ ts) (v ∷ vs) n next allowed have =
     let q = both (can classes s t) (can_all classes ss ts) allowed in
     argument-converted classes are s t v (is_trivial classes s t) (entries_of classes ss ts) (convs_of classes ss ts) (map erased vs) n
-        (conv_all classes ss ts vs) next
+    (conv_all classes ss ts vs) next
     refl q.0 have.0 (λ more. arguments-converted classes are ss ts vs n more q.1 have.1)
 
 -- ---- results
@@ -143,5 +143,5 @@ result-converted table are (Some s) (Some t) c (Some v) is have =
     let whole : erased_ran (conv_result table.classes (Some s) (Some t) (Some v)) ≡ erased_ran (shown (ret_conv table.classes c (Some v))) =
     ap (λ o. erased_ran (found o (λ d. shown (ret_conv table.classes d (Some v))))) is in
     let P : RetConv → Type 0 = λ d. ret_entry_on table (ret_entry_of table.classes (Some s) (Some t)) d (Some (erased v)) ≡ erased_ran
-        (shown (ret_conv table.classes d (Some v))) in
+    (shown (ret_conv table.classes d (Some v))) in
     subst P (sym q.1) (value-converted table are s t v (is_trivial table.classes s t) refl q.0 have.0) ∙ sym whole

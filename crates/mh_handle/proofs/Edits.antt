@@ -26,8 +26,11 @@ pub edits-found :
     new ≡ record mid { asked = mid.asked ++ form.now ∷ [] } → IsFormOf recipe mid.nodes form.now → Edits recipe old new (Ok form)
 edits-found recipe old mid new form learns unseen asks is = (
   is.0.2,
-  inr (lacks-same old.asked old.asked recipe form.now.recipe unseen refl is.0.2, ap (λ (p : PassView). p.asked) asks ∙
-      ap (λ v. v ++ form.now ∷ []) learns.asked),
+  inr (
+    lacks-same old.asked old.asked recipe form.now.recipe unseen refl is.0.2,
+    ap (λ (p : PassView). p.asked) asks ∙
+        ap (λ v. v ++ form.now ∷ []) learns.asked,
+  ),
   inl (ap (λ (p : PassView). p.seat) asks ∙ learns.seat),
   subst (λ (p : PassView). IsFormOf recipe p.nodes form.now) (sym asks) is,
 )

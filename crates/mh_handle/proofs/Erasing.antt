@@ -57,11 +57,11 @@ raised-low (c ∷ calls) n low =
 -- a part that stands for a tree, and what runs on its result
 pub part-then :
     (classes : List Class) (r : Ran (Option Value)) (n : ℕ) (t : Option Ty) (run : List Slot → ℕ → Ran (Option Slot)) (mean : List Value → ℕ →
-        Ran (Option Value)) →
+    Ran (Option Value)) →
     n < 2 ^ 32 →
     Returns classes r t →
     ((o : Option Value) (k : ℕ) → HaveTypes classes (option_to_list o) (option_to_list t) → k < 2 ^ 32 →
-        run (map erased (option_to_list o)) k ≡ erased_ran (mean (option_to_list o) k)) →
+    run (map erased (option_to_list o)) k ≡ erased_ran (mean (option_to_list o) k)) →
     and_then (filled (erased_ran r)) n (λ s k. run (given (basic_ret_of t) s) k) ≡ erased_ran (and_then r n (λ o k. mean (option_to_list o) k))
 part-then classes (Gave (Some v) calls) n (Some t) run mean low typed same =
     ap (after calls) (same (Some v) (raised n calls) (typed, tt) (raised-low calls n low)) ∙ sym (erased-after calls (mean (v ∷ []) (raised n calls)))
@@ -75,17 +75,17 @@ part-then classes Stuck n t run mean low typed same = absurd typed
 -- the same where the part runs last
 pub result-then :
     (classes : List Class) (r : Ran (Option Value)) (n : ℕ) (t ret : Option Ty) (run : List Slot → ℕ → Ran (Option Slot)) (mean : List Value → ℕ →
-        Ran (Option Value)) →
+    Ran (Option Value)) →
     n < 2 ^ 32 →
     Returns classes r t →
     ((o : Option Value) (k : ℕ) → HaveTypes classes (option_to_list o) (option_to_list t) → Returns classes (mean (option_to_list o) k) ret) →
     ((o : Option Value) (k : ℕ) → HaveTypes classes (option_to_list o) (option_to_list t) → k < 2 ^ 32 →
-        run (map erased (option_to_list o)) k ≡ erased_ran (mean (option_to_list o) k)) →
+    run (map erased (option_to_list o)) k ≡ erased_ran (mean (option_to_list o) k)) →
     and_then (erased_ran r) n (λ o k. returned (basic_ret_of ret) (run (slots_of_result o) k)) ≡ erased_ran (and_then r n (λ o k. mean (option_to_list o) k))
 result-then classes (Gave (Some v) calls) n (Some t) ret run mean low typed sound same =
     let k : ℕ = raised n calls in
     ap (after calls) (ap (returned (basic_ret_of ret)) (same (Some v) k (typed, tt) (raised-low calls n low)) ∙ returned-erased classes (mean (v ∷ []) k) ret
-        (sound (Some v) k (typed, tt)))
+    (sound (Some v) k (typed, tt)))
     ∙ sym (erased-after calls (mean (v ∷ []) k))
 result-then classes (Gave None calls) n None ret run mean low typed sound same =
     let k : ℕ = raised n calls in

@@ -57,7 +57,7 @@ registered-typed table all are = record {
   classes = are;
   leaves = λ l leaf at.
       let is : IsLeafOf table.classes leaf = subst (IsLeafOf table.classes) (get_or_from_slice_get table.leaves l leaf leaf at)
-          (all.leaves l leaf (slice_get_within table.leaves l leaf at)) in
+      (all.leaves l leaf (slice_get_within table.leaves l leaf at)) in
       both-true (is_kind_type leaf.kind leaf.ty) (throws_exceptions table.classes leaf.kind) is.typed (throws table.classes are leaf.kind is.throws);
 }
 
@@ -96,7 +96,7 @@ leaf-stands table well l ty h is g =
           let does = called-erased table l leaf.0 args n leaf.1 (subst (λ (m : MethodTy). HaveTypes table.classes args m.params) (sym leaf.2) have) in
           let whole = ap (returned (basic_ret_of ty.ret)) does ∙ returned-erased table.classes (mean table (tree.Leaf l) args n) ty.ret (sound args n have) in
           let size : length (map erased args) ≡ length (map basic_of ty.params) = length-map args erased ∙ (types-length table.classes args ty.params have ∙
-              sym (length-map ty.params basic_of)) in
+          sym (length-map ty.params basic_of)) in
           refined (returned (basic_ret_of ty.ret) (called table l (map erased args) n)) (run_on table new (field.Leaf l ∷ []) (map erased args) n)
           (λ e. returns-runs table.classes (mean table (tree.Leaf l) args n) ty.ret (sound args n have) (sym whole ∙ e))
           (law table l (map erased args) n size)

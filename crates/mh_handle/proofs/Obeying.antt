@@ -40,7 +40,8 @@ refused-makes recipe pass e (Err x) is = subst (λ v. Makes recipe pass pass (Er
 -- ---- a handle that was made, or want of memory or of numbers
 
 pub grown-obeys :
-    (row : TypeOrRefusal) (old : HandleView) (t : MethodTy) (weight : ℕ) (sides : List MethodTy) (k : Key) (fields : List Field) (r : Result Handle HandleError) →
+    (row : TypeOrRefusal) (old : HandleView) (t : MethodTy) (weight : ℕ) (sides : List MethodTy) (k : Key) (fields : List Field) (r : Result Handle HandleError)
+    →
     row ≡ Ok t →
     IsAccepted r →
     IfOk r (λ h. Grows old h t weight sides k fields) →

@@ -49,7 +49,7 @@ pub made-reframed : (body : FormBody) (params : List Basic) (before : List Name)
 made-reframed body params [] table more made =
     let to = place_by table (length params + 0) in
     ap (λ n. n == 0 && not (is_some (option_map to body.out))) (length-map body.names (renamed to)) ∙
-        (ap (λ b. length body.names == 0 && not b) (some-mapped to body.out) ∙ made)
+    (ap (λ b. length body.names == 0 && not b) (some-mapped to body.out) ∙ made)
 made-reframed body params (x ∷ before) table more made =
     let to = place_by table (length params + length (x ∷ before)) in
     ap (λ b. b && not (is_some (option_map to body.out))) (suc-positive (length (before ++ map (renamed to) body.names)))
@@ -71,7 +71,7 @@ pub record Suits (table : LeafTable) (h : HandleView) (keys : List Key) (held : 
 
 pub stands-by :
     (table : LeafTable) (h h' : HandleView) (keys : List Key) (held : List MethodTy) (t' : Tree) (ty : MethodTy) (weighs : ℕ) (more : List MethodTy) (k : Key)
-        (fields : List Field) →
+    (fields : List Field) →
     Grows h h' ty weighs more k fields →
     h.form.recipe ≡ keys →
     h.sides ≡ held →
@@ -81,7 +81,7 @@ pub stands-by :
 stands-by table h h' keys held t' ty weighs more k fields g made holds fielded su =
     let body : handle_body h' ≡ applied k (handle_body h) = ap body_of g.made ∙ body_of-snoc h.form.recipe k in
     let run : (args : List Value) (n : ℕ) → HaveTypes table.classes args h'.ty.params → n < 2 ^ 32 →
-        handle_run table h' (map erased args) n ≡ erased_ran (mean table t' args n) =
+    handle_run table h' (map erased args) n ≡ erased_ran (mean table t' args n) =
     λ args n have low.
     ap (λ b. run_on table b h'.fields (map erased args) n) body
     ∙ (ap (λ fs. run_on table (applied k (handle_body h)) fs (map erased args) n) g.fielded

@@ -68,8 +68,10 @@ line-fits table threads next line all is =
 
 -- ---- plans
 
-after_line-fits : (table : LeafTable) (n : ℕ) (r : Result (List (List Call)) PlanKind) (rest : List (List Call) → Result (List (List Call)) (LineFault PlanKind))
-    (threads : List (List Call)) → ((next : List (List Call)) → r ≡ Ok next → rest next ≡ Ok threads → AreCallsOf table threads) → after_line n r rest ≡ Ok threads
+after_line-fits : (table : LeafTable) (n : ℕ) (r : Result (List (List Call)) PlanKind) (rest : List (List Call) →
+    Result (List (List Call)) (LineFault PlanKind))
+    (threads : List (List Call)) → ((next : List (List Call)) → r ≡ Ok next → rest next ≡ Ok threads → AreCallsOf table threads) →
+        after_line n r rest ≡ Ok threads
     → AreCallsOf table threads
 after_line-fits table n (Err kind) rest threads goes is = cc
 after_line-fits table n (Ok next) rest threads goes is = goes next refl is

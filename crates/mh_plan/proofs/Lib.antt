@@ -6,3 +6,4 @@ pub mod Fitting
 pub mod FoundCalls
 pub mod Numbers
 pub mod Recipes
+mod Refused

@@ -48,7 +48,8 @@ impl Counts {
 
     // Counts the tokens of a line.
     fn add_tokens(&mut self, tokens: &[&[u8]]) -> LineResult
-        ensures { TakesLine self.new result (tokens_counted self.old (map (λ t. t.now) tokens.now)) }
+        ensures { TakesLine self.new result
+            (tokens_counted self.old (map (λ t. t.now) tokens.now)) }
     {
         if !are_full(tokens) {
             return Err(LineError::Kind(PlanKind::BadLine));
@@ -77,7 +78,8 @@ impl Counts {
 
 /// Looks at the form of each line, and at how many threads and calls there are.
 pub(crate) fn check_lines(alloc: Global, lines: &[&[u8]]) -> Result<Counts, PlanError>
-    ensures { TellsLines result (built_from line_counted 1 none_counted (map (λ l. l.now) lines.now)) }
+    ensures { TellsLines result
+        (built_from line_counted 1 none_counted (map (λ l. l.now) lines.now)) }
 {
     let mut counts = Counts {
         threads: 0,

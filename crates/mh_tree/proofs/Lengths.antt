@@ -12,7 +12,8 @@ pub can_all-lengths : (classes : List Class) (ss ts : List Ty) → (length ss �
 can_all-lengths classes [] [] h = absurd (h refl)
 can_all-lengths classes [] (t ∷ ts) h = refl
 can_all-lengths classes (s ∷ ss) [] h = refl
-can_all-lengths classes (s ∷ ss) (t ∷ ts) h = ap (λ b. can classes s t && b) (can_all-lengths classes ss ts (λ e. h (ap suc e))) ∙ and_right (can classes s t) false refl
+can_all-lengths classes (s ∷ ss) (t ∷ ts) h = ap (λ b. can classes s t && b) (can_all-lengths classes ss ts (λ e. h (ap suc e))) ∙
+    and_right (can classes s t) false refl
 
 pub names_types-lengths : (params : List Ty) (reorder : List ℕ) (types : List Ty) → (length reorder ≡ length types → ⊥) →
     names_types params reorder types ≡ false

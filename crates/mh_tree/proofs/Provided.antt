@@ -9,7 +9,8 @@ use Rattle.mh_values.specs.Slots.{slots_of_all}
 use Rattle.mh_tree.specs.Rows.{TypeOrRefusal, illegal, provided, provided_some, provided_fit, limited}
 use Rattle.mh_tree.specs.Typing.{with_type}
 
-pub with_type-parts : (c : TypeOrRefusal) (next : MethodTy → TypeOrRefusal) (t : MethodTy) → with_type c next ≡ Ok t → (u : MethodTy) × (c ≡ Ok u) × (next u ≡ Ok t)
+pub with_type-parts : (c : TypeOrRefusal) (next : MethodTy → TypeOrRefusal) (t : MethodTy) → with_type c next ≡ Ok t → (u : MethodTy) × (c ≡ Ok u)
+    × (next u ≡ Ok t)
 with_type-parts (Ok u) next t h = (u, refl, h)
 with_type-parts (Err e) next t h = absurd cc
 
@@ -17,12 +18,14 @@ pub provided-parts : (b : Bool) (e : Exc) (next : TypeOrRefusal) (t : MethodTy) 
 provided-parts true e next t h = (refl, h)
 provided-parts false e next t h = absurd cc
 
-pub provided_some-parts : {A : Type 0} (o : Option A) (e : Exc) (next : A → TypeOrRefusal) (t : MethodTy) → provided_some o e next ≡ Ok t → (a : A) × (o ≡ Some a)
+pub provided_some-parts : {A : Type 0} (o : Option A) (e : Exc) (next : A → TypeOrRefusal) (t : MethodTy) → provided_some o e next ≡ Ok t →
+    (a : A) × (o ≡ Some a)
     × (next a ≡ Ok t)
 provided_some-parts (Some a) e next t h = (a, refl, h)
 provided_some-parts None e next t h = absurd cc
 
-pub provided_fit-parts : (r : Result Value Exc) (word : List ℕ) (next : TypeOrRefusal) (t : MethodTy) → provided_fit r word next ≡ Ok t → (w : Value) × (r ≡ Ok w)
+pub provided_fit-parts : (r : Result Value Exc) (word : List ℕ) (next : TypeOrRefusal) (t : MethodTy) → provided_fit r word next ≡ Ok t →
+    (w : Value) × (r ≡ Ok w)
     × (next ≡ Ok t)
 provided_fit-parts (Ok w) word next t h = (w, refl, h)
 provided_fit-parts (Err e) word next t h = absurd cc

@@ -19,7 +19,8 @@ accepts_on s n b bs told more at = ap (λ o. option_map_or (λ m. first_bad (at 
 
 -- ---- names and elements
 
-name_accepts : (p : Place) (has : Bool) (name rest : List ℕ) → list_all is_name_byte name ≡ true → (has ≡ false → 0 < length name) → Accepts (after_type p) rest →
+name_accepts : (p : Place) (has : Bool) (name rest : List ℕ) → list_all is_name_byte name ≡ true → (has ≡ false → 0 < length name) →
+    Accepts (after_type p) rest →
     Accepts (standing.Name p has) (name ++ 59 ∷ rest)
 name_accepts p true [] rest good one more = accepts_on (standing.Name p true) (after_type p) 59 rest refl more
 name_accepts p false [] rest good one more = absurd (omega (arith, one refl))

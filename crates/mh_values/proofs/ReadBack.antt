@@ -25,8 +25,7 @@ name-piece : (name rest : List ℕ) → list_all is_name_byte name ≡ true → 
 name-piece [] rest good = refl
 name-piece (b ∷ bs) rest good =
     let parts = and_parts (is_name_byte b) (list_all is_name_byte bs) good in
-    let plain = and_parts _ _ parts.0 in
-    let inside : (b == 59) ≡ false = not-true _ plain.0 in
+    let inside : (b == 59) ≡ false = not-true _ (and_parts _ _ parts.0).0 in
     rw (inside, name-piece bs rest parts.1) refl
 
 -- a name that may stand in a descriptor has such bytes alone

@@ -7,7 +7,8 @@ use Rattle.mh_values.specs.declared.descriptor.DescriptorError.TheVariants as de
 use Rattle.mh_values.specs.Descriptor.{found_then, pieces, ends_type, longer, bytes_of, TellsType}
 
 -- a refusal of a part is that of the whole
-pub TellsType-part : {A B : Type 0} (e : DescriptorError) (meant : Result A DescriptorError) (next : A → Result B DescriptorError) → TellsType {A = A} (Err e) meant →
+pub TellsType-part : {A B : Type 0} (e : DescriptorError) (meant : Result A DescriptorError) (next : A → Result B DescriptorError) →
+    TellsType {A = A} (Err e) meant →
     TellsType {A = B} (Err e) (found_then meant next)
 TellsType-part descriptor.NoMemory meant next is = tt
 TellsType-part (descriptor.Bad at) meant next is = ap (λ r. found_then r next) is

@@ -11,6 +11,10 @@ pub invariant_of-result : goal.invariant_of-result
 invariant_of-result g c =
     let old = body_of c.args.form.now.recipe in
     let made : body_of c.in_ok-form.form.now.recipe ≡ applied c.args.by.key old = ap body_of c.in_ok-form.ensures.edits.0 ∙ body_of-snoc c.args.form.now.recipe
-        c.args.by.key in
-    (c.body.ensures, c.requires.light, ap is_nothing made ∙ made-applied c.args.by.key old c.requires.fits, subst
-        (λ t. HasShape (body_of c.in_ok-form.form.now.recipe) t) (sym c.in_ok-ty.ensures) (ap (λ b. b.params) made ∙ c.requires.shaped))
+    c.args.by.key in (
+      c.body.ensures,
+      c.requires.light,
+      ap is_nothing made ∙ made-applied c.args.by.key old c.requires.fits,
+      subst
+          (λ t. HasShape (body_of c.in_ok-form.form.now.recipe) t) (sym c.in_ok-ty.ensures) (ap (λ b. b.params) made ∙ c.requires.shaped),
+    )

@@ -9,7 +9,7 @@ pub returns-in-Ok-clause-put : goal.returns-in-Ok-clause-put
 returns-in-Ok-clause-put g c =
     let nodes = c.find_or_put.new.walk.nodes in
     subst (λ (f : FormView). Has recipe_of nodes f.recipe c.node_of.result.now) c.loop.invariant.2 (c.node_of.ensures c.loop.walk.nodes nodes c.loop.form
-        c.in-Ok.ensures.put)
+    c.in-Ok.ensures.put)
 
 pub loop-preserved : goal.loop-preserved
 loop-preserved g c = (

@@ -9,5 +9,5 @@ returns-clause-fields c = λ table. rw (← c.self.view_is) (c.in_ok-copy_fields
 pub returns-clause-stands : goal.returns-clause-stands
 returns-clause-stands c = λ table t st.
     stands-copied table _ _ t c.in_ok-share.ensures refl c.in_ok-copy.ensures refl (c.in_ok-copy_fields.ensures table ∙
-        ap (map (sense table)) c.as_slice.ensures.value)
+    ap (map (sense table)) c.as_slice.ensures.value)
     (rw (← c.self.view_is) at st)

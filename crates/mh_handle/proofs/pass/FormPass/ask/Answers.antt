@@ -6,6 +6,8 @@ add-requires c = rw (← c.self.view_is) at c.requires.new
 
 pub invariant_of-self : goal.invariant_of-self
 invariant_of-self c =
-    let here = rw (← c.self.view_is) at c.requires.learnt in
-    (learnt-added c.self.inside.walk.nodes c.self.inside.seen c.add.new.self c.args.form.now here.0 c.add.result c.self.invariant.0 here.1 c.add.ensures.ok
-        c.add.ensures.err, c.self.invariant.1)
+    let here = rw (← c.self.view_is) at c.requires.learnt in (
+      learnt-added c.self.inside.walk.nodes c.self.inside.seen c.add.new.self c.args.form.now here.0 c.add.result c.self.invariant.0 here.1 c.add.ensures.ok
+          c.add.ensures.err,
+      c.self.invariant.1,
+    )

@@ -26,4 +26,4 @@ returns-clause-form g c =
     let nodes = c.put_form.new.walk.nodes in
     subst (λ (p : PassView). IsFormOf c.args.recipe p.nodes c.in_ok-made.made.now) (sym c.in_ok-ask.ensures.ok)
     (subst (λ r. IsFormOf r nodes c.in_ok-made.made.now) (ap (λ f. f.recipe) c.new-form.ensures)
-        (form-of _ nodes c.in_ok-made.made.now c.in_ok-made.ensures.once c.in_ok-made.ensures.put))
+    (form-of _ nodes c.in_ok-made.made.now c.in_ok-made.ensures.once c.in_ok-made.ensures.put))

@@ -5,4 +5,4 @@ use Rattle.mh_handle.proofs.pass.FormPass.seen.Goals as goal
 pub returns-clause-form : goal.returns-clause-form
 returns-clause-form c =
     rw (← c.self.view_is) (seen-form (c.args.recipe.now ++ c.args.key.now ∷ []) c.self.inside.walk.nodes c.self.inside.seen c.find.result c.self.invariant.0
-        c.self.invariant.1 c.find.ensures)
+    c.self.invariant.1 c.find.ensures)

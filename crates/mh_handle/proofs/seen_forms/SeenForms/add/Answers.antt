@@ -10,7 +10,7 @@ invariant_of-self-2 c =
           c.index-place.result.now _
           c.self.invariant.0 c.recipe.ensures c.hash-hash.ensures.hash c.hash-hash.ensures.small
           (read-is c.self.inside.newest.items c.hash-hash.result c.index-place.result.now c.index-place.ensures
-              (omega (arith, c.self.invariant.0.index.sized, c.hash-hash.ensures.small))) (rw (← c.self.view_is) at c.requires)
+          (omega (arith, c.self.invariant.0.index.sized, c.hash-hash.ensures.small))) (rw (← c.self.view_is) at c.requires)
           (mapped-push (λ f. f.now) c.self.inside.forms.items _ _ c.args.form c.push_reserved.ensures.items c.in_ok-reserve.ensures.items)
           (omega (arith, c.len.ensures, c.push_reserved.ensures.len, c.in_ok-reserve.ensures.len, count))
           (c.push_reserved-2.ensures.items ∙ ap (λ v. v ++ c.index-place.result.now ∷ []) c.in_ok-reserve-2.ensures.items),

@@ -10,9 +10,9 @@ use Rattle.mh_handle.proofs.table.FormTable.edit_by.Goals as goal
 pub ask_shown-requires-clause-new : goal.ask_shown-requires-clause-new
 ask_shown-requires-clause-new g c =
     let seen : c.in_ok-recipe.recipe ≡ c.recipe.result.now ++ c.args.key.now ∷ [] =
-        c.in_ok-recipe.ensures ∙ ap (λ v. v ++ c.args.key.now ∷ []) (c.recipe-2.ensures ∙ sym c.recipe.ensures) in
+    c.in_ok-recipe.ensures ∙ ap (λ v. v ++ c.args.key.now ∷ []) (c.recipe-2.ensures ∙ sym c.recipe.ensures) in
     lacks-same c.args.pass.now.asked c.args.pass.now.asked (c.recipe.result.now ++ c.args.key.now ∷ []) c.in_ok-recipe.recipe c.in_default.ensures.seen refl
-        seen
+    seen
 
 pub make-requires-clause-body : goal.make-requires-clause-body
 make-requires-clause-body g c =
@@ -27,17 +27,17 @@ returns-in-Some-clause-edits g c =
 pub returns-in-Some-2-clause-edits : goal.returns-in-Some-2-clause-edits
 returns-in-Some-2-clause-edits g c =
     let e : c.in_ok-recipe.recipe ≡ c.args.form.now.recipe ++ c.args.key.now ∷ [] =
-        c.in_ok-recipe.ensures ∙ ap (λ v. v ++ c.args.key.now ∷ []) c.recipe-2.ensures in
+    c.in_ok-recipe.ensures ∙ ap (λ v. v ++ c.args.key.now ∷ []) c.recipe-2.ensures in
     subst (λ v. Edits v c.args.pass.now c.ask_shown.new.self (Ok c.in-Some-2.found)) e (rw c.in-Some-2.is at c.in_ok-found.ensures.asks)
 
 pub returns-clause-edits : goal.returns-clause-edits
 returns-clause-edits g c =
     let e : c.in_ok-recipe.recipe ≡ c.args.form.now.recipe ++ c.args.key.now ∷ [] =
-        c.in_ok-recipe.ensures ∙ ap (λ v. v ++ c.args.key.now ∷ []) c.recipe-2.ensures in
+    c.in_ok-recipe.ensures ∙ ap (λ v. v ++ c.args.key.now ∷ []) c.recipe-2.ensures in
     let seen : c.in_ok-recipe.recipe ≡ c.recipe.result.now ++ c.args.key.now ∷ [] = e ∙ ap (λ v. v ++ c.args.key.now ∷ []) (sym c.recipe.ensures) in
     let shown = rw c.in_default-2.is at c.in_ok-found.ensures.asks in
     subst (λ v. Edits v c.args.pass.now c.make.new.self c.make.result) e
     (edits-made c.in_ok-recipe.recipe c.args.pass.now c.ask_shown.new.self c.make.new.self shown.0
     (lacks-same c.args.pass.now.asked c.args.pass.now.asked (c.recipe.result.now ++ c.args.key.now ∷ []) c.in_ok-recipe.recipe c.in_default.ensures.seen refl
-        seen)
+    seen)
     shown.1 c.make.result c.make.ensures.makes c.make.ensures.form)
