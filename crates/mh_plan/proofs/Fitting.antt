@@ -23,7 +23,7 @@ with_call-fits : (table : LeafTable) (threads : List (List Call)) (call : Call) 
 with_call-fits table [] call all fits = all
 with_call-fits table (calls ∷ []) call all fits =
     All-cons (All (IsCallOf table)) _ [] (All-push (IsCallOf table) calls call (All-head (All (IsCallOf table)) calls [] all) fits)
-        (All-nil (All (IsCallOf table)))
+    (All-nil (All (IsCallOf table)))
 with_call-fits table (calls ∷ next ∷ more) call all fits =
     All-cons (All (IsCallOf table)) calls _ (All-head (All (IsCallOf table)) calls (next ∷ more) all)
     (with_call-fits table (next ∷ more) call (All-tail (All (IsCallOf table)) calls (next ∷ more) all) fits)
@@ -71,7 +71,7 @@ line-fits table threads next line all is =
 after_line-fits : (table : LeafTable) (n : ℕ) (r : Result (List (List Call)) PlanKind) (rest : List (List Call) →
     Result (List (List Call)) (LineFault PlanKind))
     (threads : List (List Call)) → ((next : List (List Call)) → r ≡ Ok next → rest next ≡ Ok threads → AreCallsOf table threads) →
-        after_line n r rest ≡ Ok threads
+    after_line n r rest ≡ Ok threads
     → AreCallsOf table threads
 after_line-fits table n (Err kind) rest threads goes is = cc
 after_line-fits table n (Ok next) rest threads goes is = goes next refl is

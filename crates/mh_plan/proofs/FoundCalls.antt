@@ -40,7 +40,7 @@ found-within : (table : LeafTable) (owner : Option ClassId) (name descriptor : L
 found-within table None name descriptor how leaf is = cc
 found-within table (Some owner) name descriptor how leaf is =
     placed table (position (is_called owner name descriptor how) table.leaves) leaf (position-within (is_called owner name descriptor how) table.leaves _ refl)
-        is
+    is
 
 named-within : (table : LeafTable) (texts : Option Texts) (leaf : LeafId) →
     option_and_then (λ (t : Texts). leaf_if_found (find_leaf table t.owner t.name t.descriptor Any)) texts ≡ Some leaf → leaf.0 < length table.leaves

@@ -21,4 +21,4 @@ arguments_of-other classes [] (t ∷ types) other = refl
 arguments_of-other classes (token ∷ tokens) [] other = refl
 arguments_of-other classes (token ∷ tokens) (t ∷ types) other =
     none_left (argument_of classes token.now t) (arguments_of classes (map (λ x. x.now) tokens) types) (arguments_of-other classes tokens types
-        (λ e. other (ap suc e)))
+    (λ e. other (ap suc e)))

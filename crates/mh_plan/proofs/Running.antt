@@ -13,7 +13,7 @@ pub threads_text-more : (classes : List Class) (threads : List (List Answer)) (n
     old ++ threads_text classes n (results_said (drop n threads)) ≡ all → new ++ threads_text classes (n + 1) (results_said (drop (n + 1) threads)) ≡ all
 threads_text-more classes threads n item old new all in_range is new_is before =
     let cut : drop n threads ≡ item ∷ drop (n + 1) threads = drop_more threads n item in_range ∙ ap (λ x. x ∷ drop (n + 1) threads)
-        (get_or_from_slice_get threads n item item is) in
+    (get_or_from_slice_get threads n item item is) in
     ap (λ x. x ++ threads_text classes (n + 1) (results_said (drop (n + 1) threads))) new_is
     ∙ append_assoc old (thread_text classes n (thread_said item)) (threads_text classes (n + 1) (results_said (drop (n + 1) threads)))
     ∙ ap (λ x. old ++ threads_text classes n (results_said x)) (sym cut) ∙ before
@@ -28,4 +28,4 @@ pub results_text-whole : (classes : List Class) (answers : List Answer) (i : ℕ
     new ≡ old ++ flat_map (λ answer. result_line classes (result_said answer)) (take i answers) → new ≡ old ++ results_text classes (thread_said answers)
 results_text-whole classes answers i old new all is =
     is ∙ ap (λ xs. old ++ flat_map (λ answer. result_line classes (result_said answer)) xs) (take_all i answers all) ∙
-        ap (λ x. old ++ x) (lines-said classes answers)
+    ap (λ x. old ++ x) (lines-said classes answers)

@@ -135,7 +135,10 @@ fn gives_the_values_of_the_table(rt: HostRuntime) -> Result<(), Fail> {
     let classes = Classes::builtin(rt.alloc())?;
     for row in CONVERTED.iter().copied() {
         let (from, to, before, _) = row;
-        assert!(rt; is_converted(row, &classes), "{before:?} from {from:?} to {to:?}");
+        assert!(rt;
+            is_converted(row, &classes),
+            "{before:?} from {from:?} to {to:?}"
+        );
     }
     Ok(())
 }
@@ -188,7 +191,10 @@ static RETURNED: [(Option<Ty>, Option<Ty>, Option<RetConv>); 5] = [
 fn converts_returns(rt: HostRuntime) -> Result<(), Fail> {
     let classes = Classes::builtin(rt.alloc())?;
     for (from, to, want) in RETURNED.iter().copied() {
-        assert!(rt; ret_conversion(from, to, &classes) == want, "{from:?} to {to:?}");
+        assert!(rt;
+            ret_conversion(from, to, &classes) == want,
+            "{from:?} to {to:?}"
+        );
     }
     Ok(())
 }

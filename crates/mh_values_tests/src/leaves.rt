@@ -134,7 +134,10 @@ fn gives(alloc: Global, kind: Kind, args: &[Seen], want: Seen) -> Result<bool, N
 #[test]
 fn each_kind_does_what_the_table_says(rt: HostRuntime) -> Result<(), Fail> {
     for (kind, args, want) in RUNS.iter().copied() {
-        assert!(rt; gives(rt.alloc(), kind, args, want)?, "{kind:?} of {args:?}");
+        assert!(rt;
+            gives(rt.alloc(), kind, args, want)?,
+            "{kind:?} of {args:?}"
+        );
     }
     Ok(())
 }
@@ -229,7 +232,10 @@ fn notes_null(alloc: Global, is_virtual: bool, want: Seen) -> Result<bool, NoMem
 #[test]
 fn a_virtual_leaf_does_not_run_on_null(rt: HostRuntime) -> Result<(), Fail> {
     for (is_virtual, want) in [(true, Thrown(ClassId::NULL_POINTER)), (false, Nothing)] {
-        assert!(rt; notes_null(rt.alloc(), is_virtual, want)?, "virtual: {is_virtual}");
+        assert!(rt;
+            notes_null(rt.alloc(), is_virtual, want)?,
+            "virtual: {is_virtual}"
+        );
     }
     Ok(())
 }

@@ -197,7 +197,10 @@ fn literals_have_limits(rt: HostRuntime) -> Result<(), Fail> {
     for (token, limit) in LIMITS.iter().copied() {
         let (front, ..) = token;
         assert!(rt; reads(rt.alloc(), token, limit)?, "{front} with {limit}");
-        assert!(rt; !reads(rt.alloc(), token, limit + 1)?, "{front} with more than {limit}");
+        assert!(rt;
+            !reads(rt.alloc(), token, limit + 1)?,
+            "{front} with more than {limit}"
+        );
     }
     Ok(())
 }

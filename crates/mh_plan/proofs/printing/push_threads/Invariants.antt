@@ -6,4 +6,4 @@ use Rattle.mh_plan.proofs.printing.push_threads.Given as goal
 abbrev pub invariant-loop-number : goal.invariant-loop-number
 invariant-loop-number l =
     l.text.items ++ threads_text l.classes l.number (results_said (drop l.number l.threads)) ≡ l.initial.text.items ++ threads_text l.classes 0
-        (results_said l.threads)
+    (results_said l.threads)
