@@ -1,56 +1,25 @@
 -- The characters that are found are those that the bytes spell, and a half is refused just where it is alone.
-use Rattle.std.proofs.Common.{◌≡◌, ℕ, ◌+◌, ◌-◌, ◌*◌, ◌/◌, ◌%◌, ◌^◌, ◌<◌, ◌≤◌, Bool, true, false, ◌&&◌, cond, ltb, List, [], ◌∷◌, ◌++◌, length, take, drop, Result, Ok, Err, refl, sym, ap, subst, ◌∙◌, append_assoc, take-add, arith}
+use Rattle.std.proofs.Common.{◌≡◌, ℕ, ◌+◌, ◌-◌, ◌^◌, ◌<◌, ◌≤◌, Bool, true, false, ◌&&◌, cond, List, [], ◌∷◌, ◌++◌, length, take, drop, Result, Ok, Err, refl, sym, ap, subst, ◌∙◌, append_assoc, take-add, arith}
 use Rattle.std.proofs.lemmas.Bool.Decides.{nat_tests}
-use Rattle.std.proofs.lemmas.List.{append-nil, length-append, take_at, drop_at, drop-drop}
+use Rattle.std.proofs.lemmas.List.{length-append, take_at, drop_at, drop-drop}
 use Rattle.std.proofs.lemmas.List.Concat.{flat_map-cons}
 use Rattle.std.specs.List.{flat_map}
 use Rattle.mh_class_bytes.specs.Mutf8.{AreUnits, unit_bytes, unit_len}
-use Rattle.mh_class_bytes.specs.Chars.{unit_value, units_from, is_high, is_low, is_half, joined, units_of, spelled, IsLoneAt, behind, chars_from, chars_of, shown, shown_text, IsShownAs}
+use Rattle.mh_class_bytes.specs.Chars.{unit_value, units_from, is_high, is_low, is_half, joined, spelled, IsLoneAt, preceded_by, chars_from, chars_of, shown, shown_text, IsShownAs}
 use Rattle.mh_class_bytes.proofs.Texts.{whole_text, unit_bytes-some}
 use Rattle.mh_class_bytes.proofs.Units.{IsSound, units_in-spelled, value-spelled}
 use Rattle.mh_class_bytes.proofs.FirstChar.{long_half, high_low}
-
--- ---- the units of a character
-
-units_of-joined : (u v : ℕ) → (is_high u && is_low v) ≡ true → units_of (joined u v) ≡ u ∷ v ∷ []
-units_of-joined u v h =
-    let u1 : 0xD800 ≤ u = grind (arith, nat_tests) in
-    let u2 : u < 0xDC00 = grind (arith, nat_tests) in
-    let v1 : 0xDC00 ≤ v = grind (arith, nat_tests) in
-    let v2 : v < 0xE000 = grind (arith, nat_tests) in
-    let p = u - 0xD800 in
-    let q = v - 0xDC00 in
-    let big : ltb (0x10000 + 1024 * p + q) 0x10000 ≡ false = grind (arith, nat_tests) in
-    let over : (0x10000 + 1024 * p + q) - 0x10000 ≡ 1024 * p + q = omega arith in
-    let d : (1024 * p + q) / 1024 ≡ p = omega arith in
-    let m : (1024 * p + q) % 1024 ≡ q = omega arith in
-    let pu : 0xD800 + p ≡ u = omega arith in
-    let qv : 0xDC00 + q ≡ v = omega arith in
-    rw (big, over, d, m, pu, qv) refl
-
-units_of-small : (u : ℕ) → u < 2 ^ 16 → units_of u ≡ u ∷ []
-units_of-small u h = let small : ltb u 0x10000 ≡ true = grind (arith, nat_tests) in rw small refl
-
-abbrev char_bytes : ℕ → List ℕ
-char_bytes c = flat_map unit_bytes (units_of c)
-
-char_bytes-small : (u : ℕ) → u < 2 ^ 16 → char_bytes u ≡ unit_bytes u
-char_bytes-small u h = ap (flat_map unit_bytes) (units_of-small u h) ∙ flat_map-cons unit_bytes u [] ∙ append-nil (unit_bytes u)
-
-char_bytes-joined : (u v : ℕ) → (is_high u && is_low v) ≡ true → char_bytes (joined u v) ≡ unit_bytes u ++ unit_bytes v
-char_bytes-joined u v h = ap (flat_map unit_bytes) (units_of-joined u v h) ∙ flat_map-cons unit_bytes u (v ∷ []) ∙ ap (λ (x : List ℕ). unit_bytes u ++ x)
-    (flat_map-cons unit_bytes v [] ∙ append-nil (unit_bytes v))
-
--- ---- what is found
+use Rattle.mh_class_bytes.proofs.CharBytes.{char_bytes, char_bytes-small, char_bytes-joined}
 
 -- what a search from a place finds of the bytes of units
-abbrev Finds : ℕ → List ℕ → Result (List ℕ) ℕ → Type 0
-Finds at bytes (Ok cs) = bytes ≡ spelled cs
-Finds at bytes (Err place) = (k : ℕ) × (place ≡ at + k) × IsLoneAt bytes k
+abbrev FindsChars : ℕ → List ℕ → Result (List ℕ) ℕ → Type 0
+FindsChars at bytes (Ok cs) = bytes ≡ spelled cs
+FindsChars at bytes (Err place) = (k : ℕ) × (place ≡ at + k) × IsLoneAt bytes k
 
--- behind a character
-after_char : (at n c : ℕ) (bytes : List ℕ) (r : Result (List ℕ) ℕ) → (c < 0x110000) × (is_half c ≡ false) → length (char_bytes c) ≡ n → Finds (at + n) bytes r →
-    Finds at (char_bytes c ++ bytes) (behind (c ∷ []) r)
+-- after a character
+after_char : (at n c : ℕ) (bytes : List ℕ) (r : Result (List ℕ) ℕ) → (c < 0x110000) × (is_half c ≡ false) → length (char_bytes c) ≡ n →
+    FindsChars (at + n) bytes r →
+    FindsChars at (char_bytes c ++ bytes) (preceded_by (c ∷ []) r)
 after_char at n c bytes (Ok cs) h len f = ap (λ (x : List ℕ). char_bytes c ++ x) f ∙ sym (flat_map-cons char_bytes c cs)
 after_char at n c bytes (Err place) h len f =
     let l = f.2 in (
@@ -80,7 +49,7 @@ half_range u h = (grind (arith, nat_tests), grind (arith, nat_tests))
 
 -- a half by itself
 lone : (at u : ℕ) (rest : List ℕ) → is_half u ≡ true → ((low : ℕ) (more : List ℕ) → is_high u ≡ true → is_low low ≡ true → ¬ (rest ≡ unit_bytes low ++ more)) →
-    Finds at (unit_bytes u ++ rest) (Err at)
+    FindsChars at (unit_bytes u ++ rest) (Err at)
 lone at u rest h alone = (0, omega arith, record { chars = []; whole = tt; before = refl; half = u; rest = rest; is_half = half_range u h; here = refl; alone =
     alone })
 
@@ -99,25 +68,25 @@ not_a_pair u v low apart hu hl e = absurd (go (is_high u) (is_low v) hu (ap is_l
     go true false p q r = absurd cc
     go false b p q r = absurd cc
 
-found-last : (at u : ℕ) → u < 2 ^ 16 → (t : Bool) → is_half u ≡ t → Finds at (flat_map unit_bytes (u ∷ [])) (cond t (Err at) (Ok (u ∷ [])))
+found-last : (at u : ℕ) → u < 2 ^ 16 → (t : Bool) → is_half u ≡ t → FindsChars at (flat_map unit_bytes (u ∷ [])) (cond t (Err at) (Ok (u ∷ [])))
 found-last at u h true e =
     rw flat_map-cons (lone at u [] e (λ low more hu hl same. absurd (omega (arith, ap length same, length-append (unit_bytes low) more, unit_bytes-some low))))
 found-last at u h false e = flat_map-cons unit_bytes u [] ∙ ap (λ (x : List ℕ). x ++ []) (sym (char_bytes-small u h)) ∙ sym (flat_map-cons char_bytes u [])
 
 found-apart : (at u v : ℕ) (units : List ℕ) → u < 2 ^ 16 → v < 2 ^ 16 → (is_high u && is_low v) ≡ false → (r : Result (List ℕ) ℕ) →
-    Finds (at + length (unit_bytes u)) (flat_map unit_bytes (v ∷ units)) r
-    → (t : Bool) → is_half u ≡ t → Finds at (unit_bytes u ++ flat_map unit_bytes (v ∷ units)) (cond t (Err at) (behind (u ∷ []) r))
+    FindsChars (at + length (unit_bytes u)) (flat_map unit_bytes (v ∷ units)) r
+    → (t : Bool) → is_half u ≡ t → FindsChars at (unit_bytes u ++ flat_map unit_bytes (v ∷ units)) (cond t (Err at) (preceded_by (u ∷ []) r))
 found-apart at u v units hu hv apart r f true e = lone at u (flat_map unit_bytes (v ∷ units)) e (λ low more high is_low same. not_a_pair u v low apart high
     is_low (same_unit v low (flat_map unit_bytes units) more hv (low_small low is_low) (sym (flat_map-cons unit_bytes v units) ∙ same)))
 found-apart at u v units hu hv apart r f false e =
     let b = char_bytes-small u hu in
-    subst (λ (x : List ℕ). Finds at (x ++ flat_map unit_bytes (v ∷ units)) (behind (u ∷ []) r)) b (after_char at (length (unit_bytes u)) u
+    subst (λ (x : List ℕ). FindsChars at (x ++ flat_map unit_bytes (v ∷ units)) (preceded_by (u ∷ []) r)) b (after_char at (length (unit_bytes u)) u
         (flat_map unit_bytes (v ∷ units)) r (omega arith, e) (ap length b) f)
 
-found-two : (at u v : ℕ) (units : List ℕ) → u < 2 ^ 16 → v < 2 ^ 16 → (r s : Result (List ℕ) ℕ) → Finds (at + 6) (flat_map unit_bytes units) s →
-    Finds (at + length (unit_bytes u)) (flat_map unit_bytes (v ∷ units)) r
+found-two : (at u v : ℕ) (units : List ℕ) → u < 2 ^ 16 → v < 2 ^ 16 → (r s : Result (List ℕ) ℕ) → FindsChars (at + 6) (flat_map unit_bytes units) s →
+    FindsChars (at + length (unit_bytes u)) (flat_map unit_bytes (v ∷ units)) r
     → (t : Bool) → (is_high u && is_low v) ≡ t →
-        Finds at (flat_map unit_bytes (u ∷ v ∷ units)) (cond t (behind (joined u v ∷ []) s) (cond (is_half u) (Err at) (behind (u ∷ []) r)))
+        FindsChars at (flat_map unit_bytes (u ∷ v ∷ units)) (cond t (preceded_by (joined u v ∷ []) s) (cond (is_half u) (Err at) (preceded_by (u ∷ []) r)))
 found-two at u v units hu hv r s g f true e =
     let b = char_bytes-joined u v e in
     let hl = high_low u v e in
@@ -126,12 +95,12 @@ found-two at u v units hu hv r s g f true e =
     let whole : char_bytes (joined u v) ++ flat_map unit_bytes units ≡ flat_map unit_bytes (u ∷ v ∷ units) =
     ap (λ (x : List ℕ). x ++ flat_map unit_bytes units) b ∙ append_assoc (unit_bytes u) (unit_bytes v) (flat_map unit_bytes units)
     ∙ ap (λ (x : List ℕ). unit_bytes u ++ x) (sym (flat_map-cons unit_bytes v units)) ∙ sym (flat_map-cons unit_bytes u (v ∷ units)) in
-    subst (λ (x : List ℕ). Finds at x (behind (joined u v ∷ []) s)) whole (after_char at 6 (joined u v) (flat_map unit_bytes units) s
+    subst (λ (x : List ℕ). FindsChars at x (preceded_by (joined u v ∷ []) s)) whole (after_char at 6 (joined u v) (flat_map unit_bytes units) s
         (grind (arith, nat_tests), grind (arith, nat_tests)) len g)
-found-two at u v units hu hv r s g f false e = subst (λ (x : List ℕ). Finds at x (cond (is_half u) (Err at) (behind (u ∷ []) r)))
+found-two at u v units hu hv r s g f false e = subst (λ (x : List ℕ). FindsChars at x (cond (is_half u) (Err at) (preceded_by (u ∷ []) r)))
     (sym (flat_map-cons unit_bytes u (v ∷ units))) (found-apart at u v units hu hv e r f (is_half u) refl)
 
-pub found : (at : ℕ) (units : List ℕ) → AreUnits units → Finds at (flat_map unit_bytes units) (chars_from at units)
+pub found : (at : ℕ) (units : List ℕ) → AreUnits units → FindsChars at (flat_map unit_bytes units) (chars_from at units)
 unfolding chars_from
 found at [] h = refl
 found at (u ∷ []) h = found-last at u h.0 (is_half u) refl
@@ -139,20 +108,20 @@ found at (u ∷ v ∷ units) h = found-two at u v units h.0 h.1.0 (chars_from (a
     (found (at + 6) units h.1.1) (found (at + length (unit_bytes u)) (v ∷ units) h.1) (is_high u && is_low v) refl
 
 -- What the search in a text finds.
-pub chars_law : (bytes : List ℕ) → IsSound bytes → Finds 0 bytes (chars_of bytes)
+pub chars_law : (bytes : List ℕ) → IsSound bytes → FindsChars 0 bytes (chars_of bytes)
 chars_law bytes sound =
     let t = whole_text bytes sound in
     let units : units_from 0 bytes ≡ t.0 = ap (units_from 0) t.2 ∙ units_in-spelled t.0 t.1 in
-    rw units (subst (λ (x : List ℕ). Finds 0 x (chars_from 0 t.0)) (sym t.2) (found 0 t.0 t.1))
+    rw units (subst (λ (x : List ℕ). FindsChars 0 x (chars_from 0 t.0)) (sym t.2) (found 0 t.0 t.1))
 
 -- A text that is found to have characters spells them.
 pub chars_law-ok : (bytes cs : List ℕ) → IsSound bytes → chars_of bytes ≡ Ok cs → bytes ≡ spelled cs
-chars_law-ok bytes cs sound e = subst (λ (r : Result (List ℕ) ℕ). Finds 0 bytes r) e (chars_law bytes sound)
+chars_law-ok bytes cs sound e = subst (λ (r : Result (List ℕ) ℕ). FindsChars 0 bytes r) e (chars_law bytes sound)
 
 -- A half that is refused is alone.
 pub chars_law-lone : (bytes : List ℕ) (at : ℕ) → IsSound bytes → chars_of bytes ≡ Err at → IsLoneAt bytes at
 chars_law-lone bytes at sound e =
-    let f = subst (λ (r : Result (List ℕ) ℕ). Finds 0 bytes r) e (chars_law bytes sound) in
+    let f = subst (λ (r : Result (List ℕ) ℕ). FindsChars 0 bytes r) e (chars_law bytes sound) in
     let same : f.0 ≡ at = omega (arith, f.1) in
     subst (IsLoneAt bytes) same f.2
 

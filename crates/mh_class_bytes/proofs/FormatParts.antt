@@ -7,7 +7,7 @@ use Rattle.mh_class_bytes.specs.Position.{Position}
 use Rattle.mh_class_bytes.specs.Bytes.{skip, number_at, bytes_at}
 use Rattle.mh_class_bytes.specs.Format.{Format, ◌>>=◌, Spells, Checked, Reading, and_then, or_fault, fault, blamed, filled}
 
--- A value stands at a position, and another position is behind it.
+-- A value stands at a position, and another position is after it.
 pub record Stands {K A : Type 0} (f : Format K A) (p : Position) (x : A) (q : Position) : Type 0 where
   pub text : List ℕ
   pub rest : List ℕ

@@ -8,6 +8,8 @@ pub mod FormatComplete
 pub mod Repeated
 pub mod Units
 pub mod FirstChar
+pub mod CharSteps
 pub mod CharLoops
+pub mod CharBytes
 pub mod CharLaw
 pub mod Examples

@@ -72,13 +72,13 @@ unit_bytes-few u = few (ltb 0 u && ltb u 0x80) (ltb u 0x800) (u ∷ []) _ _ (ome
     few false true x y z h k l = k
     few false false x y z h k l = l
 
--- What the unit in front is worth.
+-- What the first unit is worth.
 pub record IsWorth (bytes : List ℕ) : Type 0 where
   pub small : unit_value (unit_len bytes) bytes < 2 ^ 16
   pub len_is : unit_len bytes ≡ length (unit_bytes (unit_value (unit_len bytes) bytes))
   pub front : take (unit_len bytes) bytes ≡ unit_bytes (unit_value (unit_len bytes) bytes)
 
--- The unit in front is spelled there.
+-- The first unit is spelled there.
 pub value-front : (bytes : List ℕ) → 0 < unit_len bytes → IsWorth bytes
 value-front bytes h =
     let f = unit_len-sound bytes h in

@@ -4,7 +4,7 @@ use Rattle.byteorder.specs.Endian.{big_number}
 use Rattle.mh_class_bytes.specs.Position.{Position}
 use Rattle.mh_class_bytes.specs.declared.cursor.Short.{Short}
 
--- a value with the position behind it, or the place where it does not fit
+-- a value with the position after it, or the place where it does not fit
 abbrev pub Found : Type 0 → Type 0
 Found X = Result (X × Position) Short
 

@@ -1,4 +1,4 @@
--- The characters of a text: its UTF-16 units, a high half joined with the low half behind it (JVMS SE 17, 4.4.7; RFC 2781, 2.2).
+-- The characters of a text: its UTF-16 units, a high half joined with the low half after it (JVMS SE 17, 4.4.7; RFC 2781, 2.2).
 use Rattle.std.specs.Prelude.{◌≡◌, ℕ, zero, suc, ◌+◌, ◌-◌, ◌*◌, ◌/◌, ◌%◌, ◌≤◌, ◌<◌, List, [], ◌∷◌, ◌++◌, length, take, drop, nat_lt, nat_le, ◌==◌, slice_index, Bool, true, false, ◌&&◌, Option, Some, None, Result, Ok, Err, if◌then◌else◌}
 use Rattle.std.specs.List.{flat_map, AllByRecursion}
 use Rattle.mh_class_bytes.specs.Mutf8.{AreUnits, unit_bytes, unit_len}
@@ -44,14 +44,14 @@ pub record IsLoneAt (bytes : List ℕ) (at : ℕ) : Type 0 where
   pub here : drop at bytes ≡ unit_bytes half ++ rest
   pub alone : (low : ℕ) (more : List ℕ) → is_high half ≡ true → is_low low ≡ true → ¬ (rest ≡ unit_bytes low ++ more)
 
--- the unit that so many bytes in front spell
+-- the unit that the first so many bytes spell
 abbrev pub unit_value : ℕ → List ℕ → ℕ
 unit_value len bytes =
     if len == 1 then slice_index bytes 0
     else (if len == 2 then 64 * (slice_index bytes 0 - 0xC0) + (slice_index bytes 1 - 0x80)
     else 4096 * (slice_index bytes 0 - 0xE0) + 64 * (slice_index bytes 1 - 0x80) + (slice_index bytes 2 - 0x80))
 
--- the units that a text spells, behind the bytes inside the first one that are passed
+-- the units that a text spells, after the bytes inside the first one that are passed
 unfoldable pub units_from : ℕ → List ℕ → List ℕ
 units_from inside [] = []
 units_from (suc inside) (b ∷ bytes) = units_from inside bytes
@@ -79,18 +79,18 @@ IsShownAs bytes cs = (units : List ℕ) × AreUnits units × (bytes ≡ flat_map
 abbrev pub shown_text : List ℕ → List ℕ
 shown_text bytes = shown (units_in bytes)
 
--- characters behind others
-abbrev pub behind : List ℕ → Result (List ℕ) ℕ → Result (List ℕ) ℕ
-behind front (Ok cs) = Ok (front ++ cs)
-behind front (Err at) = Err at
+-- characters with others before them
+abbrev pub preceded_by : List ℕ → Result (List ℕ) ℕ → Result (List ℕ) ℕ
+preceded_by front (Ok cs) = Ok (front ++ cs)
+preceded_by front (Err at) = Err at
 
 -- the characters of units whose spelling begins at a place, or the place of the first half without a partner
 unfoldable pub chars_from : ℕ → List ℕ → Result (List ℕ) ℕ
 chars_from at [] = Ok []
 chars_from at (u ∷ []) = if is_half u then Err at else Ok (u ∷ [])
 chars_from at (u ∷ v ∷ units) =
-    if is_high u && is_low v then behind (joined u v ∷ []) (chars_from (at + 6) units)
-    else (if is_half u then Err at else behind (u ∷ []) (chars_from (at + length (unit_bytes u)) (v ∷ units)))
+    if is_high u && is_low v then preceded_by (joined u v ∷ []) (chars_from (at + 6) units)
+    else (if is_half u then Err at else preceded_by (u ∷ []) (chars_from (at + length (unit_bytes u)) (v ∷ units)))
 
 -- the characters of a text, or the place of the first half without a partner
 abbrev pub chars_of : List ℕ → Result (List ℕ) ℕ

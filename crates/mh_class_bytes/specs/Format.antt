@@ -29,7 +29,7 @@ pub data Format (K : Type 0) : Type 0 → Type 1 where
   blame : {A : Type 0} → ℕ → K → Format K A → Format K A
   -- the next so many bytes are just this: what is wrong where they are too few, and at the first that is left over
   part : {A : Type 0} → K → ℕ → K → Format K A → Format K A
-  -- one behind the other
+  -- one after the other
   ◌>>=◌ : {A B : Type 0} → Format K A → (A → Format K B) → Format K B
 
 -- the bytes, which begin at a place, spell the value: the whole list of them, split into the parts
@@ -51,7 +51,7 @@ Spells (◌>>=◌ {A = X} f g) at bytes x = (y : X) × (front : List ℕ) × (re
 abbrev pub Checked : Type 0 → Type 0 → Type 0
 Checked K X = Result X (Fault K)
 
--- a value with the position behind it, or the first condition that does not hold
+-- a value with the position after it, or the first condition that does not hold
 abbrev pub Reading : Type 0 → Type 0 → Type 0
 Reading K X = Checked K (X × Position)
 
@@ -102,9 +102,9 @@ Reads view (Ok x) after reading = reading ≡ Ok (view x, after)
 Reads view (Err f) after reading = reading ≡ Err f
 
 -- the same of a check that reads nothing
-abbrev pub Finds : {K X Y : Type 0} → (X → Y) → Result X (Fault K) → Checked K Y → Type 0
-Finds view (Ok x) checked = checked ≡ Ok (view x)
-Finds view (Err f) checked = checked ≡ Err f
+abbrev pub Judges : {K X Y : Type 0} → (X → Y) → Result X (Fault K) → Checked K Y → Type 0
+Judges view (Ok x) checked = checked ≡ Ok (view x)
+Judges view (Err f) checked = checked ≡ Err f
 
 -- so many steps, each from what the ones before it left
 unfoldable pub repeated : {K S : Type 0} → (S → Format K S) → ℕ → S → Format K S
@@ -113,7 +113,7 @@ repeated step (suc n) s = do
   next ← step s
   repeated step n next
 
--- a list of so many of one format, behind others
+-- a list of so many of one format, after others
 abbrev pub listed : {K A : Type 0} → Format K A → List A → Format K (List A)
 listed one so_far = do
   x ← one

@@ -37,8 +37,14 @@ unfolding at_start entry utf8 utf8_bytes sound_from unit_len
 zero_byte = refl
 
 -- a Long takes the indexes 1 and 2
-two_indexes : reads (pool_of 3) (at_start (5 ∷ 0 ∷ 0 ∷ 0 ∷ 1 ∷ 0 ∷ 0 ∷ 0 ∷ 2 ∷ [])) ≡ Ok (None ∷ Some (0, entries.Long 1 2) ∷ None ∷ [], record { bytes =
-    5 ∷ 0 ∷ 0 ∷ 0 ∷ 1 ∷ 0 ∷ 0 ∷ 0 ∷ 2 ∷ []; at = 9 })
+two_indexes : reads (pool_of 3) (at_start (5 ∷ 0 ∷ 0 ∷ 0 ∷ 1 ∷ 0 ∷ 0 ∷ 0 ∷ 2 ∷ [])) ≡ Ok (
+  None ∷ Some (0, entries.Long 1 2) ∷ None ∷ [],
+  record {
+    bytes =
+        5 ∷ 0 ∷ 0 ∷ 0 ∷ 1 ∷ 0 ∷ 0 ∷ 0 ∷ 2 ∷ [];
+    at = 9;
+  },
+)
 unfolding at_start entry contents numeric repeated
 two_indexes = refl
 

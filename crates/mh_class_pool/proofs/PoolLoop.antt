@@ -50,10 +50,10 @@ next_narrow start p q places count n e r k lt h w m =
     let more = r.most - 1 in
     let em : r.most ≡ suc more = omega (arith, r.enough) in
     let so_far : reads (repeated (next_slots count) (suc more) f) p ≡ reads (pool_of count) start =
-        subst (λ (j : ℕ). reads (repeated (next_slots count) j f) p ≡ reads (pool_of count) start) em r.so_far in
+    subst (λ (j : ℕ). reads (repeated (next_slots count) j f) p ≡ reads (pool_of count) start) em r.so_far in
     let s = slot_here start.bytes p q e r.moves.bytes r.inside any in
     let pushed : map (slot_at start.bytes) (places ++ p.at ∷ []) ≡ f ++ Some (p.at, e) ∷ [] = map_push (slot_at start.bytes) places p.at ∙
-        ap (λ (x : Slot). f ++ x ∷ []) s in
+    ap (λ (x : Slot). f ++ x ∷ []) s in
     let indexes : indexes_of p.at e ≡ Some (p.at, e) ∷ [] = rw w refl in
     let all : f ++ indexes_of p.at e ≡ map (slot_at start.bytes) (places ++ p.at ∷ []) = ap (λ (x : List Slot). f ++ x) indexes ∙ sym pushed in
     let stepped = sym (repeated-step (next_slots count) more f (f ++ indexes_of p.at e) p q (next start p q places count n e k lt h)) ∙ so_far in
@@ -75,15 +75,15 @@ next_wide start p q places count n e r k lt h w m =
     let more = r.most - 1 in
     let em : r.most ≡ suc more = omega (arith, r.enough) in
     let so_far : reads (repeated (next_slots count) (suc more) f) p ≡ reads (pool_of count) start =
-        subst (λ (j : ℕ). reads (repeated (next_slots count) j f) p ≡ reads (pool_of count) start) em r.so_far in
+    subst (λ (j : ℕ). reads (repeated (next_slots count) j f) p ≡ reads (pool_of count) start) em r.so_far in
     let s = slot_here start.bytes p q e r.moves.bytes r.inside any in
     let pushed : map (slot_at start.bytes) (places ++ p.at ∷ []) ≡ f ++ Some (p.at, e) ∷ [] = map_push (slot_at start.bytes) places p.at ∙
-        ap (λ (x : Slot). f ++ x ∷ []) s in
+    ap (λ (x : Slot). f ++ x ∷ []) s in
     let both : map (slot_at start.bytes) ((places ++ p.at ∷ []) ++ 0 ∷ []) ≡ (f ++ Some (p.at, e) ∷ []) ++ None ∷ [] =
-        map_push (slot_at start.bytes) (places ++ p.at ∷ []) 0 ∙ ap (λ (x : List Slot). x ++ None ∷ []) pushed in
+    map_push (slot_at start.bytes) (places ++ p.at ∷ []) 0 ∙ ap (λ (x : List Slot). x ++ None ∷ []) pushed in
     let indexes : indexes_of p.at e ≡ Some (p.at, e) ∷ None ∷ [] = rw w refl in
     let all : f ++ indexes_of p.at e ≡ map (slot_at start.bytes) ((places ++ p.at ∷ []) ++ 0 ∷ []) = ap (λ (x : List Slot). f ++ x) indexes ∙
-        sym (append_assoc f (Some (p.at, e) ∷ []) (None ∷ [])) ∙ sym both in
+    sym (append_assoc f (Some (p.at, e) ∷ []) (None ∷ [])) ∙ sym both in
     let stepped = sym (repeated-step (next_slots count) more f (f ++ indexes_of p.at e) p q (next start p q places count n e k lt h)) ∙ so_far in
     record {
       moves = onward start p q r.moves m;
@@ -102,9 +102,9 @@ stops start p places count n f r k lt h =
     let more = r.most - 1 in
     let em : r.most ≡ suc more = omega (arith, r.enough) in
     let so_far : reads (repeated (next_slots count) (suc more) slots) p ≡ reads (pool_of count) start =
-        subst (λ (j : ℕ). reads (repeated (next_slots count) j slots) p ≡ reads (pool_of count) start) em r.so_far in
+    subst (λ (j : ℕ). reads (repeated (next_slots count) j slots) p ≡ reads (pool_of count) start) em r.so_far in
     let here : reads (next_slots count slots) p ≡ Err f =
-        step-err count slots p f (omega (arith, len)) (subst (λ (m : ℕ). reads (entry (eqb (m + 1) count)) p ≡ Err f) (sym len) h) in
+    step-err count slots p f (omega (arith, len)) (subst (λ (m : ℕ). reads (entry (eqb (m + 1) count)) p ≡ Err f) (sym len) h) in
     sym so_far ∙ repeated-err (next_slots count) more slots p f here
 
 pub all_read : (start p : Position) (places : List ℕ) (count : ℕ) → IsReading start p places count → count ≤ length places →

@@ -8,19 +8,20 @@ use Rattle.mh_class_pool.specs.declared.entry.Kind.{Kind}
 use Rattle.mh_class_pool.specs.declared.entry.Kind.TheVariants as kinds
 use Rattle.mh_class_pool.specs.declared.fault.ClassKind.{ClassKind}
 use Rattle.mh_class_pool.specs.declared.fault.ClassKind.TheVariants.{Truncated, BadTag, BadText, BadIndex}
+use Rattle.mh_class_pool.specs.Tags.{CONSTANT_Utf8, CONSTANT_Integer, CONSTANT_Float, CONSTANT_Long, CONSTANT_Double, CONSTANT_Class, CONSTANT_String, CONSTANT_Fieldref, CONSTANT_Methodref, CONSTANT_InterfaceMethodref, CONSTANT_NameAndType, CONSTANT_MethodHandle, CONSTANT_MethodType, CONSTANT_Dynamic, CONSTANT_InvokeDynamic, CONSTANT_Module, CONSTANT_Package}
 
--- a part of a class file
-abbrev pub Part : Type 0 → Type 1
-Part A = Format ClassKind A
+-- the format of a part of a class file
+abbrev pub ClassPart : Type 0 → Type 1
+ClassPart A = Format ClassKind A
 
 -- a length, and that many bytes
-unfoldable pub utf8_bytes : Part (List ℕ)
+unfoldable pub utf8_bytes : ClassPart (List ℕ)
 utf8_bytes = do
   len ← number Truncated 2
   run Truncated len
 
 -- a text, in modified UTF-8
-unfoldable pub utf8 : Part Entry
+unfoldable pub utf8 : ClassPart Entry
 utf8 = do
   at ← here
   text ← utf8_bytes
@@ -28,64 +29,64 @@ utf8 = do
   done (Utf8 text)
 
 -- a number by its tag
-unfoldable pub numeric : ℕ → Part Entry
+unfoldable pub numeric : ℕ → ClassPart Entry
 numeric tag = do
   first ← number Truncated 4
-  choose (tag == 3) (done (Integer first))
-      (choose (tag == 4) (done Float)
+  choose (tag == CONSTANT_Integer) (done (Integer first))
+      (choose (tag == CONSTANT_Float) (done Float)
       (do
         second ← number Truncated 4
-        done (if tag == 5 then Long first second else Double)))
+        done (if tag == CONSTANT_Long then Long first second else Double)))
 
 -- one index: a class, a string, a method type, a module or a package, by its tag
-unfoldable pub named : ℕ → Part Entry
+unfoldable pub named : ℕ → ClassPart Entry
 named tag = do
   name ← number Truncated 2
-  done (if tag == 7 then Class name
-      else (if tag == 8 then Str name
-      else (if tag == 16 then MethodType name
-      else (if tag == 19 then Module name
+  done (if tag == CONSTANT_Class then Class name
+      else (if tag == CONSTANT_String then Str name
+      else (if tag == CONSTANT_MethodType then MethodType name
+      else (if tag == CONSTANT_Module then Module name
       else Package name))))
 
 -- two indexes: a member, a name and type, or a dynamic one, by its tag
-unfoldable pub paired : ℕ → Part Entry
+unfoldable pub paired : ℕ → ClassPart Entry
 paired tag = do
   first ← number Truncated 2
   second ← number Truncated 2
-  done (if tag == 9 then Fieldref first second
-      else (if tag == 10 then Methodref first second
-      else (if tag == 11 then InterfaceMethodref first second
-      else (if tag == 12 then NameAndType first second
-      else (if tag == 17 then Dynamic first second
+  done (if tag == CONSTANT_Fieldref then Fieldref first second
+      else (if tag == CONSTANT_Methodref then Methodref first second
+      else (if tag == CONSTANT_InterfaceMethodref then InterfaceMethodref first second
+      else (if tag == CONSTANT_NameAndType then NameAndType first second
+      else (if tag == CONSTANT_Dynamic then Dynamic first second
       else InvokeDynamic first second)))))
 
 -- a kind of method handle, and what it refers to (4.4.8)
-unfoldable pub handle : Part Entry
+unfoldable pub handle : ClassPart Entry
 handle = do
   kind ← number Truncated 1
   reference ← number Truncated 2
   done (MethodHandle kind reference)
 
--- the contents of an entry behind its tag, which stands at a place
-unfoldable pub contents : ℕ → ℕ → Part Entry
+-- the contents of an entry after its tag, which stands at a place
+unfoldable pub contents : ℕ → ℕ → ClassPart Entry
 contents tag at =
-    choose (nat_le 3 tag && nat_le tag 6) (numeric tag)
-    (choose (tag == 7 || tag == 8 || tag == 16 || tag == 19 || tag == 20) (named tag)
-    (choose ((nat_le 9 tag && nat_le tag 12) || tag == 17 || tag == 18) (paired tag)
-    (choose (tag == 15) handle
+    choose (nat_le CONSTANT_Integer tag && nat_le tag CONSTANT_Double) (numeric tag)
+    (choose (tag == CONSTANT_Class || tag == CONSTANT_String || tag == CONSTANT_MethodType || tag == CONSTANT_Module || tag == CONSTANT_Package) (named tag)
+    (choose ((nat_le CONSTANT_Fieldref tag && nat_le tag CONSTANT_NameAndType) || tag == CONSTANT_Dynamic || tag == CONSTANT_InvokeDynamic) (paired tag)
+    (choose (tag == CONSTANT_MethodHandle) handle
     (refuse at BadTag))))
 
 -- the tags of entries that take two indexes
 abbrev pub is_wide_tag : ℕ → Bool
-is_wide_tag tag = tag == 5 || tag == 6
+is_wide_tag tag = tag == CONSTANT_Long || tag == CONSTANT_Double
 
 -- the next entry; at the last index there is no room for one that takes two
-unfoldable pub entry : Bool → Part Entry
+unfoldable pub entry : Bool → ClassPart Entry
 entry is_last = do
   at ← here
   tag ← number Truncated 1
   fits ← check (not (is_last && is_wide_tag tag)) at BadIndex
-  choose (tag == 1) utf8 (contents tag at)
+  choose (tag == CONSTANT_Utf8) utf8 (contents tag at)
 
 -- a Long or a Double, which takes two indexes (4.4.5)
 abbrev pub is_wide : Entry → Bool
@@ -132,14 +133,14 @@ abbrev pub indexes_of : ℕ → Entry → List Slot
 indexes_of at e = if is_wide e then Some (at, e) ∷ None ∷ [] else Some (at, e) ∷ []
 
 -- the next entry, where an index below the count is left for it
-abbrev pub next_slots : ℕ → List Slot → Part (List Slot)
+abbrev pub next_slots : ℕ → List Slot → ClassPart (List Slot)
 next_slots count so_far = choose (nat_le count (length so_far)) (done so_far) (do
   at ← here
   e ← entry (length so_far + 1 == count)
   done (so_far ++ indexes_of at e))
 
 -- the pool of a count; index 0 is not usable, and each entry takes an index or two
-abbrev pub pool_of : ℕ → Part (List Slot)
+abbrev pub pool_of : ℕ → ClassPart (List Slot)
 pool_of count = repeated (next_slots count) count (None ∷ [])
 
 -- what an index names; nothing past the end

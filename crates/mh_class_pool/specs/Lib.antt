@@ -1,3 +1,5 @@
 pub mod Answers
+pub mod Tags
+pub mod ReferenceKinds
 pub mod Entries
 pub mod References

@@ -8,6 +8,7 @@ use Rattle.mh_class_pool.specs.declared.entry.Kind.{Kind}
 use Rattle.mh_class_pool.specs.declared.entry.Kind.TheVariants as kinds
 use Rattle.mh_class_pool.specs.declared.fault.ClassKind.{ClassKind}
 use Rattle.mh_class_pool.specs.declared.fault.ClassKind.TheVariants.{BadIndex, WrongKind, BadDescriptor}
+use Rattle.mh_class_pool.specs.ReferenceKinds.{REF_getField, REF_putStatic, REF_invokeVirtual, REF_newInvokeSpecial, REF_invokeInterface}
 use Rattle.mh_class_pool.specs.Entries.{Slot, slot, is_kind}
 
 -- nothing, or what is wrong
@@ -40,9 +41,9 @@ names_or_none pool kind index at = if index == 0 then Ok tt else names pool kind
 -- what a method handle of a kind refers to (4.4.8): a field, a method, or a method of either sort
 abbrev pub referred : ℕ → Kind
 referred kind =
-    if nat_le kind 4 then kinds.Fieldref
-    else (if kind == 5 || kind == 8 then kinds.Methodref
-    else (if kind == 9 then kinds.InterfaceMethodref
+    if nat_le kind REF_putStatic then kinds.Fieldref
+    else (if kind == REF_invokeVirtual || kind == REF_newInvokeSpecial then kinds.Methodref
+    else (if kind == REF_invokeInterface then kinds.InterfaceMethodref
     else kinds.AnyMethodref))
 
 -- the references of a member: its class, its name and type (4.4.2)
@@ -57,10 +58,10 @@ good_name pool at name descriptor = do
   first ← names pool kinds.Utf8 name at
   names pool kinds.Utf8 descriptor at
 
--- the reference of a method handle: its kind is one of 1 to 9, and decides what it names
+-- the reference of a method handle: its kind is one of the nine, and decides what it names
 abbrev pub good_handle : List Slot → ℕ → ℕ → ℕ → Verdict
 good_handle pool at kind reference = do
-  known ← holds (nat_le 1 kind && nat_le kind 9) at WrongKind
+  known ← holds (nat_le REF_getField kind && nat_le kind REF_invokeInterface) at WrongKind
   names pool (referred kind) reference at
 
 -- the references of an entry itself; the fault stands at its tag

@@ -5,6 +5,7 @@ ghost use Rattle.mh_class_pool.specs.Entries.{utf8_bytes, utf8, numeric, named, 
 
 use crate::fault::{ClassFault, ClassKind};
 use crate::numbers::{run, u1, u2, u4};
+use crate::tags;
 use mh_class_bytes::{Cursor, Text, mutf8_check};
 
 /// An entry of the constant pool (JVMS SE 17, 4.4). The numbers are indexes of the pool, but for
@@ -97,7 +98,7 @@ impl<'b> Entry<'b> {
     }
 }
 
-/// The bytes of a Utf8 entry behind its tag.
+/// The bytes of a Utf8 entry after its tag.
 #[tactic(auto, unfolding(crate::specs::Entries::utf8_bytes))]
 pub fn read_utf8_bytes<'b>(cursor: &mut Cursor<'b>) -> Result<&'b [u8], ClassFault>
     ensures reads { Reads (λ x. x.now) result cursor.new (reads utf8_bytes cursor.old) }
@@ -123,7 +124,7 @@ fn read_utf8<'b>(cursor: &mut Cursor<'b>) -> Result<Entry<'b>, ClassFault>
     }
 }
 
-/// A number, a Long or a Double, behind its tag.
+/// A number, a Long or a Double, after its tag.
 #[tactic(auto, unfolding(crate::specs::Entries::numeric))]
 fn read_numeric<'b>(tag: u8, cursor: &mut Cursor<'b>) -> Result<Entry<'b>, ClassFault>
     ensures reads { Reads (λ x. x) result cursor.new (reads (numeric tag) cursor.old) }
@@ -131,9 +132,9 @@ fn read_numeric<'b>(tag: u8, cursor: &mut Cursor<'b>) -> Result<Entry<'b>, Class
 {
     let first = u4(cursor, ClassKind::Truncated)?;
     match tag {
-        3 => Ok(Entry::Integer(first)),
-        4 => Ok(Entry::Float),
-        5 => {
+        tags::INTEGER => Ok(Entry::Integer(first)),
+        tags::FLOAT => Ok(Entry::Float),
+        tags::LONG => {
             let low = u4(cursor, ClassKind::Truncated)?;
             Ok(Entry::Long(first, low))
         }
@@ -144,7 +145,7 @@ fn read_numeric<'b>(tag: u8, cursor: &mut Cursor<'b>) -> Result<Entry<'b>, Class
     }
 }
 
-/// An entry of one index, behind its tag.
+/// An entry of one index, after its tag.
 #[tactic(auto, unfolding(crate::specs::Entries::named))]
 fn read_named<'b>(tag: u8, cursor: &mut Cursor<'b>) -> Result<Entry<'b>, ClassFault>
     ensures reads { Reads (λ x. x) result cursor.new (reads (named tag) cursor.old) }
@@ -152,15 +153,15 @@ fn read_named<'b>(tag: u8, cursor: &mut Cursor<'b>) -> Result<Entry<'b>, ClassFa
 {
     let name = u2(cursor, ClassKind::Truncated)?;
     match tag {
-        7 => Ok(Entry::Class(name)),
-        8 => Ok(Entry::Str(name)),
-        16 => Ok(Entry::MethodType(name)),
-        19 => Ok(Entry::Module(name)),
+        tags::CLASS => Ok(Entry::Class(name)),
+        tags::STRING => Ok(Entry::Str(name)),
+        tags::METHOD_TYPE => Ok(Entry::MethodType(name)),
+        tags::MODULE => Ok(Entry::Module(name)),
         _ => Ok(Entry::Package(name)),
     }
 }
 
-/// An entry of two indexes, behind its tag.
+/// An entry of two indexes, after its tag.
 #[tactic(auto, unfolding(crate::specs::Entries::paired))]
 fn read_paired<'b>(tag: u8, cursor: &mut Cursor<'b>) -> Result<Entry<'b>, ClassFault>
     ensures reads { Reads (λ x. x) result cursor.new (reads (paired tag) cursor.old) }
@@ -169,16 +170,16 @@ fn read_paired<'b>(tag: u8, cursor: &mut Cursor<'b>) -> Result<Entry<'b>, ClassF
     let first = u2(cursor, ClassKind::Truncated)?;
     let second = u2(cursor, ClassKind::Truncated)?;
     match tag {
-        9 => Ok(Entry::Fieldref(first, second)),
-        10 => Ok(Entry::Methodref(first, second)),
-        11 => Ok(Entry::InterfaceMethodref(first, second)),
-        12 => Ok(Entry::NameAndType(first, second)),
-        17 => Ok(Entry::Dynamic(first, second)),
+        tags::FIELDREF => Ok(Entry::Fieldref(first, second)),
+        tags::METHODREF => Ok(Entry::Methodref(first, second)),
+        tags::INTERFACE_METHODREF => Ok(Entry::InterfaceMethodref(first, second)),
+        tags::NAME_AND_TYPE => Ok(Entry::NameAndType(first, second)),
+        tags::DYNAMIC => Ok(Entry::Dynamic(first, second)),
         _ => Ok(Entry::InvokeDynamic(first, second)),
     }
 }
 
-/// A MethodHandle, behind its tag.
+/// A MethodHandle, after its tag.
 #[tactic(auto, unfolding(crate::specs::Entries::handle))]
 fn read_handle<'b>(cursor: &mut Cursor<'b>) -> Result<Entry<'b>, ClassFault>
     ensures reads { Reads (λ x. x) result cursor.new (reads handle cursor.old) }
@@ -189,7 +190,7 @@ fn read_handle<'b>(cursor: &mut Cursor<'b>) -> Result<Entry<'b>, ClassFault>
     Ok(Entry::MethodHandle(kind, reference))
 }
 
-/// The contents of an entry but a Utf8 one, behind its tag, which stands at `at`.
+/// The contents of an entry but a Utf8 one, after its tag, which stands at `at`.
 #[tactic(auto, unfolding(crate::specs::Entries::contents))]
 pub fn read_contents<'b>(
     tag: u8,
@@ -200,10 +201,14 @@ pub fn read_contents<'b>(
     ensures moves { Moves cursor.old cursor.new }
 {
     match tag {
-        3..=6 => read_numeric(tag, cursor),
-        7 | 8 | 16 | 19 | 20 => read_named(tag, cursor),
-        9..=12 | 17 | 18 => read_paired(tag, cursor),
-        15 => read_handle(cursor),
+        tags::INTEGER..=tags::DOUBLE => read_numeric(tag, cursor),
+        tags::CLASS | tags::STRING | tags::METHOD_TYPE | tags::MODULE | tags::PACKAGE => {
+            read_named(tag, cursor)
+        }
+        tags::FIELDREF..=tags::NAME_AND_TYPE | tags::DYNAMIC | tags::INVOKE_DYNAMIC => {
+            read_paired(tag, cursor)
+        }
+        tags::METHOD_HANDLE => read_handle(cursor),
         _ => Err(ClassFault {
             at,
             kind: ClassKind::BadTag,
@@ -225,7 +230,7 @@ pub fn read_entry<'b>(is_last: bool, cursor: &mut Cursor<'b>) -> Result<Entry<'b
             kind: ClassKind::BadIndex,
         });
     }
-    if tag == 1 {
+    if tag == tags::UTF8 {
         read_utf8(cursor)
     } else {
         read_contents(tag, at, cursor)
@@ -235,5 +240,5 @@ pub fn read_entry<'b>(is_last: bool, cursor: &mut Cursor<'b>) -> Result<Entry<'b
 fn is_wide_tag(tag: u8) -> bool
     ensures { result ≡ is_wide_tag tag }
 {
-    tag == 5 || tag == 6
+    tag == tags::LONG || tag == tags::DOUBLE
 }

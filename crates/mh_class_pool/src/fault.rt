@@ -25,7 +25,7 @@ pub enum ClassKind {
     BadCode,
     /// A `BootstrapMethods` attribute that is none of 4.7.23, or an entry of it that is not there.
     BadBootstraps,
-    /// Bytes behind the last attribute.
+    /// Bytes after the last attribute.
     Trailing,
     /// More call sites than were asked for.
     TooManySites,

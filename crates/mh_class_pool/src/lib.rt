@@ -5,7 +5,9 @@ mod entry;
 mod fault;
 mod numbers;
 mod pool;
+pub mod reference_kinds;
 mod references;
+pub mod tags;
 
 pub use entry::{Entry, Kind};
 pub use fault::{ClassError, ClassFault, ClassKind};

@@ -8,6 +8,7 @@ ghost use Rattle.std.specs.Str.{bytes_eq};
 use crate::entry::{Entry, read_contents, read_entry, read_utf8_bytes};
 use crate::fault::{ClassError, ClassKind};
 use crate::numbers::u1;
+use crate::tags;
 use mh_class_bytes::{Cursor, Text};
 use std::alloc::Global;
 use std::marker::Model;
@@ -45,14 +46,7 @@ impl<'b> Pool<'b> {
     {
         match self.places.get(index) {
             None => None,
-            Some(place) => {
-                let at = *place;
-                if at == 0 {
-                    None
-                } else {
-                    Some((at, known(self.bytes, at)))
-                }
-            }
+            Some(place) => slot_at(self.bytes, *place),
         }
     }
 
@@ -74,27 +68,30 @@ impl<'b> Pool<'b> {
     }
 }
 
-/// The entry at a place where one was found before. Its text is not looked at again.
+/// The entry at a place where one was found before, with the place; none at 0. Its text is not looked
+/// at again.
 #[tactic(auto, unfolding(crate::specs::Entries::entry, crate::specs::Entries::utf8))]
-fn known<'b>(bytes: &'b [u8], at: usize) -> Entry<'b>
-    requires place { 0 < at }
-    requires stands { is_ok (reads (entry false) (record { bytes = bytes.now; at = at })) ≡ true }
-    ensures { slot_at bytes.now at ≡ Some (at, result) }
+fn slot_at<'b>(bytes: &'b [u8], at: usize) -> Option<(usize, Entry<'b>)>
+    requires { 0 < at
+        → is_ok (reads (entry false) (record { bytes = bytes.now; at = at })) ≡ true }
+    ensures { slot_at bytes.now at ≡ result }
 {
+    if at == 0 {
+        return None;
+    }
     let mut cursor = resume(bytes, at);
     let Ok(tag) = u1(&mut cursor, ClassKind::Truncated) else {
-        unreachable!()
+        return None;
     };
-    if tag == 1 {
+    if tag == tags::UTF8 {
         let Ok(text) = read_utf8_bytes(&mut cursor) else {
-            unreachable!()
+            return None;
         };
-        Entry::Utf8(Text::checked(text))
-    } else {
-        let Ok(entry) = read_contents(tag, at, &mut cursor) else {
-            unreachable!()
-        };
-        entry
+        return Some((at, Entry::Utf8(Text::checked(text))));
+    }
+    match read_contents(tag, at, &mut cursor) {
+        Ok(entry) => Some((at, entry)),
+        Err(_) => None,
     }
 }
 
@@ -106,7 +103,7 @@ fn resume(bytes: &[u8], at: usize) -> Cursor<'_>
     Cursor::resume(bytes, at)
 }
 
-/// Reads the pool behind its count. The cursor has passed some bytes, since 0 is no place of an
+/// Reads the pool after its count. The cursor has passed some bytes, since 0 is no place of an
 /// entry.
 pub fn read_pool<'b>(
     alloc: Global,

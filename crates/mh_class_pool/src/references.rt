@@ -1,5 +1,5 @@
 ghost use Rattle.std.specs.Prelude.{◌≡◌, Ok, IfOk, IfErr, Some, true, false, replicate};
-ghost use Rattle.mh_class_bytes.specs.Format.{Finds};
+ghost use Rattle.mh_class_bytes.specs.Format.{Judges};
 ghost use Rattle.mh_class_pool.specs.Answers.{Yields};
 ghost use Rattle.mh_class_pool.specs.Entries.{slot};
 ghost use Rattle.mh_class_pool.specs.declared.fault.ClassError.TheVariants.{NoMemory};
@@ -10,6 +10,7 @@ ghost use Rattle.mh_class_pool.specs.References.{is_descriptor, good_method_name
 use crate::entry::{Entry, Kind};
 use crate::fault::{ClassError, ClassFault, ClassKind};
 use crate::pool::Pool;
+use crate::reference_kinds;
 use mh_values::descriptor_text;
 use std::alloc::Global;
 
@@ -21,7 +22,7 @@ fn fault(at: usize, kind: ClassKind) -> Result<(), ClassFault>
 
 /// That an index names an entry of the kind; the fault stands at `at`.
 pub fn check_name(pool: &Pool<'_>, kind: Kind, index: u16, at: usize) -> Result<(), ClassFault>
-    ensures { Finds (λ x. x) result (names pool.now kind index at) }
+    ensures { Judges (λ x. x) result (names pool.now kind index at) }
 {
     match pool.get(index as usize) {
         None => fault(at, ClassKind::BadIndex),
@@ -42,7 +43,7 @@ pub fn check_name_or_none(
     index: u16,
     at: usize,
 ) -> Result<(), ClassFault>
-    ensures { Finds (λ x. x) result (names_or_none pool.now kind index at) }
+    ensures { Judges (λ x. x) result (names_or_none pool.now kind index at) }
 {
     if index == 0 {
         Ok(())
@@ -55,31 +56,31 @@ fn referred(kind: u8) -> Kind
     ensures { result ≡ referred kind }
 {
     match kind {
-        0..=4 => Kind::Fieldref,
-        5 | 8 => Kind::Methodref,
-        9 => Kind::InterfaceMethodref,
+        0..=reference_kinds::PUT_STATIC => Kind::Fieldref,
+        reference_kinds::INVOKE_VIRTUAL | reference_kinds::NEW_INVOKE_SPECIAL => Kind::Methodref,
+        reference_kinds::INVOKE_INTERFACE => Kind::InterfaceMethodref,
         _ => Kind::AnyMethodref,
     }
 }
 
 fn check_member(pool: &Pool<'_>, at: usize, class: u16, name: u16) -> Result<(), ClassFault>
-    ensures { Finds (λ x. x) result (good_member pool.now at class name) }
+    ensures { Judges (λ x. x) result (good_member pool.now at class name) }
 {
     check_name(pool, Kind::Class, class, at)?;
     check_name(pool, Kind::NameAndType, name, at)
 }
 
 fn check_texts(pool: &Pool<'_>, at: usize, name: u16, descriptor: u16) -> Result<(), ClassFault>
-    ensures { Finds (λ x. x) result (good_name pool.now at name descriptor) }
+    ensures { Judges (λ x. x) result (good_name pool.now at name descriptor) }
 {
     check_name(pool, Kind::Utf8, name, at)?;
     check_name(pool, Kind::Utf8, descriptor, at)
 }
 
 fn check_handle(pool: &Pool<'_>, at: usize, kind: u8, reference: u16) -> Result<(), ClassFault>
-    ensures { Finds (λ x. x) result (good_handle pool.now at kind reference) }
+    ensures { Judges (λ x. x) result (good_handle pool.now at kind reference) }
 {
-    if kind < 1 || kind > 9 {
+    if kind < reference_kinds::GET_FIELD || kind > reference_kinds::INVOKE_INTERFACE {
         return fault(at, ClassKind::WrongKind);
     }
     check_name(pool, referred(kind), reference, at)
@@ -87,7 +88,7 @@ fn check_handle(pool: &Pool<'_>, at: usize, kind: u8, reference: u16) -> Result<
 
 #[tactic(auto, unfolding(crate::specs::References::own_references))]
 fn check_own(pool: &Pool<'_>, at: usize, entry: &Entry<'_>) -> Result<(), ClassFault>
-    ensures { Finds (λ x. x) result (own_references pool.now at entry.now) }
+    ensures { Judges (λ x. x) result (own_references pool.now at entry.now) }
 {
     match entry {
         Entry::Class(name)
@@ -108,7 +109,7 @@ fn check_own(pool: &Pool<'_>, at: usize, entry: &Entry<'_>) -> Result<(), ClassF
 }
 
 fn check_text(at: usize, text: &[u8]) -> Result<(), ClassFault>
-    ensures { Finds (λ x. x) result (is_descriptor (Some (at, Utf8 text.now))) }
+    ensures { Judges (λ x. x) result (is_descriptor (Some (at, Utf8 text.now))) }
 {
     match descriptor_text(text) {
         Ok(()) => Ok(()),
@@ -117,7 +118,7 @@ fn check_text(at: usize, text: &[u8]) -> Result<(), ClassFault>
 }
 
 fn check_slot(pool: &Pool<'_>, index: usize) -> Result<(), ClassFault>
-    ensures { Finds (λ x. x) result (is_descriptor (slot pool.now index)) }
+    ensures { Judges (λ x. x) result (is_descriptor (slot pool.now index)) }
 {
     match pool.get(index) {
         Some((at, Entry::Utf8(text))) => check_text(at, text.bytes()),
@@ -129,7 +130,7 @@ fn check_slot(pool: &Pool<'_>, index: usize) -> Result<(), ClassFault>
 /// not looked at again, so that the work stays linear however many entries name it.
 fn check_descriptor(pool: &Pool<'_>, marked: &mut Vec<bool>, index: u16) -> Result<(), ClassFault>
     requires { AreDescriptors pool.now marked.old.items }
-    ensures finds { Finds (λ x. x) result (is_descriptor (slot pool.now index)) }
+    ensures finds { Judges (λ x. x) result (is_descriptor (slot pool.now index)) }
     ensures marked { AreDescriptors pool.now marked.new.items }
 {
     let index = index as usize;
@@ -147,7 +148,7 @@ fn check_descriptor(pool: &Pool<'_>, marked: &mut Vec<bool>, index: u16) -> Resu
 #[tactic(auto, unfolding(crate::specs::References::good_method_name))]
 fn check_method_name(pool: &Pool<'_>, marked: &mut Vec<bool>, index: u16) -> Result<(), ClassFault>
     requires { AreDescriptors pool.now marked.old.items }
-    ensures finds { Finds (λ x. x) result (good_method_name pool.now (slot pool.now index)) }
+    ensures finds { Judges (λ x. x) result (good_method_name pool.now (slot pool.now index)) }
     ensures marked { AreDescriptors pool.now marked.new.items }
 {
     match pool.get(index as usize) {
@@ -166,7 +167,7 @@ fn check_entry_descriptor(
     entry: &Entry<'_>,
 ) -> Result<(), ClassFault>
     requires { AreDescriptors pool.now marked.old.items }
-    ensures finds { Finds (λ x. x) result (good_descriptor pool.now entry.now) }
+    ensures finds { Judges (λ x. x) result (good_descriptor pool.now entry.now) }
     ensures marked { AreDescriptors pool.now marked.new.items }
 {
     match entry {
@@ -181,7 +182,7 @@ fn check_entry_descriptor(
 #[tactic(auto, unfolding(crate::specs::References::good_slot))]
 fn check_index(pool: &Pool<'_>, marked: &mut Vec<bool>, index: usize) -> Result<(), ClassFault>
     requires { AreDescriptors pool.now marked.old.items }
-    ensures finds { Finds (λ x. x) result (good_slot pool.now (slot pool.now index)) }
+    ensures finds { Judges (λ x. x) result (good_slot pool.now (slot pool.now index)) }
     ensures marked { AreDescriptors pool.now marked.new.items }
 {
     match pool.get(index) {

@@ -18,7 +18,7 @@ not_yet end at h = grind (arith, nat_tests)
 over : (end at : ℕ) → end ≤ at → leb end at ≡ true
 over end at h = grind (arith, nat_tests)
 
--- the loop's state: what is still found behind what was found is all
+-- the loop's state: what is still found after what was found is all
 pub record IsFinding (pool : List Slot) (method : Method) (room start end : ℕ) (from p : Position) (before found : List Site) : Type 0 where
   pub most : ℕ
   pub enough : end ≤ p.at + most

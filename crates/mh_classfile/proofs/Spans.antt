@@ -13,7 +13,7 @@ row-kept arguments more s le =
     row : ℕ → List ℕ → Row
     row h xs = record { handle = h; arguments = xs }
 
--- What stands behind the spans does not change them.
+-- What stands after the spans does not change them.
 pub rows-kept : (arguments more : List ℕ) (end : ℕ) (spans : List Span) → end ≤ length arguments → AreWithin end spans →
     map (row_of (arguments ++ more)) spans ≡ map (row_of arguments) spans
 rows-kept arguments more end [] le h = refl

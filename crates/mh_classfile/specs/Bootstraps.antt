@@ -4,12 +4,12 @@ use Rattle.std.specs.Str.{bytes_eq}
 use Rattle.mh_class_bytes.specs.Format.{number, here, check, choose, part, done, ◌>>=◌, repeated, times}
 use Rattle.mh_class_pool.specs.declared.entry.Kind.TheVariants as kinds
 use Rattle.mh_class_pool.specs.declared.fault.ClassKind.TheVariants.{Truncated, BadBootstraps}
-use Rattle.mh_class_pool.specs.Entries.{Part, Slot, text}
+use Rattle.mh_class_pool.specs.Entries.{ClassPart, Slot, text}
 use Rattle.mh_classfile.specs.Rows.{Row}
 use Rattle.mh_classfile.specs.Members.{named_index, passed_contents}
 
 -- a bootstrap method: its handle and its static arguments
-unfoldable pub bootstrap : List Slot → Part Row
+unfoldable pub bootstrap : List Slot → ClassPart Row
 bootstrap pool = do
   handle ← named_index BadBootstraps pool kinds.MethodHandle
   count ← number BadBootstraps 2
@@ -17,19 +17,19 @@ bootstrap pool = do
   done (record { handle = handle; arguments = arguments })
 
 -- the contents of a BootstrapMethods attribute
-unfoldable pub bootstraps : List Slot → Part (List Row)
+unfoldable pub bootstraps : List Slot → ClassPart (List Row)
 bootstraps pool = do
   count ← number BadBootstraps 2
   times (bootstrap pool) count
 
--- a BootstrapMethods attribute behind its name
-unfoldable pub bootstraps_attribute : List Slot → Part (List Row)
+-- a BootstrapMethods attribute after its name
+unfoldable pub bootstraps_attribute : List Slot → ClassPart (List Row)
 bootstraps_attribute pool = do
   len ← number Truncated 4
   part Truncated len BadBootstraps (bootstraps pool)
 
 -- an attribute of a class: BootstrapMethods is read, the first time, and the others are passed over; with what was read
-unfoldable pub class_attribute : List Slot → Option (List Row) → Part (Option (List Row))
+unfoldable pub class_attribute : List Slot → Option (List Row) → ClassPart (Option (List Row))
 class_attribute pool so_far = do
   at ← here
   name ← named_index Truncated pool kinds.Utf8
@@ -43,7 +43,7 @@ class_attribute pool so_far = do
         done so_far)
 
 -- the attributes of a class
-unfoldable pub class_attributes : List Slot → Part (Option (List Row))
+unfoldable pub class_attributes : List Slot → ClassPart (Option (List Row))
 class_attributes pool = do
   count ← number Truncated 2
   repeated (class_attribute pool) count None

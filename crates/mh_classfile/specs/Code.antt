@@ -5,7 +5,7 @@ use Rattle.mh_class_pool.specs.declared.entry.Kind.TheVariants as kinds
 use Rattle.mh_classfile.specs.declared.site.Method.{Method}
 use Rattle.mh_classfile.specs.declared.site.Site.{Site}
 use Rattle.mh_class_pool.specs.declared.fault.ClassKind.TheVariants.{BadCode, TooManySites}
-use Rattle.mh_class_pool.specs.Entries.{Part, Slot}
+use Rattle.mh_class_pool.specs.Entries.{ClassPart, Slot}
 use Rattle.mh_class_pool.specs.References.{names}
 
 -- from a number to another
@@ -32,33 +32,33 @@ fixed_len opcode =
 abbrev pub raised : ℕ → ℕ
 raised n = (n + 2 ^ 31) % 2 ^ 32
 
--- the bytes behind the opcode up to the next multiple of 4, counted from the code's start
+-- the bytes after the opcode up to the next multiple of 4, counted from the code's start
 abbrev pub padding : ℕ → ℕ → ℕ
 padding start at = 3 - (at - start) % 4
 
 -- so many bytes, which say nothing of call sites
-unfoldable pub passed : ℕ → Part (Unit {0})
+unfoldable pub passed : ℕ → ClassPart (Unit {0})
 passed len = do
   bytes ← run BadCode len
   done tt
 
 -- the table of a tableswitch: low, high, and four bytes for each number from low to high
-abbrev pub table : ℕ → Part (Unit {0})
+abbrev pub table : ℕ → ClassPart (Unit {0})
 table at = do
   low ← number BadCode 4
   high ← number BadCode 4
   ordered ← check (nat_le (raised low) (raised high)) at BadCode
   passed (4 * (raised high - raised low + 1))
 
--- tableswitch behind its opcode: padding, default and the table
-unfoldable pub table_switch : ℕ → ℕ → Part (Unit {0})
+-- tableswitch after its opcode: padding, default and the table
+unfoldable pub table_switch : ℕ → ℕ → ClassPart (Unit {0})
 table_switch start at = do
   pad ← run BadCode (padding start at)
   default ← number BadCode 4
   table at
 
--- lookupswitch behind its opcode: padding, default, a count that is not negative, and eight bytes for each pair
-unfoldable pub lookup_switch : ℕ → ℕ → Part (Unit {0})
+-- lookupswitch after its opcode: padding, default, a count that is not negative, and eight bytes for each pair
+unfoldable pub lookup_switch : ℕ → ℕ → ClassPart (Unit {0})
 lookup_switch start at = do
   pad ← run BadCode (padding start at)
   default ← number BadCode 4
@@ -67,14 +67,14 @@ lookup_switch start at = do
   entries ← run BadCode (8 * pairs)
   done tt
 
--- wide behind its opcode (6.5): iinc with its operands, or an instruction on a local variable with a longer index
-unfoldable pub wide : ℕ → Part (Unit {0})
+-- wide after its opcode (6.5): iinc with its operands, or an instruction on a local variable with a longer index
+unfoldable pub wide : ℕ → ClassPart (Unit {0})
 wide at = do
   opcode ← number BadCode 1
   choose (opcode == 132) (passed 4) (choose (is_local opcode) (passed 2) (refuse at BadCode))
 
--- an instruction but invokedynamic, behind its opcode; whatever is wrong is BadCode at the opcode
-unfoldable pub ordinary : ℕ → ℕ → ℕ → Part (Unit {0})
+-- an instruction but invokedynamic, after its opcode; whatever is wrong is BadCode at the opcode
+unfoldable pub ordinary : ℕ → ℕ → ℕ → ClassPart (Unit {0})
 ordinary opcode start at =
     choose (opcode == 170) (blame at BadCode (table_switch start at))
     (choose (opcode == 171) (blame at BadCode (lookup_switch start at))
@@ -82,15 +82,15 @@ ordinary opcode start at =
     (choose (fixed_len opcode == 0) (refuse at BadCode)
     (blame at BadCode (passed (fixed_len opcode - 1))))))
 
--- invokedynamic behind its opcode: an index of the pool and two zero bytes
-unfoldable pub operands : Part (ℕ × ℕ)
+-- invokedynamic after its opcode: an index of the pool and two zero bytes
+unfoldable pub operands : ClassPart (ℕ × ℕ)
 operands = do
   index ← number BadCode 2
   zeros ← number BadCode 2
   done (index, zeros)
 
 -- the call site of an invokedynamic, where one more may be found
-unfoldable pub call_site : List Slot → Method → Bool → ℕ → ℕ → Part Site
+unfoldable pub call_site : List Slot → Method → Bool → ℕ → ℕ → ClassPart Site
 call_site pool method has_room start at = do
   both ← blame at BadCode operands
   named ← verdict (names pool kinds.InvokeDynamic both.0 at)
@@ -99,7 +99,7 @@ call_site pool method has_room start at = do
   done (record { method = method; pc = at - start; index = both.0 })
 
 -- the next instruction: a call site, or none
-unfoldable pub instruction : List Slot → Method → Bool → ℕ → Part (List Site)
+unfoldable pub instruction : List Slot → Method → Bool → ℕ → ClassPart (List Site)
 instruction pool method has_room start = do
   at ← here
   opcode ← number BadCode 1
@@ -111,14 +111,14 @@ instruction pool method has_room start = do
         skipped ← ordinary opcode start at
         done [])
 
--- the next instruction, where the code has not ended: its call site is found behind those before it
-abbrev pub next_site : List Slot → Method → ℕ → ℕ → ℕ → List Site → Part (List Site)
+-- the next instruction, where the code has not ended: its call site is found after those before it
+abbrev pub next_site : List Slot → Method → ℕ → ℕ → ℕ → List Site → ClassPart (List Site)
 next_site pool method room start end so_far = do
   at ← here
   choose (nat_le end at) (done so_far) (do
     found ← instruction pool method (nat_lt (length so_far) room) start
     done (so_far ++ found))
 
--- the call sites of code from a start to an end, behind those before it; there are no more instructions than bytes
-abbrev pub code_sites : List Slot → Method → ℕ → ℕ → ℕ → List Site → Part (List Site)
+-- the call sites of code from a start to an end, after those before it; there are no more instructions than bytes
+abbrev pub code_sites : List Slot → Method → ℕ → ℕ → ℕ → List Site → ClassPart (List Site)
 code_sites pool method room start end so_far = repeated (next_site pool method room start end) (end - start) so_far

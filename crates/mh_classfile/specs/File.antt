@@ -6,7 +6,7 @@ use Rattle.mh_class_bytes.specs.Format.{number, here, check, verdict, done, ◌>
 use Rattle.mh_class_pool.specs.declared.entry.Entry.TheVariants as entries
 use Rattle.mh_class_pool.specs.declared.fault.ClassKind.{ClassKind}
 use Rattle.mh_class_pool.specs.declared.fault.ClassKind.TheVariants.{Truncated, BadMagic, BadVersion, BadIndex, BadBootstraps, Trailing}
-use Rattle.mh_class_pool.specs.Entries.{Part, Slot, pool_of}
+use Rattle.mh_class_pool.specs.Entries.{ClassPart, Slot, pool_of}
 use Rattle.mh_class_pool.specs.References.{Verdict, holds, each, good_references}
 use Rattle.mh_classfile.specs.declared.site.Site.{Site}
 use Rattle.mh_classfile.specs.Members.{class_names, members}
@@ -15,7 +15,7 @@ use Rattle.mh_classfile.specs.Rows.{Row}
 use Rattle.mh_classfile.specs.Class.{Class, class_of}
 
 -- magic, minor version, a major version from 45 to 61, and the count of the pool, which is not 0
-unfoldable pub header : Part ℕ
+unfoldable pub header : ClassPart ℕ
 header = do
   at ← here
   magic ← number Truncated 4
@@ -40,28 +40,28 @@ abbrev pub rows_or_none : Option (List Row) → List Row
 rows_or_none found = unwrap_or found []
 
 -- the end of a class file of so many bytes, and that its entries name bootstrap methods that are there
-abbrev pub class_end : List Slot → List Site → List Row → ℕ → Part Class
+abbrev pub class_end : List Slot → List Site → List Row → ℕ → ClassPart Class
 class_end pool sites rows total = do
   at ← here
   ended ← check (at == total) at Trailing
   known ← verdict (each (has_bootstrap (length rows)) pool)
   done (class_of pool sites rows)
 
--- a class file of so many bytes behind its members
-abbrev pub class_rest : List Slot → List Site → ℕ → Part Class
+-- a class file of so many bytes after its members
+abbrev pub class_rest : List Slot → List Site → ℕ → ClassPart Class
 class_rest pool sites total = do
   found ← class_attributes pool
   class_end pool sites (rows_or_none found) total
 
--- a class file of so many bytes behind its pool, with at most so many call sites
-abbrev pub class_body : List Slot → ℕ → ℕ → Part Class
+-- a class file of so many bytes after its pool, with at most so many call sites
+abbrev pub class_body : List Slot → ℕ → ℕ → ClassPart Class
 class_body pool room total = do
   names ← class_names pool
   sites ← members pool room
   class_rest pool sites total
 
 -- a class file of so many bytes, with at most so many call sites
-unfoldable pub class_file : ℕ → ℕ → Part Class
+unfoldable pub class_file : ℕ → ℕ → ClassPart Class
 class_file room total = do
   count ← header
   pool ← pool_of count
@@ -69,7 +69,7 @@ class_file room total = do
   class_body pool room total
 
 -- the class that is read at a position, or the first condition that does not hold
-abbrev pub class_read : Part Class → Position → Checked ClassKind Class
+abbrev pub class_read : ClassPart Class → Position → Checked ClassKind Class
 class_read format at = and_then (reads format at) (λ x. Ok x.0)
 
 -- the bytes are a class file of this class, with at most so many call sites

@@ -1,6 +1,6 @@
 ghost use Rattle.std.specs.Prelude.{◌≡◌, ◌==◌, ◌≤◌, ◌+◌, ◌^◌, if◌then◌else◌, Ok, Err};
 ghost use Rattle.mh_class_bytes.specs.Bytes.{Moves};
-ghost use Rattle.mh_class_bytes.specs.Format.{Finds, Reads, reads};
+ghost use Rattle.mh_class_bytes.specs.Format.{Judges, Reads, reads};
 ghost use Rattle.mh_class_pool.specs.Answers.{Gives};
 ghost use Rattle.mh_class_pool.specs.declared.fault.ClassKind.TheVariants.{BadCode};
 ghost use Rattle.mh_classfile.specs.Code.{passed, code_sites};
@@ -70,7 +70,7 @@ fn pass_attributes(
     Ok(())
 }
 
-/// Passes attributes, behind their number.
+/// Passes attributes, after their number.
 pub fn pass_counted_attributes(
     short: ClassKind,
     pool: &Pool<'_>,
@@ -97,7 +97,7 @@ fn pass_handlers(count: u16, cursor: &mut Cursor<'_>) -> Result<(), ClassFault>
 
 /// That the file, or a part of it, was read to its end.
 pub fn check_filled(at: usize, end: usize, kind: ClassKind) -> Result<(), ClassFault>
-    ensures { Finds (λ x. x) result
+    ensures { Judges (λ x. x) result
         (if at == end then Ok tt else Err (record { at = at; kind = kind })) }
 {
     if at == end {
@@ -107,7 +107,7 @@ pub fn check_filled(at: usize, end: usize, kind: ClassKind) -> Result<(), ClassF
     }
 }
 
-/// Finds the call sites of the code between a place and the cursor.
+/// Judges the call sites of the code between a place and the cursor.
 fn read_code_between(
     pool: &Pool<'_>,
     method: Method,
@@ -183,7 +183,7 @@ fn read_code_contents(
     Ok(())
 }
 
-/// Finds the call sites of the contents of a `Code` attribute, between a place and the cursor.
+/// Judges the call sites of the contents of a `Code` attribute, between a place and the cursor.
 fn read_contents_between(
     pool: &Pool<'_>,
     method: Method,
@@ -204,7 +204,7 @@ fn read_contents_between(
     Ok(())
 }
 
-/// Finds the call sites of a `Code` attribute, behind its name (JVMS SE 17, 4.7.3).
+/// Judges the call sites of a `Code` attribute, after its name (JVMS SE 17, 4.7.3).
 #[tactic(auto, unfolding(crate::specs::Members::code_attribute))]
 pub fn read_code(
     pool: &Pool<'_>,

@@ -47,7 +47,7 @@ impl Bootstraps {
         }
     }
 
-    /// Puts an argument behind those of the method that is being read.
+    /// Puts an argument after those of the method that is being read.
     pub fn push(&mut self, argument: u16) -> Result<(), NoMemory>
         ensures closed { self.new.closed ≡ self.old.closed }
         ensures begun { OnOk result (self.new.begun ≡ self.old.begun ++ argument ∷ []) }

@@ -35,7 +35,7 @@ fn read_arguments(
     Ok(())
 }
 
-/// Reads a bootstrap method, and puts it behind those before it.
+/// Reads a bootstrap method, and puts it after those before it.
 #[tactic(auto, unfolding(crate::specs::Bootstraps::bootstrap))]
 fn read_bootstrap(
     pool: &Pool<'_>,
@@ -88,7 +88,7 @@ fn read_bootstraps(
     read_methods(alloc, pool, count, cursor)
 }
 
-/// Reads a `BootstrapMethods` attribute, behind its name (JVMS SE 17, 4.7.23).
+/// Reads a `BootstrapMethods` attribute, after its name (JVMS SE 17, 4.7.23).
 #[tactic(auto, unfolding(crate::specs::Bootstraps::bootstraps_attribute))]
 fn read_bootstraps_attribute(
     alloc: Global,

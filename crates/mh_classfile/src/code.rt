@@ -30,7 +30,7 @@ fn fixed_len(opcode: u8) -> usize
     }
 }
 
-/// The bytes from behind an opcode at `at` to the next place that is a multiple of 4, counted from the
+/// The bytes from after an opcode at `at` to the next place that is a multiple of 4, counted from the
 /// code's start.
 fn padding(start: usize, at: usize) -> usize
     requires { start ≤ at }
@@ -126,7 +126,7 @@ fn pass_wide(at: usize, cursor: &mut Cursor<'_>) -> Result<(), ClassFault>
     }
 }
 
-/// Passes an instruction but `invokedynamic`, behind its opcode.
+/// Passes an instruction but `invokedynamic`, after its opcode.
 #[tactic(auto, unfolding(crate::specs::Code::ordinary))]
 fn pass_ordinary(
     opcode: u8,
@@ -167,7 +167,7 @@ fn read_operands(cursor: &mut Cursor<'_>) -> Result<(u16, u16), ClassFault>
     Ok((index, zeros))
 }
 
-/// The call site of an `invokedynamic`, behind its opcode.
+/// The call site of an `invokedynamic`, after its opcode.
 #[tactic(auto, unfolding(crate::specs::Code::call_site))]
 fn read_call_site(
     pool: &Pool<'_>,
@@ -227,7 +227,7 @@ fn read_instruction(
     Ok(None)
 }
 
-/// Finds the call sites of code from a start to an end, behind those before it.
+/// Judges the call sites of code from a start to an end, after those before it.
 pub fn read_sites(
     pool: &Pool<'_>,
     method: Method,

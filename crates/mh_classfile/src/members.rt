@@ -92,7 +92,7 @@ fn pass_fields(pool: &Pool<'_>, count: u16, cursor: &mut Cursor<'_>) -> Result<(
     Ok(())
 }
 
-/// Finds the call sites of the next method (JVMS SE 17, 4.6).
+/// Judges the call sites of the next method (JVMS SE 17, 4.6).
 #[tactic(auto, unfolding(crate::specs::Members::method))]
 fn read_method(
     pool: &Pool<'_>,

@@ -1,6 +1,6 @@
 ghost use Rattle.std.specs.Prelude.{◌≡◌, ◌<◌, OnOk, IfOk, Ok};
 ghost use Rattle.mh_class_bytes.specs.Bytes.{Moves};
-ghost use Rattle.mh_class_bytes.specs.Format.{Finds, Reads, reads};
+ghost use Rattle.mh_class_bytes.specs.Format.{Judges, Reads, reads};
 ghost use Rattle.mh_class_pool.specs.Answers.{Yields};
 ghost use Rattle.mh_class_pool.specs.Entries.{slot};
 ghost use Rattle.mh_class_pool.specs.References.{each};
@@ -51,7 +51,7 @@ fn read_header(cursor: &mut Cursor<'_>) -> Result<u16, ClassFault>
 
 #[tactic(auto, unfolding(crate::specs::File::has_bootstrap))]
 fn check_bootstrap(pool: &Pool<'_>, count: u16, index: usize) -> Result<(), ClassFault>
-    ensures { Finds (λ x. x) result (has_bootstrap count (slot pool.now index)) }
+    ensures { Judges (λ x. x) result (has_bootstrap count (slot pool.now index)) }
 {
     match pool.get(index) {
         Some((at, Entry::InvokeDynamic(bootstrap, _) | Entry::Dynamic(bootstrap, _))) => {
@@ -67,7 +67,7 @@ fn check_bootstrap(pool: &Pool<'_>, count: u16, index: usize) -> Result<(), Clas
 }
 
 fn check_bootstraps(pool: &Pool<'_>, count: u16) -> Result<(), ClassFault>
-    ensures { Finds (λ x. x) result (each (has_bootstrap count) pool.now) }
+    ensures { Judges (λ x. x) result (each (has_bootstrap count) pool.now) }
 {
     for index in 0..pool.len() {
         check_bootstrap(pool, count, index)?;
@@ -104,7 +104,7 @@ fn read_end<'b>(
     })
 }
 
-/// The class whose attributes stand at a cursor, behind its members.
+/// The class whose attributes stand at a cursor, after its members.
 fn read_rest<'b>(
     alloc: Global,
     pool: Pool<'b>,
@@ -120,7 +120,7 @@ fn read_rest<'b>(
     read_end(pool, sites, bootstraps, total, &cursor)
 }
 
-/// The class whose flags and names stand at a cursor, behind the pool.
+/// The class whose flags and names stand at a cursor, after the pool.
 fn read_body<'b>(
     alloc: Global,
     pool: Pool<'b>,

@@ -57,7 +57,7 @@ impl Sites {
         self.found.len() < self.room as usize
     }
 
-    /// Puts a site behind the others.
+    /// Puts a site after the others.
     pub fn push(&mut self, site: Site) -> Result<(), NoMemory>
         requires { length self.old.sites < self.old.room }
         ensures ok { OnOk result (self.new.sites ≡ self.old.sites ++ site ∷ []) }

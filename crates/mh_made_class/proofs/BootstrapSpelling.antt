@@ -7,7 +7,7 @@ use Rattle.mh_class_bytes.specs.Format.{Spells, check, done, ◌>>=◌, repeated
 use Rattle.mh_class_pool.specs.declared.entry.Entry.TheVariants as entries
 use Rattle.mh_class_pool.specs.declared.entry.Kind.TheVariants as kinds
 use Rattle.mh_class_pool.specs.declared.fault.ClassKind.TheVariants.{Truncated, BadBootstraps}
-use Rattle.mh_class_pool.specs.Entries.{Part, Slot, text, text_of}
+use Rattle.mh_class_pool.specs.Entries.{ClassPart, Slot, text, text_of}
 use Rattle.mh_class_pool.specs.References.{names}
 use Rattle.mh_classfile.specs.Rows.{Row}
 use Rattle.mh_classfile.specs.Members.{named_index, passed_contents}
@@ -94,14 +94,14 @@ contents_spelled pool ps at few all =
         (bootstraps_all pool ps all))
 
 -- a BootstrapMethods attribute, the first time
-abbrev rows_read : List Slot → ℕ → Part (Option (List Row))
+abbrev rows_read : List Slot → ℕ → ClassPart (Option (List Row))
 rows_read pool at = do
   once ← check true at BadBootstraps
   rows ← bootstraps_attribute pool
   done (Some rows)
 
 -- another attribute
-abbrev other_read : Part (Option (List Row))
+abbrev other_read : ClassPart (Option (List Row))
 other_read = do
   skipped ← passed_contents Truncated
   done None

@@ -6,7 +6,7 @@ use Rattle.std.specs.List.{AllByRecursion, flat_map}
 use Rattle.mh_class_bytes.specs.Format.{Spells, done, ◌>>=◌, repeated}
 use Rattle.mh_class_pool.specs.declared.entry.Entry.TheVariants as entries
 use Rattle.mh_class_pool.specs.declared.entry.Kind.TheVariants as kinds
-use Rattle.mh_class_pool.specs.Entries.{Part, Slot}
+use Rattle.mh_class_pool.specs.Entries.{ClassPart, Slot}
 use Rattle.mh_classfile.specs.declared.site.Method.{Method}
 use Rattle.mh_classfile.specs.declared.site.Site.{Site}
 use Rattle.mh_classfile.specs.Code.{instruction as read_instruction, call_site, operands, ordinary, passed, next_site}
@@ -76,7 +76,7 @@ return_spelled pool m has_room start at =
         (refl, refl))))
 
 -- the next instruction, where the code has not ended
-abbrev one_more : List Slot → Method → ℕ → ℕ → List Site → Part (List Site)
+abbrev one_more : List Slot → Method → ℕ → ℕ → List Site → ClassPart (List Site)
 one_more pool m room start so_far = do
   found ← read_instruction pool m (ltb (length so_far) room) start
   done (so_far ++ found)

@@ -18,7 +18,7 @@ use Rattle.mh_made_class.proofs.PoolSpelling.{entries_width, width-append}
 use Rattle.mh_made_class.proofs.Placing.{arguments-length, arguments_few}
 use Rattle.mh_made_class.proofs.Standing.{entries_of_site}
 
--- one behind the other, by parts of parts
+-- one after the other, by parts of parts
 pub parts_of_parts : {X Y Z : Type 0} (g : Y → List Z) (f : X → List Y) (xs : List X) → flat_map g (flat_map f xs) ≡ flat_map (λ x. flat_map g (f x)) xs
 parts_of_parts g f [] = refl
 parts_of_parts g f (x ∷ xs) = flat_map-append g (f x) (flat_map f xs) ∙ ap (λ ys. flat_map g (f x) ++ ys) (parts_of_parts g f xs)

@@ -24,7 +24,7 @@ IsWritable (entries.MethodHandle kind reference) = (kind ≡ 6) × (reference < 
 IsWritable (entries.InvokeDynamic bootstrap name) = (bootstrap < 2 ^ 16) × (name < 2 ^ 16)
 IsWritable _ = ⊥
 
--- What is spelled behind a tag is an entry, at any index but the last for one that takes two.
+-- What is spelled after a tag is an entry, at any index but the last for one that takes two.
 behind_tag : (is_last : Bool) (at tag : ℕ) (rest : List ℕ) (e : Entry) → tag ≡ big_number 1 (tag ∷ []) → (is_last && is_wide_tag tag) ≡ false →
     Spells (choose (tag == 1) utf8 (contents tag at)) (at + 0 + 1 + 0) rest e
     → Spells (entry is_last) at (tag ∷ rest) e

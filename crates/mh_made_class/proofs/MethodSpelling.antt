@@ -7,7 +7,7 @@ use Rattle.mh_class_bytes.specs.Format.{Spells, check, done, ◌>>=◌, repeated
 use Rattle.mh_class_pool.specs.declared.entry.Entry.TheVariants as entries
 use Rattle.mh_class_pool.specs.declared.entry.Kind.TheVariants as kinds
 use Rattle.mh_class_pool.specs.declared.fault.ClassKind.TheVariants.{Truncated, BadCode}
-use Rattle.mh_class_pool.specs.Entries.{Part, Slot, text, text_of}
+use Rattle.mh_class_pool.specs.Entries.{ClassPart, Slot, text, text_of}
 use Rattle.mh_classfile.specs.declared.site.Site.{Site}
 use Rattle.mh_classfile.specs.Members.{passed_contents, member, members, method, method_attribute, code_attribute}
 use Rattle.mh_made_class.specs.declared.site.MadeSite.{MadeSite}
@@ -22,14 +22,14 @@ use Rattle.mh_made_class.proofs.Names.{index_spelled}
 use Rattle.mh_made_class.proofs.CodeContents.{run_method, sites_found, contents_spelled, contents_length}
 
 -- a Code attribute, the first time
-abbrev code_read : List Slot → ℕ → ℕ → Part (Bool × List Site)
+abbrev code_read : List Slot → ℕ → ℕ → ClassPart (Bool × List Site)
 code_read pool room at = do
   once ← check true at BadCode
   sites ← code_attribute pool run_method room []
   done (true, sites)
 
 -- another attribute
-abbrev other_read : Bool × List Site → Part (Bool × List Site)
+abbrev other_read : Bool × List Site → ClassPart (Bool × List Site)
 other_read so_far = do
   skipped ← passed_contents Truncated
   done so_far

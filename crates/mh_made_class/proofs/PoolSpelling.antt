@@ -5,7 +5,7 @@ use Rattle.std.proofs.lemmas.List.{append-nil}
 use Rattle.std.specs.List.{AllByRecursion, flat_map}
 use Rattle.mh_class_bytes.specs.Format.{Spells, done, here, ◌>>=◌, repeated}
 use Rattle.mh_class_pool.specs.declared.entry.Entry.{Entry}
-use Rattle.mh_class_pool.specs.Entries.{Part, Slot, entry, is_wide, indexes_of, next_slots}
+use Rattle.mh_class_pool.specs.Entries.{ClassPart, Slot, entry, is_wide, indexes_of, next_slots}
 use Rattle.mh_made_class.specs.Constants.{entry_bytes}
 use Rattle.mh_made_class.proofs.Spelling.{otherwise, where_true}
 use Rattle.mh_made_class.proofs.EntrySpelling.{IsWritable, entry_spelled}
@@ -53,7 +53,7 @@ not_last count n e le = go (is_wide e) le
         and_false false = refl
 
 -- the next entry, where an index is left for it
-abbrev one_more : ℕ → List Slot → Part (List Slot)
+abbrev one_more : ℕ → List Slot → ClassPart (List Slot)
 one_more count so_far = do
   place ← here
   x ← entry (eqb (length so_far + 1) count)
@@ -75,7 +75,7 @@ full_spelled count (suc most) so_far at le =
     (so_far, [], [], refl, where_true (leb count (length so_far)) (done so_far) (one_more count so_far) at [] so_far full (refl, refl), full_spelled count most
         so_far (at + 0) le)
 
--- Entries that take all the indexes that are left are spelled, one behind the other.
+-- Entries that take all the indexes that are left are spelled, one after the other.
 pub entries_spelled : (es : List Entry) (count most : ℕ) (so_far : List Slot) (at : ℕ) → length so_far + entries_width es ≡ count → length es ≤ most →
     AllByRecursion IsWritable es
     → Spells (repeated (next_slots count) most so_far) at (flat_map entry_bytes es) (so_far ++ slots_from at es)

@@ -1,4 +1,4 @@
--- Bytes that were put behind others, piece by piece.
+-- Bytes that were put after others, piece by piece.
 use Rattle.std.proofs.Common.{◌≡◌, ℕ, List, [], ◌++◌, refl, append_assoc}
 use Rattle.std.proofs.lemmas.List.{append-nil}
 

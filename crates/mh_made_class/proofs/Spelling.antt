@@ -23,6 +23,6 @@ pub where_true : {K A : Type 0} (b : Bool) (f g : Format K A) (at : ℕ) (bytes 
 where_true true f g at bytes x e s = s
 where_true false f g at bytes x e s = absurd cc
 
--- behind what takes no bytes
+-- after what takes no bytes
 pub same_place : {K A : Type 0} (f : Format K A) (at : ℕ) (bytes : List ℕ) (x : A) → Spells f at bytes x → Spells f (at + 0) bytes x
 same_place f at bytes x s = let e : at ≡ at + 0 = omega arith in subst (λ n. Spells f n bytes x) e s

@@ -1,10 +1,10 @@
--- So many of one format, one behind the other.
+-- So many of one format, one after the other.
 use Rattle.std.proofs.Common.{ℕ, ◌+◌, List, [], ◌∷◌, ◌++◌, length, map, refl, sym, subst, append_assoc}
 use Rattle.std.proofs.lemmas.List.{append-nil}
 use Rattle.std.specs.List.{AllByRecursion, flat_map}
 use Rattle.mh_class_bytes.specs.Format.{Format, Spells, repeated, listed}
 
--- So many of one format are spelled, one behind the other.
+-- So many of one format are spelled, one after the other.
 pub times_spelled : {K X A : Type 0} (one : Format K A) (bytes : X → List ℕ) (value : X → A) (xs : List X) (so_far : List A) (at : ℕ) →
     AllByRecursion (λ x. (place : ℕ) → Spells one place (bytes x) (value x)) xs
     → Spells (repeated (listed one) (length xs) so_far) at (flat_map bytes xs) (so_far ++ map value xs)

@@ -9,7 +9,7 @@ pub record PlacedArgument : Type 0 where
   pub first : ℕ
   pub arg : MadeArg
 
--- static arguments, one behind the other from an index on
+-- static arguments, one after the other from an index on
 unfoldable pub arguments_from : ℕ → List MadeArg → List PlacedArgument
 arguments_from first [] = []
 arguments_from first (arg ∷ args) = record { first = first; arg = arg } ∷ arguments_from (first + argument_width arg) args
@@ -20,11 +20,11 @@ pub record PlacedSite : Type 0 where
   pub first : ℕ
   pub site : MadeSite
 
--- the static arguments of a call site stand behind seven entries of its own
+-- the static arguments of a call site stand after seven entries of its own
 abbrev pub placed_arguments : PlacedSite → List PlacedArgument
 placed_arguments p = arguments_from (p.first + 7) p.site.args
 
--- call sites, one behind the other from a number and an index on
+-- call sites, one after the other from a number and an index on
 unfoldable pub sites_from : ℕ → ℕ → List MadeSite → List PlacedSite
 sites_from number first [] = []
 sites_from number first (site ∷ sites) =

@@ -38,7 +38,7 @@ bootstrap_of site = record {
   arguments = map constant_of site.args;
 }
 
--- the call site of a number: it stands in the method `run()V`, five bytes behind the one before it, and calls `f` by the bootstrap method
+-- the call site of a number: it stands in the method `run()V`, five bytes after the one before it, and calls `f` by the bootstrap method
 -- of its number
 abbrev pub site_of : ℕ → MadeSite → SiteView
 site_of k site = record {

@@ -46,7 +46,7 @@ impl<'s> Model for Placed<'s> {
     ghost invariant = { λ p. IsPlaced (record { number = p.number; first = p.first; site = p.site.now }) };
 }
 
-/// Static arguments, one behind the other from an index on.
+/// Static arguments, one after the other from an index on.
 pub(crate) fn place_arguments<'s>(
     alloc: Global,
     first: usize,
@@ -65,7 +65,7 @@ pub(crate) fn place_arguments<'s>(
     Ok(placed)
 }
 
-/// Call sites, one behind the other, and the count of the pool.
+/// Call sites, one after the other, and the count of the pool.
 #[derive(Drop)]
 pub(crate) struct Layout<'s> {
     pub(crate) sites: Vec<Placed<'s>>,

@@ -79,7 +79,7 @@ fn write_class(alloc: Global, sites: &MadeSites) -> Result<Vec<u8>, NoMemory>
     Ok(file)
 }
 
-/// The class file of a class `made/Main` with these call sites, one behind the other in its method
+/// The class file of a class `made/Main` with these call sites, one after the other in its method
 /// `run()V`, each with a bootstrap method of its own in `made/Boot`. It is made for tests and for
 /// inputs that are generated, and not to be loaded: `made/Boot` need not be there.
 pub fn make_class(alloc: Global, sites: &MadeSites) -> Result<Vec<u8>, NoMemory>

@@ -15,7 +15,7 @@ returns-in_err-entry-clause-gives c =
     let n : c.len-in-loop-cursor.result ≡ length places = omega arith in
     let lt : length places < c.args.count = omega arith in
     rw (p.1, p.2) (stops c.args.cursor.now c.loop-cursor.cursor places c.args.count c.len-in-loop-cursor.result _ c.loop-cursor.invariant n lt
-        c.in_err-entry.ensures.reads)
+    c.in_err-entry.ensures.reads)
 
 pub loop-cursor-preserved-in-Continue-branch-4 : goal.loop-cursor-preserved-in-Continue-branch-4
 loop-cursor-preserved-in-Continue-branch-4 c =
@@ -23,9 +23,9 @@ loop-cursor-preserved-in-Continue-branch-4 c =
     let n : c.len-in-loop-cursor.result ≡ length places = omega arith in
     let lt : length places < c.args.count = omega arith in
     let e : c.push-then-is_wide.new.self.items ≡ (places ++ c.loop-cursor.cursor.at ∷ []) ++ 0 ∷ [] =
-        rw (c.in_ok-push-3.ensures.items, c.in_ok-push-2.ensures.items, c.at-at.ensures.place) refl in
+    rw (c.in_ok-push-3.ensures.items, c.in_ok-push-2.ensures.items, c.at-at.ensures.place) refl in
     rw e (next_wide c.args.cursor.now c.loop-cursor.cursor c.read_entry.new.cursor places c.args.count c.len-in-loop-cursor.result c.in_ok-entry.entry
-        c.loop-cursor.invariant n lt c.in_ok-entry.ensures.reads (sym c.if-is_wide.ensures) c.in_ok-entry.ensures.moves)
+    c.loop-cursor.invariant n lt c.in_ok-entry.ensures.reads (sym c.if-is_wide.ensures) c.in_ok-entry.ensures.moves)
 
 pub loop-cursor-preserved : goal.loop-cursor-preserved
 loop-cursor-preserved c =
@@ -34,7 +34,7 @@ loop-cursor-preserved c =
     let lt : length places < c.args.count = omega arith in
     let e : c.push-in-loop-cursor.new.self.items ≡ places ++ c.loop-cursor.cursor.at ∷ [] = rw (c.in_ok-push-2.ensures.items, c.at-at.ensures.place) refl in
     rw e (next_narrow c.args.cursor.now c.loop-cursor.cursor c.read_entry.new.cursor places c.args.count c.len-in-loop-cursor.result c.in_ok-entry.entry
-        c.loop-cursor.invariant n lt c.in_ok-entry.ensures.reads (sym c.if-is_wide.ensures) c.in_ok-entry.ensures.moves)
+    c.loop-cursor.invariant n lt c.in_ok-entry.ensures.reads (sym c.if-is_wide.ensures) c.in_ok-entry.ensures.moves)
 
 pub returns-clause-gives : goal.returns-clause-gives
 returns-clause-gives c =

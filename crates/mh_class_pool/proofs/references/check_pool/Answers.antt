@@ -9,7 +9,7 @@ returns-in_err-check_index c =
     let p = err_from_is_err_and c.from_residual-in_err-check_index.result c.from_residual-in_err-check_index.ensures.1 in
     let pool = c.args.pool.now in
     rw (p.1, p.2) (each_stops (good_slot pool) pool c.loop-index.index None (good_references pool) _ (omega arith) c.in_err-check_index.ensures.finds
-        c.loop-index.invariant.so_far)
+    c.loop-index.invariant.so_far)
 
 pub loop-index-preserved : goal.loop-index-preserved
 loop-index-preserved c = record {

@@ -2,7 +2,8 @@ use Rattle.std.proofs.Common.{Ok, Err, ◌≡◌, ◌∙◌, drop, sym, ap, arit
 use Rattle.std.proofs.lemmas.List.{length-drop}
 use Rattle.mh_class_bytes.specs.Chars.{chars_of, first_char, first_len}
 use Rattle.mh_class_bytes.proofs.Units.{sound-begins}
-use Rattle.mh_class_bytes.proofs.CharLoops.{is_at-next, is_at-more, begins-some, decoding-next, decoding-stops, decoding-done}
+use Rattle.mh_class_bytes.proofs.CharSteps.{begins-some}
+use Rattle.mh_class_bytes.proofs.CharLoops.{is_at-next, is_at-more, decoding-next, decoding-stops, decoding-done}
 use Rattle.mh_class_bytes.proofs.CharLaw.{chars_law-ok, chars_law-lone}
 use Rattle.mh_class_bytes.proofs.text.Text.chars.Goals as goal
 

@@ -3,7 +3,8 @@ use Rattle.std.proofs.lemmas.List.{length-drop}
 use Rattle.std.specs.Prelude.{unwrap_or}
 use Rattle.mh_class_bytes.specs.Chars.{first_char, first_len}
 use Rattle.mh_class_bytes.proofs.Units.{sound-begins}
-use Rattle.mh_class_bytes.proofs.CharLoops.{is_at-next, is_at-more, begins-some, showing-next, showing-done}
+use Rattle.mh_class_bytes.proofs.CharSteps.{begins-some}
+use Rattle.mh_class_bytes.proofs.CharLoops.{is_at-next, is_at-more, showing-next, showing-done}
 use Rattle.mh_class_bytes.specs.Chars.{shown_text}
 use Rattle.mh_class_bytes.proofs.CharLaw.{shown_law}
 use Rattle.mh_class_bytes.proofs.text.Text.shown.Goals as goal
