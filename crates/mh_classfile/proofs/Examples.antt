@@ -71,8 +71,15 @@ some_pool = None ∷ Some (10, entries.NameAndType 0 0) ∷ Some (15, entries.In
 in_method : Method
 in_method = record { name = 3; descriptor = 4 }
 
-a_site : reads (instruction some_pool in_method true 0) (at_start (186 ∷ 0 ∷ 2 ∷ 0 ∷ 0 ∷ [])) ≡ Ok (record { method = in_method; pc = 0; index =
-    2 } ∷ [], record { bytes = 186 ∷ 0 ∷ 2 ∷ 0 ∷ 0 ∷ []; at = 5 })
+a_site : reads (instruction some_pool in_method true 0) (at_start (186 ∷ 0 ∷ 2 ∷ 0 ∷ 0 ∷ [])) ≡ Ok (
+  record {
+    method = in_method;
+    pc = 0;
+    index =
+        2;
+  } ∷ [],
+  record { bytes = 186 ∷ 0 ∷ 2 ∷ 0 ∷ 0 ∷ []; at = 5 },
+)
 unfolding at_start some_pool in_method instruction call_site operands
 a_site = refl
 
@@ -88,8 +95,14 @@ no_call_site : reads (instruction some_pool in_method true 0) (at_start (186 ∷
 unfolding at_start some_pool in_method instruction call_site operands
 no_call_site = refl
 
-iinc_widened : reads (instruction some_pool in_method true 0) (at_start (196 ∷ 132 ∷ 1 ∷ 0 ∷ 0 ∷ 1 ∷ [])) ≡ Ok ([], record { bytes =
-    196 ∷ 132 ∷ 1 ∷ 0 ∷ 0 ∷ 1 ∷ []; at = 6 })
+iinc_widened : reads (instruction some_pool in_method true 0) (at_start (196 ∷ 132 ∷ 1 ∷ 0 ∷ 0 ∷ 1 ∷ [])) ≡ Ok (
+  [],
+  record {
+    bytes =
+        196 ∷ 132 ∷ 1 ∷ 0 ∷ 0 ∷ 1 ∷ [];
+    at = 6;
+  },
+)
 unfolding at_start some_pool in_method instruction ordinary wide passed
 iinc_widened = refl
 
@@ -108,8 +121,12 @@ small = magic (0 ∷ 0 ∷ 0 ∷ 61 ∷ 0 ∷ 5 ∷ 1 ∷ 0 ∷ 1 ∷ 65 ∷ 7 �
     ∷ [])
 
 -- no constant at index 0 and at the second index of the Long
-small_class : class_or_fault 0 small ≡ Ok (record { constants = None ∷ Some constants.Other ∷ Some (constants.Class (65 ∷ [])) ∷ Some
-    (constants.Long (cast_signed w64 7)) ∷ None ∷ []; sites = []; bootstraps = [] })
+small_class : class_or_fault 0 small ≡ Ok (record {
+  constants = None ∷ Some constants.Other ∷ Some (constants.Class (65 ∷ [])) ∷ Some
+      (constants.Long (cast_signed w64 7)) ∷ None ∷ [];
+  sites = [];
+  bootstraps = [];
+})
 unfolding small magic class_file header entry utf8 utf8_bytes contents numeric named sound_from unit_len repeated each good_slot own_references good_descriptor
     class_names named_index interface members field method class_attributes class_attribute has_bootstrap
 small_class = refl

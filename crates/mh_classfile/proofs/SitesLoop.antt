@@ -76,7 +76,7 @@ pub finding-stops : (pool : List Slot) (method : Method) (room start end : ℕ) 
     → reads (instruction pool method (ltb (length found) room) start) p ≡ Err f → reads (code_sites pool method room start end before) from ≡ Err f
 finding-stops pool method room start end from p before found f s lt h =
     sym (one_left pool method room start end from p before found s lt) ∙ repeated-err (next_site pool method room start end) (s.most - 1) found p f
-        (step-err pool method room start end p found f lt h)
+    (step-err pool method room start end p found f lt h)
 
 pub finding-done : (pool : List Slot) (method : Method) (room start end : ℕ) (from p : Position) (before found : List Site) →
     IsFinding pool method room start end from p before found → end ≤ p.at → reads (code_sites pool method room start end before) from ≡ Ok (found, p)

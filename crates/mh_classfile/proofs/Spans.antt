@@ -19,7 +19,7 @@ pub rows-kept : (arguments more : List ℕ) (end : ℕ) (spans : List Span) → 
 rows-kept arguments more end [] le h = refl
 rows-kept arguments more end (s ∷ spans) le h =
     ap (λ (r : Row). r ∷ map (row_of (arguments ++ more)) spans) (row-kept arguments more s (omega (arith, h.0))) ∙
-        ap (λ (rs : List Row). row_of arguments s ∷ rs) (rows-kept arguments more end spans le h.1)
+    ap (λ (rs : List Row). row_of arguments s ∷ rs) (rows-kept arguments more end spans le h.1)
 
 within-more : (end later : ℕ) (spans : List Span) (s : Span) → end ≤ later → AreWithin end spans → s.start + s.count ≤ later → AreWithin later (spans ++ s ∷ [])
 within-more end later [] s le h k = (k, tt)
@@ -30,8 +30,11 @@ pub within-close : (arguments : List ℕ) (end : ℕ) (spans : List Span) (s : S
     length (drop end arguments) ≡ s.count → AreWithin (length arguments) (spans ++ s ∷ [])
 within-close arguments end spans s le h e k = within-more end (length arguments) spans s le h (omega (arith, e, k, length-drop end arguments))
 
-pub row-closed : (arguments : List ℕ) (s : Span) → length (drop s.start arguments) ≡ s.count → row_of arguments s ≡ record { handle = s.handle; arguments =
-    drop s.start arguments }
+pub row-closed : (arguments : List ℕ) (s : Span) → length (drop s.start arguments) ≡ s.count → row_of arguments s ≡ record {
+  handle = s.handle;
+  arguments =
+      drop s.start arguments;
+}
 row-closed arguments s k = ap (λ (xs : List ℕ). row s.handle xs) (take_all s.count (drop s.start arguments) (omega (arith, k)))
   where
     row : ℕ → List ℕ → Row

@@ -7,6 +7,7 @@ use Rattle.mh_classfile.specs.declared.site.Site.{Site}
 use Rattle.mh_class_pool.specs.declared.fault.ClassKind.TheVariants.{BadCode, TooManySites}
 use Rattle.mh_class_pool.specs.Entries.{ClassPart, Slot}
 use Rattle.mh_class_pool.specs.References.{names}
+use Rattle.mh_classfile.specs.Opcodes as op
 
 -- from a number to another
 abbrev pub within : ℕ → ℕ → ℕ → Bool
@@ -14,18 +15,19 @@ within low high n = nat_le low n && nat_le n high
 
 -- an instruction that names a local variable by one byte
 abbrev pub is_local : ℕ → Bool
-is_local opcode = within 21 25 opcode || within 54 58 opcode || opcode == 169
+is_local opcode = within op.iload op.aload opcode || within op.istore op.astore opcode || opcode == op.ret
 
 -- how many bytes an instruction of fixed length takes, with its opcode; 0 for the others
 abbrev pub fixed_len : ℕ → ℕ
 fixed_len opcode =
-    if nat_le opcode 15 || within 26 53 opcode || within 59 131 opcode || within 133 152 opcode || within 172 177 opcode || within 190 191 opcode || within 194
-        195 opcode then 1
-    else (if opcode == 16 || opcode == 18 || is_local opcode || opcode == 188 then 2
-    else (if opcode == 17 || within 19 20 opcode || opcode == 132 || within 153 168 opcode || within 178 184 opcode || opcode == 187 || opcode == 189 || within
-        192 193 opcode || within 198 199 opcode then 3
-    else (if opcode == 197 then 4
-    else (if opcode == 185 || within 200 201 opcode then 5
+    if nat_le opcode op.dconst_1 || within op.iload_0 op.saload opcode || within op.istore_0 op.lxor opcode || within op.i2l op.dcmpg opcode
+    || within op.ireturn op.return opcode || within op.arraylength op.athrow opcode || within op.monitorenter op.monitorexit opcode then 1
+    else (if opcode == op.bipush || opcode == op.ldc || is_local opcode || opcode == op.newarray then 2
+    else (if opcode == op.sipush || within op.ldc_w op.ldc2_w opcode || opcode == op.iinc || within op.ifeq op.jsr opcode
+    || within op.getstatic op.invokestatic opcode || opcode == op.new || opcode == op.anewarray || within op.checkcast op.instanceof opcode
+    || within op.ifnull op.ifnonnull opcode then 3
+    else (if opcode == op.multianewarray then 4
+    else (if opcode == op.invokeinterface || within op.goto_w op.jsr_w opcode then 5
     else 0))))
 
 -- a signed number of 32 bits, raised by 2 ^ 31, so that its order is that of the numbers
@@ -71,14 +73,14 @@ lookup_switch start at = do
 unfoldable pub wide : ℕ → ClassPart (Unit {0})
 wide at = do
   opcode ← number BadCode 1
-  choose (opcode == 132) (passed 4) (choose (is_local opcode) (passed 2) (refuse at BadCode))
+  choose (opcode == op.iinc) (passed 4) (choose (is_local opcode) (passed 2) (refuse at BadCode))
 
 -- an instruction but invokedynamic, after its opcode; whatever is wrong is BadCode at the opcode
 unfoldable pub ordinary : ℕ → ℕ → ℕ → ClassPart (Unit {0})
 ordinary opcode start at =
-    choose (opcode == 170) (blame at BadCode (table_switch start at))
-    (choose (opcode == 171) (blame at BadCode (lookup_switch start at))
-    (choose (opcode == 196) (blame at BadCode (wide at))
+    choose (opcode == op.tableswitch) (blame at BadCode (table_switch start at))
+    (choose (opcode == op.lookupswitch) (blame at BadCode (lookup_switch start at))
+    (choose (opcode == op.wide) (blame at BadCode (wide at))
     (choose (fixed_len opcode == 0) (refuse at BadCode)
     (blame at BadCode (passed (fixed_len opcode - 1))))))
 
@@ -103,7 +105,7 @@ unfoldable pub instruction : List Slot → Method → Bool → ℕ → ClassPart
 instruction pool method has_room start = do
   at ← here
   opcode ← number BadCode 1
-  choose (opcode == 186)
+  choose (opcode == op.invokedynamic)
       (do
         site ← call_site pool method has_room start at
         done (site ∷ []))

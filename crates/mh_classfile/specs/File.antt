@@ -14,16 +14,28 @@ use Rattle.mh_classfile.specs.Bootstraps.{class_attributes}
 use Rattle.mh_classfile.specs.Rows.{Row}
 use Rattle.mh_classfile.specs.Class.{Class, class_of}
 
--- magic, minor version, a major version from 45 to 61, and the count of the pool, which is not 0
+-- what a class file begins with
+abbrev pub magic_number : ℕ
+magic_number = 0xCAFEBABE
+
+-- the major version of the oldest class files, of JDK 1.1 (table 4.1-A)
+abbrev pub oldest_major : ℕ
+oldest_major = 45
+
+-- the major version of the class files of Java SE 17
+abbrev pub newest_major : ℕ
+newest_major = 61
+
+-- magic, minor version, a major version from the oldest to the newest, and the count of the pool, which is not 0
 unfoldable pub header : ClassPart ℕ
 header = do
   at ← here
   magic ← number Truncated 4
-  is_magic ← check (magic == 0xCAFEBABE) at BadMagic
+  is_magic ← check (magic == magic_number) at BadMagic
   minor ← number Truncated 2
   at_major ← here
   major ← number Truncated 2
-  is_known ← check (nat_le 45 major && nat_le major 61) at_major BadVersion
+  is_known ← check (nat_le oldest_major major && nat_le major newest_major) at_major BadVersion
   at_count ← here
   count ← number Truncated 2
   some ← check (nat_lt 0 count) at_count BadIndex

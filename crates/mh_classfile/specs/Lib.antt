@@ -1,5 +1,6 @@
+pub mod Opcodes
 pub mod Code
-pub mod Found
+pub mod FoundSites
 pub mod Members
 pub mod Rows
 pub mod Bootstraps

@@ -5,14 +5,21 @@ ghost use Rattle.mh_class_bytes.specs.Format.{Reads, reads};
 ghost use Rattle.mh_class_pool.specs.Answers.{Gives};
 ghost use Rattle.mh_classfile.specs.Code.{is_local, fixed_len, raised, padding, table, table_switch, lookup_switch, wide, passed, ordinary, operands, call_site, instruction, code_sites};
 
-use crate::site::{Method, Site, Sites};
+use crate::opcodes::{
+    ALOAD, ANEWARRAY, ARRAYLENGTH, ASTORE, ATHROW, BIPUSH, CHECKCAST, DCMPG, DCONST_1, GETSTATIC,
+    GOTO_W, I2L, IFEQ, IFNONNULL, IFNULL, IINC, ILOAD, ILOAD_0, INSTANCEOF, INVOKEDYNAMIC,
+    INVOKEINTERFACE, INVOKESTATIC, IRETURN, ISTORE, ISTORE_0, JSR, JSR_W, LDC, LDC_W, LDC2_W,
+    LOOKUPSWITCH, LXOR, MONITORENTER, MONITOREXIT, MULTIANEWARRAY, NEW, NEWARRAY, NOP, RET, RETURN,
+    SALOAD, SIPUSH, TABLESWITCH, WIDE,
+};
+use crate::site::{MethodCode, Site, Sites};
 use mh_class_bytes::Cursor;
-use mh_class_pool::{ClassError, ClassFault, ClassKind, Kind, Pool, check_name, run, u1, u2, u4};
+use mh_class_pool::{ClassError, ClassFault, ClassKind, Kind, check_name, run, u1, u2, u4};
 
 fn is_local(opcode: u8) -> bool
     ensures { result ≡ is_local opcode }
 {
-    matches!(opcode, 21..=25 | 54..=58 | 169)
+    matches!(opcode, ILOAD..=ALOAD | ISTORE..=ASTORE | RET)
 }
 
 /// How many bytes an instruction of fixed length takes, with its opcode; 0 for the others
@@ -21,16 +28,35 @@ fn fixed_len(opcode: u8) -> usize
     ensures { result ≡ fixed_len opcode }
 {
     match opcode {
-        0..=15 | 26..=53 | 59..=131 | 133..=152 | 172..=177 | 190 | 191 | 194 | 195 => 1,
-        16 | 18 | 21..=25 | 54..=58 | 169 | 188 => 2,
-        17 | 19 | 20 | 132 | 153..=168 | 178..=184 | 187 | 189 | 192 | 193 | 198 | 199 => 3,
-        197 => 4,
-        185 | 200 | 201 => 5,
+        NOP..=DCONST_1
+        | ILOAD_0..=SALOAD
+        | ISTORE_0..=LXOR
+        | I2L..=DCMPG
+        | IRETURN..=RETURN
+        | ARRAYLENGTH
+        | ATHROW
+        | MONITORENTER
+        | MONITOREXIT => 1,
+        BIPUSH | LDC | ILOAD..=ALOAD | ISTORE..=ASTORE | RET | NEWARRAY => 2,
+        SIPUSH
+        | LDC_W
+        | LDC2_W
+        | IINC
+        | IFEQ..=JSR
+        | GETSTATIC..=INVOKESTATIC
+        | NEW
+        | ANEWARRAY
+        | CHECKCAST
+        | INSTANCEOF
+        | IFNULL
+        | IFNONNULL => 3,
+        MULTIANEWARRAY => 4,
+        INVOKEINTERFACE | GOTO_W | JSR_W => 5,
         _ => 0,
     }
 }
 
-/// The bytes from after an opcode at `at` to the next place that is a multiple of 4, counted from the
+/// How many bytes there are from the one after an opcode at `at` to the next place that is a multiple of 4, counted from the
 /// code's start.
 fn padding(start: usize, at: usize) -> usize
     requires { start ≤ at }
@@ -117,7 +143,7 @@ fn pass_wide(at: usize, cursor: &mut Cursor<'_>) -> Result<(), ClassFault>
 {
     let kind = ClassKind::BadCode;
     let opcode = u1(cursor, kind)?;
-    if opcode == 132 {
+    if opcode == IINC {
         pass(4, cursor)
     } else if is_local(opcode) {
         pass(2, cursor)
@@ -140,9 +166,9 @@ fn pass_ordinary(
 {
     let kind = ClassKind::BadCode;
     let passed = match opcode {
-        170 => pass_table_switch(start, at, cursor),
-        171 => pass_lookup_switch(start, at, cursor),
-        196 => pass_wide(at, cursor),
+        TABLESWITCH => pass_table_switch(start, at, cursor),
+        LOOKUPSWITCH => pass_lookup_switch(start, at, cursor),
+        WIDE => pass_wide(at, cursor),
         _ => {
             let len = fixed_len(opcode);
             if len == 0 {
@@ -170,17 +196,16 @@ fn read_operands(cursor: &mut Cursor<'_>) -> Result<(u16, u16), ClassFault>
 /// The call site of an `invokedynamic`, after its opcode.
 #[tactic(auto, unfolding(crate::specs::Code::call_site))]
 fn read_call_site(
-    pool: &Pool<'_>,
-    method: Method,
+    code: &MethodCode<'_, '_>,
     has_room: bool,
-    start: usize,
     at: usize,
     cursor: &mut Cursor<'_>,
 ) -> Result<Site, ClassFault>
-    requires begun { start ≤ at }
-    requires near { at < start + 2 ^ 16 }
+    requires begun { code.now.start ≤ at }
+    requires near { at < code.now.start + 2 ^ 16 }
     ensures reads { Reads (λ x. x) result cursor.new
-        (reads (call_site pool.now method has_room start at) cursor.old) }
+        (reads (call_site code.now.pool.now code.now.method has_room code.now.start at)
+        cursor.old) }
     ensures moves { Moves cursor.old cursor.new }
     ensures room { OnOk result (IsTrue has_room) }
 {
@@ -188,7 +213,7 @@ fn read_call_site(
     let Ok((index, zeros)) = read_operands(cursor) else {
         return Err(ClassFault { at, kind });
     };
-    check_name(pool, Kind::InvokeDynamic, index, at)?;
+    check_name(code.pool, Kind::InvokeDynamic, index, at)?;
     if zeros != 0 {
         return Err(ClassFault { at, kind });
     }
@@ -196,56 +221,58 @@ fn read_call_site(
         let kind = ClassKind::TooManySites;
         return Err(ClassFault { at, kind });
     }
-    let pc = (at - start) as u32;
-    Ok(Site { method, pc, index })
+    let pc = (at - code.start) as u32;
+    Ok(Site {
+        method: code.method,
+        pc,
+        index,
+    })
 }
 
 /// The next instruction: its call site, where it is one.
 #[tactic(auto, unfolding(crate::specs::Code::instruction))]
 fn read_instruction(
-    pool: &Pool<'_>,
-    method: Method,
+    code: &MethodCode<'_, '_>,
     has_room: bool,
-    start: usize,
     cursor: &mut Cursor<'_>,
 ) -> Result<Option<Site>, ClassFault>
-    requires begun { start ≤ cursor.old.at }
-    requires near { cursor.old.at < start + 2 ^ 16 }
+    requires begun { code.now.start ≤ cursor.old.at }
+    requires near { cursor.old.at < code.now.start + 2 ^ 16 }
     ensures reads { Reads option_to_list result cursor.new
-        (reads (instruction pool.now method has_room start) cursor.old) }
+        (reads (instruction code.now.pool.now code.now.method has_room code.now.start)
+        cursor.old) }
     ensures moves { Moves cursor.old cursor.new }
     ensures onward { OnOk result (cursor.old.at < cursor.new.at) }
     ensures room { IfOk result (λ found. IsSome found → IsTrue has_room) }
 {
     let at = cursor.at();
     let opcode = u1(cursor, ClassKind::BadCode)?;
-    if opcode == 186 {
-        let site = read_call_site(pool, method, has_room, start, at, cursor)?;
+    if opcode == INVOKEDYNAMIC {
+        let site = read_call_site(code, has_room, at, cursor)?;
         return Ok(Some(site));
     }
-    pass_ordinary(opcode, start, at, cursor)?;
+    pass_ordinary(opcode, code.start, at, cursor)?;
     Ok(None)
 }
 
-/// Judges the call sites of code from a start to an end, after those before it.
+/// Finds the call sites of code from a start to an end, after those before it.
 pub fn read_sites(
-    pool: &Pool<'_>,
-    method: Method,
-    start: usize,
+    code: &MethodCode<'_, '_>,
     end: usize,
     sites: &mut Sites,
     cursor: &mut Cursor<'_>,
 ) -> Result<(), ClassError>
-    requires begun { start ≤ cursor.old.at }
-    requires near { end ≤ start + 2 ^ 16 }
+    requires begun { code.now.start ≤ cursor.old.at }
+    requires near { end ≤ code.now.start + 2 ^ 16 }
     ensures gives { Gives (λ _. sites.new.sites) result cursor.new
-        (reads (code_sites pool.now method sites.old.room start end sites.old.sites) cursor.old) }
+        (reads (code_sites code.now.pool.now code.now.method sites.old.room code.now.start end
+        sites.old.sites) cursor.old) }
     ensures room { sites.new.room ≡ sites.old.room }
     ensures moves { Moves cursor.old cursor.new }
 {
     'instructions: while cursor.at() < end {
         let has_room = sites.has_room();
-        if let Some(site) = read_instruction(pool, method, has_room, start, cursor)? {
+        if let Some(site) = read_instruction(code, has_room, cursor)? {
             sites.push(site)?;
         }
     }

@@ -4,7 +4,8 @@ ghost use Rattle.mh_class_bytes.specs.Format.{Reads, reads, repeated};
 ghost use Rattle.mh_class_pool.specs.Answers.{Gives};
 ghost use Rattle.mh_classfile.specs.Members.{rows, method_attribute, member, field, method, members, interface, supertypes, class_names};
 
-use crate::attributes::{pass_contents, pass_counted_attributes, read_code, read_index};
+use crate::attributes::{pass_contents, pass_counted_attributes, read_index};
+use crate::code_attribute::read_code;
 use crate::site::{Method, Sites};
 use mh_class_bytes::Cursor;
 use mh_class_pool::{ClassError, ClassFault, ClassKind, Kind, Pool, check_name_or_none, u2};
@@ -92,7 +93,7 @@ fn pass_fields(pool: &Pool<'_>, count: u16, cursor: &mut Cursor<'_>) -> Result<(
     Ok(())
 }
 
-/// Judges the call sites of the next method (JVMS SE 17, 4.6).
+/// Finds the call sites of the next method (JVMS SE 17, 4.6).
 #[tactic(auto, unfolding(crate::specs::Members::method))]
 fn read_method(
     pool: &Pool<'_>,

@@ -20,6 +20,15 @@ use mh_class_pool::{
 };
 use std::alloc::Global;
 
+/// What a class file begins with (JVMS SE 17, 4.1).
+const MAGIC: u32 = 0xCAFE_BABE;
+
+/// The major version of the oldest class files, of JDK 1.1 (4.1, table 4.1-A).
+const OLDEST_MAJOR: u16 = 45;
+
+/// The major version of the class files of Java SE 17.
+const NEWEST_MAJOR: u16 = 61;
+
 /// Magic and versions, and the count of the pool.
 #[tactic(auto, unfolding(crate::specs::File::header))]
 fn read_header(cursor: &mut Cursor<'_>) -> Result<u16, ClassFault>
@@ -29,14 +38,14 @@ fn read_header(cursor: &mut Cursor<'_>) -> Result<u16, ClassFault>
 {
     let short = ClassKind::Truncated;
     let start = cursor.at();
-    if u4(cursor, short)? != 0xCAFE_BABE {
+    if u4(cursor, short)? != MAGIC {
         let kind = ClassKind::BadMagic;
         return Err(ClassFault { at: start, kind });
     }
     let _minor = u2(cursor, short)?;
     let at = cursor.at();
     let major = u2(cursor, short)?;
-    if !(45..=61).contains(&major) {
+    if !(OLDEST_MAJOR..=NEWEST_MAJOR).contains(&major) {
         let kind = ClassKind::BadVersion;
         return Err(ClassFault { at, kind });
     }

@@ -1,6 +1,7 @@
 ghost use Rattle.std.specs.Prelude.{◌≡◌, ◌++◌, ◌∷◌, [], ◌<◌, length, nat_lt, slice_get, Some, OnOk};
 
 use mh_base::{NoMemory, Seq};
+use mh_class_pool::Pool;
 use std::alloc::Global;
 use std::marker::Model;
 
@@ -9,6 +10,15 @@ use std::marker::Model;
 pub struct Method {
     pub name: u16,
     pub descriptor: u16,
+}
+
+/// The code of a method: the pool whose entries it names, the method, and where the code begins in the
+/// file.
+#[derive(Clone, Copy)]
+pub struct MethodCode<'p, 'b> {
+    pub pool: &'p Pool<'b>,
+    pub method: Method,
+    pub start: usize,
 }
 
 /// An `invokedynamic` instruction.
@@ -30,9 +40,9 @@ pub struct Sites {
 
 impl Model for Sites {
     ghost use Rattle.std.specs.Prelude.{◌≤◌, length};
-    ghost use Rattle.mh_classfile.specs.Found.{Found};
+    ghost use Rattle.mh_classfile.specs.FoundSites.{FoundSites};
 
-    ghost Value = { Found };
+    ghost Value = { FoundSites };
 
     ghost view = { λ s. record { sites = s.found; room = s.room } };
 

@@ -6,5 +6,8 @@ use Rattle.mh_classfile.specs.Members.{attribute}
 use Rattle.mh_classfile.proofs.attributes.pass_attributes.Given as goal
 
 abbrev pub invariant-loop : goal.invariant-loop
-invariant-loop l = record { so_far : reads (rows (attribute l.short l.pool) (l.count - l.counter)) l.cursor ≡ reads (rows (attribute l.short l.pool) l.count)
-    l.fn.cursor; moves : Moves l.fn.cursor l.cursor }
+invariant-loop l = record {
+  so_far : reads (rows (attribute l.short l.pool) (l.count - l.counter)) l.cursor ≡ reads (rows (attribute l.short l.pool) l.count)
+      l.fn.cursor;
+  moves : Moves l.fn.cursor l.cursor;
+}

@@ -13,7 +13,7 @@ returns-in_err-argument-clause-gives c =
     let p = err_from_is_err_and c.from_residual.result c.from_residual.ensures.1 in
     let one = named_index BadBootstraps c.args.pool.now Argument in
     rw (p.1, p.2) (repeated_stops (listed one) c.args.count c.loop.counter c.loop.methods.begun c.loop.cursor _ _ c.loop-test.true
-        (listed_stops one c.loop.methods.begun c.loop.cursor _ c.in_err-argument.ensures.reads) c.loop.invariant.so_far)
+    (listed_stops one c.loop.methods.begun c.loop.cursor _ c.in_err-argument.ensures.reads) c.loop.invariant.so_far)
 
 pub loop-preserved : goal.loop-preserved
 loop-preserved c =
@@ -25,8 +25,11 @@ loop-preserved c =
           c.loop.cursor c.read_index.new.cursor _ c.loop-test.true step c.loop.invariant.so_far);
       closed = c.in_ok-push.ensures.closed ∙ c.loop.invariant.closed;
       count = omega (arith, ap length pushed, length_push c.loop.methods.begun c.in_ok-argument.argument, c.loop.invariant.count);
-      moves = record { bytes = c.in_ok-argument.ensures.moves.bytes ∙ c.loop.invariant.moves.bytes; onward =
-          omega (arith, c.in_ok-argument.ensures.moves.onward, c.loop.invariant.moves.onward) };
+      moves = record {
+        bytes = c.in_ok-argument.ensures.moves.bytes ∙ c.loop.invariant.moves.bytes;
+        onward =
+            omega (arith, c.in_ok-argument.ensures.moves.onward, c.loop.invariant.moves.onward);
+      };
     }
 
 pub returns-clause-gives : goal.returns-clause-gives

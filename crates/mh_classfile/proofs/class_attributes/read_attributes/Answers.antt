@@ -10,14 +10,17 @@ pub returns-in_err-found-clause-gives : goal.returns-in_err-found-clause-gives
 returns-in_err-found-clause-gives c =
     let p = err_from_is_err_and c.from_residual.result c.from_residual.ensures.1 in
     rw (p.1, p.2) (fails_on _ _ _ (λ f e. repeated_stops (class_attribute c.args.pool.now) c.args.count c.loop.counter (closed_of c.loop.found) c.loop.cursor f
-        _ c.loop-test.true e c.loop.invariant.so_far) c.in_err-found.ensures.gives)
+    _ c.loop-test.true e c.loop.invariant.so_far) c.in_err-found.ensures.gives)
 
 pub loop-preserved : goal.loop-preserved
 loop-preserved c = record {
   so_far = repeated_next (class_attribute c.args.pool.now) c.args.count c.loop.counter (closed_of c.loop.found) (closed_of c.in_ok-found.found) c.loop.cursor
       c.read_class_attribute.new.cursor _ c.loop-test.true c.in_ok-found.ensures.gives c.loop.invariant.so_far;
-  moves = record { bytes = c.in_ok-found.ensures.moves.bytes ∙ c.loop.invariant.moves.bytes; onward =
-      omega (arith, c.in_ok-found.ensures.moves.onward, c.loop.invariant.moves.onward) };
+  moves = record {
+    bytes = c.in_ok-found.ensures.moves.bytes ∙ c.loop.invariant.moves.bytes;
+    onward =
+        omega (arith, c.in_ok-found.ensures.moves.onward, c.loop.invariant.moves.onward);
+  };
 }
 
 pub returns-clause-gives : goal.returns-clause-gives

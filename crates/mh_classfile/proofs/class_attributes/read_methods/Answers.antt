@@ -10,7 +10,7 @@ pub returns-in_err-read_bootstrap-clause-gives : goal.returns-in_err-read_bootst
 returns-in_err-read_bootstrap-clause-gives c =
     let p = err_from_is_err_and c.from_residual.result c.from_residual.ensures.1 in
     rw (p.1, p.2) (fails_on _ _ _ (λ f e. repeated_stops (listed (bootstrap c.args.pool.now)) c.args.count c.loop.counter c.loop.methods.closed c.loop.cursor f
-        _ c.loop-test.true e c.loop.invariant.so_far) c.in_err-read_bootstrap.ensures.gives)
+    _ c.loop-test.true e c.loop.invariant.so_far) c.in_err-read_bootstrap.ensures.gives)
 
 pub loop-preserved : goal.loop-preserved
 loop-preserved c = record {
@@ -18,8 +18,11 @@ loop-preserved c = record {
       c.loop.cursor c.read_bootstrap.new.cursor _ c.loop-test.true c.in_ok-read_bootstrap.ensures.gives c.loop.invariant.so_far;
   begun = c.in_ok-read_bootstrap.ensures.begun;
   few = omega (arith, c.in_ok-read_bootstrap.ensures.count, c.loop.invariant.few);
-  moves = record { bytes = c.in_ok-read_bootstrap.ensures.moves.bytes ∙ c.loop.invariant.moves.bytes; onward =
-      omega (arith, c.in_ok-read_bootstrap.ensures.moves.onward, c.loop.invariant.moves.onward) };
+  moves = record {
+    bytes = c.in_ok-read_bootstrap.ensures.moves.bytes ∙ c.loop.invariant.moves.bytes;
+    onward =
+        omega (arith, c.in_ok-read_bootstrap.ensures.moves.onward, c.loop.invariant.moves.onward);
+  };
 }
 
 pub returns-clause-gives : goal.returns-clause-gives

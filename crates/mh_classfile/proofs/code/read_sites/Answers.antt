@@ -12,20 +12,20 @@ returns-in_err-site-clause-gives c =
     let p = err_from_is_err_and c.from_residual.result c.from_residual.ensures.1 in
     let found = c.instructions.sites.sites in
     let room : c.has_room-has_room.result ≡ ltb (length found) c.args.sites.now.room = c.has_room-has_room.ensures ∙ ap (λ (r : ℕ). ltb (length found) r)
-        c.instructions.invariant.room in
+    c.instructions.invariant.room in
     let lt : c.instructions.cursor.at < c.args.end = omega arith in
-    rw (p.1, p.2) (finding-stops c.args.pool.now c.args.method c.args.sites.now.room c.args.start c.args.end c.args.cursor.now c.instructions.cursor
-        c.args.sites.now.sites found _ c.instructions.invariant.finding lt (rw room at c.in_err-site.ensures.reads))
+    rw (p.1, p.2) (finding-stops c.args.code.now.pool.now c.args.code.now.method c.args.sites.now.room c.args.code.now.start c.args.end c.args.cursor.now c.instructions.cursor
+    c.args.sites.now.sites found _ c.instructions.invariant.finding lt (rw room at c.in_err-site.ensures.reads))
 
 pub instructions-preserved-in-Continue-branch-3 : goal.instructions-preserved-in-Continue-branch-3
 instructions-preserved-in-Continue-branch-3 c =
     let found = c.instructions.sites.sites in
     let room : c.has_room-has_room.result ≡ ltb (length found) c.args.sites.now.room = c.has_room-has_room.ensures ∙ ap (λ (r : ℕ). ltb (length found) r)
-        c.instructions.invariant.room in
+    c.instructions.invariant.room in
     let lt : c.instructions.cursor.at < c.args.end = omega arith in
     let reads = rw (room, c.in-Some.is) at c.in_ok-site.ensures.reads in
     record {
-      finding = rw c.in_ok-push.ensures.ok (finding-next c.args.pool.now c.args.method c.args.sites.now.room c.args.start c.args.end c.args.cursor.now
+      finding = rw c.in_ok-push.ensures.ok (finding-next c.args.code.now.pool.now c.args.code.now.method c.args.sites.now.room c.args.code.now.start c.args.end c.args.cursor.now
           c.instructions.cursor c.read_instruction.new.cursor c.args.sites.now.sites found (c.in-Some.site ∷ []) c.instructions.invariant.finding lt
           c.in_ok-site.ensures.onward c.in_ok-site.ensures.moves reads);
       room = c.in_ok-push.ensures.room ∙ c.instructions.invariant.room;
@@ -35,12 +35,12 @@ pub instructions-preserved : goal.instructions-preserved
 instructions-preserved c =
     let found = c.instructions.sites.sites in
     let room : c.has_room-has_room.result ≡ ltb (length found) c.args.sites.now.room = c.has_room-has_room.ensures ∙ ap (λ (r : ℕ). ltb (length found) r)
-        c.instructions.invariant.room in
+    c.instructions.invariant.room in
     let lt : c.instructions.cursor.at < c.args.end = omega arith in
     let reads = rw (room, c.in_default.is) at c.in_ok-site.ensures.reads in
     let e : found ≡ found ++ [] = sym (append-nil found) in
     record {
-      finding = rw e (finding-next c.args.pool.now c.args.method c.args.sites.now.room c.args.start c.args.end c.args.cursor.now c.instructions.cursor
+      finding = rw e (finding-next c.args.code.now.pool.now c.args.code.now.method c.args.sites.now.room c.args.code.now.start c.args.end c.args.cursor.now c.instructions.cursor
           c.read_instruction.new.cursor c.args.sites.now.sites found [] c.instructions.invariant.finding lt c.in_ok-site.ensures.onward
           c.in_ok-site.ensures.moves reads);
       room = c.instructions.invariant.room;
@@ -49,5 +49,5 @@ instructions-preserved c =
 pub returns-clause-gives : goal.returns-clause-gives
 returns-clause-gives c =
     let le : c.args.end ≤ c.instructions.cursor.at = omega arith in
-    finding-done c.args.pool.now c.args.method c.args.sites.now.room c.args.start c.args.end c.args.cursor.now c.instructions.cursor c.args.sites.now.sites
-        c.instructions.sites.sites c.instructions.invariant.finding le
+    finding-done c.args.code.now.pool.now c.args.code.now.method c.args.sites.now.room c.args.code.now.start c.args.end c.args.cursor.now c.instructions.cursor c.args.sites.now.sites
+    c.instructions.sites.sites c.instructions.invariant.finding le

@@ -8,14 +8,17 @@ pub returns-in_err-pass_interface-clause-reads : goal.returns-in_err-pass_interf
 returns-in_err-pass_interface-clause-reads c =
     let p = err_from_is_err_and c.from_residual.result c.from_residual.ensures.1 in
     rw (p.1, p.2) (repeated_stops (λ (u : Unit {0}). interface c.args.pool.now) c.args.count c.loop.counter tt c.loop.cursor _ _ c.loop-test.true
-        c.in_err-pass_interface.ensures.reads c.loop.invariant.so_far)
+    c.in_err-pass_interface.ensures.reads c.loop.invariant.so_far)
 
 pub loop-preserved : goal.loop-preserved
 loop-preserved c = record {
   so_far = repeated_next (λ (u : Unit {0}). interface c.args.pool.now) c.args.count c.loop.counter tt tt c.loop.cursor c.pass_interface.new.cursor _
       c.loop-test.true c.in_ok-pass_interface.ensures.reads c.loop.invariant.so_far;
-  moves = record { bytes = c.in_ok-pass_interface.ensures.moves.bytes ∙ c.loop.invariant.moves.bytes; onward =
-      omega (arith, c.in_ok-pass_interface.ensures.moves.onward, c.loop.invariant.moves.onward) };
+  moves = record {
+    bytes = c.in_ok-pass_interface.ensures.moves.bytes ∙ c.loop.invariant.moves.bytes;
+    onward =
+        omega (arith, c.in_ok-pass_interface.ensures.moves.onward, c.loop.invariant.moves.onward);
+  };
 }
 
 pub returns-clause-reads : goal.returns-clause-reads

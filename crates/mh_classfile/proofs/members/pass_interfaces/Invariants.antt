@@ -6,5 +6,7 @@ use Rattle.mh_classfile.specs.Members.{interface}
 use Rattle.mh_classfile.proofs.members.pass_interfaces.Given as goal
 
 abbrev pub invariant-loop : goal.invariant-loop
-invariant-loop l = record { so_far : reads (rows (interface l.pool) (l.count - l.counter)) l.cursor ≡ reads (rows (interface l.pool) l.count) l.fn.cursor;
-    moves : Moves l.fn.cursor l.cursor }
+invariant-loop l = record {
+  so_far : reads (rows (interface l.pool) (l.count - l.counter)) l.cursor ≡ reads (rows (interface l.pool) l.count) l.fn.cursor;
+  moves : Moves l.fn.cursor l.cursor;
+}

@@ -10,7 +10,7 @@ returns-in_err-seen-clause-gives c =
     let p = err_from_is_err_and c.from_residual.result c.from_residual.ensures.1 in
     let gives = rw c.loop.invariant.room at c.in_err-seen.ensures.gives in
     rw (p.1, p.2) (fails_on _ _ _ (λ f e. repeated_stops (method_attribute c.args.pool.now c.args.method c.args.sites.now.room) c.args.count c.loop.counter
-        (c.loop.seen, c.loop.sites.sites) c.loop.cursor f _ c.loop-test.true e c.loop.invariant.so_far) gives)
+    (c.loop.seen, c.loop.sites.sites) c.loop.cursor f _ c.loop-test.true e c.loop.invariant.so_far) gives)
 
 pub loop-preserved : goal.loop-preserved
 loop-preserved c =
@@ -20,8 +20,11 @@ loop-preserved c =
           (c.loop.seen, c.loop.sites.sites) (c.in_ok-seen.seen, c.read_attribute.new.sites.sites) c.loop.cursor c.read_attribute.new.cursor _ c.loop-test.true
           reads c.loop.invariant.so_far;
       room = c.in_ok-seen.ensures.room ∙ c.loop.invariant.room;
-      moves = record { bytes = c.in_ok-seen.ensures.moves.bytes ∙ c.loop.invariant.moves.bytes; onward =
-          omega (arith, c.in_ok-seen.ensures.moves.onward, c.loop.invariant.moves.onward) };
+      moves = record {
+        bytes = c.in_ok-seen.ensures.moves.bytes ∙ c.loop.invariant.moves.bytes;
+        onward =
+            omega (arith, c.in_ok-seen.ensures.moves.onward, c.loop.invariant.moves.onward);
+      };
     }
 
 pub returns-clause-gives : goal.returns-clause-gives

@@ -10,7 +10,7 @@ returns-in_err-read_method-clause-gives c =
     let p = err_from_is_err_and c.from_residual.result c.from_residual.ensures.1 in
     let gives = rw c.loop.invariant.room at c.in_err-read_method.ensures.gives in
     rw (p.1, p.2) (fails_on _ _ _ (λ f e. repeated_stops (method c.args.pool.now c.args.sites.now.room) c.args.count c.loop.counter c.loop.sites.sites
-        c.loop.cursor f _ c.loop-test.true e c.loop.invariant.so_far) gives)
+    c.loop.cursor f _ c.loop-test.true e c.loop.invariant.so_far) gives)
 
 pub loop-preserved : goal.loop-preserved
 loop-preserved c =
@@ -19,8 +19,11 @@ loop-preserved c =
       so_far = repeated_next (method c.args.pool.now c.args.sites.now.room) c.args.count c.loop.counter c.loop.sites.sites c.read_method.new.sites.sites
           c.loop.cursor c.read_method.new.cursor _ c.loop-test.true reads c.loop.invariant.so_far;
       room = c.in_ok-read_method.ensures.room ∙ c.loop.invariant.room;
-      moves = record { bytes = c.in_ok-read_method.ensures.moves.bytes ∙ c.loop.invariant.moves.bytes; onward =
-          omega (arith, c.in_ok-read_method.ensures.moves.onward, c.loop.invariant.moves.onward) };
+      moves = record {
+        bytes = c.in_ok-read_method.ensures.moves.bytes ∙ c.loop.invariant.moves.bytes;
+        onward =
+            omega (arith, c.in_ok-read_method.ensures.moves.onward, c.loop.invariant.moves.onward);
+      };
     }
 
 pub returns-clause-gives : goal.returns-clause-gives

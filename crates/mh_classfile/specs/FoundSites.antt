@@ -3,6 +3,6 @@ use Rattle.std.specs.Prelude.{ℕ, List}
 use Rattle.mh_classfile.specs.declared.site.Site.{Site}
 
 -- the call sites so far, and how many may be found
-pub record Found : Type 0 where
+pub record FoundSites : Type 0 where
   pub sites : List Site
   pub room : ℕ
