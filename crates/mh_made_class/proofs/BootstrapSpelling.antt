@@ -89,9 +89,15 @@ bootstraps_all pool (p ∷ ps) all = (λ place. bootstrap_spelled pool p place a
 contents_spelled : (pool : List Slot) (ps : List PlacedSite) (at : ℕ) → length ps < 2 ^ 16 → AllByRecursion (HasBootstrap pool) ps →
     Spells (read_bootstraps pool) at (bootstraps ps) (map row_of ps)
 unfolding read_bootstraps bootstraps
-contents_spelled pool ps at few all =
-    (length ps, u2 (length ps), flat_map bootstrap ps, refl, (refl, u2_is (length ps) few), times_spelled (read_bootstrap pool) bootstrap row_of ps [] (at + 2)
-        (bootstraps_all pool ps all))
+contents_spelled pool ps at few all = (
+  length ps,
+  u2 (length ps),
+  flat_map bootstrap ps,
+  refl,
+  (refl, u2_is (length ps) few),
+  times_spelled (read_bootstrap pool) bootstrap row_of ps [] (at + 2)
+      (bootstraps_all pool ps all),
+)
 
 -- a BootstrapMethods attribute, the first time
 abbrev rows_read : List Slot → ℕ → ClassPart (Option (List Row))

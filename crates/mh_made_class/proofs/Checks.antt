@@ -23,7 +23,7 @@ pub entries_writable : (ps : List PlacedSite) → AllByRecursion IsPlaced ps →
 entries_writable ps fit readable =
     all_append IsWritable common_entries (flat_map site_entries ps) common_writable (all_parts IsWritable site_entries ps
     (all_from (λ p. IsPlaced p × IsReadable p.site) (λ p. AllByRecursion IsWritable (site_entries p)) ps (λ p h. site_writable p h.0 h.1.args)
-        (both_all IsPlaced (λ p. IsReadable p.site) ps fit readable)))
+    (both_all IsPlaced (λ p. IsReadable p.site) ps fit readable)))
 
 sites_good : (made : List MadeSite) (ps qs : List PlacedSite) (pool : List Slot) → IsStanding made qs pool → AllByRecursion (HasSite pool) ps →
     AllByRecursion (HasArguments pool) ps → AllByRecursion (λ p. IsReadable p.site) ps
@@ -39,7 +39,7 @@ pool_good made ps k readable =
     let pool = slots_of ps in
     each_slot (good_slot pool) refl (all_entries ps) 10
     (all_append (IsGood pool) common_entries (flat_map site_entries ps) (common_good pool k.common) (all_parts (IsGood pool) site_entries ps
-        (sites_good made ps ps pool k k.stand k.given readable)))
+    (sites_good made ps ps pool k k.stand k.given readable)))
 
 pub pool_bound : (count : ℕ) (ps : List PlacedSite) → AllByRecursion (λ p. p.number < count) ps → each (has_bootstrap count) (slots_of ps) ≡ Ok tt
 unfolding each has_bootstrap
@@ -47,4 +47,4 @@ pool_bound count ps below =
     each_slot (has_bootstrap count) refl (all_entries ps) 10
     (all_append (IsBound count) common_entries (flat_map site_entries ps) (common_bound count)
     (all_parts (IsBound count) site_entries ps (all_from (λ p. p.number < count) (λ p. AllByRecursion (IsBound count) (site_entries p)) ps
-        (λ p lt. site_bound count p lt) below)))
+    (λ p lt. site_bound count p lt) below)))

@@ -31,7 +31,7 @@ code_length k b (site ∷ sites) = omega (arith, code_length (k + 1) (b + site_w
 code_bytes_spelled : (pool : List Slot) (room at b : ℕ) (sites : List MadeSite) → length sites ≤ room → 5 * length sites + 1 < 2 ^ 16 →
     AllByRecursion (HasCall pool) (sites_from 0 b sites)
     → Spells (code_bytes pool run_method room []) at (u4 (length (code (sites_from 0 b sites))) ++ code (sites_from 0 b sites))
-        (sites_found (sites_from 0 b sites))
+    (sites_found (sites_from 0 b sites))
 unfolding code_bytes code
 code_bytes_spelled pool room at b sites few fits calls =
     let ps = sites_from 0 b sites in
@@ -63,8 +63,11 @@ code_bytes_spelled pool room at b sites few fits calls =
             bytes,
             refl,
             (refl, refl),
-            (refl, code_spelled pool run_method room start (start + len) sites 0 b (start + len - start) (start + 0) [] (omega arith) (omega (arith, len_is))
-                (omega (arith, len_is)) (omega (arith, few)) calls),
+            (
+              refl,
+              code_spelled pool run_method room start (start + len) sites 0 b (start + len - start) (start + 0) [] (omega arith) (omega (arith, len_is))
+                  (omega (arith, len_is)) (omega (arith, few)) calls,
+            ),
           ),
         ),
       ),
@@ -95,8 +98,14 @@ contents_spelled pool room at b sites few fits calls =
           u2 0 ++ u2 0,
           append_assoc front (u2 0) (u2 0),
           code_bytes_spelled pool room (at + 2 + 2) b sites few fits calls,
-          (tt, u2 0 ++ u2 0, [], refl, (0, u2 0, u2 0, refl, (refl, refl), (tt, [], u2 0, refl, (refl, refl), (0, u2 0, [], refl, (refl, refl), (refl, refl)))),
-              (refl, refl)),
+          (
+            tt,
+            u2 0 ++ u2 0,
+            [],
+            refl,
+            (0, u2 0, u2 0, refl, (refl, refl), (tt, [], u2 0, refl, (refl, refl), (0, u2 0, [], refl, (refl, refl), (refl, refl)))),
+            (refl, refl),
+          ),
         ),
       ),
     )

@@ -71,9 +71,28 @@ one_spelled pool m has_room start at p h room =
 
 return_spelled : (pool : List Slot) (m : Method) (has_room : Bool) (start at : ℕ) → Spells (read_instruction pool m has_room start) at (0xB1 ∷ []) []
 unfolding read_instruction ordinary passed
-return_spelled pool m has_room start at =
-    (at, [], 0xB1 ∷ [], refl, (refl, refl), (0xB1, 0xB1 ∷ [], [], refl, (refl, refl), (tt, [], [], refl, ([], [], [], refl, (refl, refl), (refl, refl)),
-        (refl, refl))))
+return_spelled pool m has_room start at = (
+  at,
+  [],
+  0xB1 ∷ [],
+  refl,
+  (refl, refl),
+  (
+    0xB1,
+    0xB1 ∷ [],
+    [],
+    refl,
+    (refl, refl),
+    (
+      tt,
+      [],
+      [],
+      refl,
+      ([], [], [], refl, (refl, refl), (refl, refl)),
+      (refl, refl),
+    ),
+  ),
+)
 
 -- the next instruction, where the code has not ended
 abbrev one_more : List Slot → Method → ℕ → ℕ → List Site → ClassPart (List Site)
@@ -113,9 +132,9 @@ ended pool m room start end (suc most) at so_far le =
 -- The code of call sites is spelled from the first of them on, with a call site for each.
 pub code_spelled : (pool : List Slot) (m : Method) (room start end : ℕ) (sites : List MadeSite) (k b most at : ℕ) (so_far : List Site)
     → at ≡ start + 5 * k → at + 5 * length sites + 1 ≡ end → length sites + 1 ≤ most → length so_far + length sites ≤ room →
-        AllByRecursion (HasCall pool) (sites_from k b sites)
+    AllByRecursion (HasCall pool) (sites_from k b sites)
     → Spells (repeated (next_site pool m room start end) most so_far) at (flat_map instruction (sites_from k b sites) ++ 0xB1 ∷ [])
-        (so_far ++ map (λ p. site_found m (5 * p.number) p) (sites_from k b sites))
+    (so_far ++ map (λ p. site_found m (5 * p.number) p) (sites_from k b sites))
 unfolding repeated sites_from
 code_spelled pool m room start end [] k b zero at so_far here_is end_is enough few calls = absurd (omega arith)
 code_spelled pool m room start end [] k b (suc most) at so_far here_is end_is enough few calls = (
@@ -136,10 +155,10 @@ code_spelled pool m room start end (site ∷ sites) k b (suc most) at so_far her
     let pc : (place : ℕ) → place ≡ at → place - start ≡ 5 * k = λ place e. omega (arith, e, here_is) in
     let one : (place : ℕ) → place ≡ at → Spells (read_instruction pool m (ltb (length so_far) room) start) place (instruction p) (found ∷ []) =
     λ place e. subst (λ n. Spells (read_instruction pool m (ltb (length so_far) room) start) place (instruction p) (site_found m n p ∷ [])) (pc place e)
-        (one_spelled pool m (ltb (length so_far) room) start place p calls.0 in_room) in
+    (one_spelled pool m (ltb (length so_far) room) start place p calls.0 in_room) in
     let len : length next ≡ length so_far + 1 = length-append so_far (found ∷ []) in
     let rest = code_spelled pool m room start end sites (k + 1) (b + site_width site) most (at + 5) next (omega (arith, here_is)) (omega (arith, end_is))
-        (omega (arith, enough)) (omega (arith, few, len)) calls.1 in (
+    (omega (arith, enough)) (omega (arith, few, len)) calls.1 in (
       next,
       instruction p,
       flat_map instruction others ++ 0xB1 ∷ [],

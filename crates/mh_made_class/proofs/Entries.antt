@@ -110,14 +110,20 @@ arguments_bound count (a ∷ given) = all_append (IsBound count) (argument_entri
 pub site_bound : (count : ℕ) (p : PlacedSite) → p.number < count → AllByRecursion (IsBound count) (site_entries p)
 unfolding has_bootstrap
 site_bound count p lt =
-    let below : ltb p.number count ≡ true = grind (arith, nat_tests) in
-    (λ at. refl,
-        (λ at. refl,
-        (λ at. refl, (λ at. refl, (λ at. refl, (λ at. refl, (λ at. ap (λ b. holds b at BadBootstraps) below, arguments_bound count (placed_arguments p))))))))
+    let below : ltb p.number count ≡ true = grind (arith, nat_tests) in (
+      λ at. refl,
+      (
+        λ at. refl,
+        (λ at. refl, (λ at. refl, (λ at. refl, (λ at. refl, (λ at. ap (λ b. holds b at BadBootstraps) below, arguments_bound count (placed_arguments p)))))),
+      ),
+    )
 
 pub common_bound : (count : ℕ) → AllByRecursion (IsBound count) common_entries
 unfolding has_bootstrap
-common_bound count =
-    (λ at. refl,
-        (λ at. refl,
-        (λ at. refl, (λ at. refl, (λ at. refl, (λ at. refl, (λ at. refl, (λ at. refl, (λ at. refl, (λ at. refl, (λ at. refl, (λ at. refl, tt))))))))))))
+common_bound count = (
+  λ at. refl,
+  (
+    λ at. refl,
+    (λ at. refl, (λ at. refl, (λ at. refl, (λ at. refl, (λ at. refl, (λ at. refl, (λ at. refl, (λ at. refl, (λ at. refl, (λ at. refl, tt)))))))))),
+  ),
+)

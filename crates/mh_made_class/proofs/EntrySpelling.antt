@@ -25,11 +25,11 @@ IsWritable (entries.InvokeDynamic bootstrap name) = (bootstrap < 2 ^ 16) × (nam
 IsWritable _ = ⊥
 
 -- What is spelled after a tag is an entry, at any index but the last for one that takes two.
-behind_tag : (is_last : Bool) (at tag : ℕ) (rest : List ℕ) (e : Entry) → tag ≡ big_number 1 (tag ∷ []) → (is_last && is_wide_tag tag) ≡ false →
+after_tag : (is_last : Bool) (at tag : ℕ) (rest : List ℕ) (e : Entry) → tag ≡ big_number 1 (tag ∷ []) → (is_last && is_wide_tag tag) ≡ false →
     Spells (choose (tag == 1) utf8 (contents tag at)) (at + 0 + 1 + 0) rest e
     → Spells (entry is_last) at (tag ∷ rest) e
 unfolding entry
-behind_tag is_last at tag rest e is last inside =
+after_tag is_last at tag rest e is last inside =
     (at, [], tag ∷ rest, refl, (refl, refl), (tag, tag ∷ [], rest, refl, (refl, is), (tt, [], rest, refl, (refl, ap not last), inside)))
 
 text_spelled : (at : ℕ) (text : List ℕ) → IsWritable (entries.Utf8 text) → Spells utf8 at (u2 (length text) ++ text) (entries.Utf8 text)
@@ -55,27 +55,27 @@ text_spelled at text w =
 pub entry_spelled : (is_last : Bool) (at : ℕ) (e : Entry) → IsWritable e → (is_last && is_wide e) ≡ false → Spells (entry is_last) at (entry_bytes e) e
 unfolding entry_bytes contents numeric named paired handle
 entry_spelled is_last at (entries.Utf8 text) w last =
-    behind_tag is_last at 1 (u2 (length text) ++ text) (entries.Utf8 text) refl last (text_spelled (at + 0 + 1 + 0) text w)
+    after_tag is_last at 1 (u2 (length text) ++ text) (entries.Utf8 text) refl last (text_spelled (at + 0 + 1 + 0) text w)
 entry_spelled is_last at (entries.Integer n) w last =
-    behind_tag is_last at 3 (u4 n) (entries.Integer n) refl last (n, u4 n, [], refl, (refl, u4_is n w), (refl, refl))
+    after_tag is_last at 3 (u4 n) (entries.Integer n) refl last (n, u4 n, [], refl, (refl, u4_is n w), (refl, refl))
 entry_spelled is_last at (entries.Long high low) w last =
-    behind_tag is_last at 5 (u4 high ++ u4 low) (entries.Long high low) refl last
+    after_tag is_last at 5 (u4 high ++ u4 low) (entries.Long high low) refl last
     (high, u4 high, u4 low, refl, (refl, u4_is high w.0), (low, u4 low, [], refl, (refl, u4_is low w.1), (refl, refl)))
 entry_spelled is_last at (entries.Class name) w last =
-    behind_tag is_last at 7 (u2 name) (entries.Class name) refl last (name, u2 name, [], refl, (refl, u2_is name w), (refl, refl))
+    after_tag is_last at 7 (u2 name) (entries.Class name) refl last (name, u2 name, [], refl, (refl, u2_is name w), (refl, refl))
 entry_spelled is_last at (entries.Str text) w last =
-    behind_tag is_last at 8 (u2 text) (entries.Str text) refl last (text, u2 text, [], refl, (refl, u2_is text w), (refl, refl))
+    after_tag is_last at 8 (u2 text) (entries.Str text) refl last (text, u2 text, [], refl, (refl, u2_is text w), (refl, refl))
 entry_spelled is_last at (entries.Methodref class name) w last =
-    behind_tag is_last at 10 (u2 class ++ u2 name) (entries.Methodref class name) refl last
+    after_tag is_last at 10 (u2 class ++ u2 name) (entries.Methodref class name) refl last
     (class, u2 class, u2 name, refl, (refl, u2_is class w.0), (name, u2 name, [], refl, (refl, u2_is name w.1), (refl, refl)))
 entry_spelled is_last at (entries.NameAndType name descriptor) w last =
-    behind_tag is_last at 12 (u2 name ++ u2 descriptor) (entries.NameAndType name descriptor) refl last
+    after_tag is_last at 12 (u2 name ++ u2 descriptor) (entries.NameAndType name descriptor) refl last
     (name, u2 name, u2 descriptor, refl, (refl, u2_is name w.0), (descriptor, u2 descriptor, [], refl, (refl, u2_is descriptor w.1), (refl, refl)))
 entry_spelled is_last at (entries.MethodHandle kind reference) w last =
-    behind_tag is_last at 15 (kind ∷ u2 reference) (entries.MethodHandle kind reference) refl last
+    after_tag is_last at 15 (kind ∷ u2 reference) (entries.MethodHandle kind reference) refl last
     (kind, kind ∷ [], u2 reference, refl, (refl, rw (w.0) refl), (reference, u2 reference, [], refl, (refl, u2_is reference w.1), (refl, refl)))
 entry_spelled is_last at (entries.InvokeDynamic bootstrap name) w last =
-    behind_tag is_last at 18 (u2 bootstrap ++ u2 name) (entries.InvokeDynamic bootstrap name) refl last
+    after_tag is_last at 18 (u2 bootstrap ++ u2 name) (entries.InvokeDynamic bootstrap name) refl last
     (bootstrap, u2 bootstrap, u2 name, refl, (refl, u2_is bootstrap w.0), (name, u2 name, [], refl, (refl, u2_is name w.1), (refl, refl)))
 entry_spelled is_last at entries.Float w last = absurd w
 entry_spelled is_last at entries.Double w last = absurd w

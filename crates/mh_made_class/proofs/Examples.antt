@@ -27,12 +27,18 @@ can_be_made =
     record {
       each = (
         record {
-          script = record { ascii = ((omega arith, omega arith), ((omega arith, omega arith), ((omega arith, omega arith), ((omega arith, omega arith), tt))));
-              short = omega arith };
-          ty = record { ascii =
-              ((omega arith, omega arith),
-              ((omega arith, omega arith), ((omega arith, omega arith), ((omega arith, omega arith), ((omega arith, omega arith), tt))))); short =
-              omega arith };
+          script = record {
+            ascii = ((omega arith, omega arith), ((omega arith, omega arith), ((omega arith, omega arith), ((omega arith, omega arith), tt))));
+            short = omega arith;
+          };
+          ty = record {
+            ascii = (
+              (omega arith, omega arith),
+              ((omega arith, omega arith), ((omega arith, omega arith), ((omega arith, omega arith), ((omega arith, omega arith), tt)))),
+            );
+            short =
+                omega arith;
+          };
           args = (record { ascii = ((omega arith, omega arith), tt); short = omega arith }, tt);
         },
         tt,

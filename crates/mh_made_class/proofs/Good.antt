@@ -25,7 +25,7 @@ names_texts : (pool : List Slot) (a b at : ℕ) (name descriptor : List ℕ) →
     good_name pool at a b ≡ Ok tt
 names_texts pool a b at name descriptor s t =
     both (names pool kinds.Utf8 a at) (names pool kinds.Utf8 b at) (named_at pool kinds.Utf8 a at (entries.Utf8 name) s refl)
-        (named_at pool kinds.Utf8 b at (entries.Utf8 descriptor) t refl)
+    (named_at pool kinds.Utf8 b at (entries.Utf8 descriptor) t refl)
 
 descriptor_at : (pool : List Slot) (b : ℕ) (descriptor : List ℕ) → At pool b (entries.Utf8 descriptor) → descriptor_fault descriptor ≡ None →
     is_descriptor (slot pool b) ≡ Ok tt
@@ -39,7 +39,7 @@ unfolding good_method_name
 method_name_at pool n a b name descriptor s first second e =
     ap (good_method_name pool) s.1
     ∙ both (good_name pool s.0 a b) (is_descriptor (slot pool b)) (names_texts pool a b s.0 name descriptor first second)
-        (descriptor_at pool b descriptor second e)
+    (descriptor_at pool b descriptor second e)
 
 pub good_text : (pool : List Slot) (text : List ℕ) → IsGood pool (entries.Utf8 text)
 unfolding good_slot own_references good_descriptor
@@ -73,7 +73,7 @@ unfolding good_slot own_references good_descriptor
 good_method pool c d n a b name descriptor class s first second e at =
     both (good_member pool at c n) (good_method_name pool (slot pool n))
     (both (names pool kinds.Class c at) (names pool kinds.NameAndType n at) (named_at pool kinds.Class c at (entries.Class d) class refl)
-        (named_at pool kinds.NameAndType n at (entries.NameAndType a b) s refl))
+    (named_at pool kinds.NameAndType n at (entries.NameAndType a b) s refl))
     (method_name_at pool n a b name descriptor s first second e)
 
 pub good_handle_of_method : (pool : List Slot) (m c n : ℕ) → At pool m (entries.Methodref c n) → IsGood pool (entries.MethodHandle 6 m)
@@ -87,4 +87,4 @@ pub good_call : (pool : List Slot) (number n a b : ℕ) (name descriptor : List 
 unfolding good_slot own_references good_descriptor
 good_call pool number n a b name descriptor s first second e at =
     both (names pool kinds.NameAndType n at) (good_method_name pool (slot pool n)) (named_at pool kinds.NameAndType n at (entries.NameAndType a b) s refl)
-        (method_name_at pool n a b name descriptor s first second e)
+    (method_name_at pool n a b name descriptor s first second e)

@@ -89,7 +89,7 @@ pool_bytes : (ps : List PlacedSite) → flat_map entry_bytes common_entries ++ f
     (all_entries ps)
 pool_bytes ps =
     ap (λ xs. flat_map entry_bytes common_entries ++ xs) (sym (parts_of_parts entry_bytes site_entries ps)) ∙
-        sym (flat_map-append entry_bytes common_entries (flat_map site_entries ps))
+    sym (flat_map-append entry_bytes common_entries (flat_map site_entries ps))
 
 -- the bytes of the class file, as they are read
 abbrev pub parts_of : List MadeSite → List ℕ
@@ -102,5 +102,5 @@ unfolding made_class pool_of
 made_is made =
     let ps = placed made in
     regrouped version (u2 (pool_count made)) (flat_map entry_bytes common_entries) (flat_map (λ p. flat_map entry_bytes (site_entries p)) ps) class_names fields
-        (methods ps) (class_attributes ps)
+    (methods ps) (class_attributes ps)
     ∙ ap (λ xs. (version ++ u2 (pool_count made)) ++ (xs ++ (class_names ++ ((fields ++ methods ps) ++ class_attributes ps)))) (pool_bytes ps)

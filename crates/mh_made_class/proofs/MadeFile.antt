@@ -122,7 +122,7 @@ reads_back made h readable room few =
     let k = standing made h in
     let is_file : IsClassFile room (made_class made) (class_made made) =
     subst (λ (bytes : List ℕ). Spells (class_file room (length bytes)) 0 bytes (class_made made)) (sym (made_is made)) (file_spelled made room h readable few)
-        in (
+    in (
       class_made made,
       is_file,
       record {

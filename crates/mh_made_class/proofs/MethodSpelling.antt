@@ -37,7 +37,7 @@ other_read so_far = do
 attribute_spelled : (pool : List Slot) (room at b : ℕ) (sites : List MadeSite) → HasCommon pool → length sites ≤ room → 5 * length sites + 1 < 2 ^ 16 →
     AllByRecursion (HasCall pool) (sites_from 0 b sites)
     → Spells (method_attribute pool run_method room (false, [])) at (attribute 7 (code_contents (sites_from 0 b sites)))
-        (true, sites_found (sites_from 0 b sites))
+    (true, sites_found (sites_from 0 b sites))
 unfolding method_attribute code_attribute attribute
 attribute_spelled pool room at b sites c few fits calls =
     let ps = sites_from 0 b sites in
@@ -68,8 +68,18 @@ attribute_spelled pool room at b sites c few fits calls =
             rest,
             [],
             sym (append-nil rest),
-            (len, u4 len, contents, refl, (refl, u4_is len (omega (arith, contents_length b sites))), (refl, contents_spelled pool room (at + 0 + 2 + 0 + 4) b
-                sites few fits calls)),
+            (
+              len,
+              u4 len,
+              contents,
+              refl,
+              (refl, u4_is len (omega (arith, contents_length b sites))),
+              (
+                refl,
+                contents_spelled pool room (at + 0 + 2 + 0 + 4) b
+                    sites few fits calls,
+              ),
+            ),
             (refl, refl),
           ),
         ),
@@ -79,7 +89,7 @@ attribute_spelled pool room at b sites c few fits calls =
 method_spelled : (pool : List Slot) (room at b : ℕ) (sites : List MadeSite) → HasCommon pool → length sites ≤ room → 5 * length sites + 1 < 2 ^ 16 →
     AllByRecursion (HasCall pool) (sites_from 0 b sites)
     → Spells (method pool room []) at (u2 0x0009 ++ u2 5 ++ u2 6 ++ u2 1 ++ attribute 7 (code_contents (sites_from 0 b sites)))
-        (sites_found (sites_from 0 b sites))
+    (sites_found (sites_from 0 b sites))
 unfolding method member repeated
 method_spelled pool room at b sites c few fits calls =
     let ps = sites_from 0 b sites in
@@ -110,8 +120,21 @@ method_spelled pool room at b sites c few fits calls =
         last,
         refl,
         (refl, refl),
-        (found, last, [], sym (append-nil last), (found, last, [], sym (append-nil last), attribute_spelled pool room (at + 6 + 2) b sites c few fits calls,
-            (refl, refl)), (refl, refl)),
+        (
+          found,
+          last,
+          [],
+          sym (append-nil last),
+          (
+            found,
+            last,
+            [],
+            sym (append-nil last),
+            attribute_spelled pool room (at + 6 + 2) b sites c few fits calls,
+            (refl, refl),
+          ),
+          (refl, refl),
+        ),
       ),
     )
 

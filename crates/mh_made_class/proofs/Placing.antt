@@ -67,8 +67,12 @@ pub arguments_few : (args : List MadeArg) → length args ≤ sum_by argument_wi
 arguments_few [] = omega arith
 arguments_few (arg ∷ args) = omega (arith, sum_by-cons argument_width arg args, some_width arg, arguments_few args)
 
-sites-cons : (number next : ℕ) (site : MadeSite) (sites : List MadeSite) → sites_from number next (site ∷ sites) ≡ record { number = number; first =
-    next; site = site } ∷ sites_from (number + 1) (next + site_width site) sites
+sites-cons : (number next : ℕ) (site : MadeSite) (sites : List MadeSite) → sites_from number next (site ∷ sites) ≡ record {
+  number = number;
+  first =
+      next;
+  site = site;
+} ∷ sites_from (number + 1) (next + site_width site) sites
 unfolding sites_from
 sites-cons number next site sites = refl
 

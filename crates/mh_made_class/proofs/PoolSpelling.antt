@@ -63,17 +63,36 @@ next_spelled : (count : ℕ) (so_far : List Slot) (at : ℕ) (e : Entry) → IsW
     Spells (next_slots count so_far) at (entry_bytes e) (so_far ++ indexes_of at e)
 next_spelled count so_far at e w le =
     let left : leb count (length so_far) ≡ false = grind (arith, nat_tests, width_pos e) in
-    otherwise (leb count (length so_far)) (done so_far) (one_more count so_far) at (entry_bytes e) (so_far ++ indexes_of at e) left
-    (at, [], entry_bytes e, refl, (refl, refl), (e, entry_bytes e, [], sym (append-nil (entry_bytes e)), entry_spelled (eqb (length so_far + 1) count) (at + 0)
-        e w (not_last count (length so_far) e le), (refl, refl)))
+    otherwise (leb count (length so_far)) (done so_far) (one_more count so_far) at (entry_bytes e) (so_far ++ indexes_of at e) left (
+      at,
+      [],
+      entry_bytes e,
+      refl,
+      (refl, refl),
+      (
+        e,
+        entry_bytes e,
+        [],
+        sym (append-nil (entry_bytes e)),
+        entry_spelled (eqb (length so_far + 1) count) (at + 0)
+            e w (not_last count (length so_far) e le),
+        (refl, refl),
+      ),
+    )
 
 full_spelled : (count most : ℕ) (so_far : List Slot) (at : ℕ) → count ≤ length so_far → Spells (repeated (next_slots count) most so_far) at [] so_far
 unfolding repeated
 full_spelled count zero so_far at le = (refl, refl)
 full_spelled count (suc most) so_far at le =
-    let full : leb count (length so_far) ≡ true = grind (arith, nat_tests) in
-    (so_far, [], [], refl, where_true (leb count (length so_far)) (done so_far) (one_more count so_far) at [] so_far full (refl, refl), full_spelled count most
-        so_far (at + 0) le)
+    let full : leb count (length so_far) ≡ true = grind (arith, nat_tests) in (
+      so_far,
+      [],
+      [],
+      refl,
+      where_true (leb count (length so_far)) (done so_far) (one_more count so_far) at [] so_far full (refl, refl),
+      full_spelled count most
+          so_far (at + 0) le,
+    )
 
 -- Entries that take all the indexes that are left are spelled, one after the other.
 pub entries_spelled : (es : List Entry) (count most : ℕ) (so_far : List Slot) (at : ℕ) → length so_far + entries_width es ≡ count → length es ≤ most →
@@ -82,7 +101,7 @@ pub entries_spelled : (es : List Entry) (count most : ℕ) (so_far : List Slot) 
 unfolding repeated
 entries_spelled [] count most so_far at all enough w =
     subst (λ (x : List Slot). Spells (repeated (next_slots count) most so_far) at [] x) (sym (append-nil so_far))
-        (full_spelled count most so_far at (omega (arith, all)))
+    (full_spelled count most so_far at (omega (arith, all)))
 entries_spelled (e ∷ es) count zero so_far at all enough w = absurd (omega arith)
 entries_spelled (e ∷ es) count (suc most) so_far at all enough w =
     let next = so_far ++ indexes_of at e in

@@ -50,10 +50,15 @@ unfolding arguments_from
 arguments_read pool first [] h fits = refl
 arguments_read pool first (arg ∷ made) h fits =
     rw (argument_read pool first arg h.0 fits.0) (ap (λ (cs : List Constant). constant_of arg ∷ cs) (arguments_read pool (first + argument_width arg) made h.1
-        fits.1))
+    fits.1))
 
-handle_read : (pool : List Slot) (p : PlacedSite) → HasCommon pool → HasSite pool p → handle pool (p.first + 3) ≡ record { kind = 6; owner =
-    codes "made/Boot"; name = p.site.script; descriptor = bootstrap_type }
+handle_read : (pool : List Slot) (p : PlacedSite) → HasCommon pool → HasSite pool p → handle pool (p.first + 3) ≡ record {
+  kind = 6;
+  owner =
+      codes "made/Boot";
+  name = p.site.script;
+  descriptor = bootstrap_type;
+}
 handle_read pool p c h = rw (h.handle.1, h.method.1, c.boot.1, c.boot_name.1, h.name.1, h.script.1, c.boot_type.1) refl
 
 abbrev bootstrap_with : HandleRef → List Constant → Bootstrap
@@ -62,7 +67,7 @@ bootstrap_with h cs = record { handle = h; arguments = cs }
 -- Each bootstrap method is read as that of its call site.
 pub bootstraps_read : (pool : List Slot) (k b : ℕ) (sites : List MadeSite) → HasCommon pool → AllByRecursion (HasSite pool) (sites_from k b sites)
     → AllByRecursion (λ p. AllByRecursion (λ a. Holds pool a.first (argument_entries a)) (placed_arguments p)) (sites_from k b sites) →
-        AllByRecursion IsReadable sites
+    AllByRecursion IsReadable sites
     → map (read_bootstrap pool) (map row_of (sites_from k b sites)) ≡ map bootstrap_of sites
 unfolding sites_from
 bootstraps_read pool k b [] c h given readable = refl

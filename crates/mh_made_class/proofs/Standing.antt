@@ -91,8 +91,14 @@ unfolding arguments_from
 arguments_width first [] = refl
 arguments_width first (arg ∷ made) =
     let rest = flat_map argument_entries (arguments_from (first + argument_width arg) made) in
-    omega (arith, width-append (entries_at first arg) rest, at_width first arg, arguments_width (first + argument_width arg) made, sum_by-cons argument_width
-        arg made)
+    omega (
+      arith,
+      width-append (entries_at first arg) rest,
+      at_width first arg,
+      arguments_width (first + argument_width arg) made,
+      sum_by-cons argument_width
+          arg made,
+    )
 
 pub entries_of_site : (p : PlacedSite) → entries_width (site_entries p) ≡ site_width p.site
 entries_of_site p = omega (arith, arguments_width (p.first + 7) p.site.args)

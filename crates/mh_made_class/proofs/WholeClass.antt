@@ -58,7 +58,7 @@ standing made h =
 pub calls_stand : (pool : List Slot) (ps : List PlacedSite) → AllByRecursion (HasSite pool) ps → AllByRecursion IsPlaced ps → AllByRecursion (HasCall pool) ps
 calls_stand pool ps stand fit =
     all_from (λ p. HasSite pool p × IsPlaced p) (HasCall pool) ps (λ p h. record { call = h.0.call; fits = omega (arith, h.1.fits) })
-        (both_all (HasSite pool) IsPlaced ps stand fit)
+    (both_all (HasSite pool) IsPlaced ps stand fit)
 
 argument_named : (pool : List Slot) (a : PlacedArgument) → Holds pool a.first (argument_entries a) → IsPlacedArgument a → IsNamed pool a
 argument_named pool a h k = record { named = λ at. named_argument pool a.first at a.arg h; fits = index_fits a.first a.arg k.fits }

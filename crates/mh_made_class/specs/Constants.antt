@@ -5,6 +5,8 @@ use Rattle.std.specs.Int.{cast_unsigned, w32, w64}
 use Rattle.byteorder.specs.Endian.{big_bytes}
 use Rattle.mh_class_pool.specs.declared.entry.Entry.{Entry}
 use Rattle.mh_class_pool.specs.declared.entry.Entry.TheVariants as entries
+use Rattle.mh_class_pool.specs.Tags.{CONSTANT_Utf8, CONSTANT_Integer, CONSTANT_Long, CONSTANT_Class, CONSTANT_String, CONSTANT_Methodref, CONSTANT_NameAndType, CONSTANT_MethodHandle, CONSTANT_InvokeDynamic}
+use Rattle.mh_class_pool.specs.ReferenceKinds.{REF_invokeStatic}
 use Rattle.mh_made_class.specs.declared.site.MadeArg.{MadeArg}
 use Rattle.mh_made_class.specs.declared.site.MadeArg.TheVariants as args
 use Rattle.mh_made_class.specs.Layout.{PlacedArgument, PlacedSite, placed_arguments}
@@ -19,15 +21,15 @@ u4 n = big_bytes 4 n
 
 -- an entry as it is written: its tag, and its contents; made classes have entries of nine kinds
 unfoldable pub entry_bytes : Entry → List ℕ
-entry_bytes (entries.Utf8 text) = 1 ∷ (u2 (length text) ++ text)
-entry_bytes (entries.Integer n) = 3 ∷ u4 n
-entry_bytes (entries.Long high low) = 5 ∷ (u4 high ++ u4 low)
-entry_bytes (entries.Class name) = 7 ∷ u2 name
-entry_bytes (entries.Str text) = 8 ∷ u2 text
-entry_bytes (entries.Methodref class name) = 10 ∷ (u2 class ++ u2 name)
-entry_bytes (entries.NameAndType name descriptor) = 12 ∷ (u2 name ++ u2 descriptor)
-entry_bytes (entries.MethodHandle kind reference) = 15 ∷ kind ∷ u2 reference
-entry_bytes (entries.InvokeDynamic bootstrap name) = 18 ∷ (u2 bootstrap ++ u2 name)
+entry_bytes (entries.Utf8 text) = CONSTANT_Utf8 ∷ (u2 (length text) ++ text)
+entry_bytes (entries.Integer n) = CONSTANT_Integer ∷ u4 n
+entry_bytes (entries.Long high low) = CONSTANT_Long ∷ (u4 high ++ u4 low)
+entry_bytes (entries.Class name) = CONSTANT_Class ∷ u2 name
+entry_bytes (entries.Str text) = CONSTANT_String ∷ u2 text
+entry_bytes (entries.Methodref class name) = CONSTANT_Methodref ∷ (u2 class ++ u2 name)
+entry_bytes (entries.NameAndType name descriptor) = CONSTANT_NameAndType ∷ (u2 name ++ u2 descriptor)
+entry_bytes (entries.MethodHandle kind reference) = CONSTANT_MethodHandle ∷ kind ∷ u2 reference
+entry_bytes (entries.InvokeDynamic bootstrap name) = CONSTANT_InvokeDynamic ∷ (u2 bootstrap ++ u2 name)
 entry_bytes _ = []
 
 -- the type of each bootstrap method: a lookup, a name and a method type give a call site (java.lang.invoke, package summary)
@@ -56,9 +58,9 @@ entries_at first (args.Str text) = entries.Utf8 text ∷ entries.Str first ∷ [
 abbrev pub argument_entries : PlacedArgument → List Entry
 argument_entries p = entries_at p.first p.arg
 
--- the bootstrap method of a call site: its name, the method of that name, and the handle that calls it (kind 6, REF_invokeStatic)
+-- the bootstrap method of a call site: its name, the method of that name, and the handle that calls it (a REF_invokeStatic)
 abbrev pub handle_entries : PlacedSite → List Entry
-handle_entries p = entries.Utf8 p.site.script ∷ entries.NameAndType p.first 11 ∷ entries.Methodref 10 (p.first + 1) ∷ entries.MethodHandle 6 (p.first + 2) ∷ []
+handle_entries p = entries.Utf8 p.site.script ∷ entries.NameAndType p.first 11 ∷ entries.Methodref 10 (p.first + 1) ∷ entries.MethodHandle REF_invokeStatic (p.first + 2) ∷ []
 
 -- the call of a call site: its type, its name and type, and the call by the bootstrap method of its number
 abbrev pub call_entries : PlacedSite → List Entry

@@ -1,6 +1,7 @@
 -- The method and the bootstrap methods of a made class (JVMS 4.6, 4.7.3, 4.7.23).
 use Rattle.std.specs.Prelude.{ℕ, ◌+◌, List, [], ◌∷◌, ◌++◌, length}
 use Rattle.std.specs.List.{flat_map}
+use Rattle.mh_classfile.specs.Opcodes as op
 use Rattle.mh_made_class.specs.declared.site.MadeArg.{MadeArg}
 use Rattle.mh_made_class.specs.declared.site.MadeArg.TheVariants as args
 use Rattle.mh_made_class.specs.Layout.{PlacedArgument, PlacedSite, placed_arguments}
@@ -12,11 +13,11 @@ attribute name contents = u2 name ++ u4 (length contents) ++ contents
 
 -- the instruction of a call site: invokedynamic, the index of its call, and two zero bytes (JVMS 6.5)
 abbrev pub instruction : PlacedSite → List ℕ
-instruction p = 0xBA ∷ (u2 (p.first + 6) ++ u2 0)
+instruction p = op.invokedynamic ∷ (u2 (p.first + 6) ++ u2 0)
 
 -- the code: the instruction of each call site, and return
 unfoldable pub code : List PlacedSite → List ℕ
-code ps = flat_map instruction ps ++ 0xB1 ∷ []
+code ps = flat_map instruction ps ++ op.return ∷ []
 
 -- the contents of a Code attribute: an operand stack of two slots, no local variables, the code, no exceptions and no attributes
 abbrev pub contents_of : List ℕ → List ℕ

@@ -4,6 +4,7 @@ use Rattle.std.specs.List.{AllByRecursion}
 use Rattle.std.specs.Int.{w32, w64}
 use Rattle.std.specs.Int.RustNames.{FitsSigned}
 use Rattle.mh_values.specs.Spelling.{IsMethodDescriptor}
+use Rattle.mh_class_pool.specs.ReferenceKinds.{REF_invokeStatic}
 use Rattle.mh_classfile.specs.declared.constant.Constant.{Constant}
 use Rattle.mh_classfile.specs.declared.constant.Constant.TheVariants as constants
 use Rattle.mh_classfile.specs.declared.constant.SiteView.{SiteView}
@@ -31,10 +32,10 @@ constant_of (args.Integer n) = constants.Integer n
 constant_of (args.Long n) = constants.Long n
 constant_of (args.Str text) = constants.Str text
 
--- the bootstrap method of a call site: a handle of kind 6, REF_invokeStatic, and the static arguments in order
+-- the bootstrap method of a call site: a handle of kind REF_invokeStatic, and the static arguments in order
 abbrev pub bootstrap_of : MadeSite → Bootstrap
 bootstrap_of site = record {
-  handle = record { kind = 6; owner = codes "made/Boot"; name = site.script; descriptor = bootstrap_type };
+  handle = record { kind = REF_invokeStatic; owner = codes "made/Boot"; name = site.script; descriptor = bootstrap_type };
   arguments = map constant_of site.args;
 }
 

@@ -1,6 +1,7 @@
 ghost use Rattle.std.specs.Prelude.{◌≡◌, ◌<◌, ◌^◌, ◌++◌, length, OnOk};
 ghost use Rattle.std.specs.List.{flat_map};
 ghost use Rattle.mh_class_pool.specs.declared.entry.Entry.TheVariants.{Utf8, Integer, Long, Class, Str, Methodref, NameAndType, MethodHandle, InvokeDynamic};
+ghost use Rattle.mh_class_pool.specs.ReferenceKinds.{REF_invokeStatic};
 ghost use Rattle.mh_made_class.specs.Sites.{IsShortAscii, IsMakeableArgument};
 ghost use Rattle.mh_made_class.specs.Layout.{placed_arguments};
 ghost use Rattle.mh_made_class.specs.Constants.{entry_bytes, class_entries, member_entries, bootstrap_entries, common_entries, argument_entries, handle_entries, call_entries, site_entries};
@@ -9,30 +10,9 @@ use crate::layout::{Placed, PlacedArg, place_arguments};
 use crate::numbers::{push_u2, push_u4};
 use crate::site::MadeArg;
 use mh_base::NoMemory;
+use mh_class_pool::{reference_kinds, tags};
 use mh_values::Str;
 use std::alloc::Global;
-
-/// The tags of entries (JVMS SE 17, 4.4).
-const UTF8: u8 = 1;
-
-const INTEGER: u8 = 3;
-
-const LONG: u8 = 5;
-
-const CLASS: u8 = 7;
-
-const STRING: u8 = 8;
-
-const METHODREF: u8 = 10;
-
-const NAME_AND_TYPE: u8 = 12;
-
-const METHOD_HANDLE: u8 = 15;
-
-const INVOKE_DYNAMIC: u8 = 18;
-
-/// The kind of a handle that calls a static method (JVMS SE 17, 4.4.8).
-const INVOKE_STATIC: u8 = 6;
 
 /// The type of each bootstrap method.
 const BOOTSTRAP_TYPE: &[u8] =
@@ -44,7 +24,7 @@ fn push_word(file: &mut Vec<u8>, word: &[u8]) -> Result<(), NoMemory>
     requires { length word.now < 2 ^ 16 }
     ensures { OnOk result (file.new.items ≡ file.old.items ++ entry_bytes (Utf8 word.now)) }
 {
-    file.push(UTF8)?;
+    file.push(tags::UTF8)?;
     push_u2(file, word.len())?;
     file.extend_from_slice(word)?;
     Ok(())
@@ -66,7 +46,7 @@ fn push_text(file: &mut Vec<u8>, text: &Str) -> Result<(), NoMemory>
     requires { IsShortAscii text.now }
     ensures { OnOk result (file.new.items ≡ file.old.items ++ entry_bytes (Utf8 text.now)) }
 {
-    file.push(UTF8)?;
+    file.push(tags::UTF8)?;
     push_u2(file, text.len())?;
     push_chars(file, text.as_slice())
 }
@@ -76,7 +56,7 @@ fn push_class(file: &mut Vec<u8>, name: usize) -> Result<(), NoMemory>
     requires { name < 2 ^ 16 }
     ensures { OnOk result (file.new.items ≡ file.old.items ++ entry_bytes (Class name)) }
 {
-    file.push(CLASS)?;
+    file.push(tags::CLASS)?;
     push_u2(file, name)
 }
 
@@ -85,7 +65,7 @@ fn push_string(file: &mut Vec<u8>, text: usize) -> Result<(), NoMemory>
     requires { text < 2 ^ 16 }
     ensures { OnOk result (file.new.items ≡ file.old.items ++ entry_bytes (Str text)) }
 {
-    file.push(STRING)?;
+    file.push(tags::STRING)?;
     push_u2(file, text)
 }
 
@@ -93,7 +73,7 @@ fn push_string(file: &mut Vec<u8>, text: usize) -> Result<(), NoMemory>
 fn push_integer(file: &mut Vec<u8>, bits: u32) -> Result<(), NoMemory>
     ensures { OnOk result (file.new.items ≡ file.old.items ++ entry_bytes (Integer bits)) }
 {
-    file.push(INTEGER)?;
+    file.push(tags::INTEGER)?;
     push_u4(file, bits as usize)
 }
 
@@ -101,7 +81,7 @@ fn push_integer(file: &mut Vec<u8>, bits: u32) -> Result<(), NoMemory>
 fn push_long(file: &mut Vec<u8>, high: u32, low: u32) -> Result<(), NoMemory>
     ensures { OnOk result (file.new.items ≡ file.old.items ++ entry_bytes (Long high low)) }
 {
-    file.push(LONG)?;
+    file.push(tags::LONG)?;
     push_u4(file, high as usize)?;
     push_u4(file, low as usize)
 }
@@ -113,7 +93,7 @@ fn push_method(file: &mut Vec<u8>, class: usize, name: usize) -> Result<(), NoMe
     ensures { OnOk result
         (file.new.items ≡ file.old.items ++ entry_bytes (Methodref class name)) }
 {
-    file.push(METHODREF)?;
+    file.push(tags::METHODREF)?;
     push_u2(file, class)?;
     push_u2(file, name)
 }
@@ -125,7 +105,7 @@ fn push_name(file: &mut Vec<u8>, name: usize, descriptor: usize) -> Result<(), N
     ensures { OnOk result
         (file.new.items ≡ file.old.items ++ entry_bytes (NameAndType name descriptor)) }
 {
-    file.push(NAME_AND_TYPE)?;
+    file.push(tags::NAME_AND_TYPE)?;
     push_u2(file, name)?;
     push_u2(file, descriptor)
 }
@@ -133,10 +113,11 @@ fn push_name(file: &mut Vec<u8>, name: usize, descriptor: usize) -> Result<(), N
 #[tactic(auto, unfolding(crate::specs::Constants::entry_bytes))]
 fn push_handle(file: &mut Vec<u8>, method: usize) -> Result<(), NoMemory>
     requires { method < 2 ^ 16 }
-    ensures { OnOk result (file.new.items ≡ file.old.items ++ entry_bytes (MethodHandle 6 method)) }
+    ensures { OnOk result (file.new.items
+        ≡ file.old.items ++ entry_bytes (MethodHandle REF_invokeStatic method)) }
 {
-    file.push(METHOD_HANDLE)?;
-    file.push(INVOKE_STATIC)?;
+    file.push(tags::METHOD_HANDLE)?;
+    file.push(reference_kinds::INVOKE_STATIC)?;
     push_u2(file, method)
 }
 
@@ -147,7 +128,7 @@ fn push_dynamic(file: &mut Vec<u8>, bootstrap: usize, name: usize) -> Result<(),
     ensures { OnOk result
         (file.new.items ≡ file.old.items ++ entry_bytes (InvokeDynamic bootstrap name)) }
 {
-    file.push(INVOKE_DYNAMIC)?;
+    file.push(tags::INVOKE_DYNAMIC)?;
     push_u2(file, bootstrap)?;
     push_u2(file, name)
 }

@@ -8,12 +8,8 @@ use crate::layout::{Placed, PlacedArg, place_arguments};
 use crate::numbers::{push_u2, push_u4};
 use crate::site::MadeArg;
 use mh_base::NoMemory;
+use mh_classfile::opcodes::{INVOKEDYNAMIC, RETURN};
 use std::alloc::Global;
-
-/// The opcodes of the code (JVMS SE 17, 6.5).
-const INVOKEDYNAMIC: u8 = 0xBA;
-
-const RETURN: u8 = 0xB1;
 
 /// The most slots of the operand stack that the code uses.
 const MAX_STACK: usize = 2;
@@ -21,7 +17,7 @@ const MAX_STACK: usize = 2;
 /// The method is public and static (JVMS SE 17, 4.6).
 const METHOD_FLAGS: usize = 0x0009;
 
-/// An attribute after a file: the index of its name, the length of its contents, and these.
+/// Puts an attribute at the end of a file: the index of its name, the length of its contents, and these.
 #[tactic(auto, unfolding(crate::specs::Parts::attribute))]
 fn push_attribute(file: &mut Vec<u8>, name: usize, contents: &[u8]) -> Result<(), NoMemory>
     requires name { name < 2 ^ 16 }

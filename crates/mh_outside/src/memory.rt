@@ -1,6 +1,8 @@
-ghost use Rattle.std.specs.Prelude.{Some};
+ghost use Rattle.std.specs.Prelude.{◌≡◌, ◌≤◌, ◌||◌, ◌++◌, Some, IsTrue, IsErr, OnOk, OnErr, IfOk, is_err, is_none, length};
 ghost use Rattle.std.specs.BTreeMap.{get_by_text};
-ghost use Rattle.mh_outside.specs.Told.{file_or_absent};
+ghost use Rattle.mh_outside.specs.Told.{HasRead, file_or_absent};
+ghost use Rattle.mh_outside.specs.Causes.{Rose};
+ghost use Rattle.mh_outside.specs.Memory.{CountsCall, is_listed};
 
 use crate::copies::copy_from;
 use crate::{Failed, Inputs, Sink};
@@ -23,7 +25,22 @@ impl Inputs for MemoryInputs {
 
     ghost faults = { λ s _. s.faults };
 
-    fn read(&mut self, name: &str, at: u64, buf: &mut [u8]) -> Result<usize, Failed> {
+    fn read(&mut self, name: &str, at: u64, buf: &mut [u8]) -> Result<usize, Failed>
+        // Just the listed calls fail, and those for a name that has no file.
+        ensures fails { is_err result ≡ (is_listed self.old.fail.items self.old.calls
+            || is_none (get_by_text self.old.files name.now)) }
+        ensures calls { CountsCall self.old.calls self.new.calls
+            self.old.fail.items self.new.fail.items }
+
+        // What each impl promises.
+        ensures told { self.new.files ≡ self.old.files }
+        ensures later { self.old.faults ≤ self.new.faults }
+        ensures cause { OnErr result (Rose self.old.faults self.new.faults) }
+        ensures no_fault { OnOk result (self.new.faults ≡ self.old.faults) }
+        ensures count { IfOk result (λ n. n ≤ length buf.new) }
+        ensures bytes { IfOk result
+            (λ n. HasRead (file_or_absent (get_by_text self.old.files name.now)) at n buf.new) }
+    {
         let call = self.calls;
         self.calls = call.saturating_add(1);
         if !self.fail.contains(&call)
@@ -53,7 +70,21 @@ impl Sink for MemorySink {
 
     ghost faults = { λ s. s.faults };
 
-    fn write(&mut self, bytes: &[u8]) -> Result<usize, Failed> {
+    fn write(&mut self, bytes: &[u8]) -> Result<usize, Failed>
+        // The listed calls fail. Another one fails only without memory for the text, and a call that
+        // does not fail takes the whole piece.
+        ensures fails { IsTrue (is_listed self.old.fail.items self.old.calls) → IsErr result }
+        ensures whole { IfOk result (λ n. n ≡ length bytes.now) }
+        ensures calls { CountsCall self.old.calls self.new.calls
+            self.old.fail.items self.new.fail.items }
+
+        // What each impl promises.
+        ensures later { self.old.faults ≤ self.new.faults }
+        ensures cause { OnErr result (Rose self.old.faults self.new.faults) }
+        ensures no_fault { OnOk result (self.new.faults ≡ self.old.faults) }
+        ensures appended { OnOk result (self.new.bytes.items ≡ self.old.bytes.items ++ bytes.now) }
+        ensures kept { OnErr result (self.new.bytes.items ≡ self.old.bytes.items) }
+    {
         let call = self.calls;
         self.calls = call.saturating_add(1);
         if !self.fail.contains(&call) && self.bytes.extend_from_slice(bytes).is_ok() {

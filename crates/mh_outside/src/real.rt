@@ -7,7 +7,7 @@ use std::io::{Read, Seek, SeekFrom, Write};
 use std::rt::Files;
 use std::{fs, io};
 
-// A file that is read piece by piece: its name, and the place behind what was read of it.
+// A file that is read piece by piece: its name, and the place after what was read of it.
 #[derive(Drop)]
 struct Opened<F: Drop> {
     name: String,

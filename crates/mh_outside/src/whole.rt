@@ -2,6 +2,7 @@ ghost use Rattle.std.specs.Prelude.{◌≡◌, ◌≤◌, ◌<◌, ◌+◌, ◌-
 ghost use Rattle.std.specs.Io.KnownBytes.{Appends};
 ghost use Rattle.mh_outside.specs.Told.{IsFront, IsWhole, MayBeLonger, KeepsFront, EndsAt};
 ghost use Rattle.mh_outside.specs.Causes.{Rose, AreSame, AppendsPart};
+ghost use Rattle.mh_outside.specs.Kept.{KeepsInputs};
 ghost use Rattle.mh_outside.specs.declared.whole.ReadWhole.TheVariants.{NoMemory};
 
 use crate::{Failed, Inputs, Sink};
@@ -42,7 +43,7 @@ impl From<AllocError> for ReadWhole {
 /// How many bytes are asked for at a time.
 const PIECE: usize = 16384;
 
-// Reads one piece of a file behind those that were read, and says how long it was.
+// Reads one piece of a file after those that were read, and says how long it was.
 fn read_piece<I: Inputs>(
     inputs: &mut I,
     name: &str,
@@ -50,8 +51,8 @@ fn read_piece<I: Inputs>(
     room: usize,
 ) -> Result<usize, ReadWhole>
     requires { 0 < room }
-    ensures told { (n : List ℕ) → I.told inputs.new n ≡ I.told inputs.old n }
-    ensures later { (n : List ℕ) → I.faults inputs.old n ≤ I.faults inputs.new n }
+    ensures keeps { KeepsInputs (I.told inputs.old) (I.told inputs.new)
+        (I.faults inputs.old) (I.faults inputs.new) }
     ensures no_fault { OnOk result (AreSame (I.faults inputs.old) (I.faults inputs.new)) }
     ensures longer { IfOk result (λ n. length bytes.new.items ≡ length bytes.old.items + n) }
     ensures front { OnOk result
@@ -75,7 +76,7 @@ fn read_piece<I: Inputs>(
     }
 }
 
-/// Reads a file to its end. It is `TooLong` once a byte behind the limit was taken, and `ReadFault`
+/// Reads a file to its end. It is `TooLong` once a byte past the limit was taken, and `ReadFault`
 /// at the first read that fails.
 pub fn read_whole<I: Inputs>(
     alloc: Global,
@@ -83,8 +84,8 @@ pub fn read_whole<I: Inputs>(
     name: &str,
     limit: usize,
 ) -> Result<Vec<u8>, ReadWhole>
-    ensures told { (n : List ℕ) → I.told inputs.new n ≡ I.told inputs.old n }
-    ensures later { (n : List ℕ) → I.faults inputs.old n ≤ I.faults inputs.new n }
+    ensures keeps { KeepsInputs (I.told inputs.old) (I.told inputs.new)
+        (I.faults inputs.old) (I.faults inputs.new) }
 
     ensures file { IfOk result (λ v. IsWhole (I.told inputs.old name.now) v.items) }
     ensures within { IfOk result (λ v. length v.items ≤ limit) }

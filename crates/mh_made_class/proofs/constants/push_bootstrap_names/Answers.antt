@@ -5,4 +5,4 @@ use Rattle.mh_made_class.proofs.constants.push_bootstrap_names.Goals as goal
 pub returns : goal.returns
 returns c =
     on_ok_weaker c.push_word-3.result (λ h. four_pieces _ _ _ _ _ _ _ _ _ c.in_ok-push_word.ensures c.in_ok-push_class.ensures c.in_ok-push_word-2.ensures h)
-        c.push_word-3.ensures
+    c.push_word-3.ensures

@@ -9,4 +9,4 @@ pub returns-clause-class : goal.returns-clause-class
 returns-clause-class c =
     let made = c.args.sites.now in
     IfOk-weaker c.write_class.result (λ file. file.items ≡ made_class made) (λ file. ReadsBack made file.items) (λ file is. subst (ReadsBack made) (sym is)
-        (reads_back made c.requires)) c.write_class.ensures
+    (reads_back made c.requires)) c.write_class.ensures
