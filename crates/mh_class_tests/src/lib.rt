@@ -1,13 +1,14 @@
-//! Class files: their texts, constant pools and call sites, and those that are made.
+//! Class files: their texts, constant pools and call sites, and those that are made. The class files and
+//! the call sites are for other crates of tests too.
 #![tactic(auto)]
 
-#[cfg(test)]
-mod files;
+pub mod files;
 #[cfg(test)]
 mod made;
 #[cfg(test)]
 mod pool;
 #[cfg(test)]
 mod reader;
+pub mod sites;
 #[cfg(test)]
 mod texts;

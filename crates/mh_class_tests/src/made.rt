@@ -4,22 +4,12 @@ ghost use Rattle.mh_made_class.specs.Sites.{IsMakeableArgument, argument_width, 
 ghost use Rattle.mh_class_pool.specs.declared.fault.ClassError.TheVariants as class_errors;
 ghost use Rattle.mh_made_class.specs.ReadBack.{IsReadable};
 
+use crate::sites::{one_site, text};
 use mh_base::{NoMemory, Seq};
 use mh_classfile::{ClassError, ClassView, Constant, read};
-use mh_made_class::{MadeArg, MadeArgs, MadeSite, MadeSites, make_class};
-use mh_values::Str;
+use mh_made_class::{MadeArg, MadeArgs, MadeSites, make_class};
 use std::alloc::Global;
 use std::test::*;
-
-fn text(alloc: Global, word: &[u8]) -> Result<Str, NoMemory>
-    ensures { IfOk result (λ text. text ≡ word.now) }
-{
-    let mut text = Seq::new(alloc);
-    for byte in word {
-        text.push(char::from(*byte))?;
-    }
-    Ok(text)
-}
 
 /// An argument of each kind.
 fn each_kind(alloc: Global) -> Result<MadeArgs, NoMemory>
@@ -31,21 +21,6 @@ fn each_kind(alloc: Global) -> Result<MadeArgs, NoMemory>
     args.push(MadeArg::Long(-3))?;
     args.push(MadeArg::Str(text(alloc, b"x")?))?;
     Ok(args)
-}
-
-/// One call site of the script `link` and the type `(II)I`.
-fn one_site(alloc: Global, args: MadeArgs) -> Result<MadeSites, NoMemory>
-    requires makeable { AllByRecursion IsMakeableArgument args }
-    requires few { sum_by argument_width args < 9 }
-    ensures { IfOk result (λ sites. AreMakeable sites) }
-{
-    let mut sites = Seq::new(alloc);
-    sites.push(MadeSite {
-        script: text(alloc, b"link")?,
-        ty: text(alloc, b"(II)I")?,
-        args,
-    })?;
-    Ok(sites)
 }
 
 /// How many call sites a made class is read with: as many as it was made for, unless memory runs out.

@@ -48,7 +48,8 @@ fn pools_cut_short(rt: HostRuntime) {
             let mut cursor = Cursor::new(bytes);
             let before = u1(&mut cursor, ClassKind::Truncated);
             let pool = read_pool(rt.alloc(), 9, &mut cursor);
-            assert!(rt; before.is_ok() && matches!(pool, Err(ClassError::Fault(_))));
+            let is_cut = before.is_ok() && matches!(pool, Err(ClassError::Fault(_)));
+            assert!(rt; is_cut, "{len} bytes");
         }
     }
 }

@@ -1,4 +1,5 @@
 use crate::files::{all_tags, code_front, demo, made, made_site};
+use mh_classfile::opcodes::{IINC, ILOAD, LOOKUPSWITCH, TABLESWITCH, WIDE};
 use mh_classfile::{ClassError, ClassKind, ClassView, Constant, HandleRef, SiteView, read};
 use std::alloc::{AllocError, Global};
 use std::test::*;
@@ -114,18 +115,34 @@ fn has_constant(view: &ClassView<'_>, entry: &Entry) -> bool {
     }
 }
 
-/// Whether a file is read without call sites, and has these constants.
-fn has_constants(alloc: Global, file: &[u8], entries: &[Entry]) -> bool {
+/// Whether a file is read without call sites, and has this constant.
+fn is_read_with(alloc: Global, file: &[u8], entry: &Entry) -> bool {
     match read(alloc, file, 0) {
-        Ok(view) => entries.iter().all(|entry| has_constant(&view, entry)),
+        Ok(view) => has_constant(&view, entry),
         Err(_) => false,
     }
 }
 
 #[test]
+fn constants_of_a_made_class(rt: HostRuntime) {
+    for entry in &MADE_CONSTANTS {
+        assert!(rt;
+            is_read_with(rt.alloc(), made(), entry),
+            "constant {}",
+            entry.0
+        );
+    }
+}
+
+#[test]
 fn constants_of_each_kind(rt: HostRuntime) {
-    assert!(rt; has_constants(rt.alloc(), made(), &MADE_CONSTANTS));
-    assert!(rt; has_constants(rt.alloc(), all_tags(), &ALL_TAGS_CONSTANTS));
+    for entry in &ALL_TAGS_CONSTANTS {
+        assert!(rt;
+            is_read_with(rt.alloc(), all_tags(), entry),
+            "constant {}",
+            entry.0
+        );
+    }
 }
 
 /// Whether the constant at an index of [`all_tags`] is the handle of an interface method.
@@ -209,7 +226,7 @@ fn is_cut(alloc: Global, len: usize) -> bool {
 #[test]
 fn each_cut_of_a_class(rt: HostRuntime) {
     for len in 0..made().len() {
-        assert!(rt; is_cut(rt.alloc(), len));
+        assert!(rt; is_cut(rt.alloc(), len), "{len} bytes");
     }
 }
 
@@ -217,7 +234,8 @@ fn each_cut_of_a_class(rt: HostRuntime) {
 fn places_of_cuts(rt: HostRuntime) {
     for (len, at) in [(0, 0), (7, 6), (9, 8), (10, 10), (270, 269)] {
         let front = made().get(..len).unwrap_or(made());
-        assert!(rt; has_fault(rt.alloc(), front, 0, at, ClassKind::Truncated));
+        let has = has_fault(rt.alloc(), front, 0, at, ClassKind::Truncated);
+        assert!(rt; has, "{len} bytes");
     }
 }
 
@@ -282,25 +300,38 @@ fn breaks(alloc: Global, file: &[u8], broken: &Broken) -> Result<bool, AllocErro
     Ok(has_fault(alloc, &bytes, 1, at, kind))
 }
 
-/// Whether each change of a file makes its fault.
-fn all_break(alloc: Global, file: &[u8], cases: &[Broken]) -> Result<bool, AllocError> {
-    for broken in cases {
-        if !breaks(alloc, file, broken)? {
-            return Ok(false);
-        }
+#[test]
+fn broken_files_without_a_site(rt: HostRuntime) -> Result<(), Fail> {
+    for broken in &MADE_FAULTS {
+        assert!(rt;
+            breaks(rt.alloc(), made(), broken)?,
+            "from byte {} on",
+            broken.0
+        );
     }
-    Ok(true)
+    Ok(())
 }
 
 #[test]
-fn broken_files(rt: HostRuntime) -> Result<(), Fail> {
-    let alloc = rt.alloc();
-    for (file, cases) in [
-        (made(), MADE_FAULTS.as_slice()),
-        (made_site(), MADE_SITE_FAULTS.as_slice()),
-        (all_tags(), ALL_TAGS_FAULTS.as_slice()),
-    ] {
-        assert!(rt; all_break(alloc, file, cases)?);
+fn broken_files_with_a_site(rt: HostRuntime) -> Result<(), Fail> {
+    for broken in &MADE_SITE_FAULTS {
+        assert!(rt;
+            breaks(rt.alloc(), made_site(), broken)?,
+            "from byte {} on",
+            broken.0
+        );
+    }
+    Ok(())
+}
+
+#[test]
+fn broken_files_with_each_tag(rt: HostRuntime) -> Result<(), Fail> {
+    for broken in &ALL_TAGS_FAULTS {
+        assert!(rt;
+            breaks(rt.alloc(), all_tags(), broken)?,
+            "from byte {} on",
+            broken.0
+        );
     }
     Ok(())
 }
@@ -310,7 +341,7 @@ fn more_sites_than_asked_for(rt: HostRuntime) {
     assert!(rt; has_fault(rt.alloc(), made_site(), 0, 295, ClassKind::TooManySites));
 }
 
-/// Whether [`made`] with a change is refused for what stands behind it.
+/// Whether [`made`] with a change is refused for what stands after it.
 fn is_refused_before(
     alloc: Global,
     from: usize,
@@ -324,7 +355,7 @@ fn is_refused_before(
 }
 
 #[test]
-fn bytes_behind_a_class(rt: HostRuntime) -> Result<(), Fail> {
+fn bytes_after_a_class(rt: HostRuntime) -> Result<(), Fail> {
     let second = [0, 8, 0, 0, 0, 2, 0, 0];
     assert!(rt; is_refused_before(rt.alloc(), 0, &[], &[0], ClassKind::Trailing)?);
     assert!(rt; is_refused_before(rt.alloc(), 261, &[0, 2], &second, ClassKind::BadBootstraps)?);
@@ -341,12 +372,13 @@ fn is_accepted(alloc: Global, from: usize, to: &[u8]) -> Result<bool, AllocError
 fn changes_that_are_accepted(rt: HostRuntime) -> Result<(), Fail> {
     // No superclass, and code that belongs to a class.
     for (from, to) in [(226, &[0, 0]), (263, &[0, 7])] {
-        assert!(rt; is_accepted(rt.alloc(), from, to)?);
+        assert!(rt; is_accepted(rt.alloc(), from, to)?, "from byte {from} on");
     }
     Ok(())
 }
 
-/// The first and the last opcode of a run of instructions of this length.
+/// The first and the last opcode of a run of instructions of this length, by their numbers in JVMS
+/// SE 17, chapter 7.
 static LENGTHS: [(u8, u8, usize); 25] = [
     (0, 15, 1),
     (16, 16, 2),
@@ -389,7 +421,10 @@ fn have_len(alloc: Global, low: u8, high: u8, len: usize) -> Result<bool, AllocE
 #[test]
 fn lengths_of_instructions(rt: HostRuntime) -> Result<(), Fail> {
     for (low, high, len) in &LENGTHS {
-        assert!(rt; have_len(rt.alloc(), *low, *high, *len)?);
+        assert!(rt;
+            have_len(rt.alloc(), *low, *high, *len)?,
+            "opcodes {low} to {high}"
+        );
     }
     Ok(())
 }
@@ -397,7 +432,7 @@ fn lengths_of_instructions(rt: HostRuntime) -> Result<(), Fail> {
 #[test]
 fn opcodes_of_no_instruction(rt: HostRuntime) -> Result<(), Fail> {
     for opcode in 202..=255_u8 {
-        assert!(rt; is_bad_at(rt.alloc(), &[opcode], 0)?);
+        assert!(rt; is_bad_at(rt.alloc(), &[opcode], 0)?, "opcode {opcode}");
     }
     Ok(())
 }
@@ -424,8 +459,14 @@ fn switches(rt: HostRuntime) -> Result<(), Fail> {
     ];
     let lookup = [0, 0, 0, 9, 0, 0, 0, 1, 0, 0, 0, 5, 0, 0, 0, 9];
     for pc in 0..4_usize {
-        assert!(rt; is_whole_switch(rt.alloc(), 170, &table, pc)?);
-        assert!(rt; is_whole_switch(rt.alloc(), 171, &lookup, pc)?);
+        assert!(rt;
+            is_whole_switch(rt.alloc(), TABLESWITCH, &table, pc)?,
+            "table at {pc}"
+        );
+        assert!(rt;
+            is_whole_switch(rt.alloc(), LOOKUPSWITCH, &lookup, pc)?,
+            "lookup at {pc}"
+        );
     }
     Ok(())
 }
@@ -434,23 +475,23 @@ fn switches(rt: HostRuntime) -> Result<(), Fail> {
 fn bad_instructions(rt: HostRuntime) -> Result<(), Fail> {
     let codes: [&[u8]; 3] = [
         // The low index is above the high one.
-        &[170, 0, 0, 0, 0, 0, 0, 9, 0, 0, 0, 1, 0, 0, 0, 0],
+        &[TABLESWITCH, 0, 0, 0, 0, 0, 0, 9, 0, 0, 0, 1, 0, 0, 0, 0],
         // The number of pairs is negative.
-        &[171, 0, 0, 0, 0, 0, 0, 9, 0xFF, 0xFF, 0xFF, 0xFF],
+        &[LOOKUPSWITCH, 0, 0, 0, 0, 0, 0, 9, 0xFF, 0xFF, 0xFF, 0xFF],
         // Nothing to be widened.
-        &[196, 0, 0, 0],
+        &[WIDE, 0, 0, 0],
     ];
     for code in codes {
-        assert!(rt; is_bad_at(rt.alloc(), code, 0)?);
+        assert!(rt; is_bad_at(rt.alloc(), code, 0)?, "{code:?}");
     }
     Ok(())
 }
 
 #[test]
 fn wide_instructions(rt: HostRuntime) -> Result<(), Fail> {
-    let codes: [&[u8]; 2] = [&[196, 21, 1, 0], &[196, 132, 1, 0, 0, 1]];
+    let codes: [&[u8]; 2] = [&[WIDE, ILOAD, 1, 0], &[WIDE, IINC, 1, 0, 0, 1]];
     for code in codes {
-        assert!(rt; is_whole(rt.alloc(), code, 0)?);
+        assert!(rt; is_whole(rt.alloc(), code, 0)?, "{code:?}");
     }
     Ok(())
 }

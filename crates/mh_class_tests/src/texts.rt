@@ -59,10 +59,13 @@ static NO_TEXTS: [(&[u8], usize); 16] = [
 #[test]
 fn bytes_that_are_no_text(rt: HostRuntime) {
     for (bytes, at) in &NO_TEXTS {
-        assert!(rt; is_bad_at(*bytes, *at));
+        assert!(rt; is_bad_at(*bytes, *at), "{bytes:?}");
     }
     for first in 0xF0..=0xFE_u8 {
-        assert!(rt; is_bad_at(&[b'a', first, 0x9F, 0x98, 0x80], 1));
+        assert!(rt;
+            is_bad_at(&[b'a', first, 0x9F, 0x98, 0x80], 1),
+            "first byte {first}"
+        );
     }
 }
 
@@ -90,7 +93,8 @@ static TEXTS: [(&[u8], &[char]); 8] = [
 #[test]
 fn characters_of_texts(rt: HostRuntime) {
     for (bytes, chars) in &TEXTS {
-        assert!(rt; matches!(has_chars(rt.alloc(), *bytes, *chars), Ok(true)));
+        let has = has_chars(rt.alloc(), *bytes, *chars);
+        assert!(rt; matches!(has, Ok(true)), "{bytes:?}");
     }
 }
 
@@ -101,7 +105,8 @@ fn characters_spelled_as_in_utf8(rt: HostRuntime) {
         if let Some(char) = char::from_u32(1 + 163 * step) {
             let mut buffer = [0; 4];
             let spelling = char.encode_utf8(&mut buffer).as_bytes();
-            assert!(rt; matches!(has_chars(rt.alloc(), spelling, &[char]), Ok(true)));
+            let has = has_chars(rt.alloc(), spelling, &[char]);
+            assert!(rt; matches!(has, Ok(true)), "{char}");
         }
     }
 }
@@ -121,7 +126,8 @@ static HALVES: [(&[u8], usize, &[char]); 4] = [
 #[test]
 fn halves_without_a_partner(rt: HostRuntime) {
     for (bytes, at, shown) in &HALVES {
-        assert!(rt; matches!(is_lone_at(rt.alloc(), *bytes, *at, *shown), Ok(true)));
+        let is_lone = is_lone_at(rt.alloc(), *bytes, *at, *shown);
+        assert!(rt; matches!(is_lone, Ok(true)), "{bytes:?}");
     }
 }
 
@@ -133,7 +139,7 @@ fn reads_numbers(cursor: &mut Cursor<'_>) -> bool {
         && matches!(cursor.u4(), Err(Short { at: 7 }))
 }
 
-/// Whether the rest is read, and nothing behind it.
+/// Whether the rest is read, and nothing after it.
 fn reads_runs(cursor: &mut Cursor<'_>) -> bool {
     matches!(cursor.take(2), Ok([7, 8]))
         && matches!(cursor.u2(), Err(Short { at: 9 }))

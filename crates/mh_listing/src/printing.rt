@@ -103,7 +103,7 @@ fn push_site(
     Ok(())
 }
 
-/// Puts a line for each call site of a class behind a text: `site K METHOD:DESC PC KIND
+/// Puts a line for each call site of a class at the end of a text: `site K METHOD:DESC PC KIND
 /// OWNER.NAME:DESC SITENAME TYPE`. K is counted from `first`; KIND and what follows it are the site's
 /// bootstrap method handle.
 pub fn push_sites(
@@ -123,7 +123,7 @@ pub fn push_sites(
     Ok(())
 }
 
-/// Puts the last line of a listing behind a text: `sites N`.
+/// Puts the last line of a listing at the end of a text: `sites N`.
 pub fn push_count(text: &mut Vec<u8>, count: u32) -> Result<(), NoMemory>
     ensures { OnOk result (text.new.items ≡ text.old.items ++ count_line count) }
 {

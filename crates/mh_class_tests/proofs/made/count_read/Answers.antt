@@ -10,6 +10,6 @@ returns-clause-same c =
     let room : length made ≤ c.len.result = omega (arith, c.len.ensures) in
     let back = c.in_ok-file.ensures.class c.requires.readable c.len.result room in
     let there : IsClassFile c.len.result c.deref.result.now back.0 = subst (λ (bytes : List ℕ). IsClassFile c.len.result bytes back.0)
-        (sym c.deref.ensures.value) back.1 in
+    (sym c.deref.ensures.value) back.1 in
     let same : back.0 ≡ c.in_ok-view.view = same_class back.0 c.in_ok-view.view (c.in_ok-view.ensures.only back.0 there) in
     c.sites.ensures ∙ ap (λ (k : Class). length k.sites) (sym same) ∙ ap length back.2.sites ∙ counted 0 made

@@ -1,0 +1,34 @@
+ghost use Rattle.std.specs.Prelude.{◌≡◌, ◌<◌, sum_by, IfOk};
+ghost use Rattle.std.specs.List.{AllByRecursion};
+ghost use Rattle.mh_made_class.specs.Sites.{IsMakeableArgument, argument_width, AreMakeable};
+
+use mh_base::{Frozen, NoMemory, Seq};
+use mh_made_class::{MadeArgs, MadeSite, MadeSites};
+use mh_values::Str;
+use std::alloc::Global;
+
+/// The text of these bytes, as ASCII.
+pub fn text(alloc: Global, word: &[u8]) -> Result<Str, NoMemory>
+    ensures { IfOk result (λ text. text ≡ word.now) }
+{
+    let mut text = Seq::new(alloc);
+    for byte in word {
+        text.push(char::from(*byte))?;
+    }
+    Frozen::of(alloc, text)
+}
+
+/// One call site of the script `link` and the type `(II)I`.
+pub fn one_site(alloc: Global, args: MadeArgs) -> Result<MadeSites, NoMemory>
+    requires makeable { AllByRecursion IsMakeableArgument args }
+    requires few { sum_by argument_width args < 9 }
+    ensures { IfOk result (λ sites. AreMakeable sites) }
+{
+    let mut sites = Seq::new(alloc);
+    sites.push(MadeSite {
+        script: text(alloc, b"link")?,
+        ty: text(alloc, b"(II)I")?,
+        args,
+    })?;
+    Ok(sites)
+}
