@@ -1,10 +1,11 @@
 -- The bootstrap methods of a class (JVMS 4.7.23).
-use Rattle.std.specs.Prelude.{codes, List, Option, Some, None, is_none}
+use Rattle.std.specs.Prelude.{List, Option, Some, None, is_none}
 use Rattle.std.specs.Str.{bytes_eq}
 use Rattle.mh_class_bytes.specs.Format.{number, here, check, choose, part, done, ◌>>=◌, repeated, times}
 use Rattle.mh_class_pool.specs.declared.entry.Kind.TheVariants as kinds
 use Rattle.mh_class_pool.specs.declared.fault.ClassKind.TheVariants.{Truncated, BadBootstraps}
 use Rattle.mh_class_pool.specs.Entries.{ClassPart, Slot, text}
+use Rattle.mh_classfile.specs.AttributeNames.{bootstrap_methods_name}
 use Rattle.mh_classfile.specs.Rows.{Row}
 use Rattle.mh_classfile.specs.Members.{named_index, passed_contents}
 
@@ -33,7 +34,7 @@ unfoldable pub class_attribute : List Slot → Option (List Row) → ClassPart (
 class_attribute pool so_far = do
   at ← here
   name ← named_index Truncated pool kinds.Utf8
-  choose (bytes_eq (text pool name) (codes "BootstrapMethods"))
+  choose (bytes_eq (text pool name) bootstrap_methods_name)
       (do
         once ← check (is_none so_far) at BadBootstraps
         rows ← bootstraps_attribute pool

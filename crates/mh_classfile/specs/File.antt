@@ -1,4 +1,5 @@
--- Class files (JVMS 4.1): which bytes are one, and the class that they are.
+-- Class files (JVMS SE 17, 4.1): which bytes are one, by the part of chapter 4 that is looked at, and the class that they are. Flags, the spelling of
+-- names, the descriptors of fields and methods, other attributes and exception entries are passed over, and code is not verified (4.8 to 4.10).
 use Rattle.std.specs.Prelude.{◌≡◌, ℕ, nat_lt, nat_le, ◌==◌, ◌&&◌, List, [], length, Option, Some, Ok, Err, unwrap_or, ◌⊎◌}
 use Rattle.mh_class_bytes.specs.Position.{Position}
 use Rattle.mh_class_bytes.specs.declared.fault.Fault.{Fault}

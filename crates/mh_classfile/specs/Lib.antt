@@ -1,3 +1,4 @@
+pub mod AttributeNames
 pub mod Opcodes
 pub mod Code
 pub mod FoundSites

@@ -1,5 +1,5 @@
 -- Fields, methods and their attributes (JVMS 4.5, 4.6, 4.7.3).
-use Rattle.std.specs.Prelude.{ℕ, ◌+◌, nat_lt, ◌&&◌, not, codes, List, [], Bool, true, false}
+use Rattle.std.specs.Prelude.{ℕ, ◌+◌, nat_lt, ◌&&◌, not, List, [], Bool, true, false}
 use Rattle.std.specs.Str.{bytes_eq}
 use Rattle.mh_class_bytes.specs.Position.{Position}
 use Rattle.mh_class_bytes.specs.Format.{number, run, here, check, verdict, choose, part, done, ◌>>=◌, repeated, Reading, reads, and_then, cut, filled}
@@ -11,6 +11,7 @@ use Rattle.mh_class_pool.specs.declared.fault.ClassKind.{ClassKind}
 use Rattle.mh_class_pool.specs.declared.fault.ClassKind.TheVariants.{Truncated, BadCode}
 use Rattle.mh_class_pool.specs.Entries.{ClassPart, Slot, text}
 use Rattle.mh_class_pool.specs.References.{names, names_or_none}
+use Rattle.mh_classfile.specs.AttributeNames.{code_name}
 use Rattle.mh_classfile.specs.Code.{passed, code_sites}
 
 -- what the bytes between a place and the position say, all of which must be read
@@ -88,7 +89,7 @@ unfoldable pub method_attribute : List Slot → Method → ℕ → Bool × List 
 method_attribute pool method room so_far = do
   at ← here
   name ← named_index Truncated pool kinds.Utf8
-  choose (bytes_eq (text pool name) (codes "Code"))
+  choose (bytes_eq (text pool name) code_name)
       (do
         once ← check (not so_far.0) at BadCode
         sites ← code_attribute pool method room so_far.1

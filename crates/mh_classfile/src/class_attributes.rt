@@ -8,6 +8,7 @@ ghost use Rattle.mh_classfile.specs.Members.{named_index};
 ghost use Rattle.mh_classfile.specs.Rows.{closed_of};
 ghost use Rattle.mh_classfile.specs.Bootstraps.{bootstrap, bootstraps, bootstraps_attribute, class_attribute, class_attributes};
 
+use crate::attribute_names::BOOTSTRAP_METHODS;
 use crate::attributes::{check_filled, pass_contents, read_index};
 use crate::bootstraps::Bootstraps;
 use mh_class_bytes::Cursor;
@@ -123,7 +124,7 @@ fn read_class_attribute(
 {
     let at = cursor.at();
     let name = read_index(ClassKind::Truncated, pool, Kind::Utf8, cursor)?;
-    if !pool.is_text(name, b"BootstrapMethods") {
+    if !pool.is_text(name, BOOTSTRAP_METHODS) {
         pass_contents(ClassKind::Truncated, cursor)?;
         return Ok(so_far);
     }

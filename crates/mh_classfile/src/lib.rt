@@ -1,6 +1,8 @@
-//! The class reader: exactly the class files of JVMS chapter 4, read without copying.
+//! The class reader: class files by a stated part of the grammar of JVMS SE 17, chapter 4, read
+//! without copying. The part is the format `class_file` of `specs/File.antt`.
 #![tactic(auto)]
 
+pub mod attribute_names;
 mod attributes;
 mod bootstraps;
 mod class_attributes;

@@ -4,6 +4,7 @@ ghost use Rattle.mh_class_bytes.specs.Format.{Reads, reads, repeated};
 ghost use Rattle.mh_class_pool.specs.Answers.{Gives};
 ghost use Rattle.mh_classfile.specs.Members.{rows, method_attribute, member, field, method, members, interface, supertypes, class_names};
 
+use crate::attribute_names::CODE;
 use crate::attributes::{pass_contents, pass_counted_attributes, read_index};
 use crate::code_attribute::read_code;
 use crate::site::{Method, Sites};
@@ -28,7 +29,7 @@ fn read_attribute(
 {
     let at = cursor.at();
     let name = read_index(ClassKind::Truncated, pool, Kind::Utf8, cursor)?;
-    if !pool.is_text(name, b"Code") {
+    if !pool.is_text(name, CODE) {
         pass_contents(ClassKind::Truncated, cursor)?;
         return Ok(seen);
     }

@@ -157,8 +157,10 @@ fn read_exact<'b>(alloc: Global, bytes: &'b [u8], room: u32) -> Result<ClassView
 }
 
 /// The class that the bytes are, over the bytes, where it has at most `room` call sites; otherwise
-/// the first condition, in the order of reading, that does not hold (JVMS SE 17, 4.1). Code is not
-/// verified (4.10).
+/// the first condition, in the order of reading, that does not hold (JVMS SE 17, 4.1). What is not
+/// looked at: flags, the spelling of names, the descriptors of fields and methods, attributes but
+/// `Code` and `BootstrapMethods`, where exception entries point, whether a method should have code, and
+/// what verification adds (4.8 to 4.10).
 pub fn read<'b>(alloc: Global, bytes: &'b [u8], room: u32) -> Result<ClassView<'b>, ClassError>
     // A view is the class of a class file.
     ensures found { IfOk result (λ v. IsClassFile room bytes.now v) }

@@ -12,8 +12,8 @@ pub struct Method {
     pub descriptor: u16,
 }
 
-/// The code of a method: the pool whose entries it names, the method, and where the code begins in the
-/// file.
+/// The code of a method: the pool whose entries it names, the method, and where the code begins in
+/// the file.
 #[derive(Clone, Copy)]
 pub struct MethodCode<'p, 'b> {
     pub pool: &'p Pool<'b>,
