@@ -68,8 +68,8 @@ impl<'b> Pool<'b> {
     }
 }
 
-/// The entry at a place where one was found before, with the place; none at 0. Its text is not looked
-/// at again.
+/// The entry at a place where one was found before, with the place; none at 0. Its text is not
+/// looked at again.
 #[tactic(auto, unfolding(crate::specs::Entries::entry, crate::specs::Entries::utf8))]
 fn slot_at<'b>(bytes: &'b [u8], at: usize) -> Option<(usize, Entry<'b>)>
     requires { 0 < at

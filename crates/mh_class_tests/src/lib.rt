@@ -1,5 +1,5 @@
-//! Class files: their texts, constant pools and call sites, and those that are made. The class files and
-//! the call sites are for other crates of tests too.
+//! Class files: their texts, constant pools and call sites, and those that are made. The class files
+//! and the call sites are for other crates of tests too.
 #![tactic(auto)]
 
 pub mod files;

@@ -13,7 +13,8 @@ use Rattle.mh_made_class.specs.Layout.{PlacedSite, sites_from}
 use Rattle.mh_made_class.specs.Constants.{u2, u4}
 use Rattle.mh_made_class.specs.Parts.{code, code_contents}
 use Rattle.mh_made_class.proofs.Spelling.{u4_is}
-use Rattle.mh_made_class.proofs.CodeSpelling.{HasCall, site_found, code_spelled}
+use Rattle.mh_made_class.proofs.InstructionSpelling.{HasCall, site_found}
+use Rattle.mh_made_class.proofs.CodeSpelling.{code_spelled}
 
 -- the method `run()V`
 abbrev pub run_method : Method

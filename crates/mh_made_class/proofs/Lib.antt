@@ -6,11 +6,14 @@ pub mod PoolSpelling
 pub mod Lookups
 pub mod Standing
 pub mod Good
+pub mod InstructionSpelling
 pub mod CodeSpelling
 pub mod Names
 pub mod CodeContents
+pub mod CodeAttribute
 pub mod MethodSpelling
 pub mod Times
+pub mod BootstrapMethod
 pub mod BootstrapSpelling
 pub mod Reading
 pub mod Fitting

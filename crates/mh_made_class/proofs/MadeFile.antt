@@ -18,7 +18,8 @@ use Rattle.mh_made_class.proofs.PoolSpelling.{entries_width, width-append, few_e
 use Rattle.mh_made_class.proofs.MethodSpelling.{members_spelled}
 use Rattle.mh_made_class.proofs.CodeContents.{sites_found}
 use Rattle.mh_made_class.proofs.Names.{class_names_spelled}
-use Rattle.mh_made_class.proofs.BootstrapSpelling.{row_of, class_attributes_spelled}
+use Rattle.mh_made_class.proofs.BootstrapMethod.{row_of}
+use Rattle.mh_made_class.proofs.BootstrapSpelling.{class_attributes_spelled}
 use Rattle.mh_made_class.proofs.Reading.{sites_read, bootstraps_read}
 use Rattle.mh_made_class.proofs.Counting.{sites_width, sites-length, few_sites, numbers_below, readable_placed, bootstraps_few}
 use Rattle.mh_made_class.proofs.WholeClass.{all_entries, slots_of, standing, calls_stand, bootstraps_stand}

@@ -24,8 +24,8 @@ use Rattle.mh_made_class.proofs.Lookups.{Holds}
 use Rattle.mh_made_class.proofs.Standing.{HasCommon, HasSite}
 use Rattle.mh_made_class.proofs.Good.{named_at}
 use Rattle.mh_made_class.proofs.CodeContents.{run_method, sites_found}
-use Rattle.mh_made_class.proofs.CodeSpelling.{site_found}
-use Rattle.mh_made_class.proofs.BootstrapSpelling.{row_of}
+use Rattle.mh_made_class.proofs.InstructionSpelling.{site_found}
+use Rattle.mh_made_class.proofs.BootstrapMethod.{row_of}
 
 halves : (n : ℕ) → 2 ^ 32 * (n / 2 ^ 32) + n % 2 ^ 32 ≡ n
 halves n = ap (λ x. x + n % 2 ^ 32) (mul_comm (2 ^ 32) (n / 2 ^ 32)) ∙ div-add-mod' n (2 ^ 32)

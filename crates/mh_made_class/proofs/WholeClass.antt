@@ -10,8 +10,8 @@ use Rattle.mh_made_class.specs.Constants.{common_entries, argument_entries, site
 use Rattle.mh_made_class.proofs.PoolSpelling.{slots_from}
 use Rattle.mh_made_class.proofs.Lookups.{Holds, holds, holds_split}
 use Rattle.mh_made_class.proofs.Standing.{HasCommon, HasSite, has_common, sites_stand, arguments_stand}
-use Rattle.mh_made_class.proofs.CodeSpelling.{HasCall}
-use Rattle.mh_made_class.proofs.BootstrapSpelling.{IsNamed, HasBootstrap}
+use Rattle.mh_made_class.proofs.InstructionSpelling.{HasCall}
+use Rattle.mh_made_class.proofs.BootstrapMethod.{IsNamed, HasBootstrap}
 use Rattle.mh_made_class.proofs.Reading.{named_argument}
 use Rattle.mh_made_class.proofs.Fitting.{all_from, arguments_placed, sites_placed}
 use Rattle.mh_made_class.proofs.Placing.{arguments_few}

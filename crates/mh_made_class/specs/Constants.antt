@@ -7,6 +7,7 @@ use Rattle.mh_class_pool.specs.declared.entry.Entry.{Entry}
 use Rattle.mh_class_pool.specs.declared.entry.Entry.TheVariants as entries
 use Rattle.mh_class_pool.specs.Tags.{CONSTANT_Utf8, CONSTANT_Integer, CONSTANT_Long, CONSTANT_Class, CONSTANT_String, CONSTANT_Methodref, CONSTANT_NameAndType, CONSTANT_MethodHandle, CONSTANT_InvokeDynamic}
 use Rattle.mh_class_pool.specs.ReferenceKinds.{REF_invokeStatic}
+use Rattle.mh_classfile.specs.AttributeNames.{code_name, bootstrap_methods_name}
 use Rattle.mh_made_class.specs.declared.site.MadeArg.{MadeArg}
 use Rattle.mh_made_class.specs.declared.site.MadeArg.TheVariants as args
 use Rattle.mh_made_class.specs.Layout.{PlacedArgument, PlacedSite, placed_arguments}
@@ -42,7 +43,7 @@ class_entries = entries.Utf8 (codes "made/Main") ∷ entries.Class 1 ∷ entries
 
 -- the entries 5 to 8: the name and the descriptor of the method, and the names of two attributes
 abbrev pub member_entries : List Entry
-member_entries = entries.Utf8 (codes "run") ∷ entries.Utf8 (codes "()V") ∷ entries.Utf8 (codes "Code") ∷ entries.Utf8 (codes "BootstrapMethods") ∷ []
+member_entries = entries.Utf8 (codes "run") ∷ entries.Utf8 (codes "()V") ∷ entries.Utf8 code_name ∷ entries.Utf8 bootstrap_methods_name ∷ []
 
 -- the entries 9 to 12: the class and the type of the bootstrap methods, and the name of each call site
 abbrev pub bootstrap_entries : List Entry

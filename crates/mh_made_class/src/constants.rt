@@ -11,6 +11,7 @@ use crate::numbers::{push_u2, push_u4};
 use crate::site::MadeArg;
 use mh_base::NoMemory;
 use mh_class_pool::{reference_kinds, tags};
+use mh_classfile::attribute_names::{BOOTSTRAP_METHODS, CODE};
 use mh_values::Str;
 use std::alloc::Global;
 
@@ -151,8 +152,8 @@ fn push_members(file: &mut Vec<u8>) -> Result<(), NoMemory>
 {
     push_word(file, b"run")?;
     push_word(file, b"()V")?;
-    push_word(file, b"Code")?;
-    push_word(file, b"BootstrapMethods")
+    push_word(file, CODE)?;
+    push_word(file, BOOTSTRAP_METHODS)
 }
 
 /// The class and the type of the bootstrap methods, and the name of each call site.

@@ -71,8 +71,8 @@ impl Sink for MemorySink {
     ghost faults = { λ s. s.faults };
 
     fn write(&mut self, bytes: &[u8]) -> Result<usize, Failed>
-        // The listed calls fail. Another one fails only without memory for the text, and a call that
-        // does not fail takes the whole piece.
+        // The listed calls fail. Another one fails only without memory for the text, and a call
+        // that does not fail takes the whole piece.
         ensures fails { IsTrue (is_listed self.old.fail.items self.old.calls) → IsErr result }
         ensures whole { IfOk result (λ n. n ≡ length bytes.now) }
         ensures calls { CountsCall self.old.calls self.new.calls
