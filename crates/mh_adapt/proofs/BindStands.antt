@@ -55,7 +55,7 @@ bind-stands table h h' t place v w p u row at fitting fit_key grows st =
     subst (HaveTypes table.classes (w ∷ [])) (sym (one-taken h.ty.params place p at)) (fit-typed table.classes v w p fitting, tt) in
     let old : (args : List Value) → HaveTypes table.classes args u.params → HaveTypes table.classes (whole args) h.ty.params =
     λ args have. types-splice table.classes args (w ∷ []) h.ty.params [] place 1 (omega (arith, inside))
-        (subst (λ (m : MethodTy). HaveTypes table.classes args m.params) made have) one in
+    (subst (λ (m : MethodTy). HaveTypes table.classes args m.params) made have) one in
     let means : (args : List Value) (n : ℕ) → mean table (tree.Bind t place v) args n ≡ mean table t (whole args) n =
     λ args n. let run : Value → Done = λ x. mean table t (spliced place 0 (x ∷ []) args) n in
     ap (λ c. known c (λ ty. found (slice_get ty.params place) (λ q. fitted (fit table.classes v q) run))) st.typed
@@ -91,8 +91,8 @@ bind-stands table h h' t place v w p u row at fitting fit_key grows st =
           ∙ (st.runs (whole args) n (old args have) low ∙ ap erased_ran (sym (means args n))));
       returns = λ args n have.
           subst (λ r. Returns table.classes r u.ret)
-              (sym (ap
-              (λ c. known c (λ ty. found (slice_get ty.params place) (λ q. fitted (fit table.classes v q) (λ x. mean table t (spliced place 0 (x ∷ []) args)
-              n)))) st.typed))
+          (sym (ap
+          (λ c. known c (λ ty. found (slice_get ty.params place) (λ q. fitted (fit table.classes v q) (λ x. mean table t (spliced place 0 (x ∷ []) args)
+          n)))) st.typed))
           (bind-sound table.classes (mean table t) h.ty h.weight place v u st.returns row args n have);
     })

@@ -58,17 +58,17 @@ module _ (table : LeafTable) (h g : HandleView) (a b : Tree) (place : ℕ) (f : 
       let params = spliced place (count_of g.ty.ret) g.ty.params h.ty.params in
       let law : CollectLaw place put ret old new =
       subst (λ c. CollectLaw place c ret old new) (length-map g.ty.params basic_of)
-          (law-applied k old (collect-fits h.ty.params place (map basic_of g.ty.params) g.ty.ret old gives (made-fits old st.begun) st.shaped)) in
+      (law-applied k old (collect-fits h.ty.params place (map basic_of g.ty.params) g.ty.ret old gives (made-fits old st.begun) st.shaped)) in
       let runs : (args : List Value) (n : ℕ) → HaveTypes table.classes args u.params → n < 2 ^ 32 →
-          run_on table new (h.fields ++ f ∷ []) (map erased args) n ≡ erased_ran (body args n) =
+      run_on table new (h.fields ++ f ∷ []) (map erased args) n ≡ erased_ran (body args n) =
       λ args n have low.
       let have' : HaveTypes table.classes args params = subst (λ (m : MethodTy). HaveTypes table.classes args m.params) made have in
       let within = gives_at-within g.ty.ret place h.ty.params gives in
       let taken = gives_at-taken g.ty.ret place h.ty.params gives in
       let first = first-runs table h g a b part.0 st sp part.2 part.3 args n place put put low (types-part table.classes args h.ty.params g.ty.params place
-          (count_of g.ty.ret) within have')
+      (count_of g.ty.ret) within have')
       (λ o given. types-splice table.classes args (option_to_list o) h.ty.params g.ty.params place (count_of g.ty.ret) within have'
-          (subst (HaveTypes table.classes (option_to_list o)) (sym taken) given)) in
+      (subst (HaveTypes table.classes (option_to_list o)) (sym taken) given)) in
       let well : erased_ran (body args n) ≢ Stuck = returns-runs table.classes (body args n) u.ret (sound args n have) in
       let long : length (map erased args) + taken_by ret ≡ length old.params + put =
       omega (
@@ -108,4 +108,4 @@ collect-stands table h h' g a b place f u row part grows st sp =
     λ args n. ap (λ c. collected table a b place (arity_of c) args n) sp.typed in
     stands-parted table h h' g a b t (λ ty m part k. collect_row ty m place part k) (collect_key place) u f
     (record { typed = refl; weighed = refl; holds = refl; keyed = refl }) row grows st sp (collect-does table h g a b place f u part st sp q.0 q.1 sound t
-        means)
+    means)

@@ -48,7 +48,7 @@ drop-stands table h h' t place types u row fit_key grows st =
     let inside : place ≤ length h.ty.params = at_most place (length h.ty.params) q.0 in
     let old : (args : List Value) → HaveTypes table.classes args u.params → HaveTypes table.classes (spliced place put [] args) h.ty.params =
     λ args have. types-splice table.classes args [] h.ty.params types place 0 inside (subst (λ (m : MethodTy). HaveTypes table.classes args m.params) q.1 have)
-        tt in
+    tt in
     let law : AddLaw place put body new = subst (λ c. AddLaw place c body new) (length-map types basic_of) (law-applied k body fit_key) in
     let size : (args : List Value) → HaveTypes table.classes args u.params → length (map erased args) ≡ length body.params + put =
     λ args have.

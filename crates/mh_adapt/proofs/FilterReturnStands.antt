@@ -56,10 +56,10 @@ filterret-stands table h h' g a b f u row part grows st sp =
     let new = applied k old in
     let ret = basic_ret_of g.ty.ret in
     let sound : IsSound table.classes (mean table t) u = filterret-sound table.classes (mean table a) (mean table b) h.ty h.weight g.ty g.weight u st.returns
-        sp.returns row in
+    sp.returns row in
     let law : FilterReturnLaw ret old new = law-FilterReturn ret old in
     let runs : (args : List Value) (n : ℕ) → HaveTypes table.classes args u.params → n < 2 ^ 32 →
-        run_on table new (h.fields ++ f ∷ []) (map erased args) n ≡ erased_ran (mean table t args n) =
+    run_on table new (h.fields ++ f ∷ []) (map erased args) n ≡ erased_ran (mean table t args n) =
     λ args n have low.
     let have' : HaveTypes table.classes args h.ty.params = subst (λ (m : MethodTy). HaveTypes table.classes args m.params) q.1 have in
     let last = last-runs table h g a b part.0 st sp part.2 part.3 args n low have' (same_types-is g.ty.params (option_to_list h.ty.ret) q.0) in

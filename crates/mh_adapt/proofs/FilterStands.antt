@@ -36,7 +36,7 @@ filter-stands table h h' g a b place f u row part grows st sp =
     let q = filter_row-parts h.ty h.weight place g.ty g.weight u row in
     let t = tree.FilterArg a place b in
     let made : u ≡ taking (spliced place (count_of g.ty.ret) g.ty.params h.ty.params) h.ty =
-        q.3 ∙ ap (λ c. taking (spliced place c g.ty.params h.ty.params) h.ty) (sym (some-count g.ty.ret q.1)) in
+    q.3 ∙ ap (λ c. taking (spliced place c g.ty.params h.ty.params) h.ty) (sym (some-count g.ty.ret q.1)) in
     let means : (args : List Value) (n : ℕ) → mean table t args n ≡ collected table a b place (length g.ty.params) args n =
     λ args n. ap (λ c. collected table a b place c args n) (sym q.0) in
     let sound : IsSound table.classes (collected table a b place (length g.ty.params)) u =
@@ -44,4 +44,4 @@ filter-stands table h h' g a b place f u row part grows st sp =
     (filter-sound table.classes (mean table a) (mean table b) h.ty h.weight place g.ty g.weight u st.returns sp.returns row) in
     stands-parted table h h' g a b t (λ ty m part k. filter_row ty m place part k) (collect_key place) u f
     (record { typed = refl; weighed = refl; holds = refl; keyed = refl }) row grows st sp (collect-does table h g a b place f u part st sp q.2 made sound t
-        means)
+    means)

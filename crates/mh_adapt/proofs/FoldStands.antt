@@ -56,28 +56,28 @@ fold-stands table h h' g a b place f u row part grows st sp =
     let ret = basic_ret_of g.ty.ret in
     let params = folded h.ty place g.ty in
     let body : List Value → ℕ → Done = λ args n. and_then (mean table b (part_of place count args) n) n
-        (λ o k. mean table a (spliced place 0 (option_to_list o) args) k) in
+    (λ o k. mean table a (spliced place 0 (option_to_list o) args) k) in
     let means : (args : List Value) (n : ℕ) → mean table t args n ≡ body args n =
     λ args n. ap (λ c. and_then (mean table b (part_of place (arity_of c) args) n) n (λ o k. mean table a (spliced place 0 (option_to_list o) args) k)) sp.typed
-        in
+    in
     let sound : IsSound table.classes (mean table t) u =
     subst (λ c. IsSound table.classes (λ args n. and_then (mean table b (part_of place (arity_of c) args) n) n
-        (λ o k. mean table a (spliced place 0 (option_to_list o) args) k)) u) (sym sp.typed)
+    (λ o k. mean table a (spliced place 0 (option_to_list o) args) k)) u) (sym sp.typed)
     (fold-sound table.classes (mean table a) (mean table b) h.ty h.weight place g.ty g.weight u st.returns sp.returns row) in
     let law : FoldLaw place count ret old new = law-applied k old (fold-fits h.ty place g.ty old q.0 q.1 (made-fits old st.begun) st.shaped) in
     let runs : (args : List Value) (n : ℕ) → HaveTypes table.classes args u.params → n < 2 ^ 32 →
-        run_on table new (h.fields ++ f ∷ []) (map erased args) n ≡ erased_ran (mean table t args n) =
+    run_on table new (h.fields ++ f ∷ []) (map erased args) n ≡ erased_ran (mean table t args n) =
     λ args n have low.
     let have' : HaveTypes table.classes args params = subst (λ (m : MethodTy). HaveTypes table.classes args m.params) q.2 have in
     let within = gives_at-within g.ty.ret place h.ty.params q.0 in
     let taken = gives_at-taken g.ty.ret place h.ty.params q.0 in
     let rest = begins_with-rest (drop place params) g.ty.params q.1 in
     let behind : HaveTypes table.classes (drop place args) (g.ty.params ++ rest.0) =
-        subst (HaveTypes table.classes (drop place args)) rest.1 (types-drop table.classes args params place have') in
+    subst (HaveTypes table.classes (drop place args)) rest.1 (types-drop table.classes args params place have') in
     let first = first-runs table h g a b part.0 st sp part.2 part.3 args n place count 0 low (types-front table.classes (drop place args) g.ty.params rest.0
-        behind)
+    behind)
     (λ o given. types-splice table.classes args (option_to_list o) h.ty.params [] place (count_of g.ty.ret) within have'
-        (subst (HaveTypes table.classes (option_to_list o)) (sym taken) given)) ∙ ap erased_ran (sym (means args n)) in
+    (subst (HaveTypes table.classes (option_to_list o)) (sym taken) given)) ∙ ap erased_ran (sym (means args n)) in
     let well : erased_ran (mean table t args n) ≢ Stuck = returns-runs table.classes (mean table t args n) u.ret (sound args n have) in
     let long : length (map erased args) + taken_by ret ≡ length old.params =
     omega (

@@ -23,6 +23,7 @@ use Rattle.mh_edit.specs.Applied.{applied}
 use Rattle.mh_edit.specs.Fit.{fits, is_basic_at, is_same_basic, names_each}
 use Rattle.mh_handle.specs.Stands.{HandleView, HasShape, IsShaped, handle_body}
 use Rattle.mh_handle.proofs.Erasing.{spliced-map}
+use Rattle.mh_handle.proofs.Basics.{same_basic-itself}
 
 arity : (h : HandleView) → IsShaped h → length (handle_body h).params ≡ length h.ty.params
 arity h shaped = ap length shaped.params ∙ length-map h.ty.params basic_of
@@ -49,7 +50,7 @@ module _ (classes : List Class) (h : HandleView) (place : ℕ) (v : Value) (u : 
   bind-shaped shaped =
       ap (spliced place 1 []) shaped.params
       ∙ (sym (spliced-map basic_of place 1 [] h.ty.params) ∙ ap (λ (m : MethodTy). map basic_of m.params)
-          (sym (bind_row-parts classes h.ty h.weight place v u row).4))
+      (sym (bind_row-parts classes h.ty h.weight place v u row).4))
 
 -- ---- Drop
 
@@ -61,14 +62,9 @@ module _ (h : HandleView) (place : ℕ) (types : List Ty) (u : MethodTy) (row : 
   drop-shaped =
       ap (spliced place 0 (map basic_of types)) shaped.params
       ∙ (sym (spliced-map basic_of place 0 types h.ty.params) ∙ ap (λ (m : MethodTy). map basic_of m.params)
-          (sym (drop_row-parts h.ty h.weight place types u row).1))
+      (sym (drop_row-parts h.ty h.weight place types u row).1))
 
 -- ---- Permute
-
-same_basic-itself : (b : Basic) → is_same_basic b b ≡ true
-same_basic-itself basic.L = refl
-same_basic-itself basic.I = refl
-same_basic-itself basic.J = refl
 
 -- what names types names their basic types
 each-named : (params : List Ty) (reorder : List ℕ) (types : List Ty) → names_types params reorder types ≡ true →
@@ -81,13 +77,13 @@ each-named params (i ∷ reorder) (t ∷ types) named =
     let at : slice_get params i ≡ Some t = same_return-is (slice_get params i) (Some t) q.0 in
     let here : is_basic_at (map basic_of params) i (basic_of t) ≡ true =
     ap (λ o. option_map_or (is_same_basic (basic_of t)) o false) (slice_get-map basic_of params i ∙ ap (option_map basic_of) at) ∙
-        same_basic-itself (basic_of t) in
+    same_basic-itself (basic_of t) in
     both-true _ _ here (each-named params reorder types q.1)
 
 module _ (h : HandleView) (asked : MethodTy) (reorder : List ℕ) (u : MethodTy) (row : permute_row h.ty h.weight asked reorder ≡ Ok u) (shaped : IsShaped h)
-    where
-  pub permute-fits : IsTrue (fits (key.Permute (map basic_of asked.params) reorder) (handle_body h))
-  permute-fits =
-      let q = permute_row-parts h.ty h.weight asked reorder u row in
-      both-true _ _ (ap not shaped.made)
-      (ap (names_each (map basic_of asked.params) reorder) shaped.params ∙ each-named asked.params reorder h.ty.params q.0)
+  where
+    pub permute-fits : IsTrue (fits (key.Permute (map basic_of asked.params) reorder) (handle_body h))
+    permute-fits =
+        let q = permute_row-parts h.ty h.weight asked reorder u row in
+        both-true _ _ (ap not shaped.made)
+        (ap (names_each (map basic_of asked.params) reorder) shaped.params ∙ each-named asked.params reorder h.ty.params q.0)

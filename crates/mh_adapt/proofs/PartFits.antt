@@ -20,6 +20,7 @@ use Rattle.mh_edit.specs.declared.key.Key.TheVariants as key
 use Rattle.mh_edit.specs.Fit.{fits, is_nothing, is_same_basic, taken_by, takes_result}
 use Rattle.mh_edit.proofs.Places.{length-spliced}
 use Rattle.mh_handle.proofs.Erasing.{spliced-map}
+use Rattle.mh_handle.proofs.Basics.{same_basic-itself}
 
 -- a part's result takes the place of as many parameters, erased or not
 pub taken-count : (ret : Option Ty) → taken_by (basic_ret_of ret) ≡ count_of ret
@@ -31,18 +32,13 @@ pub gives-room : (ret : Option Ty) (place : ℕ) (params : List Ty) → gives_at
 gives-room None place params h = let k = at_most place (length params) h in omega (arith, k)
 gives-room (Some r) place params h = let k = slice_get_within params place r (same_return-is (slice_get params place) (Some r) h) in omega (arith, k)
 
-same_basic-itself : (b : Basic) → is_same_basic b b ≡ true
-same_basic-itself basic.L = refl
-same_basic-itself basic.I = refl
-same_basic-itself basic.J = refl
-
 takes-given : (ret : Option Ty) (place : ℕ) (params : List Ty) → gives_at ret place params ≡ true →
     takes_result (map basic_of params) place (basic_ret_of ret) ≡ true
 takes-given None place params h = ap (nat_le place) (length-map params basic_of) ∙ h
 takes-given (Some r) place params h =
     let there : slice_get params place ≡ Some r = same_return-is (slice_get params place) (Some r) h in
     ap (λ o. option_map_or (is_same_basic (basic_of r)) o false) (slice_get-map basic_of params place ∙ ap (option_map basic_of) there) ∙
-        same_basic-itself (basic_of r)
+    same_basic-itself (basic_of r)
 
 pub collect-fits :
     (params : List Ty) (place : ℕ) (basics : List Basic) (ret : Option Ty) (body : FormBody) →
@@ -54,7 +50,7 @@ collect-fits params place basics ret body gives begun shaped =
     both-true (not (is_nothing body)) (takes_result body.params place (basic_ret_of ret)) begun
     (ap (λ ps. takes_result ps place (basic_ret_of ret)) shaped ∙ takes-given ret place params gives)
 
--- the parameters that a combiner takes are behind the one for which it gives a value
+-- the parameters that a combiner takes come after the one for which it gives a value
 pub fold-room :
     (t : MethodTy) (place : ℕ) (c : MethodTy) →
     gives_at c.ret place t.params ≡ true →
@@ -65,7 +61,7 @@ fold-room t place c gives begins =
     let room = gives-room c.ret place t.params gives in
     let all : length (folded t place c) + count_of c.ret ≡ length t.params + 0 = length-spliced place (count_of c.ret) [] t.params room in
     let behind : length (folded t place c) - place ≡ length c.params + length rest.0 = sym (length-drop place (folded t place c)) ∙
-        (ap length rest.1 ∙ length-append c.params rest.0) in
+    (ap length rest.1 ∙ length-append c.params rest.0) in
     omega (arith, room, all, behind)
 
 pub fold-fits :
@@ -82,7 +78,7 @@ fold-fits t place c body gives begins begun shaped =
     let fit : nat_le (place + length c.params + taken_by (basic_ret_of c.ret)) (length body.params) ≡ true = le-leb _ _ (omega (arith, room, taken, many)) in
     both-true (not (is_nothing body)) _ begun
     (both-true (takes_result body.params place (basic_ret_of c.ret)) _ (ap (λ ps. takes_result ps place (basic_ret_of c.ret)) shaped ∙
-        takes-given c.ret place t.params gives) fit)
+    takes-given c.ret place t.params gives) fit)
 
 -- parameters put in for what a part's result takes the place of, erased
 pub parted-shape :

@@ -1,4 +1,4 @@
--- A part runs as its handle does, before the handle that it is a part of or behind it.
+-- A part runs as its handle does, before the handle that it is a part of or after it.
 use Rattle.std.proofs.Common.{◌≡◌, sym, subst, ap, ap₂, ◌∙◌, ℕ, ◌<◌, ◌^◌, List, take, drop, map, Option}
 use Rattle.std.specs.Prelude.{option_to_list}
 use Rattle.std.specs.declared.sync.Arc.{Arc}
@@ -31,9 +31,9 @@ module _ (table : LeafTable) (h g : HandleView) (a b : Tree) (part : Arc Bound G
       n < 2 ^ 32 →
       HaveTypes table.classes (part_of place count args) g.ty.params →
       ((o : Option Value) → HaveTypes table.classes (option_to_list o) (option_to_list g.ty.ret) →
-          HaveTypes table.classes (spliced place put (option_to_list o) args) h.ty.params) →
+      HaveTypes table.classes (spliced place put (option_to_list o) args) h.ty.params) →
       and_then (filled (run_bound table part.value (take count (drop place (map erased args))) n)) n
-          (λ s k. handle_run table h (spliced place put (given (basic_ret_of g.ty.ret) s) (map erased args)) k)
+      (λ s k. handle_run table h (spliced place put (given (basic_ret_of g.ty.ret) s) (map erased args)) k)
       ≡ erased_ran (and_then (mean table b (part_of place count args) n) n (λ o k. mean table a (spliced place put (option_to_list o) args) k))
   first-runs args n place count put low own whole =
       let slots = map erased args in
@@ -43,9 +43,9 @@ module _ (table : LeafTable) (h g : HandleView) (a b : Tree) (part : Arc Bound G
       let means : List Value → ℕ → Done = λ vs k. mean table a (spliced place put vs args) k in
       ap (λ r. and_then (filled r) n (λ s k. run (given (basic_ret_of g.ty.ret) s) k)) first
       ∙ part-then table.classes (mean table b (part_of place count args) n) n g.ty.ret run means low (sp.returns (part_of place count args) n own)
-          (λ o k have klow.
+      (λ o k have klow.
       ap (λ xs. handle_run table h xs k) (sym (spliced-map erased place put (option_to_list o) args)) ∙ st.runs (spliced place put (option_to_list o) args) k
-          (whole o have) klow)
+      (whole o have) klow)
 
   -- the handle on all arguments, and then the part on its result, if any
   pub last-runs :
@@ -57,7 +57,7 @@ module _ (table : LeafTable) (h g : HandleView) (a b : Tree) (part : Arc Bound G
       ≡ erased_ran (and_then (mean table a args n) n (λ o k. mean table b (option_to_list o) k))
   last-runs args n low have takes =
       let own : (o : Option Value) → HaveTypes table.classes (option_to_list o) (option_to_list h.ty.ret) →
-          HaveTypes table.classes (option_to_list o) g.ty.params =
+      HaveTypes table.classes (option_to_list o) g.ty.params =
       λ o given. subst (HaveTypes table.classes (option_to_list o)) (sym takes) given in
       let run : List Slot → ℕ → Ran (Option Slot) = run_bound table part.value in
       ap (λ r. and_then r n (λ o k. returned (basic_ret_of g.ty.ret) (run (slots_of_result o) k))) (st.runs args n have low)

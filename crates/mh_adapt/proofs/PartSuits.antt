@@ -37,7 +37,7 @@ module _ (t f : HandleView) (shaped : IsShaped t) where
         shaped =
             parted-shape t.ty.params f.ty.params place f.ty.ret (handle_body t).params shaped.params
             ∙ (ap (λ c. map basic_of (spliced place c f.ty.params t.ty.params)) (some-count f.ty.ret q.1) ∙ ap (λ (m : MethodTy). map basic_of m.params)
-                (sym q.3));
+            (sym q.3));
       }
 
   pub fold-few : (place : ℕ) (u : MethodTy) → fold_row t.ty t.weight place f.ty f.weight ≡ Ok u → length f.ty.params ≤ 255

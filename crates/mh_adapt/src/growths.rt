@@ -8,17 +8,17 @@ use mh_handle::{Growth, Handle, one_field};
 use mh_values::MethodTy;
 use std::alloc::Global;
 
-/// What an adapter of this type adds to `t`, with its key and its part.
+/// What an adapter of this type adds to `target`, with its key and its part.
 fn with_part<'t>(
     alloc: Global,
     ty: MethodTy,
-    t: &Handle<'t>,
+    target: &Handle<'t>,
     key: Key,
     part: Handle<'t>,
 ) -> Result<Growth<'t>, NoMemory>
-    ensures { IfOk result (AddsPart ty t.now key part.entry) }
+    ensures { IfOk result (AddsPart ty target.now key part.entry) }
 {
-    let weight = 1 + t.weight() + part.weight();
+    let weight = 1 + target.weight() + part.weight();
     let (field, sides) = part.into_part(alloc)?;
     let fields = one_field(alloc, field)?;
     Ok(Growth {
@@ -30,55 +30,57 @@ fn with_part<'t>(
     })
 }
 
-/// What a filter that takes arguments of its own adds to `t`.
+/// What a filter that takes arguments of its own adds to `target`.
 pub(crate) fn collecting<'t>(
     alloc: Global,
     ty: MethodTy,
-    t: &Handle<'t>,
-    pos: u8,
-    f: Handle<'t>,
+    target: &Handle<'t>,
+    position: u8,
+    filter: Handle<'t>,
 ) -> Result<Growth<'t>, NoMemory>
-    ensures { IfOk result (AddsPart ty t.now (collect_key pos f.entry.ty) f.entry) }
+    ensures { IfOk result
+        (AddsPart ty target.now (collect_key position filter.entry.ty) filter.entry) }
 {
-    let shape = shape(alloc, f.ty())?;
+    let shape = shape(alloc, filter.ty())?;
     let key = Key::Collect {
-        pos,
+        pos: position,
         basics: shape.params,
         ret: shape.ret,
     };
-    with_part(alloc, ty, t, key, f)
+    with_part(alloc, ty, target, key, filter)
 }
 
-/// What a combiner adds to `t`.
+/// What a combiner adds to `target`.
 pub(crate) fn folding<'t>(
     alloc: Global,
     ty: MethodTy,
-    t: &Handle<'t>,
-    pos: u8,
-    c: Handle<'t>,
+    target: &Handle<'t>,
+    position: u8,
+    combiner: Handle<'t>,
 ) -> Result<Growth<'t>, NoMemory>
-    requires few { length c.ty.params ≤ 255 }
-    ensures { IfOk result (AddsPart ty t.now (fold_key pos c.entry.ty) c.entry) }
+    requires few { length combiner.ty.params ≤ 255 }
+    ensures { IfOk result
+        (AddsPart ty target.now (fold_key position combiner.entry.ty) combiner.entry) }
 {
-    let shape = shape(alloc, c.ty())?;
+    let shape = shape(alloc, combiner.ty())?;
     let key = Key::Fold {
-        pos,
-        count: c.ty().params.len() as u8,
+        pos: position,
+        count: combiner.ty().params.len() as u8,
         ret: shape.ret,
     };
-    with_part(alloc, ty, t, key, c)
+    with_part(alloc, ty, target, key, combiner)
 }
 
-/// What a filter of the result adds to `t`.
+/// What a filter of the result adds to `target`.
 pub(crate) fn filtering<'t>(
     alloc: Global,
     ty: MethodTy,
-    t: &Handle<'t>,
-    f: Handle<'t>,
+    target: &Handle<'t>,
+    filter: Handle<'t>,
 ) -> Result<Growth<'t>, NoMemory>
-    ensures { IfOk result (AddsPart ty t.now (filterret_key f.entry.ty) f.entry) }
+    ensures { IfOk result (AddsPart ty target.now (filterret_key filter.entry.ty) filter.entry) }
 {
-    let shape = shape(alloc, f.ty())?;
+    let shape = shape(alloc, filter.ty())?;
     let key = Key::FilterReturn { ret: shape.ret };
-    with_part(alloc, ty, t, key, f)
+    with_part(alloc, ty, target, key, filter)
 }

@@ -7,8 +7,7 @@ ghost use Rattle.mh_tree.specs.Tree as tree;
 ghost use Rattle.mh_edit.specs.declared.key.Key.TheVariants as key;
 ghost use Rattle.mh_handle.specs.Grows.{GainsNode};
 ghost use Rattle.mh_handle.specs.Obeys.{Obeys};
-ghost use Rattle.mh_handle.specs.Stands.{Stands};
-ghost use Rattle.mh_handle.specs.Works.{IsReady, GoesOn, Makes};
+ghost use Rattle.mh_handle.specs.Works.{IsReady, GoesOn, Makes, StandsIn, classes_of};
 
 use crate::types::{bind_type, drop_type, permute_type};
 use mh_base::{Copied, NoMemory, Seq};
@@ -21,11 +20,11 @@ use std::alloc::Global;
 use std::sync::Wait;
 
 // The value that fits a type.
-fn fitted(v: Value, ty: Ty, classes: &Classes) -> Value
-    requires { (w : Value) × (fit classes.now v ty ≡ Ok w) }
-    ensures { fit classes.now v ty ≡ Ok result }
+fn fitted(value: Value, ty: Ty, classes: &Classes) -> Value
+    requires { (fitting : Value) × (fit classes.now value ty ≡ Ok fitting) }
+    ensures { fit classes.now value ty ≡ Ok result }
 {
-    let Ok(fitted) = fit(v, ty, classes) else {
+    let Ok(fitted) = fit(value, ty, classes) else {
         unreachable!()
     };
     fitted
@@ -49,103 +48,104 @@ fn places_of(alloc: Global, reorder: &[u8]) -> Result<Places, NoMemory>
     Ok(Seq::from_vec(Vec::from_slice(alloc, reorder)?))
 }
 
-/// A handle that takes no argument at `pos`, where it passes `v` to `t`
+/// A handle that takes no argument at `position`, where it passes `value` to `target`
 /// (`MethodHandles.insertArguments`, SE 17). Refused where there is no such parameter, and where
 /// the value does not fit it.
 pub fn bind<'t, R: Wait>(
     w: &mut Work<'_, 't>,
     rt: &R,
-    alloc: Global,
-    t: Handle<'t>,
-    pos: u8,
-    v: Value,
+    target: Handle<'t>,
+    position: u8,
+    value: Value,
 ) -> Result<Handle<'t>, HandleError>
     requires ready { IsReady w.old 1 }
     ensures goes_on { GoesOn w.old w.new }
-    ensures obeys { Obeys (bind_row w.old.leaves.now.classes t.entry.ty t.entry.weight pos v)
-        result }
-    ensures makes { Makes (t.entry.form.recipe ++ key.Bind pos ∷ [])
-        w.old.pass.now w.new.pass.now result }
-    ensures gains { IfOk result (GainsNode t.entry) }
-    ensures stands { (a : Tree) → Stands w.old.leaves.now t.entry a
-        → IfOk result (λ h. Stands w.old.leaves.now h (tree.Bind a pos v)) }
+    ensures obeys { Obeys (bind_row (classes_of w.old)
+        target.entry.ty target.entry.weight position value) result }
+    ensures makes { Makes (target.entry.form.recipe ++ key.Bind position ∷ []) w.old w.new result }
+    ensures gains { IfOk result (GainsNode target.entry) }
+    ensures stands { (a : Tree) → StandsIn w.old target.entry a
+        → IfOk result (λ h. StandsIn w.old h (tree.Bind a position value)) }
 {
-    let own = bind_type(alloc, w, &t, pos, &v)?;
+    let own = bind_type(w, &target, position, &value)?;
     let classes = w.classes();
-    let param = *t.ty().params.get(usize::from(pos));
-    let slot = erase(fitted(v, param, classes));
-    let fields = one_field(alloc, Field::Val(slot))?;
+    let param = *target.ty().params.get(usize::from(position));
+    let slot = erase(fitted(value, param, classes));
+    let fields = one_field(w.alloc, Field::Val(slot))?;
     let by = Growth {
         ty: own,
-        weight: 1 + t.weight(),
-        sides: Seq::new(alloc),
-        key: Key::Bind { pos },
+        weight: 1 + target.weight(),
+        sides: Seq::new(w.alloc),
+        key: Key::Bind { pos: position },
         fields,
     };
-    t.grown(rt, alloc, w, by)
+    target.grown(w, rt, by)
 }
 
-/// A handle that takes arguments of the types `tys` at `pos`, which `t` does not see
-/// (`MethodHandles.dropArguments`, SE 17). Refused where `pos` is behind the last parameter.
+/// A handle that takes arguments of the types `value_types` at `position`, which `target` does not
+/// see (`MethodHandles.dropArguments`, SE 17). Refused where `position` is after the last
+/// parameter.
 pub fn drop_args<'t, R: Wait>(
     w: &mut Work<'_, 't>,
     rt: &R,
-    alloc: Global,
-    t: Handle<'t>,
-    pos: u8,
-    tys: &Tys,
+    target: Handle<'t>,
+    position: u8,
+    value_types: &Tys,
 ) -> Result<Handle<'t>, HandleError>
     requires ready { IsReady w.old 1 }
     ensures goes_on { GoesOn w.old w.new }
-    ensures obeys { Obeys (drop_row t.entry.ty t.entry.weight pos tys.now) result }
-    ensures makes { Makes (t.entry.form.recipe ++ key.Add pos (map basic_of tys.now) ∷ [])
-        w.old.pass.now w.new.pass.now result }
-    ensures gains { IfOk result (GainsNode t.entry) }
-    ensures stands { (a : Tree) → Stands w.old.leaves.now t.entry a
-        → IfOk result (λ h. Stands w.old.leaves.now h (tree.Drop a pos tys.now)) }
+    ensures obeys { Obeys
+        (drop_row target.entry.ty target.entry.weight position value_types.now) result }
+    ensures makes { Makes (target.entry.form.recipe
+        ++ key.Add position (map basic_of value_types.now) ∷ []) w.old w.new result }
+    ensures gains { IfOk result (GainsNode target.entry) }
+    ensures stands { (a : Tree) → StandsIn w.old target.entry a
+        → IfOk result (λ h. StandsIn w.old h (tree.Drop a position value_types.now)) }
 {
-    let own = drop_type(alloc, w, &t, pos, tys)?;
-    let basics = basics_of(alloc, tys)?;
+    let own = drop_type(w, &target, position, value_types)?;
+    let basics = basics_of(w.alloc, value_types)?;
     let by = Growth {
         ty: own,
-        weight: 1 + t.weight(),
-        sides: Seq::new(alloc),
-        key: Key::Add { pos, basics },
-        fields: Vec::new(alloc),
+        weight: 1 + target.weight(),
+        sides: Seq::new(w.alloc),
+        key: Key::Add {
+            pos: position,
+            basics,
+        },
+        fields: Vec::new(w.alloc),
     };
-    t.grown(rt, alloc, w, by)
+    target.grown(w, rt, by)
 }
 
-/// A handle of the type `ty` that passes to each parameter of `t` the argument that `reorder` names
-/// there (`MethodHandles.permuteArguments`, SE 17). Refused where `reorder` does not name an
+/// A handle of the type `ty` that passes to each parameter of `target` the argument that `reorder`
+/// names there (`MethodHandles.permuteArguments`, SE 17). Refused where `reorder` does not name an
 /// argument of the very type for each parameter, and where the return types differ.
 pub fn permute<'t, R: Wait>(
     w: &mut Work<'_, 't>,
     rt: &R,
-    alloc: Global,
-    t: Handle<'t>,
+    target: Handle<'t>,
     ty: &MethodTy,
     reorder: &[u8],
 ) -> Result<Handle<'t>, HandleError>
     requires ready { IsReady w.old 1 }
     ensures goes_on { GoesOn w.old w.new }
-    ensures obeys { Obeys (permute_row t.entry.ty t.entry.weight ty.now reorder.now) result }
-    ensures makes { Makes (t.entry.form.recipe ++ key.Permute
-        (map basic_of ty.now.params) reorder.now ∷ [])
-        w.old.pass.now w.new.pass.now result }
-    ensures gains { IfOk result (GainsNode t.entry) }
-    ensures stands { (a : Tree) → Stands w.old.leaves.now t.entry a
-        → IfOk result (λ h. Stands w.old.leaves.now h (tree.Permute a ty.now reorder.now)) }
+    ensures obeys { Obeys
+        (permute_row target.entry.ty target.entry.weight ty.now reorder.now) result }
+    ensures makes { Makes (target.entry.form.recipe ++ key.Permute
+        (map basic_of ty.now.params) reorder.now ∷ []) w.old w.new result }
+    ensures gains { IfOk result (GainsNode target.entry) }
+    ensures stands { (a : Tree) → StandsIn w.old target.entry a
+        → IfOk result (λ h. StandsIn w.old h (tree.Permute a ty.now reorder.now)) }
 {
-    let own = permute_type(alloc, w, &t, ty, reorder)?;
-    let basics = basics_of(alloc, &ty.params)?;
-    let reorder = places_of(alloc, reorder)?;
+    let own = permute_type(w, &target, ty, reorder)?;
+    let basics = basics_of(w.alloc, &ty.params)?;
+    let reorder = places_of(w.alloc, reorder)?;
     let by = Growth {
         ty: own,
-        weight: 1 + t.weight(),
-        sides: Seq::new(alloc),
+        weight: 1 + target.weight(),
+        sides: Seq::new(w.alloc),
         key: Key::Permute { basics, reorder },
-        fields: Vec::new(alloc),
+        fields: Vec::new(w.alloc),
     };
-    t.grown(rt, alloc, w, by)
+    target.grown(w, rt, by)
 }

@@ -1,5 +1,5 @@
 //! Adapters of method handles: bound values, dropped and permuted arguments, and parts that run
-//! before or behind a handle.
+//! before or after a handle.
 #![tactic(auto)]
 
 mod growths;

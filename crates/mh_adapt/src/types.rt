@@ -3,6 +3,7 @@
 ghost use Rattle.mh_tree.specs.Check.{Tells};
 ghost use Rattle.mh_tree.specs.Rows.{bind_row, collect_row, drop_row, filter_row, filterret_row, fold_row, permute_row};
 ghost use Rattle.mh_handle.specs.Stands.{IsShaped};
+ghost use Rattle.mh_handle.specs.Works.{classes_of};
 
 use mh_handle::{Handle, Work};
 use mh_tree::{
@@ -10,126 +11,151 @@ use mh_tree::{
     check_permute,
 };
 use mh_values::{MethodTy, Tys, Value};
-use std::alloc::Global;
 
 /// The type of a handle with a value bound.
 pub(crate) fn bind_type<'t>(
-    alloc: Global,
     w: &Work<'_, 't>,
-    t: &Handle<'t>,
-    pos: u8,
-    v: &Value,
+    target: &Handle<'t>,
+    position: u8,
+    value: &Value,
 ) -> Result<MethodTy, CheckError>
-    ensures shaped { IsShaped t.now }
-    ensures tells { Tells result (bind_row w.now.leaves.now.classes t.now.ty t.now.weight pos
-        v.now) }
+    ensures shaped { IsShaped target.now }
+    ensures tells { Tells result
+        (bind_row (classes_of w.now) target.now.ty target.now.weight position value.now) }
 {
-    check_bind(alloc, t.ty(), t.weight(), pos, v, w.classes())
+    check_bind(
+        w.alloc,
+        target.ty(),
+        target.weight(),
+        position,
+        value,
+        w.classes(),
+    )
 }
 
 /// The type of a handle that drops arguments.
 pub(crate) fn drop_type<'t>(
-    alloc: Global,
     w: &Work<'_, 't>,
-    t: &Handle<'t>,
-    pos: u8,
-    tys: &Tys,
+    target: &Handle<'t>,
+    position: u8,
+    value_types: &Tys,
 ) -> Result<MethodTy, CheckError>
-    ensures shaped { IsShaped t.now }
-    ensures tells { Tells result (drop_row t.now.ty t.now.weight pos tys.now) }
+    ensures shaped { IsShaped target.now }
+    ensures tells { Tells result
+        (drop_row target.now.ty target.now.weight position value_types.now) }
 {
-    check_drop(alloc, t.ty(), t.weight(), pos, tys, w.classes())
+    check_drop(
+        w.alloc,
+        target.ty(),
+        target.weight(),
+        position,
+        value_types,
+        w.classes(),
+    )
 }
 
 /// The type of a handle that permutes its arguments.
 pub(crate) fn permute_type<'t>(
-    alloc: Global,
     w: &Work<'_, 't>,
-    t: &Handle<'t>,
+    target: &Handle<'t>,
     ty: &MethodTy,
     reorder: &[u8],
 ) -> Result<MethodTy, CheckError>
-    ensures shaped { IsShaped t.now }
-    ensures tells { Tells result (permute_row t.now.ty t.now.weight ty.now reorder.now) }
+    ensures shaped { IsShaped target.now }
+    ensures tells { Tells result (permute_row target.now.ty target.now.weight ty.now reorder.now) }
 {
-    check_permute(alloc, t.ty(), t.weight(), ty, reorder, w.classes())
+    check_permute(
+        w.alloc,
+        target.ty(),
+        target.weight(),
+        ty,
+        reorder,
+        w.classes(),
+    )
 }
 
 /// The type of a handle with an argument filtered.
 pub(crate) fn filter_type<'t>(
-    alloc: Global,
     w: &Work<'_, 't>,
-    t: &Handle<'t>,
-    pos: u8,
-    f: &Handle<'t>,
+    target: &Handle<'t>,
+    position: u8,
+    filter: &Handle<'t>,
 ) -> Result<MethodTy, CheckError>
-    ensures shaped { IsShaped t.now }
-    ensures tells { Tells result (filter_row t.now.ty t.now.weight pos f.now.ty f.now.weight) }
+    ensures shaped { IsShaped target.now }
+    ensures tells { Tells result (filter_row
+        target.now.ty target.now.weight position filter.now.ty filter.now.weight) }
 {
     check_filter(
-        alloc,
-        t.ty(),
-        t.weight(),
-        pos,
-        f.ty(),
-        f.weight(),
+        w.alloc,
+        target.ty(),
+        target.weight(),
+        position,
+        filter.ty(),
+        filter.weight(),
         w.classes(),
     )
 }
 
 /// The type of a handle with its result filtered.
 pub(crate) fn filterret_type<'t>(
-    alloc: Global,
     w: &Work<'_, 't>,
-    t: &Handle<'t>,
-    f: &Handle<'t>,
+    target: &Handle<'t>,
+    filter: &Handle<'t>,
 ) -> Result<MethodTy, CheckError>
-    ensures shaped { IsShaped t.now }
-    ensures tells { Tells result (filterret_row t.now.ty t.now.weight f.now.ty f.now.weight) }
+    ensures shaped { IsShaped target.now }
+    ensures tells { Tells result (filterret_row
+        target.now.ty target.now.weight filter.now.ty filter.now.weight) }
 {
-    check_filterret(alloc, t.ty(), t.weight(), f.ty(), f.weight(), w.classes())
+    check_filterret(
+        w.alloc,
+        target.ty(),
+        target.weight(),
+        filter.ty(),
+        filter.weight(),
+        w.classes(),
+    )
 }
 
 /// The type of a handle with a combiner.
 pub(crate) fn fold_type<'t>(
-    alloc: Global,
     w: &Work<'_, 't>,
-    t: &Handle<'t>,
-    pos: u8,
-    c: &Handle<'t>,
+    target: &Handle<'t>,
+    position: u8,
+    combiner: &Handle<'t>,
 ) -> Result<MethodTy, CheckError>
-    ensures shaped { IsShaped t.now }
-    ensures tells { Tells result (fold_row t.now.ty t.now.weight pos c.now.ty c.now.weight) }
+    ensures shaped { IsShaped target.now }
+    ensures tells { Tells result (fold_row
+        target.now.ty target.now.weight position combiner.now.ty combiner.now.weight) }
 {
     check_fold(
-        alloc,
-        t.ty(),
-        t.weight(),
-        pos,
-        c.ty(),
-        c.weight(),
+        w.alloc,
+        target.ty(),
+        target.weight(),
+        position,
+        combiner.ty(),
+        combiner.weight(),
         w.classes(),
     )
 }
 
 /// The type of a handle with arguments collected.
 pub(crate) fn collect_type<'t>(
-    alloc: Global,
     w: &Work<'_, 't>,
-    t: &Handle<'t>,
-    pos: u8,
-    f: &Handle<'t>,
+    target: &Handle<'t>,
+    position: u8,
+    filter: &Handle<'t>,
 ) -> Result<MethodTy, CheckError>
-    ensures shaped { IsShaped t.now }
-    ensures tells { Tells result (collect_row t.now.ty t.now.weight pos f.now.ty f.now.weight) }
+    ensures shaped { IsShaped target.now }
+    ensures tells { Tells result (collect_row
+        target.now.ty target.now.weight position filter.now.ty filter.now.weight) }
 {
     check_collect(
-        alloc,
-        t.ty(),
-        t.weight(),
-        pos,
-        f.ty(),
-        f.weight(),
+        w.alloc,
+        target.ty(),
+        target.weight(),
+        position,
+        filter.ty(),
+        filter.weight(),
         w.classes(),
     )
 }

@@ -19,7 +19,7 @@ use Rattle.mh_handle.specs.declared.handle.Handle.{Handle}
 use Rattle.mh_handle.specs.Converting.{IsUsedAs, convert_fields}
 use Rattle.mh_handle.specs.Errors.{of_check}
 use Rattle.mh_handle.specs.Obeys.{Obeys}
-use Rattle.mh_handle.specs.Passes.{PassView}
+use Rattle.mh_handle.specs.declared.work.Work.{Work}
 use Rattle.mh_handle.specs.Recipe.{convert_keys}
 use Rattle.mh_handle.specs.Stands.{HandleView, Stands}
 use Rattle.mh_handle.specs.Works.{IsAccepted}
@@ -73,18 +73,18 @@ use-other classes own asked u h (Ok new) other row used = record {
 }
 use-other classes own asked u h (Err e) other row used = used
 
-pub refused-makes : (recipe keys : List Key) (pass : PassView) (e : CheckError) (r : Result Handle HandleError) → IsErrAnd r (λ x. x ≡ of_check e) →
-    MakesBy recipe keys pass pass r
-refused-makes recipe keys pass e (Ok h) is = absurd is
-refused-makes recipe [] pass check.NoMemory (Err x) is = subst (λ v. MakesBy recipe [] pass pass (Err v)) (sym is) refl
-refused-makes recipe [] pass (check.Refused e) (Err x) is = subst (λ v. MakesBy recipe [] pass pass (Err v)) (sym is) refl
-refused-makes recipe (k ∷ keys) pass check.NoMemory (Err x) is = subst (λ v. MakesBy recipe (k ∷ keys) pass pass (Err v)) (sym is) (refl, inl refl)
-refused-makes recipe (k ∷ keys) pass (check.Refused e) (Err x) is = subst (λ v. MakesBy recipe (k ∷ keys) pass pass (Err v)) (sym is) refl
+pub refused-makes : (recipe keys : List Key) (w : Work) (e : CheckError) (r : Result Handle HandleError) → IsErrAnd r (λ x. x ≡ of_check e) →
+    MakesBy recipe keys w w r
+refused-makes recipe keys w e (Ok h) is = absurd is
+refused-makes recipe [] w check.NoMemory (Err x) is = subst (λ v. MakesBy recipe [] w w (Err v)) (sym is) refl
+refused-makes recipe [] w (check.Refused e) (Err x) is = subst (λ v. MakesBy recipe [] w w (Err v)) (sym is) refl
+refused-makes recipe (k ∷ keys) w check.NoMemory (Err x) is = subst (λ v. MakesBy recipe (k ∷ keys) w w (Err v)) (sym is) (refl, inl refl)
+refused-makes recipe (k ∷ keys) w (check.Refused e) (Err x) is = subst (λ v. MakesBy recipe (k ∷ keys) w w (Err v)) (sym is) refl
 
 pub used-makes :
-    (classes : List Class) (own : MethodTy) (w : ℕ) (asked u : MethodTy) (recipe : List Key) (old new : PassView) (r : Result Handle HandleError) →
+    (classes : List Class) (own : MethodTy) (w : ℕ) (asked u : MethodTy) (recipe : List Key) (old new : Work) (r : Result Handle HandleError) →
     is_same_method_type own asked ≡ false → astype_row classes own w asked ≡ Ok u → MakesBy recipe (convert_keys classes u own) old new r →
-        MakesBy recipe (use_keys classes own asked) old new r
+    MakesBy recipe (use_keys classes own asked) old new r
 used-makes classes own w asked u recipe old new r other row m =
     let keys : convert_keys classes u own ≡ use_keys classes own asked =
     ap (λ a. convert_keys classes a own) (astype_row-parts classes own w asked u row).2 ∙ sym (ap (λ b. cond b [] (convert_keys classes asked own)) other) in
@@ -101,7 +101,7 @@ asked-stands table asked u old t r are other row st used =
 pub used-retyped :
     (cs classes : List Class) (own : MethodTy) (w : ℕ) (asked : MethodTy) (old new : HandleView) (b : Bool) →
     b ≡ true → b ≡ trivial cs asked own → cs ≡ classes → own ≡ old.ty → w ≡ old.weight → new ≡ record old { ty = asked; weight = 1 + w } →
-        IsUsedAs classes asked old new
+    IsUsedAs classes asked old new
 used-retyped cs classes own w asked old new b true-is is c o weight made =
     let kept : trivial classes asked old.ty ≡ true = sym (ap₂ (λ (d : List Class) (t : MethodTy). trivial d asked t) c o) ∙ (sym is ∙ true-is) in
     let P : HandleView → Type 0 = λ h. IsUsedAs classes asked old h in

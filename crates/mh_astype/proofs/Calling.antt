@@ -31,15 +31,29 @@ use Rattle.mh_handle.proofs.AsTypeStands.{astype-stands}
 use Rattle.mh_handle.proofs.TrivialConversions.{all-kept, converts-ok, or_throw-ok, run-kept}
 use Rattle.mh_astype.specs.Calls.{IsRefusal}
 use Rattle.mh_astype.proofs.Using.{trivial, convert_key, keys-changed, keys-kept}
-pub use Rattle.mh_astype.proofs.OwnCalls.{answers, exact-differs, exact-same, exact_keys-differs, exact_keys-same, generic-refused, generic-same, generic-used,
-    generic_keys-refused, generic_keys-same, generic_keys-used, own-typed, thrown-answer, types-are}
+pub use Rattle.mh_astype.proofs.OwnCalls.{
+  answers,
+  exact-differs,
+  exact-same,
+  exact_keys-differs,
+  exact_keys-same,
+  generic-refused,
+  generic-same,
+  generic-used,
+  generic_keys-refused,
+  generic_keys-same,
+  generic_keys-used,
+  own-typed,
+  thrown-answer,
+  types-are,
+}
 
 -- ---- a form that converts, on the handle's own fields
 
 pub converted-used :
     (classes : List Class) (asked : MethodTy) (h : HandleView) (f : FormView) (key : Key) (fields : List Field) →
     trivial classes asked h.ty ≡ false → key ≡ convert_key classes asked h.ty → fields ≡ convert_fields classes asked h.ty →
-        f.recipe ≡ h.form.recipe ++ key ∷ [] →
+    f.recipe ≡ h.form.recipe ++ key ∷ [] →
     IsUsedAs classes asked h (record { ty = asked; weight = 1 + h.weight; sides = h.sides; form = f; fields = h.fields ++ fields })
 converted-used classes asked h f key fields is k fs made = record {
   ty = refl;
@@ -52,11 +66,17 @@ converted-used classes asked h f key fields is k fs made = record {
 module _
     (table : LeafTable) (are : AreClasses table.classes) (asked : MethodTy) (h : HandleView) (f : FormView) (key : Key) (fields : List Field)
     (row : astype_row table.classes h.ty h.weight asked ≡ Ok asked) (is : trivial table.classes asked h.ty ≡ false) (k : key ≡ convert_key table.classes asked
-        h.ty)
+    h.ty)
     (fs : fields ≡ convert_fields table.classes asked h.ty) (made : f.recipe ≡ h.form.recipe ++ key ∷ [])
   where
-    converted-stands : (t : Tree) → Stands table h t → Stands table (record { ty = asked; weight = 1 + h.weight; sides = h.sides; form = f; fields =
-        h.fields ++ fields }) (AsType t asked)
+    converted-stands : (t : Tree) → Stands table h t → Stands table (record {
+      ty = asked;
+      weight = 1 + h.weight;
+      sides = h.sides;
+      form = f;
+      fields =
+          h.fields ++ fields;
+    }) (AsType t asked)
     converted-stands t st =
         astype-stands table are asked asked h (record { ty = asked; weight = 1 + h.weight; sides = h.sides; form = f; fields = h.fields ++ fields }) t row
         (converted-used table.classes asked h f key fields is k fs made) st
@@ -66,7 +86,7 @@ module _
         typed_ran table.classes asked.ret (run_on table (body_of f.recipe) (h.fields ++ fields) (map erased args) n) ≢ Stuck
     converted-runs t args n st have low =
         typed_run-well_formed table (record { ty = asked; weight = 1 + h.weight; sides = h.sides; form = f; fields = h.fields ++ fields }) (AsType t asked) args
-            n (converted-stands t st) have low
+        n (converted-stands t st) have low
 
     pub converted-answer :
         (t : Tree) (args : List Value) (n : ℕ) (a : AnswerView) → Stands table h t → HaveTypes table.classes args asked.params → n < 2 ^ 32 →
@@ -76,7 +96,7 @@ module _
       ran_is =
           answer.ran_is
           ∙ typed_run-stands table (record { ty = asked; weight = 1 + h.weight; sides = h.sides; form = f; fields = h.fields ++ fields }) (AsType t asked) args
-              n (converted-stands t st) have low;
+          n (converted-stands t st) have low;
       keys_are = answer.keys_are ∙ ap length (converted-stands t st).made;
     }
 
@@ -85,7 +105,7 @@ module _
 module _
     (table : LeafTable) (are : AreClasses table.classes) (asked : MethodTy) (h : HandleView) (t : Tree) (st : Stands table h t)
     (row : astype_row table.classes h.ty h.weight asked ≡ Ok asked) (kept : trivial table.classes asked h.ty ≡ true) (args : List Value)
-        (have : HaveTypes table.classes args asked.params)
+    (have : HaveTypes table.classes args asked.params)
   where
     kept-args : conv_all table.classes asked.params h.ty.params args ≡ Ok args
     kept-args =

@@ -1,4 +1,4 @@
--- What a generic call leaves of the pass, by what its edit leaves.
+-- What a generic call leaves of the work, by what its edit leaves of the pass.
 use Rattle.std.proofs.Common.{◌≡◌, refl, sym, subst, ap, false, List, [], ◌∷◌, ◌++◌, Result, Ok, Err, inl, inr}
 use Rattle.std.specs.Prelude.{IsErrAnd}
 use denote.Ref.{Bor}
@@ -8,51 +8,56 @@ use Rattle.mh_edit.specs.declared.key.Key.{Key}
 use Rattle.mh_handle.specs.declared.answer.Answer.{Answer}
 use Rattle.mh_handle.specs.declared.error.EditError.{EditError}
 use Rattle.mh_handle.specs.declared.error.EditError.TheVariants.{NoMemory, FormsFull}
+use Rattle.mh_handle.specs.declared.work.Work.{Work}
 use Rattle.mh_handle.specs.Form.{FormView}
-use Rattle.mh_handle.specs.Passes.{PassView, Edits}
+use Rattle.mh_handle.specs.Passes.{Edits}
 use Rattle.mh_handle.specs.Recipe.{convert_keys}
 use Rattle.mh_astype.specs.Calls.{AsksBy}
 use Rattle.mh_astype.proofs.Using.{trivial, convert_key, keys-changed}
 
-module _ (classes : List Class) (asked own : MethodTy) (recipe : List Key) (key : Key) (old new : PassView) (is : trivial classes asked own ≡ false)
+module _ (classes : List Class) (asked own : MethodTy) (recipe : List Key) (key : Key) (old new : Work) (is : trivial classes asked own ≡ false)
     (k : key ≡ convert_key classes asked own) where
   at-key : (r : Result Answer EditError) → AsksBy recipe (key ∷ []) old new r → AsksBy recipe (convert_keys classes asked own) old new r
   at-key r h =
       let P : List Key → Type 0 = λ ks. AsksBy recipe ks old new r in
       subst P (sym (keys-changed classes asked own is)) (subst P (ap (λ (x : Key). x ∷ []) k) h)
 
-  pub asks-edited : (f : Bor FormView) (a : Answer) → Edits (recipe ++ key ∷ []) old new (Ok f) → AsksBy recipe (convert_keys classes asked own) old new (Ok a)
+  pub asks-edited : (f : Bor FormView) (a : Answer) → Edits (recipe ++ key ∷ []) old.pass.now new.pass.now (Ok f) →
+      AsksBy recipe (convert_keys classes asked own) old new (Ok a)
   asks-edited f a e = at-key (Ok a) ((f.now, e.0, e.1, e.3), e.2)
 
-  pub asks-without-memory : (f : Bor FormView) → Edits (recipe ++ key ∷ []) old new (Ok f) →
+  pub asks-without-memory : (f : Bor FormView) → Edits (recipe ++ key ∷ []) old.pass.now new.pass.now (Ok f) →
       AsksBy recipe (convert_keys classes asked own) old new (Err NoMemory)
   asks-without-memory f e = at-key (Err NoMemory) (inr (f.now, e.0, e.1, e.3), e.2)
 
-  pub asks-refused : (e : EditError) → Edits (recipe ++ key ∷ []) old new (Err e) → AsksBy recipe (convert_keys classes asked own) old new (Err e)
+  pub asks-refused : (e : EditError) → Edits (recipe ++ key ∷ []) old.pass.now new.pass.now (Err e) →
+      AsksBy recipe (convert_keys classes asked own) old new (Err e)
   asks-refused NoMemory h = at-key (Err NoMemory) (inl h.0.1, h.1)
   asks-refused (FormsFull drawn) h = at-key (Err (FormsFull drawn)) h
 
-pub asks-nothing : (recipe keys : List Key) (pass : PassView) → AsksBy recipe keys pass pass (Err NoMemory)
-asks-nothing recipe [] pass = refl
-asks-nothing recipe (k ∷ keys) pass = (inl refl, inl refl)
+pub asks-nothing : (recipe keys : List Key) (w : Work) → AsksBy recipe keys w w (Err NoMemory)
+asks-nothing recipe [] w = refl
+asks-nothing recipe (k ∷ keys) w = (inl refl, inl refl)
 
 -- the same where the refusal is handed on
 pub asks-error :
-    (classes : List Class) (asked own : MethodTy) (recipe : List Key) (key : Key) (old new : PassView) (e : EditError) (r : Result Answer EditError) →
-    trivial classes asked own ≡ false → key ≡ convert_key classes asked own → Edits (recipe ++ key ∷ []) old new (Err e) → IsErrAnd r (λ x. x ≡ e) →
-        AsksBy recipe (convert_keys classes asked own) old new r
+    (classes : List Class) (asked own : MethodTy) (recipe : List Key) (key : Key) (old new : Work) (e : EditError) (r : Result Answer EditError) →
+    trivial classes asked own ≡ false → key ≡ convert_key classes asked own → Edits (recipe ++ key ∷ []) old.pass.now new.pass.now (Err e) →
+    IsErrAnd r (λ x. x ≡ e) →
+    AsksBy recipe (convert_keys classes asked own) old new r
 asks-error classes asked own recipe key old new e (Ok a) is k edits h = absurd h
 asks-error classes asked own recipe key old new e (Err x) is k edits h =
     subst (λ v. AsksBy recipe (convert_keys classes asked own) old new (Err v)) (sym h) (asks-refused classes asked own recipe key old new is k e edits)
 
 pub asks-late :
-    (classes : List Class) (asked own : MethodTy) (recipe : List Key) (key : Key) (old new : PassView) (f : Bor FormView) (r : Result Answer EditError) →
-    trivial classes asked own ≡ false → key ≡ convert_key classes asked own → Edits (recipe ++ key ∷ []) old new (Ok f) → IsErrAnd r (λ x. x ≡ NoMemory) →
-        AsksBy recipe (convert_keys classes asked own) old new r
+    (classes : List Class) (asked own : MethodTy) (recipe : List Key) (key : Key) (old new : Work) (f : Bor FormView) (r : Result Answer EditError) →
+    trivial classes asked own ≡ false → key ≡ convert_key classes asked own → Edits (recipe ++ key ∷ []) old.pass.now new.pass.now (Ok f) →
+    IsErrAnd r (λ x. x ≡ NoMemory) →
+    AsksBy recipe (convert_keys classes asked own) old new r
 asks-late classes asked own recipe key old new f (Ok a) is k edits h = absurd h
 asks-late classes asked own recipe key old new f (Err x) is k edits h =
     subst (λ v. AsksBy recipe (convert_keys classes asked own) old new (Err v)) (sym h) (asks-without-memory classes asked own recipe key old new is k f edits)
 
-pub asks-none : (recipe keys : List Key) (pass : PassView) (r : Result Answer EditError) → IsErrAnd r (λ x. x ≡ NoMemory) → AsksBy recipe keys pass pass r
-asks-none recipe keys pass (Ok a) h = absurd h
-asks-none recipe keys pass (Err x) h = subst (λ v. AsksBy recipe keys pass pass (Err v)) (sym h) (asks-nothing recipe keys pass)
+pub asks-none : (recipe keys : List Key) (w : Work) (r : Result Answer EditError) → IsErrAnd r (λ x. x ≡ NoMemory) → AsksBy recipe keys w w r
+asks-none recipe keys w (Ok a) h = absurd h
+asks-none recipe keys w (Err x) h = subst (λ v. AsksBy recipe keys w w (Err v)) (sym h) (asks-nothing recipe keys w)

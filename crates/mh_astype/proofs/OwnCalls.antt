@@ -23,7 +23,7 @@ use Rattle.mh_astype.specs.Calls.{at_type, exact_keys, generic_keys}
 -- an answer of one kind is one of an equal kind
 pub answers :
     {E : Type 0} (ran ran' : Done) (keys keys' : ℕ) (r : Result AnswerView E) → ran ≡ ran' → keys ≡ keys' → IfOk r (IsAnswer ran keys) →
-        IfOk r (IsAnswer ran' keys')
+    IfOk r (IsAnswer ran' keys')
 answers ran ran' keys keys' (Ok a) e k h = record { ran_is = h.ran_is ∙ e; keys_are = h.keys_are ∙ k }
 answers ran ran' keys keys' (Err x) e k h = h
 
@@ -33,13 +33,13 @@ module _ (table : LeafTable) (h : HandleView) (t : Tree) (asked : MethodTy) (st 
   pub exact-same : (args : List Value) (n : ℕ) → is_same_method_type h.ty asked ≡ true → mean table t args n ≡ exact table t asked args n
   exact-same args n is =
       sym (ap (λ c. known c (λ own. exact_at table t own asked args n)) st.typed ∙
-          ap (λ b. cond b (mean table t args n) (Threw (mismatch table.classes h.ty asked) [])) is)
+      ap (λ b. cond b (mean table t args n) (Threw (mismatch table.classes h.ty asked) [])) is)
 
   pub exact-differs : (args : List Value) (n : ℕ) → is_same_method_type h.ty asked ≡ false → Threw (mismatch table.classes h.ty asked) [] ≡ exact table t asked
       args n
   exact-differs args n is =
       sym (ap (λ c. known c (λ own. exact_at table t own asked args n)) st.typed ∙
-          ap (λ b. cond b (mean table t args n) (Threw (mismatch table.classes h.ty asked) [])) is)
+      ap (λ b. cond b (mean table t args n) (Threw (mismatch table.classes h.ty asked) [])) is)
 
   pub exact_keys-same : is_same_method_type h.ty asked ≡ true → length h.form.recipe ≡ exact_keys table t asked
   exact_keys-same is =
@@ -49,7 +49,7 @@ module _ (table : LeafTable) (h : HandleView) (t : Tree) (asked : MethodTy) (st 
   pub exact_keys-differs : is_same_method_type h.ty asked ≡ false → 0 ≡ exact_keys table t asked
   exact_keys-differs is =
       sym (ap (λ c. at_type c (λ own. cond (is_same_method_type own asked) (length (recipe table t)) 0)) st.typed ∙ ap (λ b. cond b (length (recipe table t)) 0)
-          is)
+      is)
 
   -- ---- generic calls
 
@@ -100,14 +100,14 @@ module _ (table : LeafTable) (h : HandleView) (t : Tree) (asked : MethodTy) (st 
   unfolding other-keys
   generic_keys-refused e is row =
       sym (own-keys ∙ (ap (λ b. cond b (length (recipe table t)) other-keys) is ∙ ap (λ c. at_type c (λ u. length (recipe table (AsType t asked)))) (type-is ∙
-          row)))
+      row)))
 
   pub generic_keys-used : (u : MethodTy) → is_same_method_type h.ty asked ≡ false → astype_row table.classes h.ty h.weight asked ≡ Ok u →
       length (recipe table (AsType t asked)) ≡ generic_keys table t asked
   unfolding other-keys
   generic_keys-used u is row =
       sym (own-keys ∙ (ap (λ b. cond b (length (recipe table t)) other-keys) is ∙ ap (λ c. at_type c (λ v. length (recipe table (AsType t asked)))) (type-is ∙
-          row)))
+      row)))
 
 -- the types are one
 pub types-are : (b : Bool) (own own' asked : MethodTy) → b ≡ true → b ≡ is_same_method_type own asked → own ≡ own' → is_same_method_type own' asked ≡ true

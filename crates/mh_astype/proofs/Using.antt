@@ -17,7 +17,6 @@ use Rattle.mh_handle.specs.declared.handle.Handle.{Handle}
 use Rattle.mh_handle.specs.declared.work.Work.{Work}
 use Rattle.mh_handle.specs.Converting.{IsUsedAs, convert_fields}
 use Rattle.mh_handle.specs.Grows.{Grows}
-use Rattle.mh_handle.specs.Passes.{PassView}
 use Rattle.mh_handle.specs.Recipe.{convert_keys}
 use Rattle.mh_handle.specs.Stands.{HandleView, Stands}
 use Rattle.mh_handle.specs.Works.{GoesOn, Makes}
@@ -40,9 +39,9 @@ used-kept classes asked old is = record {
 
 pub used-grown :
     (classes : List Class) (asked : MethodTy) (old : HandleView) (weight : ℕ) (sides : List MethodTy) (key : Key) (fields : List Field)
-        (r : Result Handle HandleError) →
+    (r : Result Handle HandleError) →
     trivial classes asked old.ty ≡ false → weight ≡ 1 + old.weight → sides ≡ [] → key ≡ convert_key classes asked old.ty →
-        fields ≡ convert_fields classes asked old.ty →
+    fields ≡ convert_fields classes asked old.ty →
     IfOk r (λ new. Grows old new asked weight sides key fields) →
     IfOk r (IsUsedAs classes asked old)
 used-grown classes asked old weight sides key fields (Ok new) is w s k f g = record {
@@ -54,28 +53,28 @@ used-grown classes asked old weight sides key fields (Ok new) is w s k f g = rec
 }
 used-grown classes asked old weight sides key fields (Err e) is w s k f g = tt
 
--- ---- the pass
+-- ---- the work
 
 pub makes-changed :
-    (classes : List Class) (asked own : MethodTy) (recipe : List Key) (key : Key) (old new : PassView) (r : Result Handle HandleError) →
+    (classes : List Class) (asked own : MethodTy) (recipe : List Key) (key : Key) (old new : Work) (r : Result Handle HandleError) →
     trivial classes asked own ≡ false → key ≡ convert_key classes asked own → Makes (recipe ++ key ∷ []) old new r →
-        MakesBy recipe (convert_keys classes asked own) old new r
+    MakesBy recipe (convert_keys classes asked own) old new r
 makes-changed classes asked own recipe key old new r is k m =
     let P : List Key → Type 0 = λ ks. MakesBy recipe ks old new r in
     let Q : Key → Type 0 = λ x. Makes (recipe ++ x ∷ []) old new r in
     subst P (sym (keys-changed classes asked own is)) (subst Q k m)
 
 -- want of memory before any edit
-pub makes-nothing : (recipe keys : List Key) (pass : PassView) (r : Result Handle HandleError) → IsErrAnd r (λ x. x ≡ NoMemory) →
-    MakesBy recipe keys pass pass r
-makes-nothing recipe keys pass (Ok h) is = absurd is
-makes-nothing recipe [] pass (Err x) is = subst (λ v. MakesBy recipe [] pass pass (Err v)) (sym is) refl
-makes-nothing recipe (k ∷ keys) pass (Err x) is = subst (λ v. MakesBy recipe (k ∷ keys) pass pass (Err v)) (sym is) (refl, inl refl)
+pub makes-nothing : (recipe keys : List Key) (w : Work) (r : Result Handle HandleError) → IsErrAnd r (λ x. x ≡ NoMemory) →
+    MakesBy recipe keys w w r
+makes-nothing recipe keys w (Ok h) is = absurd is
+makes-nothing recipe [] w (Err x) is = subst (λ v. MakesBy recipe [] w w (Err v)) (sym is) refl
+makes-nothing recipe (k ∷ keys) w (Err x) is = subst (λ v. MakesBy recipe (k ∷ keys) w w (Err v)) (sym is) (refl, inl refl)
 
-pub makes-kept : (classes : List Class) (asked own : MethodTy) (recipe : List Key) (pass : PassView) (h : HandleView) → trivial classes asked own ≡ true →
-    MakesBy recipe (convert_keys classes asked own) pass pass (Ok h)
-makes-kept classes asked own recipe pass h is =
-    let P : List Key → Type 0 = λ ks. MakesBy recipe ks pass pass (Ok h) in subst P (sym (keys-kept classes asked own is)) refl
+pub makes-kept : (classes : List Class) (asked own : MethodTy) (recipe : List Key) (w : Work) (h : HandleView) → trivial classes asked own ≡ true →
+    MakesBy recipe (convert_keys classes asked own) w w (Ok h)
+makes-kept classes asked own recipe w h is =
+    let P : List Key → Type 0 = λ ks. MakesBy recipe ks w w (Ok h) in subst P (sym (keys-kept classes asked own is)) refl
 
 pub goes_on-still : (w : Work) → GoesOn w w
 goes_on-still w = record { forms = refl; leaves = refl; cells = refl; learnt = starts-refl w.pass.now.nodes }

@@ -1,4 +1,4 @@
--- How many keys the form has that an exact or a generic call runs, and what a generic call leaves of a pass.
+-- How many keys the form has that an exact or a generic call runs, and what a generic call leaves of a thread's work.
 use Rattle.std.specs.Prelude.{◌≡◌, ℕ, ◌<◌, ◌⊎◌, List, [], ◌∷◌, ◌++◌, length, if◌then◌else◌, Option, Some, None, Result, Ok, Err}
 use Rattle.mh_values.specs.declared.class.Class.{Class}
 use Rattle.mh_values.specs.declared.types.MethodTy.{MethodTy}
@@ -13,9 +13,10 @@ use Rattle.mh_edit.specs.declared.key.Key.{Key}
 use Rattle.mh_handle.specs.declared.answer.Answer.{Answer}
 use Rattle.mh_handle.specs.declared.error.EditError.{EditError}
 use Rattle.mh_handle.specs.declared.error.EditError.TheVariants.{NoMemory, FormsFull}
+use Rattle.mh_handle.specs.declared.work.Work.{Work}
 use Rattle.mh_handle.specs.Form.{FormView}
 use Rattle.mh_handle.specs.Index.{recipe_of}
-use Rattle.mh_handle.specs.Passes.{PassView, AsksFor, NotAsked, Draws, DrawsAtMostOne, IsFormOf}
+use Rattle.mh_handle.specs.Passes.{AsksFor, NotAsked, Draws, DrawsAtMostOne, IsFormOf}
 use Rattle.mh_handle.specs.Recipe.{convert_keys, recipe}
 
 -- a number that depends on a type, 0 where there is none
@@ -45,18 +46,21 @@ call_keys classes own weight asked =
     if is_same_method_type own asked then [] else unless_refused (astype_row classes own weight asked) (convert_keys classes asked own)
 
 -- the form of a recipe is asked for, the one that the pass has learnt by then
-abbrev pub Asks : List Key → PassView → PassView → Type 0
-Asks keys old new = (f : FormView) × (f.recipe ≡ keys) × AsksFor f old new × IsFormOf keys new.nodes f
+abbrev pub AsksForRecipe : List Key → Work → Work → Type 0
+AsksForRecipe keys old new = (f : FormView) × (f.recipe ≡ keys) × AsksFor f old.pass.now new.pass.now × IsFormOf keys new.pass.now.nodes f
 
--- what a generic call leaves of the pass that adds these keys to a recipe: nothing is asked for where there is none
-abbrev pub AsksBy : List Key → List Key → PassView → PassView → Result Answer EditError → Type 0
+-- what a generic call leaves of the work that adds these keys to a recipe: nothing is asked for where there is none
+abbrev pub AsksBy : List Key → List Key → Work → Work → Result Answer EditError → Type 0
 AsksBy recipe [] old new (Err (FormsFull drawn)) = ⊥
 AsksBy recipe [] old new answer = new ≡ old
-AsksBy recipe (k ∷ keys) old new (Ok a) = Asks (recipe ++ k ∷ keys) old new × DrawsAtMostOne (recipe ++ k ∷ keys) old new
+AsksBy recipe (k ∷ keys) old new (Ok a) =
+    AsksForRecipe (recipe ++ k ∷ keys) old new × DrawsAtMostOne (recipe ++ k ∷ keys) old.pass.now new.pass.now
 AsksBy recipe (k ∷ keys) old new (Err NoMemory) =
-    ((new.asked ≡ old.asked) ⊎ Asks (recipe ++ k ∷ keys) old new) × DrawsAtMostOne (recipe ++ k ∷ keys) old new
+    ((new.pass.now.asked ≡ old.pass.now.asked) ⊎ AsksForRecipe (recipe ++ k ∷ keys) old new)
+    × DrawsAtMostOne (recipe ++ k ∷ keys) old.pass.now new.pass.now
 AsksBy recipe (k ∷ keys) old new (Err (FormsFull drawn)) =
-    NotAsked (recipe ++ k ∷ keys) old new × Draws drawn old.seat new.seat × (16384 < drawn) × Lacks recipe_of new.nodes (recipe ++ k ∷ keys)
+    NotAsked (recipe ++ k ∷ keys) old.pass.now new.pass.now × Draws drawn old.pass.now.seat new.pass.now.seat × (16384 < drawn)
+    × Lacks recipe_of new.pass.now.nodes (recipe ++ k ∷ keys)
 
 -- the refusal of a use as a type, if it is refused
 abbrev pub IsRefusal : TypeOrRefusal → MethodTy → Option Exc → Type 0

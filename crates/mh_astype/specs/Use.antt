@@ -1,4 +1,4 @@
--- What a handle becomes that is used as a type, and what that leaves of a pass.
+-- What a handle becomes that is used as a type, and what that leaves of a thread's work.
 use Rattle.std.specs.Prelude.{◌+◌, ◌≡◌, ℕ, List, [], ◌∷◌, ◌++◌, if◌then◌else◌, Result, Ok, Err}
 use Rattle.mh_values.specs.declared.class.Class.{Class}
 use Rattle.mh_values.specs.declared.types.MethodTy.{MethodTy}
@@ -10,8 +10,8 @@ use Rattle.mh_edit.specs.declared.key.Key.{Key}
 use Rattle.mh_handle.specs.declared.error.HandleError.{HandleError}
 use Rattle.mh_handle.specs.declared.error.HandleError.TheVariants.{FormsFull}
 use Rattle.mh_handle.specs.declared.handle.Handle.{Handle}
+use Rattle.mh_handle.specs.declared.work.Work.{Work}
 use Rattle.mh_handle.specs.Converting.{convert_fields}
-use Rattle.mh_handle.specs.Passes.{PassView}
 use Rattle.mh_handle.specs.Recipe.{convert_keys}
 use Rattle.mh_handle.specs.Stands.{HandleView}
 use Rattle.mh_handle.specs.Works.{Makes}
@@ -43,8 +43,8 @@ pub record IsUse (classes : List Class) (asked : MethodTy) (old new : HandleView
   pub recipe : new.form.recipe ≡ old.form.recipe ++ use_keys classes old.ty asked
   pub fields : new.fields ≡ old.fields ++ use_fields classes old.ty asked
 
--- what a call leaves of the pass that adds these keys to a recipe: nothing is asked for where there is none
-abbrev pub MakesBy : List Key → List Key → PassView → PassView → Result Handle HandleError → Type 0
+-- what a call leaves of the work that adds these keys to a recipe: nothing is asked for where there is none
+abbrev pub MakesBy : List Key → List Key → Work → Work → Result Handle HandleError → Type 0
 MakesBy recipe [] old new (Err (FormsFull drawn)) = ⊥
 MakesBy recipe [] old new result = new ≡ old
 MakesBy recipe (k ∷ keys) old new result = Makes (recipe ++ k ∷ keys) old new result

@@ -8,7 +8,7 @@ ghost use Rattle.mh_handle.specs.Answers.{IsAnswer};
 ghost use Rattle.mh_convert.specs.Conversion.{is_trivial_ret};
 ghost use Rattle.mh_handle.specs.Recipe.{are_trivial, convert_keys, recipe};
 ghost use Rattle.mh_handle.specs.Stands.{Stands, StandsForSome};
-ghost use Rattle.mh_handle.specs.Works.{IsReady, GoesOn};
+ghost use Rattle.mh_handle.specs.Works.{IsReady, GoesOn, StandsIn, classes_of, leaves_of};
 ghost use Rattle.mh_astype.specs.Calls.{AsksBy, IsRefusal, call_keys, exact_keys, generic_keys};
 
 use crate::conversions::{convert_fields, convert_key, is_trivial};
@@ -25,21 +25,21 @@ use std::sync::Wait;
 /// is called.
 pub fn invoke_exact<'t>(
     alloc: Global,
-    h: &Handle<'t>,
+    handle: &Handle<'t>,
     leaves: &Leaves,
     call: &MethodTy,
     args: &Items,
     n: u32,
 ) -> Result<Answer, NoMemory>
     requires typed { HaveTypes leaves.now.classes args.now call.now.params }
-    requires stands { StandsForSome leaves.now h.now }
-    ensures { (t : Tree) → Stands leaves.now h.now t → IfOk result
+    requires stands { StandsForSome leaves.now handle.now }
+    ensures { (t : Tree) → Stands leaves.now handle.now t → IfOk result
         (IsAnswer (exact leaves.now t call.now args.now n) (exact_keys leaves.now t call.now)) }
 {
-    if is_same_method_type(h.ty(), call) {
-        h.invoke(alloc, leaves, args, n)
+    if is_same_method_type(handle.ty(), call) {
+        handle.invoke(alloc, leaves, args, n)
     } else {
-        let exc = mismatch(alloc, h.ty(), call, leaves.classes())?;
+        let exc = mismatch(alloc, handle.ty(), call, leaves.classes())?;
         Ok(Answer::thrown(alloc, exc))
     }
 }
@@ -48,107 +48,103 @@ pub fn invoke_exact<'t>(
 fn invoke_converted<'t, R: Wait>(
     w: &mut Work<'_, 't>,
     rt: &R,
-    alloc: Global,
-    h: &Handle<'t>,
+    handle: &Handle<'t>,
     call: &MethodTy,
     args: &Items,
     n: u32,
 ) -> Result<Answer, EditError>
-    requires row { astype_row w.old.leaves.now.classes h.now.ty h.now.weight call.now ≡ Ok
-        call.now }
-    requires changes { (are_trivial w.old.leaves.now.classes call.now.params h.now.ty.params &&
-        is_trivial_ret w.old.leaves.now.classes h.now.ty.ret call.now.ret) ≡ false }
-    requires typed { HaveTypes w.old.leaves.now.classes args.now call.now.params }
-    requires stands { StandsForSome w.old.leaves.now h.now }
+    requires row { astype_row (classes_of w.old) handle.now.ty handle.now.weight call.now
+        ≡ Ok call.now }
+    requires changes { (are_trivial (classes_of w.old) call.now.params handle.now.ty.params &&
+        is_trivial_ret (classes_of w.old) handle.now.ty.ret call.now.ret) ≡ false }
+    requires typed { HaveTypes (classes_of w.old) args.now call.now.params }
+    requires stands { StandsForSome (leaves_of w.old) handle.now }
     requires ready { IsReady w.old 1 }
     ensures goes_on { GoesOn w.old w.new }
-    ensures asks { AsksBy h.now.form.recipe (convert_keys w.old.leaves.now.classes call.now
-        h.now.ty) w.old.pass.now w.new.pass.now result }
-    ensures answer { (t : Tree) → Stands w.old.leaves.now h.now t
-        → IfOk result (IsAnswer (mean w.old.leaves.now (AsType t call.now) args.now n)
-        (length (recipe w.old.leaves.now (AsType t call.now)))) }
+    ensures asks { AsksBy handle.now.form.recipe
+        (convert_keys (classes_of w.old) call.now handle.now.ty) w.old w.new result }
+    ensures answer { (t : Tree) → StandsIn w.old handle.now t
+        → IfOk result (IsAnswer (mean (leaves_of w.old) (AsType t call.now) args.now n)
+        (length (recipe (leaves_of w.old) (AsType t call.now)))) }
 {
     let classes = w.classes();
-    let key = convert_key(alloc, call, h.ty(), classes)?;
-    let more = convert_fields(alloc, call, h.ty(), classes)?;
-    let form = w.forms.edit(rt, alloc, w.pass, h.form(), key)?;
-    Ok(h.invoke_edited(alloc, form, more, call.ret, w.leaves, args, n)?)
+    let key = convert_key(w.alloc, call, handle.ty(), classes)?;
+    let more = convert_fields(w.alloc, call, handle.ty(), classes)?;
+    let form = w.edit(rt, handle.form(), key)?;
+    Ok(handle.invoke_edited(w.alloc, form, more, call.ret, w.leaves, args, n)?)
 }
 
 /// A call through the conversions to the type, of which maybe none changes anything.
 fn invoke_used<'t, R: Wait>(
     w: &mut Work<'_, 't>,
     rt: &R,
-    alloc: Global,
-    h: &Handle<'t>,
+    handle: &Handle<'t>,
     call: &MethodTy,
     args: &Items,
     n: u32,
 ) -> Result<Answer, EditError>
-    requires row { astype_row w.old.leaves.now.classes h.now.ty h.now.weight call.now ≡ Ok
-        call.now }
-    requires typed { HaveTypes w.old.leaves.now.classes args.now call.now.params }
-    requires stands { StandsForSome w.old.leaves.now h.now }
+    requires row { astype_row (classes_of w.old) handle.now.ty handle.now.weight call.now
+        ≡ Ok call.now }
+    requires typed { HaveTypes (classes_of w.old) args.now call.now.params }
+    requires stands { StandsForSome (leaves_of w.old) handle.now }
     requires ready { IsReady w.old 1 }
     ensures goes_on { GoesOn w.old w.new }
-    ensures asks { AsksBy h.now.form.recipe (convert_keys w.old.leaves.now.classes call.now
-        h.now.ty) w.old.pass.now w.new.pass.now result }
-    ensures answer { (t : Tree) → Stands w.old.leaves.now h.now t
-        → IfOk result (IsAnswer (mean w.old.leaves.now (AsType t call.now) args.now n)
-        (length (recipe w.old.leaves.now (AsType t call.now)))) }
+    ensures asks { AsksBy handle.now.form.recipe
+        (convert_keys (classes_of w.old) call.now handle.now.ty) w.old w.new result }
+    ensures answer { (t : Tree) → StandsIn w.old handle.now t
+        → IfOk result (IsAnswer (mean (leaves_of w.old) (AsType t call.now) args.now n)
+        (length (recipe (leaves_of w.old) (AsType t call.now)))) }
 {
-    if is_trivial(call, h.ty(), w.classes()) {
-        Ok(h.invoke(alloc, w.leaves, args, n)?)
+    if is_trivial(call, handle.ty(), w.classes()) {
+        Ok(handle.invoke(w.alloc, w.leaves, args, n)?)
     } else {
-        invoke_converted(w, rt, alloc, h, call, args, n)
+        invoke_converted(w, rt, handle, call, args, n)
     }
 }
 
 /// Why the handle may not be used as the type, if it may not.
 fn refusal<'t>(
     alloc: Global,
-    h: &Handle<'t>,
+    handle: &Handle<'t>,
     call: &MethodTy,
     classes: &Classes,
 ) -> Result<Option<Exc>, NoMemory>
-    ensures { IfOk result (IsRefusal (astype_row classes.now h.now.ty h.now.weight call.now)
-        call.now) }
+    ensures { IfOk result (IsRefusal
+        (astype_row classes.now handle.now.ty handle.now.weight call.now) call.now) }
 {
-    match check_astype(alloc, h.ty(), h.weight(), call, classes) {
+    match check_astype(alloc, handle.ty(), handle.weight(), call, classes) {
         Ok(_) => Ok(None),
         Err(CheckError::Refused(exc)) => Ok(Some(exc)),
         Err(CheckError::NoMemory) => Err(NoMemory),
     }
 }
 
-/// A call by a type as which the handle is used (`MethodHandle.invoke`, SE 17), where `n` leaf calls
-/// were made before: as `as_type`, and then the call, on the handle's own fields. Where the type is
-/// refused it throws that exception, and neither a leaf is called nor an edit made.
+/// A call by a type as which the handle is used (`MethodHandle.invoke`, SE 17), where `n` leaf
+/// calls were made before: as `as_type`, and then the call, on the handle's own fields. Where the
+/// type is refused it throws that exception, and neither a leaf is called nor an edit made.
 pub fn invoke_generic<'t, R: Wait>(
     w: &mut Work<'_, 't>,
     rt: &R,
-    alloc: Global,
-    h: &Handle<'t>,
+    handle: &Handle<'t>,
     call: &MethodTy,
     args: &Items,
     n: u32,
 ) -> Result<Answer, EditError>
-    requires typed { HaveTypes w.old.leaves.now.classes args.now call.now.params }
-    requires stands { StandsForSome w.old.leaves.now h.now }
+    requires typed { HaveTypes (classes_of w.old) args.now call.now.params }
+    requires stands { StandsForSome (leaves_of w.old) handle.now }
     requires ready { IsReady w.old 1 }
     ensures goes_on { GoesOn w.old w.new }
-    ensures asks { AsksBy h.now.form.recipe
-        (call_keys w.old.leaves.now.classes h.now.ty h.now.weight call.now) w.old.pass.now
-        w.new.pass.now result }
-    ensures answer { (t : Tree) → Stands w.old.leaves.now h.now t → IfOk result
-        (IsAnswer (generic w.old.leaves.now t call.now args.now n)
-        (generic_keys w.old.leaves.now t call.now)) }
+    ensures asks { AsksBy handle.now.form.recipe
+        (call_keys (classes_of w.old) handle.now.ty handle.now.weight call.now) w.old w.new result }
+    ensures answer { (t : Tree) → StandsIn w.old handle.now t → IfOk result
+        (IsAnswer (generic (leaves_of w.old) t call.now args.now n)
+        (generic_keys (leaves_of w.old) t call.now)) }
 {
-    if is_same_method_type(h.ty(), call) {
-        return Ok(h.invoke(alloc, w.leaves, args, n)?);
+    if is_same_method_type(handle.ty(), call) {
+        return Ok(handle.invoke(w.alloc, w.leaves, args, n)?);
     }
-    if let Some(exc) = refusal(alloc, h, call, w.leaves.classes())? {
-        return Ok(Answer::thrown(alloc, exc));
+    if let Some(exc) = refusal(w.alloc, handle, call, w.leaves.classes())? {
+        return Ok(Answer::thrown(w.alloc, exc));
     }
-    invoke_used(w, rt, alloc, h, call, args, n)
+    invoke_used(w, rt, handle, call, args, n)
 }

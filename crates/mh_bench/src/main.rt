@@ -2,7 +2,6 @@
 //! prints the row, the number and a sum over all answers.
 #![tactic(auto)]
 
-mod making;
 mod rows;
 
 use rows::{Row, measured, row_named};

@@ -1,27 +1,26 @@
 //! The work that is measured.
 
-ghost use Rattle.std.specs.Prelude.{◌≡◌, ◌≤◌, ◌+◌, List, length, IfOk};
-ghost use Rattle.mh_values.specs.declared.class.Class.{Class};
+ghost use Rattle.std.specs.Prelude.{◌≡◌, ◌≤◌, ◌+◌, length, IfOk};
 ghost use Rattle.mh_values.specs.HasType.{HaveTypes};
 ghost use Rattle.mh_handle.specs.Passes.{seat_at};
 ghost use Rattle.mh_handle.specs.Works.{IsReady};
 ghost use Rattle.mh_handle.specs.Stands.{StandsForSome};
 
-use crate::making::{ADD, INT, SAME, Step, demo_leaves, made};
 use mh_adapt::bind;
 use mh_astype::invoke_exact;
-use mh_base::{NoMemory, Seq};
+use mh_base::{Frozen, NoMemory, Seq};
 use mh_edit::Key;
 use mh_form::{Basic, BasicRet, Basics, Shape};
-use mh_handle::{FormSeat, FormTable, Handle, HandleError, Work};
-use mh_leaves::Leaves;
-use mh_values::{Items, LeafId, MethodTy, Num, Tys, Value};
+use mh_handle::{FormTable, Handle, HandleError, Work};
+use mh_leaves::{Leaves, read_manifest};
+use mh_steps::{ADD, Joined, MANIFEST, Root, SAME, Start, Step, TEXT, Typed, are_typed, made};
+use mh_values::{Items, LeafId, Num, Value};
 use std::alloc::Global;
 use std::sync::Wait;
 
 /// What is measured.
 #[derive(Clone, Copy)]
-pub enum Row {
+pub(crate) enum Row {
     /// A call of a leaf under a bind, a filter and a conversion.
     RunThreeNames,
     /// An edit that the pass has seen.
@@ -34,32 +33,71 @@ pub enum Row {
     Tree256,
     /// A form more on one table.
     NewForm,
+    /// A call on a text of 4,096 characters, which goes through 60 filters.
+    LongText,
+    /// A call on a text of one character, which goes through 60 filters.
+    ShortText,
 }
 
-static ROWS: [(&str, Row); 6] = [
+static ROWS: [(&str, Row); 8] = [
     ("run-three-names", Row::RunThreeNames),
     ("edit-seen", Row::EditSeen),
     ("bind-seen", Row::BindSeen),
     ("drops-60", Row::Drops60),
     ("tree-256", Row::Tree256),
     ("new-form", Row::NewForm),
+    ("text-4096", Row::LongText),
+    ("text-1", Row::ShortText),
 ];
 
-const THREE_NAMES: [Step; 3] = [Step::Bind(5), Step::Filter, Step::Convert];
+/// The first argument goes through the leaf `same`.
+const FILTERED: Step = Step::Joined(SAME, Joined::Filter(0));
+
+/// An int is taken first, and dropped.
+const DROPPED: Step = Step::Typed("(I)V", Typed::Drop(0));
+
+const THREE_NAMES: [Step; 3] = [
+    Step::Bind(0, "I:5"),
+    FILTERED,
+    Step::Typed("(I)J", Typed::AsType),
+];
 
 const TREE: [Step; 8] = [
-    Step::Double,
-    Step::Double,
-    Step::Double,
-    Step::Double,
-    Step::Double,
-    Step::Double,
-    Step::Double,
-    Step::Drop(1),
+    Step::Doubled,
+    Step::Doubled,
+    Step::Doubled,
+    Step::Doubled,
+    Step::Doubled,
+    Step::Doubled,
+    Step::Doubled,
+    DROPPED,
 ];
 
+/// A descriptor of 193 ints.
+const INTS_193: &str = "(\
+    IIIIIIIIIIIIIIIIIIIIIIIIIIIIIIIIIIIIIIIIIIIIIIIIIIIIIIIIIIIIIIII\
+    IIIIIIIIIIIIIIIIIIIIIIIIIIIIIIIIIIIIIIIIIIIIIIIIIIIIIIIIIIIIIIII\
+    IIIIIIIIIIIIIIIIIIIIIIIIIIIIIIIIIIIIIIIIIIIIIIIIIIIIIIIIIIIIIIII\
+    I)V";
+
+/// Arguments of a call.
+#[derive(Clone, Copy)]
+enum Args {
+    Ints(&'static [i32]),
+    /// One text of so many characters.
+    Text(usize),
+}
+
+/// What is called: a leaf, the steps that adapt it, and the arguments.
+#[derive(Clone, Copy)]
+struct Subject<'a> {
+    leaf: LeafId,
+    steps: &'a [Step],
+    args: Args,
+}
+
 /// The row of a name.
-pub fn row_named(name: &str) -> Option<Row> {
+pub(crate) fn row_named(name: &str) -> Option<Row> {
     for (word, row) in &ROWS {
         if *word == name {
             return Some(*row);
@@ -68,90 +106,100 @@ pub fn row_named(name: &str) -> Option<Row> {
     None
 }
 
+/// Ints as arguments.
+fn int_args(alloc: Global, numbers: &[i32]) -> Result<Items, NoMemory> {
+    let mut args = Seq::new(alloc);
+    for number in numbers {
+        args.push(Value::Prim(Num::I(*number)))?;
+    }
+    Ok(args)
+}
+
+/// One text of so many characters as an argument.
+fn text_args(alloc: Global, length: usize) -> Result<Items, NoMemory> {
+    let mut characters = Seq::new(alloc);
+    for _ in 0..length {
+        characters.push('x')?;
+    }
+    let mut args = Seq::new(alloc);
+    args.push(Value::Text(Frozen::of(alloc, characters)?))?;
+    Ok(args)
+}
+
+fn items_of(alloc: Global, args: Args) -> Result<Items, NoMemory> {
+    match args {
+        Args::Ints(numbers) => int_args(alloc, numbers),
+        Args::Text(length) => text_args(alloc, length),
+    }
+}
+
 /// Calls a handle, and counts the leaf calls.
 fn run_once<'t>(
     alloc: Global,
-    h: &Handle<'t>,
+    handle: &Handle<'t>,
     leaves: &Leaves,
-    ty: &MethodTy,
     args: &Items,
 ) -> Result<u64, NoMemory>
-    requires typed { HaveTypes leaves.now.classes args.now ty.now.params }
-    requires stands { StandsForSome leaves.now h.now }
+    requires typed { HaveTypes leaves.now.classes args.now handle.now.ty.params }
+    requires stands { StandsForSome leaves.now handle.now }
 {
-    let answer = invoke_exact(alloc, h, leaves, ty, args, 0)?;
+    let answer = invoke_exact(alloc, handle, leaves, handle.ty(), args, 0)?;
     Ok(answer.calls().len() as u64)
 }
 
-/// Calls a handle so many times with ints of its types, and counts the leaf calls.
+/// Calls a handle so many times, and counts the leaf calls.
 fn run_each<'t>(
     alloc: Global,
-    h: &Handle<'t>,
+    handle: &Handle<'t>,
     leaves: &Leaves,
-    ty: &MethodTy,
     args: &Items,
     turns: u32,
 ) -> Result<u64, NoMemory>
-    requires typed { HaveTypes leaves.now.classes args.now ty.now.params }
-    requires stands { StandsForSome leaves.now h.now }
+    requires typed { HaveTypes leaves.now.classes args.now handle.now.ty.params }
+    requires stands { StandsForSome leaves.now handle.now }
 {
     let mut calls: u64 = 0;
     for _ in 0..turns {
-        calls = calls.wrapping_add(run_once(alloc, h, leaves, ty, args)?);
+        calls = calls.wrapping_add(run_once(alloc, handle, leaves, args)?);
     }
     Ok(calls)
 }
 
-/// Ints as arguments, and their types.
-fn int_args(alloc: Global, numbers: &[i32]) -> Result<(Items, Tys), NoMemory>
-    ensures { IfOk result
-        (λ made. (classes : List Class) → HaveTypes classes made.0 made.1) }
-{
-    let mut params = Seq::new(alloc);
-    let mut args = Seq::new(alloc);
-    for number in numbers {
-        params.push(INT)?;
-        args.push(Value::Prim(Num::I(*number)))?;
-    }
-    Ok((args, params))
-}
-
-/// Calls a handle of ints so many times.
+/// Calls a handle so many times, if the arguments have the types of its parameters.
 fn run<'t>(
     alloc: Global,
-    h: &Handle<'t>,
+    handle: &Handle<'t>,
     leaves: &Leaves,
-    numbers: &[i32],
+    args: &Items,
     turns: u32,
 ) -> Result<u64, NoMemory>
-    requires stands { StandsForSome leaves.now h.now }
+    requires stands { StandsForSome leaves.now handle.now }
 {
-    let (args, params) = int_args(alloc, numbers)?;
-    let ty = MethodTy {
-        params,
-        ret: h.ty().ret,
-    };
-    run_each(alloc, h, leaves, &ty, &args, turns)
+    if !are_typed(
+        args.as_slice(),
+        handle.ty().params.as_slice(),
+        leaves.classes(),
+    ) {
+        return Err(NoMemory);
+    }
+    run_each(alloc, handle, leaves, args, turns)
 }
 
 /// Asks so many times for the form of a handle with its first parameter bound.
 fn edit_each<'t, R: Wait>(
     w: &mut Work<'_, 't>,
     rt: &R,
-    alloc: Global,
-    h: &Handle<'t>,
+    handle: &Handle<'t>,
     turns: u32,
 ) -> Result<u64, HandleError>
     requires ready { IsReady w.old turns }
 {
-    if h.ty().params.is_empty() {
+    if handle.ty().params.is_empty() {
         return Ok(0);
     }
     let mut sum: u64 = 0;
     for turn in 0..turns {
-        let form = w
-            .forms
-            .edit(rt, alloc, w.pass, h.form(), Key::Bind { pos: 0 })?;
+        let form = w.edit(rt, handle.form(), Key::Bind { pos: 0 })?;
         sum = sum.wrapping_add(form.number());
     }
     Ok(sum)
@@ -161,16 +209,15 @@ fn edit_each<'t, R: Wait>(
 fn bind_each<'t, R: Wait>(
     w: &mut Work<'_, 't>,
     rt: &R,
-    alloc: Global,
-    h: &Handle<'t>,
+    handle: &Handle<'t>,
     turns: u32,
 ) -> Result<u64, HandleError>
     requires ready { IsReady w.old turns }
 {
     let mut sum: u64 = 0;
     for turn in 0..turns {
-        let copy = h.copy(alloc, w)?;
-        let bound = bind(w, rt, alloc, copy, 0, Value::Boxed(Num::I(1)))?;
+        let copy = handle.copy(w)?;
+        let bound = bind(w, rt, copy, 0, Value::Boxed(Num::I(1)))?;
         sum = sum.wrapping_add(bound.form().number());
     }
     Ok(sum)
@@ -192,130 +239,160 @@ fn digits(alloc: Global, number: u32) -> Result<Basics, NoMemory> {
 }
 
 /// Makes so many forms, each of a leaf of another shape.
-fn forms<'t, R: Wait>(
-    w: &mut Work<'_, 't>,
-    rt: &R,
-    alloc: Global,
-    turns: u32,
-) -> Result<u64, HandleError>
+fn forms<'t, R: Wait>(w: &mut Work<'_, 't>, rt: &R, turns: u32) -> Result<u64, HandleError>
     requires ready { IsReady w.old turns }
 {
     let mut sum: u64 = 0;
     for turn in 0..turns {
         let shape = Shape {
-            params: digits(alloc, turn)?,
+            params: digits(w.alloc, turn)?,
             ret: BasicRet::V,
         };
         let base = w.forms.base();
-        let form = w
-            .forms
-            .edit(rt, alloc, w.pass, base, Key::LeafRoot { shape })?;
+        let form = w.edit(rt, base, Key::LeafRoot { shape })?;
         sum = sum.wrapping_add(form.number());
     }
     Ok(sum)
 }
 
-/// Makes a handle of ints by these steps, and calls it so many times.
+/// Makes a handle, and calls it so many times.
 fn calls<'t, R: Wait>(
     w: &mut Work<'_, 't>,
     rt: &R,
-    alloc: Global,
-    id: LeafId,
-    steps: &[Step],
-    numbers: &[i32],
+    subject: Subject<'_>,
     turns: u32,
 ) -> Result<u64, HandleError>
-    requires ready { IsReady w.old 201 }
-    requires few { length steps.now ≤ 100 }
+    requires ready { IsReady w.old 204 }
+    requires few { length subject.steps.now ≤ 100 }
 {
     let leaves = w.leaves;
-    let h = made(w, rt, alloc, id, steps)?;
-    Ok(run(alloc, &h, leaves, numbers, turns)?)
+    let handle = made(w, rt, Root::Leaf(subject.leaf), subject.steps)?;
+    let args = items_of(w.alloc, subject.args)?;
+    Ok(run(w.alloc, &handle, leaves, &args, turns)?)
 }
 
 /// Makes a handle, and asks so many times for its form with the first parameter bound.
-fn edits<'t, R: Wait>(
-    w: &mut Work<'_, 't>,
-    rt: &R,
-    alloc: Global,
-    turns: u32,
-) -> Result<u64, HandleError>
-    requires ready { IsReady w.old (201 + turns) }
+fn edits<'t, R: Wait>(w: &mut Work<'_, 't>, rt: &R, turns: u32) -> Result<u64, HandleError>
+    requires ready { IsReady w.old (204 + turns) }
 {
-    let h = made(w, rt, alloc, ADD, &[Step::Filter])?;
-    edit_each(w, rt, alloc, &h, turns)
+    let handle = made(w, rt, Root::Leaf(ADD), &[FILTERED])?;
+    edit_each(w, rt, &handle, turns)
 }
 
 /// Makes a handle, and binds so many copies of it.
-fn binds<'t, R: Wait>(
-    w: &mut Work<'_, 't>,
-    rt: &R,
-    alloc: Global,
-    turns: u32,
-) -> Result<u64, HandleError>
-    requires ready { IsReady w.old (201 + turns) }
+fn binds<'t, R: Wait>(w: &mut Work<'_, 't>, rt: &R, turns: u32) -> Result<u64, HandleError>
+    requires ready { IsReady w.old (204 + turns) }
 {
-    let h = made(w, rt, alloc, ADD, &[Step::Filter])?;
-    bind_each(w, rt, alloc, &h, turns)
+    let handle = made(w, rt, Root::Leaf(ADD), &[FILTERED])?;
+    bind_each(w, rt, &handle, turns)
 }
 
 /// A drop of 193 ints, and 60 drops of one.
 fn drops() -> [Step; 61]
     ensures { length result ≤ 100 }
 {
-    let mut steps = [Step::Drop(1); 61];
-    steps[0] = Step::Drop(193);
+    let mut steps = [DROPPED; 61];
+    steps[0] = Step::Typed(INTS_193, Typed::Drop(0));
     steps
 }
 
 /// Makes a handle of 254 parameters.
-fn many_drops<'t, R: Wait>(w: &mut Work<'_, 't>, rt: &R, alloc: Global) -> Result<u64, HandleError>
-    requires ready { IsReady w.old 201 }
+fn many_drops<'t, R: Wait>(w: &mut Work<'_, 't>, rt: &R) -> Result<u64, HandleError>
+    requires ready { IsReady w.old 204 }
 {
-    let h = made(w, rt, alloc, SAME, &drops())?;
-    Ok(h.form().number())
+    let handle = made(w, rt, Root::Leaf(SAME), &drops())?;
+    Ok(handle.form().number())
+}
+
+/// Sixty filters of a text.
+fn text_filters() -> [Step; 60]
+    ensures { length result ≤ 100 }
+{
+    [Step::Joined(TEXT, Joined::Filter(0)); 60]
+}
+
+/// Calls a handle so many times on a text, which goes through 60 filters.
+fn texts<'t, R: Wait>(
+    w: &mut Work<'_, 't>,
+    rt: &R,
+    length: usize,
+    turns: u32,
+) -> Result<u64, HandleError>
+    requires ready { IsReady w.old 204 }
+{
+    let subject = Subject {
+        leaf: TEXT,
+        steps: &text_filters(),
+        args: Args::Text(length),
+    };
+    calls(w, rt, subject, turns)
+}
+
+/// Calls a handle of ints so many times.
+fn three_names<'t, R: Wait>(w: &mut Work<'_, 't>, rt: &R, turns: u32) -> Result<u64, HandleError>
+    requires ready { IsReady w.old 204 }
+{
+    let subject = Subject {
+        leaf: ADD,
+        steps: &THREE_NAMES,
+        args: Args::Ints(&[7]),
+    };
+    calls(w, rt, subject, turns)
+}
+
+/// Calls a tree of weight 256 so many times.
+fn tree<'t, R: Wait>(w: &mut Work<'_, 't>, rt: &R, turns: u32) -> Result<u64, HandleError>
+    requires ready { IsReady w.old 204 }
+{
+    let subject = Subject {
+        leaf: SAME,
+        steps: &TREE,
+        args: Args::Ints(&[1, 2]),
+    };
+    calls(w, rt, subject, turns)
 }
 
 /// The work of a row, so many times, on one table.
 fn row_on<'t, R: Wait>(
     w: &mut Work<'_, 't>,
     rt: &R,
-    alloc: Global,
     row: Row,
     turns: u32,
 ) -> Result<u64, HandleError>
-    requires ready { IsReady w.old (201 + turns) }
+    requires ready { IsReady w.old (204 + turns) }
 {
     match row {
-        Row::RunThreeNames => calls(w, rt, alloc, ADD, &THREE_NAMES, &[7], turns),
-        Row::EditSeen => edits(w, rt, alloc, turns),
-        Row::BindSeen => binds(w, rt, alloc, turns),
-        Row::Drops60 => many_drops(w, rt, alloc),
-        Row::Tree256 => calls(w, rt, alloc, SAME, &TREE, &[1, 2], turns),
-        Row::NewForm => forms(w, rt, alloc, turns),
+        Row::RunThreeNames => three_names(w, rt, turns),
+        Row::EditSeen => edits(w, rt, turns),
+        Row::BindSeen => binds(w, rt, turns),
+        Row::Drops60 => many_drops(w, rt),
+        Row::Tree256 => tree(w, rt, turns),
+        Row::NewForm => forms(w, rt, turns),
+        Row::LongText => texts(w, rt, 4096, turns),
+        Row::ShortText => texts(w, rt, 1, turns),
     }
 }
 
 /// The work of a row, so many times, by the first pass over a table.
-fn first_on<R: Wait>(
-    rt: &R,
-    alloc: Global,
-    table: &FormTable,
-    seat: FormSeat,
-    leaves: &Leaves,
-    row: Row,
-    turns: u32,
-) -> Result<u64, HandleError>
-    requires first { seat ≡ seat_at 0 }
+fn first_on<R: Wait>(rt: &R, start: Start<'_>, row: Row, turns: u32) -> Result<u64, HandleError>
+    requires first { start.seat ≡ seat_at 0 }
 {
+    let Start {
+        alloc,
+        table,
+        seat,
+        leaves,
+    } = start;
     let mut pass = table.first_pass(alloc, seat)?;
     let mut w = Work {
+        alloc,
         forms: table,
         pass: &mut pass,
         leaves,
     };
-    let done = row_on(&mut w, rt, alloc, row, turns);
+    let done = row_on(&mut w, rt, row, turns);
     let Work {
+        alloc: _,
         forms: _,
         pass: _,
         leaves: _,
@@ -332,11 +409,27 @@ fn once<R: Wait>(
     turns: u32,
 ) -> Result<u64, HandleError> {
     let (table, seat) = FormTable::new(alloc)?;
-    first_on(rt, alloc, &table, seat, leaves, row, turns)
+    let start = Start {
+        alloc,
+        table: &table,
+        seat,
+        leaves,
+    };
+    first_on(rt, start, row, turns)
+}
+
+/// The leaves of all rows.
+fn demo_leaves(alloc: Global) -> Result<Leaves, NoMemory> {
+    read_manifest(alloc, MANIFEST).map_err(|_| NoMemory)
 }
 
 /// The work of a row, so many times. The answer depends on all of it.
-pub fn measured<R: Wait>(rt: &R, alloc: Global, row: Row, turns: u32) -> Result<u64, HandleError> {
+pub(crate) fn measured<R: Wait>(
+    rt: &R,
+    alloc: Global,
+    row: Row,
+    turns: u32,
+) -> Result<u64, HandleError> {
     let leaves = demo_leaves(alloc)?;
     if !matches!(row, Row::Drops60) {
         return once(rt, alloc, &leaves, row, turns);

@@ -21,7 +21,7 @@ use Rattle.mh_edit.specs.declared.key.Key.{Key}
 use Rattle.mh_edit.specs.declared.key.Key.TheVariants as key
 use Rattle.mh_handle.specs.declared.error.HandleError.{HandleError}
 use Rattle.mh_handle.specs.Grows.{Grows}
-use Rattle.mh_handle.specs.Passes.{PassView}
+use Rattle.mh_handle.specs.declared.work.Work.{Work}
 use Rattle.mh_handle.specs.Recipe.{at_some}
 use Rattle.mh_handle.specs.Stands.{HandleView, Stands}
 use Rattle.mh_handle.specs.Works.{Makes}
@@ -46,7 +46,7 @@ gather-light classes t weight array count u row =
     (limited-low (codes "gather") (1 + weight) (made q.0) u r.1).1
 
 pub gather-makes :
-    (array : Option Ty) (count : ℕ) (c : Comp) (k : Key) (recipe : List Key) (old new : PassView) (r : Result HandleView HandleError) →
+    (array : Option Ty) (count : ℕ) (c : Comp) (k : Key) (recipe : List Key) (old new : Work) (r : Result HandleView HandleError) →
     component_of array ≡ Some c →
     k ≡ key.Gather count (basic_of (item_type c)) →
     Makes (recipe ++ k ∷ []) old new r →
@@ -58,7 +58,7 @@ gather-makes array count c k recipe old new r some is makes =
 
 pub gather-answers :
     (table : LeafTable) (h : HandleView) (array : Option Ty) (count : ℕ) (c : Comp) (u : MethodTy) (k : Key) (sides : List MethodTy) (fields : List Field)
-        (r : Result HandleView HandleError) (t : Tree) →
+    (r : Result HandleView HandleError) (t : Tree) →
     AreClasses table.classes →
     gather_row table.classes h.ty h.weight array count ≡ Ok u →
     component_of array ≡ Some c →

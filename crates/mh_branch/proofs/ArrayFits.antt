@@ -23,11 +23,7 @@ use Rattle.mh_form.specs.declared.body.FormBody.{FormBody}
 use Rattle.mh_form.specs.Erasure.{basic_of}
 use Rattle.mh_edit.specs.declared.key.Key.TheVariants as key
 use Rattle.mh_edit.specs.Fit.{ends_with, fits, is_basic_at, is_nothing, is_same_basic}
-
-same_basic-itself : (b : Basic) → is_same_basic b b ≡ true
-same_basic-itself basic.L = refl
-same_basic-itself basic.I = refl
-same_basic-itself basic.J = refl
+use Rattle.mh_handle.proofs.Basics.{same_basic-itself}
 
 -- parameters of one type have one basic type
 one_basic : (t : Ty) (types : List Ty) → list_all (λ p. is_same_type p t) types ≡ true → list_all (is_same_basic (basic_of t)) (map basic_of types) ≡ true
@@ -56,7 +52,7 @@ spread-fits t weight array count c u body row some begun shaped =
     let basics : list_all (is_same_basic b) (drop (length (map basic_of t.params) - count) (map basic_of t.params)) ≡ true =
     ap (λ n. list_all (is_same_basic b) (drop (n - count) (map basic_of t.params))) many
     ∙ (ap (list_all (is_same_basic b)) (drop-map basic_of (length t.params - count) t.params) ∙
-        one_basic (item_type c) (drop (length t.params - count) t.params) all) in
+    one_basic (item_type c) (drop (length t.params - count) t.params) all) in
     let ends : ends_with body.params count b ≡ true = ap (λ ps. ends_with ps count b) shaped ∙ both-true _ _ within basics in
     both-true (not (is_nothing body)) (ends_with body.params count b) (ap not begun) ends
 
@@ -81,5 +77,5 @@ gather-fits classes t weight array count u b body row begun shaped =
     ∙ takes_reference classes parts.0 last.0 last.2 in
     let ends : is_basic_at body.params (length body.params - 1) basic.L ≡ true =
     ap (λ ps. is_basic_at ps (length ps - 1) basic.L) shaped ∙ (ap (λ n. is_basic_at (map basic_of t.params) (n - 1) basic.L) (length-map t.params basic_of) ∙
-        at) in
+    at) in
     both-true (not (is_nothing body)) (is_basic_at body.params (length body.params - 1) basic.L) (ap not begun) ends

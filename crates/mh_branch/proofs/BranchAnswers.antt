@@ -22,7 +22,7 @@ use Rattle.mh_edit.specs.Fit.{fits}
 use Rattle.mh_handle.specs.declared.error.HandleError.{HandleError}
 use Rattle.mh_handle.specs.declared.growth.Growth.{Growth}
 use Rattle.mh_handle.specs.Grows.{Grows, base_handle}
-use Rattle.mh_handle.specs.Passes.{PassView}
+use Rattle.mh_handle.specs.declared.work.Work.{Work}
 use Rattle.mh_handle.specs.Stands.{HandleView, Stands}
 use Rattle.mh_handle.specs.Works.{Makes}
 use Rattle.mh_handle.proofs.Limits.{limited-low}
@@ -40,7 +40,7 @@ module _ (c t e : HandleView) (u : MethodTy) (row : guard_row c.ty c.weight t.ty
       let weight = 1 + c.weight + t.weight + e.weight in
       let within = limited (codes "guard") weight t.ty in
       let q = provided-parts (is_same_method_type e.ty t.ty && is_same_return c.ty.ret (Some boolean_type) && begins_with_types t.ty.params c.ty.params)
-          (illegal (codes "guard")) within u row in
+      (illegal (codes "guard")) within u row in
       limited-low (codes "guard") weight t.ty u q.1
 
   pub guard-few : length c.ty.params ≤ 254
@@ -59,7 +59,7 @@ module _ (c t e : HandleView) (u : MethodTy) (row : guard_row c.ty c.weight t.ty
     pub guard-light : by.weight ≤ 256
     guard-light = let light = limits.1 in omega (arith, is.weight)
 
-    pub guard-makes : (old new : PassView) (r : Result HandleView HandleError) → Makes (by.key ∷ []) old new r → Makes (guard_key t.ty c.ty ∷ []) old new r
+    pub guard-makes : (old new : Work) (r : Result HandleView HandleError) → Makes (by.key ∷ []) old new r → Makes (guard_key t.ty c.ty ∷ []) old new r
     guard-makes old new r makes = subst (λ k. Makes (k ∷ []) old new r) key makes
 
     pub guard-answers :
@@ -118,7 +118,7 @@ module _ (classes : List Class) (t : HandleView) (class : ClassId) (h : HandleVi
     pub catch-light : by.weight ≤ 256
     catch-light = let light = bounds.1 in omega (arith, is.weight)
 
-    pub catch-makes : (old new : PassView) (r : Result HandleView HandleError) → Makes (by.key ∷ []) old new r → Makes (catch_key t.ty h.ty ∷ []) old new r
+    pub catch-makes : (old new : Work) (r : Result HandleView HandleError) → Makes (by.key ∷ []) old new r → Makes (catch_key t.ty h.ty ∷ []) old new r
     catch-makes old new r makes = subst (λ k. Makes (k ∷ []) old new r) key' makes
 
 pub catch-answers :

@@ -58,7 +58,7 @@ decides table None yes_tree no_tree t e ret args k have h g = absurd have
 decides table (Some v) yes_tree no_tree t e ret args k have h g =
     let b = is_boolean table.classes v have.0 in
     let P : Value → Type 0 = λ x. Refines (erased_ran (decided (Some x) yes_tree no_tree))
-        (returned ret (run_bound table (if holds_one (erased v) then t else e) args k)) in
+    (returned ret (run_bound table (if holds_one (erased v) then t else e) args k)) in
     subst P (sym b.1) (by_boolean b.0 (erased v) yes_tree no_tree table t e ret args k (ap erased b.1) h g)
 
 -- a branch on all arguments

@@ -94,7 +94,7 @@ catch-stands table h t class u m body handler body_field handler_field are stand
     let made_body = catch_body (shape_of body.ty) kept in
     let typed : type_of table (tree.Catch t class u) ≡ catch_row table.classes body.ty body.weight class handler.ty handler.weight =
     λ i. with_type (stands.typed i) (λ bt. with_type (handles.typed i) (λ ht. catch_row table.classes bt (sym stands.weighed i) class ht
-        (sym handles.weighed i))) in
+    (sym handles.weighed i))) in
     let heavy : 1 + body.weight + handler.weight ≡ 1 + weight t + weight u = λ i. 1 + stands.weighed i + handles.weighed i in
     let keys : recipe table (tree.Catch t class u) ≡ key.CatchRoot (shape_of body.ty) kept ∷ [] =
     λ i. at_type (stands.typed i) (λ bt. at_type (handles.typed i) (λ ht. key.CatchRoot (shape_of bt) (length ht.params - 1) ∷ [])) in
@@ -102,10 +102,10 @@ catch-stands table h t class u m body handler body_field handler_field are stand
     λ i. held_before (stands.typed i) (sym stands.holds i) ++ held_before (handles.typed i) (sym handles.holds i) in
     let sound : IsSound table.classes (mean table (tree.Catch t class u)) h.ty =
     subst (λ o. IsSound table.classes (λ args n. guarded (mean table t args n) (is_caught table.classes class) n
-        (λ e k. mean table u (value.Thrown e ∷ take (arity_of o - 1) args) k)) h.ty) (sym handles.typed)
+    (λ e k. mean table u (value.Thrown e ∷ take (arity_of o - 1) args) k)) h.ty) (sym handles.typed)
     (catch-sound table.classes are (mean table t) (mean table u) body.ty body.weight class handler.ty handler.weight h.ty stands.returns handles.returns row) in
     let does : (args : List Value) (n : ℕ) → HaveTypes table.classes args h.ty.params → n < 2 ^ 32 →
-        Refines (erased_ran (mean table (tree.Catch t class u) args n)) (run_on table made_body h.fields (map erased args) n) =
+    Refines (erased_ran (mean table (tree.Catch t class u) args n)) (run_on table made_body h.fields (map erased args) n) =
     λ args n have low.
     let have_body : HaveTypes table.classes args body.ty.params = subst (λ (m : MethodTy). HaveTypes table.classes args m.params) own have in
     let slots = map erased args in
@@ -115,14 +115,14 @@ catch-stands table h t class u m body handler body_field handler_field are stand
     let next : Exc → ℕ → Done = λ e k. mean table u (value.Thrown e ∷ take kept args) k in
     let run : Exc → ℕ → Ran (Option Slot) = λ e k. run_bound table handler_box.value (slot.L (value.Thrown e) ∷ take kept slots) k in
     let ran : run_bound table body_box.value slots n ≡ erased_ran r = ap (λ f. f slots n) (part-runs table body body_field body_part) ∙
-        stands.runs args n have_body low in
+    stands.runs args n have_body low in
     let means : mean table (tree.Catch t class u) args n ≡ guarded r test n next =
-        ap (λ o. guarded r test n (λ e k. mean table u (value.Thrown e ∷ take (arity_of o - 1) args) k)) handles.typed in
+    ap (λ o. guarded r test n (λ e k. mean table u (value.Thrown e ∷ take (arity_of o - 1) args) k)) handles.typed in
     let handled : (e : Exc) (k : ℕ) → test e ≡ true → k < 2 ^ 32 → Refines (erased_ran (next e k)) (run e k) =
     λ e k below small.
     let xs = value.Thrown e ∷ take kept args in
     let have_handler : HaveTypes table.classes xs handler.ty.params = handler-typed table.classes are class handler.ty.params body.ty.params args e parts.1
-        below have_body in
+    below have_body in
     refines-is _ _ (sym (ap (λ f. f (slot.L (value.Thrown e) ∷ take kept slots) k) (part-runs table handler handler_field handler_part)
     ∙ (ap (λ ys. handle_run table handler (slot.L (value.Thrown e) ∷ ys) k) (take-map erased kept args) ∙ handles.runs xs k have_handler small))) in
     let all : Refines (erased_ran (guarded r test n next)) (guarded (erased_ran r) test n run) =
@@ -138,5 +138,5 @@ catch-stands table h t class u m body handler body_field handler_field are stand
     (refines-trans _ _ _ (refines-is _ _ (ap (λ x. returned ret (guarded x test n run)) (sym ran)))
     (refines-trans _ _ _ law (refines-is _ _ (ap (λ fs. run_on table made_body fs slots n) (sym fields)))))) in
     stands-rooted table h (tree.Catch t class u) made_body sound (typed ∙ row) (grows.weighed ∙ heavy) (grows.made ∙ sym keys) (grows.holds ∙ sym held)
-        (ap body_of grows.made)
+    (ap body_of grows.made)
     (ap length fields) (ap (λ (m : MethodTy). map basic_of m.params) (sym own)) refl does

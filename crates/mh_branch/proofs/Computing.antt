@@ -28,7 +28,7 @@ pub and_then-erased :
     Returns classes r ret →
     n < 2 ^ 32 →
     ((v : Option Value) (k : ℕ) → HaveTypes classes (option_to_list v) (option_to_list ret) → k < 2 ^ 32 →
-        Refines (erased_ran (next v k)) (run (none_as_zero (erased_option v)) k)) →
+    Refines (erased_ran (next v k)) (run (none_as_zero (erased_option v)) k)) →
     Refines (erased_ran (and_then r n next)) (and_then (filled (erased_ran r)) n run)
 and_then-erased classes (Gave v calls) n ret run next h low more =
     refines-erased-after calls (next v (raised n calls)) (run (none_as_zero (erased_option v)) (raised n calls))

@@ -3,12 +3,10 @@ use Rattle.std.proofs.Common.{◌≡◌, ◌≢◌, refl, sym, subst, ap, ◌∙
 use Rattle.std.specs.Prelude.{slice_get}
 use Rattle.std.proofs.lemmas.List.{length-map, length-replicate}
 use Rattle.std.proofs.lemmas.Option.{slice_get_within}
-use Rattle.mh_values.specs.declared.class.Class.{Class}
 use Rattle.mh_values.specs.declared.types.Comp.{Comp}
 use Rattle.mh_values.specs.declared.types.Ty.{Ty}
 use Rattle.mh_values.specs.declared.types.Ty.TheVariants as ty
 use Rattle.mh_values.specs.declared.types.MethodTy.{MethodTy}
-use Rattle.mh_values.specs.declared.value.Exc.{Exc}
 use Rattle.mh_values.specs.declared.value.Value.{Value}
 use Rattle.mh_values.specs.Array.{array_of, item_type}
 use Rattle.mh_values.specs.Classes.{AreClasses}
@@ -24,16 +22,13 @@ use Rattle.mh_tree.specs.Meaning.{Done, mean, or_throw, part_of}
 use Rattle.mh_tree.specs.Sound.{IsSound}
 use Rattle.mh_tree.proofs.RowParts.{gather_row-parts}
 use Rattle.mh_tree.proofs.SoundAdapters.{one-taken}
-use Rattle.mh_tree.proofs.SoundConversions.{Converts}
 use Rattle.mh_tree.proofs.SoundGather.{array-converts, gather-sound, last-there}
 use Rattle.mh_tree.proofs.TypedLists.{types-length, types-part, types-splice}
 use Rattle.mh_form.specs.declared.slot.Slot.{Slot}
 use Rattle.mh_form.specs.declared.field.Field.TheVariants as field
-use Rattle.mh_form.specs.Erasure.{all_typed, basic_of, erased, erased_ran}
+use Rattle.mh_form.specs.Erasure.{basic_of, erased, erased_ran}
 use Rattle.mh_form.specs.Run.{run_on}
-use Rattle.mh_form.specs.Slots.{made_array, slot_or_throw}
-use Rattle.mh_form.proofs.Computations.{and_then-pure}
-use Rattle.mh_form.proofs.ErasureLaws.{erased-all_typed}
+use Rattle.mh_form.specs.Slots.{made_array}
 use Rattle.mh_form.proofs.Refines.{refined}
 use Rattle.mh_edit.specs.declared.key.Key.TheVariants as key
 use Rattle.mh_edit.specs.Applied.{applied}
@@ -46,28 +41,7 @@ use Rattle.mh_handle.proofs.Erasing.{part-map, returns-runs, spliced-map}
 use Rattle.mh_handle.proofs.Standing.{stands-grown}
 use Rattle.mh_branch.proofs.ArrayShapes.{gather-shaped}
 use Rattle.mh_branch.proofs.Rooted.{made-named}
-
-map-same : {A B : Type 0} (b : B) (xs : List A) → map (λ x. b) xs ≡ replicate (length xs) b
-map-same b [] = refl
-map-same b (x ∷ xs) = ap (λ ys. b ∷ ys) (map-same b xs)
-
--- the array of values of its items' type, erased
-array-erased : (classes : List Class) (c : Comp) (count : ℕ) (vs : List Value) → length vs ≡ count → HaveTypes classes vs (replicate count (item_type c)) →
-    made_array classes c (map erased vs) ≡ slot_or_throw (array_of c vs)
-array-erased classes c count vs long have =
-    let types : map (λ (s : Slot). item_type c) (map erased vs) ≡ replicate count (item_type c) =
-    map-same (item_type c) (map erased vs) ∙ ap (λ n. replicate n (item_type c)) (length-map vs erased ∙ long) in
-    ap (λ ts. found (all_typed classes ts (map erased vs)) (λ ws. slot_or_throw (array_of c ws))) types
-    ∙ ap (λ o. found o (λ ws. slot_or_throw (array_of c ws))) (erased-all_typed classes (replicate count (item_type c)) vs have)
-
--- what runs on an array that was made
-array-then :
-    (classes : List Class) (r : Result Value Exc) (t : Ty) (n : ℕ) (run : Slot → ℕ → Ran (Option Slot)) (next : Value → Done) →
-    Converts classes r t →
-    ((v : Value) → has_type classes v t ≡ true → run (erased v) n ≡ erased_ran (next v)) →
-    and_then (slot_or_throw r) n run ≡ erased_ran (or_throw r next)
-array-then classes (Ok v) t n run next typed same = and_then-pure (erased v) n run ∙ same v typed
-array-then classes (Err e) t n run next typed same = refl
+use Rattle.mh_branch.proofs.GatheredArrays.{array-erased, array-then}
 
 pub gather-stands :
     (table : LeafTable) (h h' : HandleView) (t : Tree) (array : Option Ty) (count : ℕ) (c : Comp) (u : MethodTy) →
@@ -99,40 +73,42 @@ gather-stands table h h' t array count c u are st row some grows =
     let typed : type_of table gather ≡ Ok u = (λ i. with_type (st.typed i) (λ m. gather_row table.classes m (sym st.weighed i) array count)) ∙ row in
     let sound : IsSound table.classes (mean table gather) u =
     subst (λ o. IsSound table.classes (λ args n. found (component_of array) (λ d. or_throw (array_of d (part_of (arity_of o - 1) count args))
-        (λ v. mean table t (spliced (arity_of o - 1) count (v ∷ []) args) n))) u) (sym st.typed)
+    (λ v. mean table t (spliced (arity_of o - 1) count (v ∷ []) args) n))) u) (sym st.typed)
     (gather-sound table.classes are (mean table t) h.ty h.weight array count u st.returns row) in
     let runs : (args : List Value) (n : ℕ) → HaveTypes table.classes args u.params → n < 2 ^ 32 →
-        run_on table new (h.fields ++ field.Comp c ∷ []) (map erased args) n ≡ erased_ran (mean table gather args n) =
+    run_on table new (h.fields ++ field.Comp c ∷ []) (map erased args) n ≡ erased_ran (mean table gather args n) =
     λ args n have low.
     let have' : HaveTypes table.classes args params = subst (λ (m : MethodTy). HaveTypes table.classes args m.params) made have in
     let behind : place ≤ length h.ty.params = omega arith in
     let vs = part_of place count args in
     let mine : HaveTypes table.classes vs items = subst (λ m. HaveTypes table.classes (part_of place m args) items) many
-        (types-part table.classes args h.ty.params items place 1 behind have') in
+    (types-part table.classes args h.ty.params items place 1 behind have') in
     let slots = map erased args in
     let run : Slot → ℕ → Ran (Option Slot) = λ s k. run_on table old h.fields (spliced place count (s ∷ []) slots) k in
     let next : Value → Done = λ v. mean table t (spliced place count (v ∷ []) args) n in
     let each : (v : Value) → has_type table.classes v (ty.Array c) ≡ true → run (erased v) n ≡ erased_ran (next v) =
     λ v given.
     let one : HaveTypes table.classes (v ∷ []) (take 1 (drop place h.ty.params)) =
-    subst (HaveTypes table.classes (v ∷ [])) (sym (one-taken h.ty.params place last.0 last.1)) (value-below table.classes are (ty.Array c) last.0 below v given,
-        tt) in
+    subst (HaveTypes table.classes (v ∷ [])) (sym (one-taken h.ty.params place last.0 last.1)) (
+      value-below table.classes are (ty.Array c) last.0 below v given,
+      tt,
+    ) in
     let put = types-splice table.classes args (v ∷ []) h.ty.params items place 1 behind have' one in
     let whole : HaveTypes table.classes (spliced place count (v ∷ []) args) h.ty.params =
-        subst (λ m. HaveTypes table.classes (spliced place m (v ∷ []) args) h.ty.params) many put in
+    subst (λ m. HaveTypes table.classes (spliced place m (v ∷ []) args) h.ty.params) many put in
     ap (λ xs. run_on table old h.fields xs n) (sym (spliced-map erased place count (v ∷ []) args)) ∙ st.runs (spliced place count (v ∷ []) args) n whole low in
     let gathering : and_then (made_array table.classes c (take count (drop place slots))) n run ≡ erased_ran (or_throw (array_of c vs) next) =
     ap (λ r. and_then r n run) (ap (made_array table.classes c) (sym (part-map erased place count args)) ∙ array-erased table.classes c count vs
-        (types-length table.classes vs items mine ∙ many) mine)
+    (types-length table.classes vs items mine ∙ many) mine)
     ∙ array-then table.classes (array_of c vs) (ty.Array c) n run next (array-converts table.classes are c count vs mine) each in
     let means : mean table gather args n ≡ or_throw (array_of c vs) next =
     ap (λ o. found (component_of array) (λ d. or_throw (array_of d (part_of (arity_of o - 1) count args))
-        (λ v. mean table t (spliced (arity_of o - 1) count (v ∷ []) args) n))) st.typed
+    (λ v. mean table t (spliced (arity_of o - 1) count (v ∷ []) args) n))) st.typed
     ∙ ap (λ o. found o (λ d. or_throw (array_of d vs) next)) some in
     let law_run : and_then (made_array table.classes c (take count (drop (length old.params - 1) slots))) n
-        (λ s k. run_on table old h.fields (spliced (length old.params - 1) count (s ∷ []) slots) k) ≡ erased_ran (mean table gather args n) =
+    (λ s k. run_on table old h.fields (spliced (length old.params - 1) count (s ∷ []) slots) k) ≡ erased_ran (mean table gather args n) =
     ap (λ m. and_then (made_array table.classes c (take count (drop (m - 1) slots))) n (λ s k. run_on table old h.fields (spliced (m - 1) count (s ∷ []) slots)
-        k)) arity
+    k)) arity
     ∙ (gathering ∙ sym (ap erased_ran means)) in
     let runs_well : erased_ran (mean table gather args n) ≢ Stuck = returns-runs table.classes (mean table gather args n) u.ret (sound args n have) in
     let long : length slots + 1 ≡ length old.params + count =

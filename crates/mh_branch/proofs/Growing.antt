@@ -5,15 +5,15 @@ use Rattle.mh_values.specs.declared.class.ClassId.{ClassId}
 use Rattle.mh_form.specs.declared.field.Field.TheVariants as field
 use Rattle.mh_handle.specs.Stands.{HandleView}
 use Rattle.mh_branch.specs.declared.growths.Parts.{Parts}
-use Rattle.mh_branch.specs.Growths.{AddsClass, AddsPart, AreCatchParts, AreGuardParts, held_by}
+use Rattle.mh_branch.specs.Growths.{AddsClass, AddsHandle, AreCatchParts, AreGuardParts, held_by}
 
 pub guard-parts :
     (c t e : HandleView) (none one two : Parts) (r : Result Parts NoMemory) →
     none.fields.items ≡ [] →
     none.sides ≡ [] →
-    AddsPart c none one →
-    AddsPart t one two →
-    IfOk r (AddsPart e two) →
+    AddsHandle c none one →
+    AddsHandle t one two →
+    IfOk r (AddsHandle e two) →
     IfOk r (AreGuardParts c t e)
 guard-parts c t e none one two (Err x) empty bare a b d = d
 guard-parts c t e none one two (Ok three) empty bare a b d =
@@ -31,9 +31,9 @@ pub catch-parts :
     (t : HandleView) (class : ClassId) (h : HandleView) (none one two : Parts) (r : Result Parts NoMemory) →
     none.fields.items ≡ [] →
     none.sides ≡ [] →
-    AddsPart t none one →
+    AddsHandle t none one →
     AddsClass class one two →
-    IfOk r (AddsPart h two) →
+    IfOk r (AddsHandle h two) →
     IfOk r (AreCatchParts t class h)
 catch-parts t class h none one two (Err x) empty bare a b d = d
 catch-parts t class h none one two (Ok three) empty bare a b d =

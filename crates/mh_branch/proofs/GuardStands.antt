@@ -79,22 +79,22 @@ guard-stands table h c t e u test body other test_field body_field other_field t
     let made_body = guard_body (shape_of body.ty) count in
     let typed : type_of table (tree.Guard c t e) ≡ guard_row test.ty test.weight body.ty body.weight other.ty other.weight =
     λ i. with_type (tests.typed i)
-        (λ ct. with_type (stands.typed i) (λ bt. with_type (others.typed i) (λ ot. guard_row ct (sym tests.weighed i) bt (sym stands.weighed i) ot
-        (sym others.weighed i)))) in
+    (λ ct. with_type (stands.typed i) (λ bt. with_type (others.typed i) (λ ot. guard_row ct (sym tests.weighed i) bt (sym stands.weighed i) ot
+    (sym others.weighed i)))) in
     let heavy : 1 + test.weight + body.weight + other.weight ≡ 1 + weight c + weight t + weight e = λ i. 1 + tests.weighed i + stands.weighed i + others.weighed
-        i in
+    i in
     let keys : recipe table (tree.Guard c t e) ≡ key.GuardRoot (shape_of body.ty) count ∷ [] =
     λ i. at_type (stands.typed i) (λ bt. at_type (tests.typed i) (λ ct. key.GuardRoot (shape_of bt) (length ct.params) ∷ [])) in
     let held : sides table (tree.Guard c t e) ≡ (test.ty ∷ test.sides) ++ (body.ty ∷ body.sides) ++ (other.ty ∷ other.sides) =
     λ i. held_before (tests.typed i) (sym tests.holds i) ++ held_before (stands.typed i) (sym stands.holds i) ++ held_before (others.typed i)
-        (sym others.holds i) in
+    (sym others.holds i) in
     let sound : IsSound table.classes (mean table (tree.Guard c t e)) h.ty =
     subst (λ o. IsSound table.classes (λ args n. and_then (mean table c (take (arity_of o) args) n) n
-        (λ r k. decided r (mean table t args k) (mean table e args k))) h.ty) (sym tests.typed)
+    (λ r k. decided r (mean table t args k) (mean table e args k))) h.ty) (sym tests.typed)
     (guard-sound table.classes (mean table c) (mean table t) (mean table e) test.ty test.weight body.ty body.weight other.ty other.weight h.ty tests.returns
-        stands.returns others.returns (row ∙ ap Ok (sym grows.typed))) in
+    stands.returns others.returns (row ∙ ap Ok (sym grows.typed))) in
     let does : (args : List Value) (n : ℕ) → HaveTypes table.classes args h.ty.params → n < 2 ^ 32 →
-        Refines (erased_ran (mean table (tree.Guard c t e) args n)) (run_on table made_body h.fields (map erased args) n) =
+    Refines (erased_ran (mean table (tree.Guard c t e) args n)) (run_on table made_body h.fields (map erased args) n) =
     λ args n have low.
     let have_body : HaveTypes table.classes args body.ty.params = subst (λ (m : MethodTy). HaveTypes table.classes args m.params) own have in
     let have_other : HaveTypes table.classes args other.ty.params = subst (λ (m : MethodTy). HaveTypes table.classes args m.params) (sym alike) have_body in
@@ -107,18 +107,18 @@ guard-stands table h c t e u test body other test_field body_field other_field t
     let run : Slot → ℕ → Ran (Option Slot) = λ s k. returned ret (run_bound table (if holds_one s then body_box.value else other_box.value) slots k) in
     let tested : run_bound table test_box.value (take count slots) n ≡ erased_ran r =
     ap (λ f. f (take count slots) n) (part-runs table test test_field test_part) ∙ (ap (λ xs. handle_run table test xs n) (take-map erased count args) ∙
-        tests.runs first n have_test low) in
+    tests.runs first n have_test low) in
     let means : mean table (tree.Guard c t e) args n ≡ and_then r n next = ap (λ o. and_then (mean table c (take (arity_of o) args) n) n next) tests.typed in
     let branches : (v : Option Value) (k : ℕ) → HaveTypes table.classes (option_to_list v) (option_to_list test.ty.ret) → k < 2 ^ 32 →
-        Refines (erased_ran (next v k)) (run (none_as_zero (erased_option v)) k) =
+    Refines (erased_ran (next v k)) (run (none_as_zero (erased_option v)) k) =
     λ v k given small.
     let boolean : HaveTypes table.classes (option_to_list v) (boolean_type ∷ []) = subst (λ o. HaveTypes table.classes (option_to_list v) (option_to_list o))
-        (same_return-is test.ty.ret (Some boolean_type) parts.1) given in
+    (same_return-is test.ty.ret (Some boolean_type) parts.1) given in
     let no_branch : Refines (erased_ran (mean table e args k)) (returned ret (run_bound table other_box.value slots k)) =
     subst (λ (m : MethodTy). Refines (erased_ran (mean table e args k)) (returned (basic_ret_of m.ret) (run_bound table other_box.value slots k))) alike
-        (branch-does table other e other_box.value args k others (part-runs table other other_field other_part) have_other small) in
+    (branch-does table other e other_box.value args k others (part-runs table other other_field other_part) have_other small) in
     decides table v (mean table t args k) (mean table e args k) body_box.value other_box.value ret slots k boolean (branch-does table body t body_box.value args
-        k stands (part-runs table body body_field body_part) have_body small) no_branch in
+    k stands (part-runs table body body_field body_part) have_body small) no_branch in
     let all : Refines (erased_ran (and_then r n next)) (and_then (filled (erased_ran r)) n run) =
     and_then-erased table.classes r n test.ty.ret run next (tests.returns first n have_test) low branches in
     let long : length slots ≡ length (shape_of body.ty).params =
@@ -130,5 +130,5 @@ guard-stands table h c t e u test body other test_field body_field other_field t
     (refines-trans _ _ _ (refines-is _ _ (ap (λ x. and_then (filled x) n run) (sym tested)))
     (refines-trans _ _ _ law (refines-is _ _ (ap (λ fs. run_on table made_body fs slots n) (sym fields)))))) in
     stands-rooted table h (tree.Guard c t e) made_body sound (typed ∙ (row ∙ ap Ok (sym grows.typed))) (grows.weighed ∙ heavy) (grows.made ∙ sym keys)
-        (grows.holds ∙ sym held) (ap body_of grows.made)
+    (grows.holds ∙ sym held) (ap body_of grows.made)
     (ap length fields) (ap (λ (m : MethodTy). map basic_of m.params) (sym own)) refl does

@@ -7,6 +7,7 @@ mod CatchStands
 mod Computing
 mod Gained
 mod GatherStands
+mod GatheredArrays
 mod Growing
 mod GuardStands
 mod RootAnswers

@@ -21,7 +21,7 @@ use Rattle.mh_form.specs.Erasure.{basic_of, basic_ret_of, erased, shape_of}
 use Rattle.mh_edit.specs.declared.key.Key.TheVariants as key
 use Rattle.mh_handle.specs.declared.error.HandleError.{HandleError}
 use Rattle.mh_handle.specs.Grows.{Grows, base_handle}
-use Rattle.mh_handle.specs.Passes.{PassView}
+use Rattle.mh_handle.specs.declared.work.Work.{Work}
 use Rattle.mh_handle.specs.Recipe.{at_some, recipe}
 use Rattle.mh_handle.specs.Stands.{HandleView, Stands}
 use Rattle.mh_handle.specs.Works.{Makes}
@@ -40,16 +40,16 @@ constant-fits classes t v u r row is =
     let r' : parts.0 ≡ r = cc in
     (parts.1, subst (λ p. fit classes v p ≡ Ok parts.1) r' parts.3)
 
-pub constant-makes : (table : LeafTable) (t : Option Ty) (v : Value) (r : Ty) (b : Basic) (old new : PassView) (res : Result HandleView HandleError) →
+pub constant-makes : (table : LeafTable) (t : Option Ty) (v : Value) (r : Ty) (b : Basic) (old new : Work) (res : Result HandleView HandleError) →
     t ≡ Some r → b ≡ basic_of r → Makes (key.ConstRoot b ∷ []) old new res → Makes (recipe table (tree.Constant t v)) old new res
 constant-makes table t v r b old new res is basic makes =
     let keys : key.ConstRoot b ∷ [] ≡ at_some t (λ p. key.ConstRoot (basic_of p)) = ap (λ x. key.ConstRoot x ∷ []) basic ∙
-        sym (ap (λ o. at_some o (λ p. key.ConstRoot (basic_of p))) is) in
+    sym (ap (λ o. at_some o (λ p. key.ConstRoot (basic_of p))) is) in
     subst (λ ks. Makes ks old new res) keys makes
 
 pub constant-answers :
     (table : LeafTable) (t : Option Ty) (v : Value) (u : MethodTy) (r : Ty) (w : Value) (s : Slot) (b : Basic) (sides : List MethodTy) (fields : List Field)
-        (res : Result HandleView HandleError) →
+    (res : Result HandleView HandleError) →
     constant_row table.classes t v ≡ Ok u →
     t ≡ Some r →
     fit table.classes v r ≡ Ok w →
@@ -78,16 +78,16 @@ identity-none u (Some t) none row = cc
 pub identity-some : (t : Option Ty) (u : MethodTy) → identity_row t ≡ Ok u → t ≡ None → ⊥
 identity-some t u row none = identity-none u t none row
 
-pub identity-makes : (table : LeafTable) (t : Option Ty) (r : Ty) (b : Basic) (old new : PassView) (res : Result HandleView HandleError) → t ≡ Some r →
+pub identity-makes : (table : LeafTable) (t : Option Ty) (r : Ty) (b : Basic) (old new : Work) (res : Result HandleView HandleError) → t ≡ Some r →
     b ≡ basic_of r → Makes (key.IdentityRoot b ∷ []) old new res → Makes (recipe table (tree.Identity t)) old new res
 identity-makes table t r b old new res is basic makes =
     let keys : key.IdentityRoot b ∷ [] ≡ at_some t (λ p. key.IdentityRoot (basic_of p)) = ap (λ x. key.IdentityRoot x ∷ []) basic ∙
-        sym (ap (λ o. at_some o (λ p. key.IdentityRoot (basic_of p))) is) in
+    sym (ap (λ o. at_some o (λ p. key.IdentityRoot (basic_of p))) is) in
     subst (λ ks. Makes ks old new res) keys makes
 
 pub identity-answers :
     (table : LeafTable) (t : Option Ty) (u : MethodTy) (r : Ty) (b : Basic) (sides : List MethodTy) (fields : List Field) (res : Result HandleView HandleError)
-        →
+    →
     identity_row t ≡ Ok u →
     t ≡ Some r →
     b ≡ basic_of r →
@@ -112,13 +112,13 @@ pub throw-ret : (classes : List Class) (ret : Option Ty) (class : ClassId) (u : 
     s.ret ≡ basic_ret_of ret
 throw-ret classes ret class u s row is = ap (λ (x : Shape). x.ret) is ∙ ap (λ (m : MethodTy). basic_ret_of m.ret) (throw_row-parts classes ret class u row).1
 
-pub throw-makes : (ret : Option Ty) (b : BasicRet) (old new : PassView) (res : Result HandleView HandleError) → b ≡ basic_ret_of ret →
+pub throw-makes : (ret : Option Ty) (b : BasicRet) (old new : Work) (res : Result HandleView HandleError) → b ≡ basic_ret_of ret →
     Makes (key.ThrowRoot b ∷ []) old new res → Makes (key.ThrowRoot (basic_ret_of ret) ∷ []) old new res
 throw-makes ret b old new res is makes = subst (λ x. Makes (key.ThrowRoot x ∷ []) old new res) is makes
 
 pub throw-answers :
     (table : LeafTable) (ret : Option Ty) (class : ClassId) (u : MethodTy) (b : BasicRet) (sides : List MethodTy) (fields : List Field)
-        (res : Result HandleView HandleError) →
+    (res : Result HandleView HandleError) →
     AreClasses table.classes →
     throw_row table.classes ret class ≡ Ok u →
     b ≡ basic_ret_of ret →

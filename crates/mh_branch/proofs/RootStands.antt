@@ -49,7 +49,7 @@ constant-stands table h t v u r w row some fits grows =
     let gives : (args : List Value) (n : ℕ) → mean table (tree.Constant t v) args n ≡ giving w =
     λ args n. ap (λ o. found o (λ p. fitted (fit table.classes v p) giving)) some ∙ ap (λ o. fitted o giving) fits in
     let runs : (args : List Value) (n : ℕ) → HaveTypes table.classes args h.ty.params → run_on table constant_body h.fields (map erased args) n ≡ Gave
-        (Some (erased w)) [] =
+    (Some (erased w)) [] =
     λ args n have.
     no_arguments table.classes args (λ xs. run_on table constant_body h.fields xs n ≡ Gave (Some (erased w)) [])
     (subst (HaveTypes table.classes args) params have) (ap (λ fs. run_on table constant_body fs [] n) grows.fielded) in
@@ -83,7 +83,7 @@ identity-stands table h t u r row some grows =
     let params : h.ty.params ≡ r ∷ [] = ap (λ (m : MethodTy). m.params) parts.2 ∙ ap (λ p. p ∷ []) is in
     let body = identity_body (basic_of r) in
     let does : (args : List Value) (n : ℕ) → HaveTypes table.classes args h.ty.params → erased_ran (mean table (tree.Identity t) args n) ≡ run_on table body
-        h.fields (map erased args) n =
+    h.fields (map erased args) n =
     λ args n have.
     let one = one_argument table.classes r args (subst (HaveTypes table.classes args) params have) in
     ap (λ vs. erased_ran (found (slice_get vs 0) giving)) one.1
@@ -115,7 +115,7 @@ throw-stands table h ret class u are row grows =
     let body = throw_body (basic_ret_of ret) in
     let params : h.ty.params ≡ ty.Class class ∷ [] = ap (λ (m : MethodTy). m.params) parts.1 in
     let does : (args : List Value) (n : ℕ) → HaveTypes table.classes args h.ty.params → Refines (erased_ran (mean table (tree.Throw ret class) args n))
-        (run_on table body h.fields (map erased args) n) =
+    (run_on table body h.fields (map erased args) n) =
     λ args n have.
     let one = one_argument table.classes (ty.Class class) args (subst (HaveTypes table.classes args) params have) in
     let raises : erased_ran (mean table (tree.Throw ret class) args n) ≡ raised_slot (erased one.0) =
@@ -123,9 +123,9 @@ throw-stands table h ret class u are row grows =
     let ran : run_on table body [] (erased one.0 ∷ []) n ≡ run_on table body h.fields (map erased args) n =
     sym (ap (λ fs. run_on table body fs (erased one.0 ∷ []) n) grows.fielded) ∙ ap (λ vs. run_on table body h.fields (map erased vs) n) (sym one.1) in
     let law : Refines (raised_slot (erased one.0)) (run_on table body [] (erased one.0 ∷ []) n) = law-ThrowRoot (basic_ret_of ret) nothing table (erased one.0)
-        n in
+    n in
     refines-trans _ _ _ (refines-is _ _ raises) (refines-trans _ _ _ law (refines-is _ _ ran)) in
     stands-rooted table h (tree.Throw ret class) body (throw-sound table.classes are ret class h.ty typed) typed grows.weighed grows.made grows.holds
-        (ap body_of grows.made)
+    (ap body_of grows.made)
     (ap length grows.fielded) (sym (ap (map basic_of) params)) refl
     (λ args n have low. does args n have)

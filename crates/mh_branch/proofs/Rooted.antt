@@ -41,13 +41,13 @@ pub stands-rooted :
     body.params ≡ map basic_of h.ty.params →
     IsMade body →
     ((args : List Value) (n : ℕ) → HaveTypes table.classes args h.ty.params → n < 2 ^ 32 →
-        Refines (erased_ran (mean table t args n)) (run_on table body h.fields (map erased args) n)) →
+    Refines (erased_ran (mean table t args n)) (run_on table body h.fields (map erased args) n)) →
     Stands table h t
 stands-rooted table h t body sound typed weighed made holds is fielded shaped begun does =
     let runs : (args : List Value) (n : ℕ) → HaveTypes table.classes args h.ty.params → erased_ran (mean table t args n) ≢ Stuck =
     λ args n have. returns-runs table.classes (mean table t args n) h.ty.ret (sound args n have) in
     let run : (args : List Value) (n : ℕ) → HaveTypes table.classes args h.ty.params → n < 2 ^ 32 →
-        handle_run table h (map erased args) n ≡ erased_ran (mean table t args n) =
+    handle_run table h (map erased args) n ≡ erased_ran (mean table t args n) =
     λ args n have low. ap (λ b. run_on table b h.fields (map erased args) n) is ∙ refined _ _ (runs args n have) (does args n have low) in
     record {
       typed = typed;

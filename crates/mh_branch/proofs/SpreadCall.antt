@@ -26,7 +26,7 @@ use Rattle.mh_handle.specs.declared.error.HandleError.{HandleError}
 use Rattle.mh_handle.specs.declared.handle.Handle.{Handle}
 use Rattle.mh_handle.specs.Grows.{Grows}
 use Rattle.mh_handle.specs.Obeys.{Obeys}
-use Rattle.mh_handle.specs.Passes.{PassView}
+use Rattle.mh_handle.specs.declared.work.Work.{Work}
 use Rattle.mh_handle.specs.Recipe.{at_some}
 use Rattle.mh_handle.specs.Stands.{HandleView, HasShape, IsShaped, Stands, handle_body}
 use Rattle.mh_handle.specs.Works.{IsAccepted, Makes}
@@ -78,7 +78,7 @@ module _
         IsAccepted r → IfOk r (λ h. Grows used h s.own weight sides k fields) → Obeys (spread_use_row classes t.ty t.weight array count) r
     call-obeys weight sides k fields r accepted grows =
         grown-obeys (spread_use_row classes t.ty t.weight array count) used s.own weight sides k fields r (spreading-row classes t.ty t.weight array count s
-            found) accepted grows
+        found) accepted grows
 
     pub call-sides :
         (weight : ℕ) (sides : List MethodTy) (k : Key) (fields : List Field) (r : Result Handle HandleError) →
@@ -87,7 +87,7 @@ module _
     call-sides weight sides k fields (Err e) none g = g
 
     pub call-makes :
-        (b : Basic) (old mid new : PassView) (r : Result Handle HandleError) →
+        (b : Basic) (old mid new : Work) (r : Result Handle HandleError) →
         b ≡ basic_of (item_type s.component) →
         MakesBy t.form.recipe (use_keys classes t.ty s.asked) old mid (Ok used) →
         Makes (used.form.recipe ++ key.Spread count b ∷ []) mid new r →
@@ -95,7 +95,7 @@ module _
         MakesBoth t.form.recipe (item_keys classes t.ty array count) (spread_keys array count) old new r
     call-makes b old mid new r is first second accepted =
         let keys : use_keys classes t.ty s.asked ≡ item_keys classes t.ty array count = keys-are classes t.ty t.weight array count s.component s.asked
-            found.component found.asked in
+        found.component found.asked in
         let own : key.Spread count b ∷ [] ≡ spread_keys array count =
         ap (λ x. key.Spread count x ∷ []) is ∙ sym (ap (λ o. at_some o (λ c. key.Spread count (basic_of (item_type c)))) found.component) in
         let whole : used.form.recipe ++ key.Spread count b ∷ [] ≡ (t.form.recipe ++ item_keys classes t.ty array count) ++ spread_keys array count =
@@ -118,7 +118,7 @@ module _
         let whole : used_as t.ty s.asked a ≡ items_used_as t.ty array count a =
         ap (λ m. used_as t.ty m a) found.asked ∙ sym (ap (λ o. option_map_or (λ c. used_as t.ty (taking_items t.ty c count) a) o a) found.component) in
         spread-stands table used h (items_used_as t.ty array count a) array count s.component s.own are (subst (λ x. Stands table used x) whole st) row
-            found.component (record {
+        found.component (record {
           typed = g.typed;
           weighed = g.weighed ∙ ap (λ n. 1 + n) w;
           holds = g.holds ∙ ap (λ x. used.sides ++ x) none;

@@ -82,12 +82,13 @@ left-after recipe old mid room drawn =
     ⊎_elim (λ (same : mid.seat ≡ old.seat). subst (λ s. 1 ≤ s.room) (sym same) (omega (arith, room)))
     (λ (d : (number : ℕ) × Draws number old.seat mid.seat × _). omega (arith, room, d.1.room)) drawn
 
-pub room-left : (recipe keys : List Key) (old mid : PassView) (g : Handle) → 2 ≤ old.seat.room → MakesBy recipe keys old mid (Ok g) → 1 ≤ mid.seat.room
-room-left recipe [] old mid g room made = subst (λ (p : PassView). 1 ≤ p.seat.room) (sym made) (omega (arith, room))
-room-left recipe (k ∷ keys) old mid g room made = left-after (recipe ++ k ∷ keys) old mid room made.2
+pub room-left : (recipe keys : List Key) (old mid : Work) (g : Handle) → 2 ≤ old.pass.now.seat.room → MakesBy recipe keys old mid (Ok g) →
+    1 ≤ mid.pass.now.seat.room
+room-left recipe [] old mid g room made = subst (λ (w : Work). 1 ≤ w.pass.now.seat.room) (sym made) (omega (arith, room))
+room-left recipe (k ∷ keys) old mid g room made = left-after (recipe ++ k ∷ keys) old.pass.now mid.pass.now room made.2
 
 -- an error before the first edit was made, or by it
-pub makes-first : (recipe keys keys' more : List Key) (old new : PassView) (e : HandleError) (r : Result Handle HandleError) → keys ≡ keys' →
+pub makes-first : (recipe keys keys' more : List Key) (old new : Work) (e : HandleError) (r : Result Handle HandleError) → keys ≡ keys' →
     MakesBy recipe keys old new (Err e) → IsErrAnd r (λ x. x ≡ e) → (row : TypeOrRefusal) (u : MethodTy) → row ≡ Ok u → Obeys row (Err e) →
     MakesBoth recipe keys' more old new r
 makes-first recipe keys keys' more old new e (Ok h) same made is row u typed obeys = absurd is
@@ -98,7 +99,7 @@ makes-first recipe keys keys' more old new (FormsFull drawn) (Err x) same made i
 makes-first recipe keys keys' more old new (Refused e) (Err x) same made is row u typed obeys = let both : ◌≡◌ {A = TypeOrRefusal} (Ok u) (Err e) =
     sym typed ∙ obeys in absurd cc
 
-pub makes-second : (recipe keys more : List Key) (old mid new : PassView) (g : Handle) (r : Result Handle HandleError) → MakesBy recipe keys old mid (Ok g) →
+pub makes-second : (recipe keys more : List Key) (old mid new : Work) (g : Handle) (r : Result Handle HandleError) → MakesBy recipe keys old mid (Ok g) →
     Makes ((recipe ++ keys) ++ more) mid new r
     → IsAccepted r → MakesBoth recipe keys more old new r
 makes-second recipe keys more old mid new g (Ok h) first second accepted = (mid, g, first, second)
@@ -107,10 +108,10 @@ makes-second recipe keys more old mid new g (Err (FormsFull drawn)) first second
 makes-second recipe keys more old mid new g (Err (Refused e)) first second accepted = absurd accepted
 
 -- want of memory before any edit
-pub makes-none : (recipe keys more : List Key) (pass : PassView) (e : CheckError) (r : Result Handle HandleError) → IsErrAnd r (λ x. x ≡ of_check e) →
-    MakesBoth recipe keys more pass pass r
-makes-none recipe keys more pass e (Ok h) is = absurd is
-makes-none recipe [] more pass check.NoMemory (Err x) is = subst (λ v. MakesBoth recipe [] more pass pass (Err v)) (sym is) (inl refl)
-makes-none recipe (k ∷ keys) more pass check.NoMemory (Err x) is = subst (λ v. MakesBoth recipe (k ∷ keys) more pass pass (Err v)) (sym is)
+pub makes-none : (recipe keys more : List Key) (w : Work) (e : CheckError) (r : Result Handle HandleError) → IsErrAnd r (λ x. x ≡ of_check e) →
+    MakesBoth recipe keys more w w r
+makes-none recipe keys more w e (Ok h) is = absurd is
+makes-none recipe [] more w check.NoMemory (Err x) is = subst (λ v. MakesBoth recipe [] more w w (Err v)) (sym is) (inl refl)
+makes-none recipe (k ∷ keys) more w check.NoMemory (Err x) is = subst (λ v. MakesBoth recipe (k ∷ keys) more w w (Err v)) (sym is)
     (inl (refl, inl refl))
-makes-none recipe keys more pass (check.Refused e) (Err x) is = subst (λ v. MakesBoth recipe keys more pass pass (Err v)) (sym is) refl
+makes-none recipe keys more w (check.Refused e) (Err x) is = subst (λ v. MakesBoth recipe keys more w w (Err v)) (sym is) refl

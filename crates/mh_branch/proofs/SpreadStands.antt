@@ -88,15 +88,15 @@ spread-stands table h h' t array count c u are st row some grows =
     let last = both (nat_le count (length h.ty.params)) (list_all (λ p. is_same_type p (item_type parts.0)) (drop place h.ty.params)) parts.2 in
     let within : count ≤ length h.ty.params = at_most count (length h.ty.params) last.0 in
     let all : list_all (λ p. is_same_type p (item_type c)) (drop place h.ty.params) ≡ true =
-        subst (λ d. list_all (λ p. is_same_type p (item_type d)) (drop place h.ty.params) ≡ true) is last.1 in
+    subst (λ d. list_all (λ p. is_same_type p (item_type d)) (drop place h.ty.params) ≡ true) is last.1 in
     let arity : length old.params ≡ length h.ty.params = ap length st.shaped ∙ length-map h.ty.params basic_of in
     let typed : type_of table spread ≡ Ok u = (λ i. with_type (st.typed i) (λ m. spread_row m (sym st.weighed i) array count)) ∙ row in
     let sound : IsSound table.classes (mean table spread) u =
     subst (λ o. IsSound table.classes (λ args n. found (slice_get args (arity_of o - count)) (λ v. and_then (spread_values count v) n
-        (λ items k. mean table t (spliced (arity_of o - count) 1 items args) k))) u) (sym st.typed)
+    (λ items k. mean table t (spliced (arity_of o - count) 1 items args) k))) u) (sym st.typed)
     (spread-sound table.classes are (mean table t) h.ty h.weight array count u st.returns row) in
     let runs : (args : List Value) (n : ℕ) → HaveTypes table.classes args u.params → n < 2 ^ 32 →
-        run_on table new (h.fields ++ []) (map erased args) n ≡ erased_ran (mean table spread args n) =
+    run_on table new (h.fields ++ []) (map erased args) n ≡ erased_ran (mean table spread args n) =
     λ args n have low.
     let have' : HaveTypes table.classes args params = subst (λ (m : MethodTy). HaveTypes table.classes args m.params) made have in
     let behind : place ≤ length h.ty.params = omega arith in
@@ -108,7 +108,7 @@ spread-stands table h h' t array count c u are st row some grows =
     let run : List Slot → ℕ → Ran (Option Slot) = λ items k. run_on table old h.fields (spliced place 1 items slots) k in
     let next : List Value → ℕ → Done = λ items k. mean table t (spliced place 1 items args) k in
     let each : (items : List Value) (k : ℕ) → HaveTypes table.classes items (drop place h.ty.params) → k < 2 ^ 32 →
-        run (map erased items) k ≡ erased_ran (next items k) =
+    run (map erased items) k ≡ erased_ran (next items k) =
     λ items k given small.
     let whole : HaveTypes table.classes (spliced place 1 items args) h.ty.params =
     types-splice table.classes args items h.ty.params (ty.Array c ∷ []) place count behind have' (subst (HaveTypes table.classes items) (sym taken) given) in
@@ -116,22 +116,27 @@ spread-stands table h h' t array count c u are st row some grows =
     let spreading : and_then (spread_slots count (erased v.0)) n run ≡ erased_ran (and_then (spread_values count v.0) n next) =
     ap (λ r. and_then r n run) (spread-erased table.classes c count v.0 v.2)
     ∙ items-then table.classes (spread_values count v.0) n (drop place h.ty.params) run next (spreads table.classes are c count v.0 (drop place h.ty.params) v.2
-        all many) low each in
+    all many) low each in
     let slot : slice_get slots place ≡ Some (erased v.0) = slice_get-map erased args place ∙ ap (option_map erased) v.1 in
     let means : mean table spread args n ≡ and_then (spread_values count v.0) n next =
     ap (λ o. found (slice_get args (arity_of o - count)) (λ x. and_then (spread_values count x) n
-        (λ items k. mean table t (spliced (arity_of o - count) 1 items args) k))) st.typed
+    (λ items k. mean table t (spliced (arity_of o - count) 1 items args) k))) st.typed
     ∙ ap (λ o. found o (λ x. and_then (spread_values count x) n next)) v.1 in
     let law_run : found (slice_get slots (length old.params - count))
-        (λ s. and_then (spread_slots count s) n (λ items k. run_on table old h.fields (spliced (length old.params - count) 1 items slots) k)) ≡ erased_ran
-        (mean table spread args n) =
+    (λ s. and_then (spread_slots count s) n (λ items k. run_on table old h.fields (spliced (length old.params - count) 1 items slots) k)) ≡ erased_ran
+    (mean table spread args n) =
     ap (λ m. found (slice_get slots (m - count))
-        (λ s. and_then (spread_slots count s) n (λ items k. run_on table old h.fields (spliced (m - count) 1 items slots) k))) arity
+    (λ s. and_then (spread_slots count s) n (λ items k. run_on table old h.fields (spliced (m - count) 1 items slots) k))) arity
     ∙ (ap (λ o. found o (λ s. and_then (spread_slots count s) n run)) slot ∙ (spreading ∙ sym (ap erased_ran means))) in
     let runs_well : erased_ran (mean table spread args n) ≢ Stuck = returns-runs table.classes (mean table spread args n) u.ret (sound args n have) in
     let long : length slots + count ≡ length old.params + 1 =
-    omega (arith, length-map args erased, types-length table.classes args params have', length-spliced place count (ty.Array c ∷ []) h.ty.params (omega arith),
-        arity) in
+    omega (
+      arith,
+      length-map args erased,
+      types-length table.classes args params have',
+      length-spliced place count (ty.Array c ∷ []) h.ty.params (omega arith),
+      arity,
+    ) in
     let inside : count ≤ length old.params = omega (arith, arity) in
     let law = law-Spread count (basic_of (item_type c)) old inside table h.fields slots n st.fielded long in
     ap (λ fs. run_on table new fs slots n) (append-nil h.fields) ∙ (refined _ _ (λ e. runs_well (sym law_run ∙ e)) law ∙ law_run) in

@@ -37,7 +37,7 @@ abbrev pub gather_keys : Option Ty → ℕ → List Key
 gather_keys array count = at_some (component_of array) (λ c. key.Gather count (basic_of (item_type c)))
 
 -- one part more: a field that holds the handle, and the types that it holds
-pub record AddsPart (h : HandleView) (old new : Parts) : Type 0 where
+pub record AddsHandle (h : HandleView) (old new : Parts) : Type 0 where
   pub fields : (f : Field) × (new.fields.items ≡ old.fields.items ++ f ∷ []) × IsPartOf h f
   pub sides : new.sides ≡ old.sides ++ held_by h
 
@@ -46,40 +46,40 @@ pub record AddsClass (class : ClassId) (old new : Parts) : Type 0 where
   pub fields : new.fields.items ≡ old.fields.items ++ field.Class class ∷ []
   pub sides : new.sides ≡ old.sides
 
--- the parts of a guard: the test first, then the two branches
-pub record AreGuardParts (test body other : HandleView) (parts : Parts) : Type 0 where
-  pub fields : (c b o : Field) × (parts.fields.items ≡ c ∷ b ∷ o ∷ []) × IsPartOf test c × IsPartOf body b × IsPartOf other o
-  pub sides : parts.sides ≡ held_by test ++ held_by body ++ held_by other
+-- the parts of a guard: the test first, then the target and the fallback
+pub record AreGuardParts (test target fallback : HandleView) (parts : Parts) : Type 0 where
+  pub fields : (c b o : Field) × (parts.fields.items ≡ c ∷ b ∷ o ∷ []) × IsPartOf test c × IsPartOf target b × IsPartOf fallback o
+  pub sides : parts.sides ≡ held_by test ++ held_by target ++ held_by fallback
 
 -- the parts of a catch: the target first, then the class of exceptions, then the handler
-pub record AreCatchParts (body : HandleView) (class : ClassId) (handler : HandleView) (parts : Parts) : Type 0 where
-  pub fields : (b h : Field) × (parts.fields.items ≡ b ∷ field.Class class ∷ h ∷ []) × IsPartOf body b × IsPartOf handler h
-  pub sides : parts.sides ≡ held_by body ++ held_by handler
+pub record AreCatchParts (target : HandleView) (class : ClassId) (handler : HandleView) (parts : Parts) : Type 0 where
+  pub fields : (b h : Field) × (parts.fields.items ≡ b ∷ field.Class class ∷ h ∷ []) × IsPartOf target b × IsPartOf handler h
+  pub sides : parts.sides ≡ held_by target ++ held_by handler
 
--- a guard of this type: the test first, then the two branches
-pub record IsGuard (t : MethodTy) (test body other : HandleView) (by : Growth) : Type 0 where
+-- a guard of this type: the test first, then the target and the fallback
+pub record IsGuard (t : MethodTy) (test target fallback : HandleView) (by : Growth) : Type 0 where
   pub ty : by.ty ≡ t
-  pub weight : by.weight ≡ 1 + test.weight + body.weight + other.weight
-  pub sides : by.sides ≡ held_by test ++ held_by body ++ held_by other
+  pub weight : by.weight ≡ 1 + test.weight + target.weight + fallback.weight
+  pub sides : by.sides ≡ held_by test ++ held_by target ++ held_by fallback
   pub key : by.key ≡ guard_key t test.ty
-  pub fields : (c b o : Field) × (by.fields.items ≡ c ∷ b ∷ o ∷ []) × IsPartOf test c × IsPartOf body b × IsPartOf other o
+  pub fields : (c b o : Field) × (by.fields.items ≡ c ∷ b ∷ o ∷ []) × IsPartOf test c × IsPartOf target b × IsPartOf fallback o
 
 -- a catch of this type: the target first, then the class of exceptions, then the handler
-pub record IsCatch (t : MethodTy) (body : HandleView) (class : ClassId) (handler : HandleView) (by : Growth) : Type 0 where
+pub record IsCatch (t : MethodTy) (target : HandleView) (class : ClassId) (handler : HandleView) (by : Growth) : Type 0 where
   pub ty : by.ty ≡ t
-  pub weight : by.weight ≡ 1 + body.weight + handler.weight
-  pub sides : by.sides ≡ held_by body ++ held_by handler
+  pub weight : by.weight ≡ 1 + target.weight + handler.weight
+  pub sides : by.sides ≡ held_by target ++ held_by handler
   pub key : by.key ≡ catch_key t handler.ty
-  pub fields : (b h : Field) × (by.fields.items ≡ b ∷ field.Class class ∷ h ∷ []) × IsPartOf body b × IsPartOf handler h
+  pub fields : (b h : Field) × (by.fields.items ≡ b ∷ field.Class class ∷ h ∷ []) × IsPartOf target b × IsPartOf handler h
 
--- a handle with a test and two branches: what they weigh and one more, the types that they hold, and a field for each
-pub record HasBranches (test body other new : HandleView) : Type 0 where
-  pub weighed : new.weight ≡ 1 + test.weight + body.weight + other.weight
-  pub holds : new.sides ≡ held_by test ++ held_by body ++ held_by other
-  pub fielded : (c b o : Field) × (new.fields ≡ c ∷ b ∷ o ∷ []) × IsPartOf test c × IsPartOf body b × IsPartOf other o
+-- a handle with a test, a target and a fallback: what they weigh and one more, the types that they hold, and a field for each
+pub record HasBranches (test target fallback new : HandleView) : Type 0 where
+  pub weighed : new.weight ≡ 1 + test.weight + target.weight + fallback.weight
+  pub holds : new.sides ≡ held_by test ++ held_by target ++ held_by fallback
+  pub fielded : (c b o : Field) × (new.fields ≡ c ∷ b ∷ o ∷ []) × IsPartOf test c × IsPartOf target b × IsPartOf fallback o
 
 -- a handle with a target and a handler: what they weigh and one more, the types that they hold, and a field for each, with the class of exceptions between
-pub record HasHandler (body : HandleView) (class : ClassId) (handler new : HandleView) : Type 0 where
-  pub weighed : new.weight ≡ 1 + body.weight + handler.weight
-  pub holds : new.sides ≡ held_by body ++ held_by handler
-  pub fielded : (b h : Field) × (new.fields ≡ b ∷ field.Class class ∷ h ∷ []) × IsPartOf body b × IsPartOf handler h
+pub record HasHandler (target : HandleView) (class : ClassId) (handler new : HandleView) : Type 0 where
+  pub weighed : new.weight ≡ 1 + target.weight + handler.weight
+  pub holds : new.sides ≡ held_by target ++ held_by handler
+  pub fielded : (b h : Field) × (new.fields ≡ b ∷ field.Class class ∷ h ∷ []) × IsPartOf target b × IsPartOf handler h

@@ -15,7 +15,7 @@ use Rattle.mh_edit.specs.declared.key.Key.{Key}
 use Rattle.mh_handle.specs.declared.error.HandleError.{HandleError}
 use Rattle.mh_handle.specs.declared.error.HandleError.TheVariants.{Refused}
 use Rattle.mh_handle.specs.declared.handle.Handle.{Handle}
-use Rattle.mh_handle.specs.Passes.{PassView}
+use Rattle.mh_handle.specs.declared.work.Work.{Work}
 use Rattle.mh_handle.specs.Works.{Makes}
 use Rattle.mh_branch.specs.declared.spreading.Spreading.{Spreading}
 use Rattle.mh_astype.specs.Use.{MakesBy, use_keys, use_row, use_weight, used_as}
@@ -64,11 +64,11 @@ item_keys classes t array count = at_component array (λ c. use_keys classes t (
 abbrev pub items_used_as : MethodTy → Option Ty → ℕ → Tree → Tree
 items_used_as own array count t = option_map_or (λ c. used_as own (taking_items own c count) t) (component_of array) t
 
--- what is left of a pass by two edits, one after the other, of which the first may be none: the first, or both
-abbrev pub MakesBoth : List Key → List Key → List Key → PassView → PassView → Result Handle HandleError → Type 0
+-- what is left of the work by two edits, one after the other, of which the first may be none: the first, or both
+abbrev pub MakesBoth : List Key → List Key → List Key → Work → Work → Result Handle HandleError → Type 0
 MakesBoth recipe keys more old new (Ok h) =
-    (mid : PassView) × (g : Handle) × MakesBy recipe keys old mid (Ok g) × Makes ((recipe ++ keys) ++ more) mid new (Ok h)
+    (mid : Work) × (g : Handle) × MakesBy recipe keys old mid (Ok g) × Makes ((recipe ++ keys) ++ more) mid new (Ok h)
 MakesBoth recipe keys more old new (Err (Refused e)) = new ≡ old
 MakesBoth recipe keys more old new (Err e) =
     MakesBy recipe keys old new (Err e)
-    ⊎ ((mid : PassView) × (g : Handle) × MakesBy recipe keys old mid (Ok g) × Makes ((recipe ++ keys) ++ more) mid new (Err e))
+    ⊎ ((mid : Work) × (g : Handle) × MakesBy recipe keys old mid (Ok g) × Makes ((recipe ++ keys) ++ more) mid new (Err e))

@@ -5,114 +5,106 @@ ghost use Rattle.mh_tree.specs.Rows.{guard_row, catch_row};
 ghost use Rattle.mh_tree.specs.Tree.{Tree};
 ghost use Rattle.mh_tree.specs.Tree as tree;
 ghost use Rattle.mh_handle.specs.Obeys.{Obeys};
-ghost use Rattle.mh_handle.specs.Stands.{Stands};
-ghost use Rattle.mh_handle.specs.Works.{IsReady, GoesOn, Makes};
+ghost use Rattle.mh_handle.specs.Works.{IsReady, GoesOn, Makes, StandsIn, classes_of};
 ghost use Rattle.mh_branch.specs.Growths.{HasBranches, HasHandler, guard_key, catch_key};
 
 use crate::growths::{catching, guarding};
 use mh_handle::{Handle, HandleError, Work};
 use mh_tree::{CheckError, check_catch, check_guard};
 use mh_values::{ClassId, MethodTy};
-use std::alloc::Global;
 use std::sync::Wait;
 
 /// The type of a guard of handles.
 fn guard_type<'t>(
-    alloc: Global,
     w: &Work<'_, 't>,
-    c: &Handle<'t>,
-    t: &Handle<'t>,
-    e: &Handle<'t>,
+    test: &Handle<'t>,
+    target: &Handle<'t>,
+    fallback: &Handle<'t>,
 ) -> Result<MethodTy, CheckError>
-    ensures { Tells result (guard_row c.now.ty c.now.weight t.now.ty t.now.weight e.now.ty
-        e.now.weight) }
+    ensures { Tells result (guard_row test.now.ty test.now.weight
+        target.now.ty target.now.weight fallback.now.ty fallback.now.weight) }
 {
     check_guard(
-        alloc,
-        c.ty(),
-        c.weight(),
-        t.ty(),
-        t.weight(),
-        e.ty(),
-        e.weight(),
+        w.alloc,
+        test.ty(),
+        test.weight(),
+        target.ty(),
+        target.weight(),
+        fallback.ty(),
+        fallback.weight(),
         w.classes(),
     )
 }
 
 /// The type of a catch of handles.
 fn catch_type<'t>(
-    alloc: Global,
     w: &Work<'_, 't>,
-    t: &Handle<'t>,
+    target: &Handle<'t>,
     class: ClassId,
-    h: &Handle<'t>,
+    handler: &Handle<'t>,
 ) -> Result<MethodTy, CheckError>
-    ensures are { AreClasses w.now.leaves.now.classes }
-    ensures tells { Tells result (catch_row w.now.leaves.now.classes t.now.ty t.now.weight class
-        h.now.ty h.now.weight) }
+    ensures are { AreClasses (classes_of w.now) }
+    ensures tells { Tells result (catch_row (classes_of w.now) target.now.ty target.now.weight class
+        handler.now.ty handler.now.weight) }
 {
     check_catch(
-        alloc,
-        t.ty(),
-        t.weight(),
+        w.alloc,
+        target.ty(),
+        target.weight(),
         class,
-        h.ty(),
-        h.weight(),
+        handler.ty(),
+        handler.weight(),
         w.classes(),
     )
 }
 
-/// A handle that runs `t` where the test `c` gives true on the first arguments, and else `e`
-/// (`MethodHandles.guardWithTest`, SE 17). Refused where `t` and `e` differ in type, and where the
-/// test does not give a boolean or does not take the first parameters of `t`.
+/// A handle that runs `target` where `test` gives true on the first arguments, and else `fallback`
+/// (`MethodHandles.guardWithTest`, SE 17). Refused where `target` and `fallback` differ in type,
+/// and where the test does not give a boolean or does not take the first parameters of `target`.
 pub fn guard<'t, R: Wait>(
     w: &mut Work<'_, 't>,
     rt: &R,
-    alloc: Global,
-    c: Handle<'t>,
-    t: Handle<'t>,
-    e: Handle<'t>,
+    test: Handle<'t>,
+    target: Handle<'t>,
+    fallback: Handle<'t>,
 ) -> Result<Handle<'t>, HandleError>
     requires ready { IsReady w.old 1 }
     ensures goes_on { GoesOn w.old w.new }
-    ensures obeys { Obeys (guard_row c.entry.ty c.entry.weight t.entry.ty t.entry.weight e.entry.ty
-        e.entry.weight) result }
-    ensures makes { Makes (guard_key t.entry.ty c.entry.ty ∷ []) w.old.pass.now w.new.pass.now
-        result }
-    ensures gains { IfOk result (HasBranches c.entry t.entry e.entry) }
-    ensures stands { (a b d : Tree) → Stands w.old.leaves.now c.entry a
-        → Stands w.old.leaves.now t.entry b → Stands w.old.leaves.now e.entry d
-        → IfOk result (λ h. Stands w.old.leaves.now h (tree.Guard a b d)) }
+    ensures obeys { Obeys (guard_row test.entry.ty test.entry.weight
+        target.entry.ty target.entry.weight fallback.entry.ty fallback.entry.weight) result }
+    ensures makes { Makes (guard_key target.entry.ty test.entry.ty ∷ []) w.old w.new result }
+    ensures gains { IfOk result (HasBranches test.entry target.entry fallback.entry) }
+    ensures stands { (a b d : Tree) → StandsIn w.old test.entry a
+        → StandsIn w.old target.entry b → StandsIn w.old fallback.entry d
+        → IfOk result (λ h. StandsIn w.old h (tree.Guard a b d)) }
 {
-    let own = guard_type(alloc, w, &c, &t, &e)?;
-    let by = guarding(alloc, own, c, t, e)?;
-    Handle::rooted(rt, alloc, w, by)
+    let own = guard_type(w, &test, &target, &fallback)?;
+    let by = guarding(w.alloc, own, test, target, fallback)?;
+    Handle::rooted(w, rt, by)
 }
 
-/// A handle that runs `t`, and where that throws an exception of the class or of one below it, `h`
-/// on the exception and the first arguments (`MethodHandles.catchException`, SE 17). Refused where
-/// the class is not `java/lang/Throwable` or below it, and where `h` does not take such an
-/// exception and then the first parameters of `t`, or returns another type.
+/// A handle that runs `target`, and where that throws an exception of the class or of one below it,
+/// `handler` on the exception and the first arguments (`MethodHandles.catchException`, SE 17).
+/// Refused where the class is not `java/lang/Throwable` or below it, and where `handler` does not
+/// take such an exception and then the first parameters of `target`, or returns another type.
 pub fn catch<'t, R: Wait>(
     w: &mut Work<'_, 't>,
     rt: &R,
-    alloc: Global,
-    t: Handle<'t>,
+    target: Handle<'t>,
     class: ClassId,
-    h: Handle<'t>,
+    handler: Handle<'t>,
 ) -> Result<Handle<'t>, HandleError>
     requires ready { IsReady w.old 1 }
     ensures goes_on { GoesOn w.old w.new }
-    ensures obeys { Obeys (catch_row w.old.leaves.now.classes t.entry.ty t.entry.weight class
-        h.entry.ty h.entry.weight) result }
-    ensures makes { Makes (catch_key t.entry.ty h.entry.ty ∷ []) w.old.pass.now w.new.pass.now
-        result }
-    ensures gains { IfOk result (HasHandler t.entry class h.entry) }
-    ensures stands { (a b : Tree) → Stands w.old.leaves.now t.entry a
-        → Stands w.old.leaves.now h.entry b → IfOk result
-        (λ x. Stands w.old.leaves.now x (tree.Catch a class b)) }
+    ensures obeys { Obeys (catch_row (classes_of w.old) target.entry.ty target.entry.weight class
+        handler.entry.ty handler.entry.weight) result }
+    ensures makes { Makes (catch_key target.entry.ty handler.entry.ty ∷ []) w.old w.new result }
+    ensures gains { IfOk result (HasHandler target.entry class handler.entry) }
+    ensures stands { (a b : Tree) → StandsIn w.old target.entry a
+        → StandsIn w.old handler.entry b → IfOk result
+        (λ h. StandsIn w.old h (tree.Catch a class b)) }
 {
-    let own = catch_type(alloc, w, &t, class, &h)?;
-    let by = catching(alloc, own, t, class, h)?;
-    Handle::rooted(rt, alloc, w, by)
+    let own = catch_type(w, &target, class, &handler)?;
+    let by = catching(w.alloc, own, target, class, handler)?;
+    Handle::rooted(w, rt, by)
 }

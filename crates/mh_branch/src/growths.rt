@@ -1,5 +1,5 @@
 ghost use Rattle.std.specs.Prelude.{◌≤◌, length, IfOk};
-ghost use Rattle.mh_branch.specs.Growths.{AddsClass, AddsPart, AreCatchParts, AreGuardParts, IsCatch, IsGuard};
+ghost use Rattle.mh_branch.specs.Growths.{AddsClass, AddsHandle, AreCatchParts, AreGuardParts, IsCatch, IsGuard};
 
 use mh_base::{NoMemory, Seq};
 use mh_edit::Key;
@@ -17,7 +17,7 @@ struct Parts<'t> {
 
 /// One part more.
 fn with_part<'t>(alloc: Global, parts: Parts<'t>, part: Handle<'t>) -> Result<Parts<'t>, NoMemory>
-    ensures { IfOk result (AddsPart part.entry parts.entry) }
+    ensures { IfOk result (AddsHandle part.entry parts.entry) }
 {
     let (field, holds) = part.into_part(alloc)?;
     let Parts {
@@ -29,7 +29,7 @@ fn with_part<'t>(alloc: Global, parts: Parts<'t>, part: Handle<'t>) -> Result<Pa
     Ok(Parts { fields, sides })
 }
 
-/// A class of exceptions behind parts.
+/// A class of exceptions after parts.
 fn with_class<'t>(parts: Parts<'t>, class: ClassId) -> Result<Parts<'t>, NoMemory>
     ensures { IfOk result (AddsClass class parts.entry) }
 {
@@ -38,63 +38,66 @@ fn with_class<'t>(parts: Parts<'t>, class: ClassId) -> Result<Parts<'t>, NoMemor
     Ok(Parts { fields, sides })
 }
 
-/// The parts of a guard: the test, and the two branches.
+/// The parts of a guard: the test, the target and the fallback.
 fn guard_parts<'t>(
     alloc: Global,
-    c: Handle<'t>,
-    t: Handle<'t>,
-    e: Handle<'t>,
+    test: Handle<'t>,
+    target: Handle<'t>,
+    fallback: Handle<'t>,
 ) -> Result<Parts<'t>, NoMemory>
-    ensures { IfOk result (AreGuardParts c.entry t.entry e.entry) }
+    ensures { IfOk result (AreGuardParts test.entry target.entry fallback.entry) }
 {
     let none = Parts {
         fields: Vec::new(alloc),
         sides: Seq::new(alloc),
     };
-    let test = with_part(alloc, none, c)?;
-    let one_branch = with_part(alloc, test, t)?;
-    with_part(alloc, one_branch, e)
+    let tested = with_part(alloc, none, test)?;
+    let one_branch = with_part(alloc, tested, target)?;
+    with_part(alloc, one_branch, fallback)
 }
 
 /// The parts of a catch: the target and the handler, with the class of exceptions between them.
 fn catch_parts<'t>(
     alloc: Global,
-    t: Handle<'t>,
+    target: Handle<'t>,
     class: ClassId,
-    h: Handle<'t>,
+    handler: Handle<'t>,
 ) -> Result<Parts<'t>, NoMemory>
-    ensures { IfOk result (AreCatchParts t.entry class h.entry) }
+    ensures { IfOk result (AreCatchParts target.entry class handler.entry) }
 {
     let none = Parts {
         fields: Vec::new(alloc),
         sides: Seq::new(alloc),
     };
-    let target = with_part(alloc, none, t)?;
-    let caught = with_class(target, class)?;
-    with_part(alloc, caught, h)
+    let run = with_part(alloc, none, target)?;
+    let caught = with_class(run, class)?;
+    with_part(alloc, caught, handler)
 }
 
 /// What a guard of this type has: its three parts.
 pub(crate) fn guarding<'t>(
     alloc: Global,
     ty: MethodTy,
-    c: Handle<'t>,
-    t: Handle<'t>,
-    e: Handle<'t>,
+    test: Handle<'t>,
+    target: Handle<'t>,
+    fallback: Handle<'t>,
 ) -> Result<Growth<'t>, NoMemory>
-    requires few { length c.ty.params ≤ 254 }
-    ensures { IfOk result (IsGuard ty c.entry t.entry e.entry) }
+    requires few { length test.ty.params ≤ 254 }
+    ensures { IfOk result (IsGuard ty test.entry target.entry fallback.entry) }
 {
-    let test = c.ty().params.len() as u8;
-    let weight = 1 + c.weight() + t.weight() + e.weight();
-    let parts = guard_parts(alloc, c, t, e)?;
+    let tested = test.ty().params.len() as u8;
+    let weight = 1 + test.weight() + target.weight() + fallback.weight();
+    let parts = guard_parts(alloc, test, target, fallback)?;
     let shape = shape(alloc, &ty)?;
     let Parts { fields, sides } = parts;
     Ok(Growth {
         ty,
         weight,
         sides,
-        key: Key::GuardRoot { shape, test },
+        key: Key::GuardRoot {
+            shape,
+            test: tested,
+        },
         fields,
     })
 }
@@ -103,24 +106,27 @@ pub(crate) fn guarding<'t>(
 pub(crate) fn catching<'t>(
     alloc: Global,
     ty: MethodTy,
-    t: Handle<'t>,
+    target: Handle<'t>,
     class: ClassId,
-    h: Handle<'t>,
+    handler: Handle<'t>,
 ) -> Result<Growth<'t>, NoMemory>
-    requires some { 1 ≤ length h.ty.params }
-    requires few { length h.ty.params ≤ 255 }
-    ensures { IfOk result (IsCatch ty t.entry class h.entry) }
+    requires some { 1 ≤ length handler.ty.params }
+    requires few { length handler.ty.params ≤ 255 }
+    ensures { IfOk result (IsCatch ty target.entry class handler.entry) }
 {
-    let handler = (h.ty().params.len() - 1) as u8;
-    let weight = 1 + t.weight() + h.weight();
-    let parts = catch_parts(alloc, t, class, h)?;
+    let handled = (handler.ty().params.len() - 1) as u8;
+    let weight = 1 + target.weight() + handler.weight();
+    let parts = catch_parts(alloc, target, class, handler)?;
     let shape = shape(alloc, &ty)?;
     let Parts { fields, sides } = parts;
     Ok(Growth {
         ty,
         weight,
         sides,
-        key: Key::CatchRoot { shape, handler },
+        key: Key::CatchRoot {
+            shape,
+            handler: handled,
+        },
         fields,
     })
 }

@@ -4,8 +4,7 @@ ghost use Rattle.mh_tree.specs.Rows.{constant_row, identity_row, throw_row};
 ghost use Rattle.mh_tree.specs.Tree as tree;
 ghost use Rattle.mh_handle.specs.Obeys.{Obeys};
 ghost use Rattle.mh_handle.specs.Recipe.{recipe};
-ghost use Rattle.mh_handle.specs.Stands.{Stands};
-ghost use Rattle.mh_handle.specs.Works.{IsReady, GoesOn, Makes};
+ghost use Rattle.mh_handle.specs.Works.{IsReady, GoesOn, Makes, StandsIn, classes_of, leaves_of};
 
 use mh_base::Seq;
 use mh_convert::fit;
@@ -18,11 +17,11 @@ use std::alloc::Global;
 use std::sync::Wait;
 
 /// The value that fits a type.
-fn fitted(v: Value, ty: Ty, classes: &Classes) -> Value
-    requires { (w : Value) × (fit classes.now v ty ≡ Ok w) }
-    ensures { fit classes.now v ty ≡ Ok result }
+fn fitted(value: Value, ty: Ty, classes: &Classes) -> Value
+    requires { (fitting : Value) × (fit classes.now value ty ≡ Ok fitting) }
+    ensures { fit classes.now value ty ≡ Ok result }
 {
-    let Ok(fitted) = fit(v, ty, classes) else {
+    let Ok(fitted) = fit(value, ty, classes) else {
         unreachable!()
     };
     fitted
@@ -33,32 +32,30 @@ fn fitted(v: Value, ty: Ty, classes: &Classes) -> Value
 pub fn constant<'t, R: Wait>(
     w: &mut Work<'_, 't>,
     rt: &R,
-    alloc: Global,
     ty: Option<Ty>,
-    v: Value,
+    value: Value,
 ) -> Result<Handle<'t>, HandleError>
     requires ready { IsReady w.old 1 }
     ensures goes_on { GoesOn w.old w.new }
-    ensures obeys { Obeys (constant_row w.old.leaves.now.classes ty v) result }
-    ensures makes { Makes (recipe w.old.leaves.now (tree.Constant ty v)) w.old.pass.now
-        w.new.pass.now result }
-    ensures stands { IfOk result (λ h. Stands w.old.leaves.now h (tree.Constant ty v)) }
+    ensures obeys { Obeys (constant_row (classes_of w.old) ty value) result }
+    ensures makes { Makes (recipe (leaves_of w.old) (tree.Constant ty value)) w.old w.new result }
+    ensures stands { IfOk result (λ h. StandsIn w.old h (tree.Constant ty value)) }
 {
     let classes = w.leaves.classes();
-    let own = check_constant(alloc, ty, &v, classes)?;
+    let own = check_constant(w.alloc, ty, &value, classes)?;
     let Some(ret) = ty else { unreachable!() };
-    let slot = erase(fitted(v, ret, classes));
-    let fields = one_field(alloc, Field::Val(slot))?;
+    let slot = erase(fitted(value, ret, classes));
+    let fields = one_field(w.alloc, Field::Val(slot))?;
     let by = Growth {
         ty: own,
         weight: 1,
-        sides: Seq::new(alloc),
+        sides: Seq::new(w.alloc),
         key: Key::ConstRoot {
             basic: basic_of(ret),
         },
         fields,
     };
-    Handle::rooted(rt, alloc, w, by)
+    Handle::rooted(w, rt, by)
 }
 
 /// A handle that gives its argument (`MethodHandles.identity`, SE 17). Refused where the type is
@@ -66,28 +63,26 @@ pub fn constant<'t, R: Wait>(
 pub fn identity<'t, R: Wait>(
     w: &mut Work<'_, 't>,
     rt: &R,
-    alloc: Global,
     ty: Option<Ty>,
 ) -> Result<Handle<'t>, HandleError>
     requires ready { IsReady w.old 1 }
     ensures goes_on { GoesOn w.old w.new }
     ensures obeys { Obeys (identity_row ty) result }
-    ensures makes { Makes (recipe w.old.leaves.now (tree.Identity ty)) w.old.pass.now w.new.pass.now
-        result }
-    ensures stands { IfOk result (λ h. Stands w.old.leaves.now h (tree.Identity ty)) }
+    ensures makes { Makes (recipe (leaves_of w.old) (tree.Identity ty)) w.old w.new result }
+    ensures stands { IfOk result (λ h. StandsIn w.old h (tree.Identity ty)) }
 {
-    let own = check_identity(alloc, ty, w.leaves.classes())?;
+    let own = check_identity(w.alloc, ty, w.leaves.classes())?;
     let Some(ret) = ty else { unreachable!() };
     let by = Growth {
         ty: own,
         weight: 1,
-        sides: Seq::new(alloc),
+        sides: Seq::new(w.alloc),
         key: Key::IdentityRoot {
             basic: basic_of(ret),
         },
-        fields: Vec::new(alloc),
+        fields: Vec::new(w.alloc),
     };
-    Handle::rooted(rt, alloc, w, by)
+    Handle::rooted(w, rt, by)
 }
 
 /// A handle that throws its argument (`MethodHandles.throwException`, SE 17). Refused where the
@@ -95,25 +90,23 @@ pub fn identity<'t, R: Wait>(
 pub fn throw<'t, R: Wait>(
     w: &mut Work<'_, 't>,
     rt: &R,
-    alloc: Global,
     ret: Option<Ty>,
     class: ClassId,
 ) -> Result<Handle<'t>, HandleError>
     requires ready { IsReady w.old 1 }
     ensures goes_on { GoesOn w.old w.new }
-    ensures obeys { Obeys (throw_row w.old.leaves.now.classes ret class) result }
-    ensures makes { Makes (recipe w.old.leaves.now (tree.Throw ret class)) w.old.pass.now
-        w.new.pass.now result }
-    ensures stands { IfOk result (λ h. Stands w.old.leaves.now h (tree.Throw ret class)) }
+    ensures obeys { Obeys (throw_row (classes_of w.old) ret class) result }
+    ensures makes { Makes (recipe (leaves_of w.old) (tree.Throw ret class)) w.old w.new result }
+    ensures stands { IfOk result (λ h. StandsIn w.old h (tree.Throw ret class)) }
 {
-    let own = check_throw(alloc, ret, class, w.classes())?;
-    let shape = shape(alloc, &own)?;
+    let own = check_throw(w.alloc, ret, class, w.classes())?;
+    let shape = shape(w.alloc, &own)?;
     let by = Growth {
         ty: own,
         weight: 1,
-        sides: Seq::new(alloc),
+        sides: Seq::new(w.alloc),
         key: Key::ThrowRoot { ret: shape.ret },
-        fields: Vec::new(alloc),
+        fields: Vec::new(w.alloc),
     };
-    Handle::rooted(rt, alloc, w, by)
+    Handle::rooted(w, rt, by)
 }

@@ -2,8 +2,7 @@ ghost use Rattle.std.specs.Prelude.{◌≡◌, ◌≤◌, length, IfOk};
 ghost use Rattle.mh_tree.specs.Tree.{Tree};
 ghost use Rattle.mh_tree.specs.Tree as tree;
 ghost use Rattle.mh_handle.specs.Obeys.{Obeys};
-ghost use Rattle.mh_handle.specs.Stands.{Stands};
-ghost use Rattle.mh_handle.specs.Works.{IsReady, GoesOn};
+ghost use Rattle.mh_handle.specs.Works.{IsReady, GoesOn, StandsIn, classes_of};
 ghost use Rattle.mh_branch.specs.Growths.{spread_keys};
 ghost use Rattle.mh_branch.specs.Spreading.{TellsUse, TellsSpreading, MakesBoth, item_keys, items_used_as, spread_use_row, taking_items};
 
@@ -28,64 +27,64 @@ pub(crate) struct Spreading {
 // A type with items of an array for its last parameters, so many.
 fn taking_items(
     alloc: Global,
-    t: &MethodTy,
+    own: &MethodTy,
     component: Comp,
     count: usize,
 ) -> Result<MethodTy, NoMemory>
-    requires { count ≤ length t.now.params }
-    ensures { IfOk result (λ ty. ty ≡ taking_items t.now component count) }
+    requires { count ≤ length own.now.params }
+    ensures { IfOk result (λ ty. ty ≡ taking_items own.now component count) }
 {
-    let kept = t.params.len() - count;
-    let mut params = Vec::from_slice(alloc, &t.params.as_slice()[..kept])?;
+    let kept = own.params.len() - count;
+    let mut params = Vec::from_slice(alloc, &own.params.as_slice()[..kept])?;
     for _ in 0..count {
         params.push(component.item_type())?;
     }
     Ok(MethodTy {
         params: Seq::from_vec(params),
-        ret: t.ret,
+        ret: own.ret,
     })
 }
 
 // The weight of a tree that is used as a type.
 fn check_use(
     alloc: Global,
-    t: &MethodTy,
+    own: &MethodTy,
     weight: u32,
     asked: &MethodTy,
     classes: &Classes,
 ) -> Result<u32, CheckError>
     requires { weight ≤ 256 }
-    ensures { TellsUse classes.now t.now weight asked.now result }
+    ensures { TellsUse classes.now own.now weight asked.now result }
 {
-    if is_same_method_type(t, asked) {
+    if is_same_method_type(own, asked) {
         return Ok(weight);
     }
-    check_astype(alloc, t, weight, asked, classes)?;
+    check_astype(alloc, own, weight, asked, classes)?;
     Ok(1 + weight)
 }
 
 // What a spread is, or why it is refused.
 fn check_spreading(
     alloc: Global,
-    t: &MethodTy,
+    target: &MethodTy,
     weight: u32,
-    arr: Option<Ty>,
-    n: u8,
+    array: Option<Ty>,
+    count: u8,
     classes: &Classes,
 ) -> Result<Spreading, CheckError>
     requires { weight ≤ 256 }
-    ensures { TellsSpreading classes.now t.now weight arr n result }
+    ensures { TellsSpreading classes.now target.now weight array count result }
 {
-    let count = usize::from(n);
-    let Some(Ty::Array(component)) = arr else {
+    let items = usize::from(count);
+    let Some(Ty::Array(component)) = array else {
         return Err(CheckError::Refused(Exc::saying(alloc, ClassId::ILLEGAL_ARGUMENT, b"spread")?));
     };
-    if count > t.params.len() {
+    if items > target.params.len() {
         return Err(CheckError::Refused(Exc::saying(alloc, ClassId::ILLEGAL_ARGUMENT, b"spread")?));
     }
-    let asked = taking_items(alloc, t, component, count)?;
-    let used = check_use(alloc, t, weight, &asked, classes)?;
-    let own = check_spread(alloc, &asked, used, arr, n, classes)?;
+    let asked = taking_items(alloc, target, component, items)?;
+    let used = check_use(alloc, target, weight, &asked, classes)?;
+    let own = check_spread(alloc, &asked, used, array, count, classes)?;
     Ok(Spreading {
         component,
         asked,
@@ -93,48 +92,55 @@ fn check_spreading(
     })
 }
 
-/// A handle that takes an array in the place of the last `n` arguments of `t`, to which its items
-/// are passed, converted as by `as_type` where `t` takes other types (`MethodHandle.asSpreader`,
-/// SE 17). A call throws where the array does not have so many items. Refused where the type is no
-/// array, where `t` has fewer parameters, and where the items cannot be converted.
+/// A handle that takes an array in the place of the last `count` arguments of `target`, to which
+/// its items are passed, converted as by `as_type` where `target` takes other types
+/// (`MethodHandle.asSpreader`, SE 17). A call throws where the array does not have so many items.
+/// Refused where the type is no array, where `target` has fewer parameters, and where the items
+/// cannot be converted.
 pub fn spread<'t, R: Wait>(
     w: &mut Work<'_, 't>,
     rt: &R,
-    alloc: Global,
-    t: Handle<'t>,
-    arr: Option<Ty>,
-    n: u8,
+    target: Handle<'t>,
+    array: Option<Ty>,
+    count: u8,
 ) -> Result<Handle<'t>, HandleError>
     requires ready { IsReady w.old 2 }
     ensures goes_on { GoesOn w.old w.new }
-    ensures obeys { Obeys (spread_use_row w.old.leaves.now.classes t.entry.ty t.entry.weight arr n)
-        result }
-    ensures makes { MakesBoth t.entry.form.recipe
-        (item_keys w.old.leaves.now.classes t.entry.ty arr n)
-        (spread_keys arr n) w.old.pass.now w.new.pass.now result }
-    ensures sides { IfOk result (λ h. h.sides ≡ t.entry.sides) }
-    ensures stands { (a : Tree) → Stands w.old.leaves.now t.entry a
-        → IfOk result (λ h. Stands w.old.leaves.now h
-        (tree.Spread (items_used_as t.entry.ty arr n a) arr n)) }
+    ensures obeys { Obeys (spread_use_row (classes_of w.old)
+        target.entry.ty target.entry.weight array count) result }
+    ensures makes { MakesBoth target.entry.form.recipe
+        (item_keys (classes_of w.old) target.entry.ty array count)
+        (spread_keys array count) w.old w.new result }
+    ensures sides { IfOk result (λ h. h.sides ≡ target.entry.sides) }
+    ensures stands { (a : Tree) → StandsIn w.old target.entry a
+        → IfOk result (λ h. StandsIn w.old h
+        (tree.Spread (items_used_as target.entry.ty array count a) array count)) }
 {
-    let spreading = check_spreading(alloc, t.ty(), t.weight(), arr, n, w.classes())?;
+    let spreading = check_spreading(
+        w.alloc,
+        target.ty(),
+        target.weight(),
+        array,
+        count,
+        w.classes(),
+    )?;
     let Spreading {
         component,
         asked,
         own,
     } = spreading;
-    let used = as_type(w, rt, alloc, t, &asked)?;
+    let used = as_type(w, rt, target, &asked)?;
     // Its form has the shape of its type, so the key fits.
     let _ty = used.ty();
     let by = Growth {
         ty: own,
         weight: 1 + used.weight(),
-        sides: Seq::new(alloc),
+        sides: Seq::new(w.alloc),
         key: Key::Spread {
-            count: n,
+            count,
             basic: basic_of(component.item_type()),
         },
-        fields: Vec::new(alloc),
+        fields: Vec::new(w.alloc),
     };
-    used.grown(rt, alloc, w, by)
+    used.grown(w, rt, by)
 }

@@ -1,13 +1,10 @@
 -- What a form does that converts, by the tree that is used as another type.
 use Rattle.std.proofs.Common.{◌≡◌, ◌≢◌, refl, sym, ap, ◌∙◌, subst, ℕ, ◌<◌, ◌^◌, true, List, ◌++◌, length, map, Option, Some, Result, Ok, Err}
 use Rattle.std.proofs.lemmas.List.{length-map}
-use Rattle.mh_values.specs.declared.class.Class.{Class}
-use Rattle.mh_values.specs.declared.types.Ty.{Ty}
 use Rattle.mh_values.specs.declared.types.MethodTy.{MethodTy}
-use Rattle.mh_values.specs.declared.value.Exc.{Exc}
 use Rattle.mh_values.specs.declared.value.Value.{Value}
 use Rattle.mh_values.specs.Classes.{AreClasses}
-use Rattle.mh_values.specs.Computation.{Ran, Gave, Threw, Stuck, and_then, after}
+use Rattle.mh_values.specs.Computation.{Ran, Stuck, and_then}
 use Rattle.mh_values.specs.HasType.{HaveTypes}
 use Rattle.mh_values.specs.Returns.{Returns}
 use Rattle.mh_convert.specs.declared.conv.RetConv.{RetConv}
@@ -18,15 +15,13 @@ use Rattle.mh_tree.specs.Rows.{can_all, astype_row}
 use Rattle.mh_tree.specs.Typing.{with_type, type_of}
 use Rattle.mh_tree.specs.Meaning.{Done, known, mean, or_throw, conv_all, conv_result}
 use Rattle.mh_tree.proofs.RowParts.{astype_row-parts}
-use Rattle.mh_tree.proofs.Returning.{returned-typed}
 use Rattle.mh_tree.proofs.SoundConversions.{ConvertAll, conv_all-converts}
 use Rattle.mh_tree.proofs.TypedLists.{types-length}
 use Rattle.mh_form.specs.declared.slot.Slot.{Slot}
 use Rattle.mh_form.specs.declared.field.Field.TheVariants as field
-use Rattle.mh_form.specs.Erasure.{basic_of, erased, erased_option, erased_ran}
+use Rattle.mh_form.specs.Erasure.{basic_of, erased, erased_ran}
 use Rattle.mh_form.specs.Slots.{converted}
 use Rattle.mh_form.specs.Run.{run_on}
-use Rattle.mh_form.proofs.Computations.{mapped-after}
 use Rattle.mh_form.proofs.Refines.{refined}
 use Rattle.mh_edit.specs.declared.key.Key.TheVariants.{Convert}
 use Rattle.mh_edit.specs.Applied.{applied}
@@ -35,35 +30,13 @@ use Rattle.mh_edit.proofs.Converted.{law-Convert}
 use Rattle.mh_handle.specs.Recipe.{are_trivial, entries_of, ret_entry_of}
 use Rattle.mh_handle.specs.Stands.{HandleView, Stands, handle_body, handle_run}
 use Rattle.mh_handle.specs.Converting.{convs_of}
-use Rattle.mh_handle.proofs.ConvertedSlots.{arguments-converted, result-converted}
+use Rattle.mh_handle.proofs.ConvertedSlots.{arguments-converted}
 use Rattle.mh_handle.proofs.TrivialConversions.{all-kept, converts-ok, or_throw-ok, run-kept}
 use Rattle.mh_tree.specs.Sound.{IsSound}
 use Rattle.mh_tree.proofs.SoundConversions.{astype-sound}
 use Rattle.mh_handle.proofs.Erasing.{returns-runs}
 use Rattle.mh_handle.proofs.ConvertedParameters.{count-convs, length-entries, lengths, some-is}
-
--- ---- the run
-
--- what runs, and then its result converted
-pub then-converted :
-    (table : LeafTable) → AreClasses table.classes → (s t : Option Ty) (c : RetConv) (m : Done) (n : ℕ) →
-    ret_conversion_of table.classes s t ≡ Some c → Returns table.classes m s →
-    and_then (erased_ran m) n (λ r k. ret_entry_on table (ret_entry_of table.classes s t) c r) ≡ erased_ran
-    (and_then m n (λ r k. conv_result table.classes s t r))
-then-converted table are s t c (Gave r calls) n is returns =
-    ap (after calls) (result-converted table are s t c r is (returned-typed table.classes r calls s returns))
-    ∙ sym (mapped-after erased_option calls (conv_result table.classes s t r))
-then-converted table are s t c (Threw e calls) n is returns = refl
-then-converted table are s t c Stuck n is returns = absurd returns
-
-pub or_throw-erased :
-    (classes : List Class) (ts : List Ty) (r : Result (List Value) Exc) (f : List Slot → Ran (Option Slot)) (g : List Value → Done) →
-    ConvertAll classes r ts → ((vs : List Value) → HaveTypes classes vs ts → f (map erased vs) ≡ erased_ran (g vs)) →
-    or_throw r (λ vs. f (map erased vs)) ≡ erased_ran (or_throw r g)
-or_throw-erased classes ts (Ok vs) f g typed same = same vs typed
-or_throw-erased classes ts (Err e) f g typed same = refl
-
--- ---- the handle
+use Rattle.mh_handle.proofs.AsTypeResults.{or_throw-erased, then-converted}
 
 module _
     (table : LeafTable) (are : AreClasses table.classes) (asked u : MethodTy) (h : HandleView) (t : Tree)

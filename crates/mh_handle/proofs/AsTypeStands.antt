@@ -26,98 +26,17 @@ use Rattle.mh_handle.proofs.TrivialConversions.{none-converted}
 use Rattle.mh_handle.proofs.Standing.{made-reframed}
 use Rattle.mh_handle.proofs.ConvertedParameters.{params-converted, params-kept, ret-one, returning-fields, returning-made, returning-params, count-convs}
 use Rattle.mh_handle.proofs.AsTypeRuns.{allowed, back, type, sound, ends, made-runs, kept-runs}
+use Rattle.mh_handle.proofs.AsTypeForms.{viewed, with-key, without-key}
 
 module _
     (table : LeafTable) (are : AreClasses table.classes) (asked u : MethodTy) (h : HandleView) (t : Tree)
     (row : astype_row table.classes h.ty h.weight asked ≡ Ok u) (st : Stands table h t)
   where
-    -- the handle, by its key, if any, and its fields
-    viewed : ℕ → List Key → List Field → HandleView
-    viewed number keys fields = record {
-      ty = asked;
-      weight = 1 + h.weight;
-      sides = h.sides;
-      form = record { number = number; recipe = h.form.recipe ++ keys };
-      fields = fields;
-    }
-
-    recipe-made : (keys : List Key) → convert_keys table.classes asked h.ty ≡ keys → h.form.recipe ++ keys ≡ recipe table (AsType t asked)
-    recipe-made keys is = ap₂ (λ (a b : List Key). a ++ b) st.made (sym is ∙ sym (ap (λ c. at_type c (convert_keys table.classes asked)) st.typed))
-
-    with-key :
-        (number : ℕ) →
-        convert_keys table.classes asked h.ty ≡ Convert (entries_of table.classes asked.params h.ty.params) (ret_entry_of table.classes h.ty.ret asked.ret) ∷ []
-        →
-        Stands table
-        (viewed number (Convert (entries_of table.classes asked.params h.ty.params) (ret_entry_of table.classes h.ty.ret asked.ret) ∷ [])
-        (h.fields ++ (map (λ d. field.Conv d) (convs_of table.classes asked.params h.ty.params) ++ ret_fields (ret_entry_of table.classes h.ty.ret asked.ret)
-        (back table are asked u h t row st).0)))
-        (AsType t asked)
-    unfolding viewed
-    with-key number is =
-        let es = entries_of table.classes asked.params h.ty.params in
-        let convs = convs_of table.classes asked.params h.ty.params in
-        let re = ret_entry_of table.classes h.ty.ret asked.ret in
-        let old = handle_body h in
-        let made = converting es old in
-        let fields = h.fields ++ (map (λ d. field.Conv d) convs ++ ret_fields re (back table are asked u h t row st).0) in
-        let snoc : body_of (h.form.recipe ++ Convert es re ∷ []) ≡ applied (Convert es re) old = body_of-snoc h.form.recipe (Convert es re) in
-        let more : length (map (λ d. field.Conv d) convs) ≡ conv_count es = length-map convs (λ d. field.Conv d) ∙ count-convs table.classes asked.params
-        h.ty.params in
-        let first : length fields ≡ length h.fields + length (map (λ d. field.Conv d) convs ++ ret_fields re (back table are asked u h t row st).0) =
-        length-append h.fields (map (λ d. field.Conv d) convs ++ ret_fields re (back table are asked u h t row st).0) in
-        let second : length (map (λ d. field.Conv d) convs ++ ret_fields re (back table are asked u h t row st).0) ≡ length (map (λ d. field.Conv d) convs) +
-        length (ret_fields re (back table are asked u h t row st).0) =
-        length-append (map (λ d. field.Conv d) convs) (ret_fields re (back table are asked u h t row st).0) in
-        let third : (applied (Convert es re) old).fields ≡ (old.fields + conv_count es) + length (ret_fields re (back table are asked u h t row st).0) =
-        returning-fields re (back table are asked u h t row st).0 made in
-        let begin : IsMade made = made-reframed old (conv_params es old.params) (conv_names es old.params old.fields 0) (conv_table es 0 (length old.params))
-        (conv_count es) st.begun in
-        record {
-          typed = type table are asked u h t row st;
-          weighed = ap (λ w. 1 + w) st.weighed;
-          made = recipe-made (Convert es re ∷ []) is;
-          holds = st.holds;
-          fielded = let e : length fields ≡ (applied (Convert es re) old).fields = omega (arith, first, second, third, more, st.fielded) in
-              e ∙ sym (ap (λ b. b.fields) snoc);
-          shaped =
-              ap (λ b. b.params) snoc
-              ∙ (returning-params re made
-              ∙ (ap (conv_params es) st.shaped ∙ params-converted table.classes asked.params h.ty.params (allowed table are asked u h t row st)));
-          begun = subst IsMade (sym snoc) (returning-made re made begin);
-          runs = λ args n have low. ap (λ b. run_on table b fields (map erased args) n) snoc ∙ made-runs table are asked u h t row st args n have low;
-          well_formed = λ args n have low stuck. ends table are asked u h t row st args n have (sym (ap (λ b. run_on table b fields (map erased args) n) snoc ∙
-              made-runs table are asked u h t row st args n have low) ∙ stuck);
-          returns = sound table are asked u h t row st;
-        }
-
-    without-key :
-        (number : ℕ) →
-        are_trivial table.classes asked.params h.ty.params ≡ true → is_trivial_ret table.classes h.ty.ret asked.ret ≡ true →
-        convert_keys table.classes asked h.ty ≡ [] →
-        Stands table (viewed number [] h.fields) (AsType t asked)
-    unfolding viewed
-    without-key number params ret is =
-        let same : body_of (h.form.recipe ++ []) ≡ handle_body h = ap body_of (append-nil h.form.recipe) in
-        record {
-          typed = type table are asked u h t row st;
-          weighed = ap (λ w. 1 + w) st.weighed;
-          made = recipe-made [] is;
-          holds = st.holds;
-          fielded = st.fielded ∙ sym (ap (λ b. b.fields) same);
-          shaped = ap (λ b. b.params) same ∙ (st.shaped ∙ params-kept table.classes asked.params h.ty.params (allowed table are asked u h t row st) params);
-          begun = subst IsMade (sym same) st.begun;
-          runs = λ args n have low. ap (λ b. run_on table b h.fields (map erased args) n) same ∙ kept-runs table are asked u h t row st args n have low params
-              ret;
-          well_formed = λ args n have low stuck. ends table are asked u h t row st args n have (sym (ap (λ b. run_on table b h.fields (map erased args) n) same
-              ∙ kept-runs table are asked u h t row st args n have low params ret) ∙ stuck);
-          returns = sound table are asked u h t row st;
-        }
-
     -- whether something changes or not
     as-type :
         (number : ℕ) (trivial : Bool) → (are_trivial table.classes asked.params h.ty.params && is_trivial_ret table.classes h.ty.ret asked.ret) ≡ trivial →
-        Stands table (viewed number (convert_keys table.classes asked h.ty) (h.fields ++ convert_fields table.classes asked h.ty)) (AsType t asked)
+        Stands table (viewed table are asked u h t row st number (convert_keys table.classes asked h.ty) (h.fields ++ convert_fields table.classes asked h.ty))
+        (AsType t asked)
     unfolding viewed
     as-type number true is =
         let p = both (are_trivial table.classes asked.params h.ty.params) (is_trivial_ret table.classes h.ty.ret asked.ret) is in
@@ -128,9 +47,11 @@ module _
         let last : ret_fields_of table.classes h.ty.ret asked.ret ≡ [] =
         ap (λ b. cond b [] (map (λ c. field.Ret c) (option_to_list (ret_conversion_of table.classes h.ty.ret asked.ret)))) p.1 in
         let fields : convert_fields table.classes asked h.ty ≡ [] = ap₂ (λ (a b : List Field). a ++ b) convs last in
-        subst (λ ks. Stands table (viewed number ks (h.fields ++ convert_fields table.classes asked h.ty)) (AsType t asked)) (sym keys)
-        (subst (λ fs. Stands table (viewed number [] fs) (AsType t asked)) (sym (ap (λ fs. h.fields ++ fs) fields ∙ append-nil h.fields))
-        (without-key number p.0 p.1 keys))
+        subst (λ ks. Stands table (viewed table are asked u h t row st number ks (h.fields ++ convert_fields table.classes asked h.ty)) (AsType t asked))
+        (sym keys)
+        (subst (λ fs. Stands table (viewed table are asked u h t row st number [] fs) (AsType t asked))
+        (sym (ap (λ fs. h.fields ++ fs) fields ∙ append-nil h.fields))
+        (without-key table are asked u h t row st number p.0 p.1 keys))
     as-type number false is =
         let keys : convert_keys table.classes asked h.ty ≡ Convert (entries_of table.classes asked.params h.ty.params)
         (ret_entry_of table.classes h.ty.ret asked.ret) ∷ [] =
@@ -141,10 +62,12 @@ module _
         ap (λ fs. map (λ d. field.Conv d) (convs_of table.classes asked.params h.ty.params) ++ fs)
         (ret-one (is_trivial_ret table.classes h.ty.ret asked.ret) (basic_ret_of asked.ret) (ret_conversion_of table.classes h.ty.ret asked.ret)
         (back table are asked u h t row st).0 (back table are asked u h t row st).1) in
-        subst (λ ks. Stands table (viewed number ks (h.fields ++ convert_fields table.classes asked h.ty)) (AsType t asked)) (sym keys)
-        (subst (λ fs. Stands table (viewed number (Convert (entries_of table.classes asked.params h.ty.params) (ret_entry_of table.classes h.ty.ret asked.ret) ∷
+        subst (λ ks. Stands table (viewed table are asked u h t row st number ks (h.fields ++ convert_fields table.classes asked h.ty)) (AsType t asked))
+        (sym keys)
+        (subst (λ fs. Stands table (viewed table are asked u h t row st number (Convert (entries_of table.classes asked.params h.ty.params)
+        (ret_entry_of table.classes h.ty.ret asked.ret) ∷
         []) (h.fields ++ fs)) (AsType t asked)) (sym fields)
-        (with-key number keys))
+        (with-key table are asked u h t row st number keys))
 
 pub astype-stands :
     (table : LeafTable) → AreClasses table.classes → (asked u : MethodTy) (old new : HandleView) (t : Tree) →

@@ -9,7 +9,7 @@ use Rattle.mh_handle.specs.declared.error.EditError.{EditError}
 use Rattle.mh_handle.specs.declared.error.EditError.TheVariants.{NoMemory, FormsFull}
 use Rattle.mh_handle.specs.Form.{FormView}
 use Rattle.mh_handle.specs.Index.{recipe_of}
-use Rattle.mh_handle.specs.Passes.{PassView, Learns, Draws, Edits, IsFormOf, Makes}
+use Rattle.mh_handle.specs.Passes.{PassView, Learns, Draws, Edits, IsFormOf, MakesForm}
 use Rattle.mh_handle.proofs.Passing.{lacks-same}
 
 lacks-before : (nodes nodes' : List FormView) (recipe : List Key) → StartsWith nodes' nodes → Lacks recipe_of nodes' recipe → Lacks recipe_of nodes recipe
@@ -43,7 +43,8 @@ module _ (recipe : List Key) (old mid new : PassView) (learns : Learns old mid) 
   lacks : Lacks recipe_of old.nodes recipe
   lacks = lacks-before old.nodes mid.nodes recipe learns.nodes unlearnt
 
-  pub edits-made : (r : Result (Bor FormView) EditError) → Makes recipe mid new r → IfOk r (λ form. IsFormOf recipe new.nodes form.now) → Edits recipe old new r
+  pub edits-made : (r : Result (Bor FormView) EditError) → MakesForm recipe mid new r → IfOk r (λ form. IsFormOf recipe new.nodes form.now) →
+      Edits recipe old new r
   edits-made (Ok form) m is = (
     m.0,
     inr (lacks-same old.asked old.asked recipe form.now.recipe unseen (λ i. old.asked) m.0, m.1 ∙ ap (λ v. v ++ form.now ∷ []) learns.asked),

@@ -44,23 +44,6 @@ use Rattle.mh_handle.specs.Stands.{HandleView, Stands}
 use Rattle.mh_handle.proofs.Erasing.{returns-runs, returned-erased}
 use Rattle.mh_handle.proofs.Standing.{stands-rooted}
 
-throws : (classes : List Class) → AreClasses classes → (k : Kind) → ThrowsException classes k → throws_exceptions classes k ≡ true
-throws classes are (kind.Throw class) h = is_subclass-complete classes are.ordered.ascending class _ h
-throws classes are k h = refl
-
-both-true : (a b : Bool) → a ≡ true → b ≡ true → (a && b) ≡ true
-both-true a b h k = ap (λ v. v && b) h ∙ k
-
--- the leaves of a manifest are well typed
-pub registered-typed : (table : LeafTable) → AreRegistered table → AreClasses table.classes → IsWellTyped table
-registered-typed table all are = record {
-  classes = are;
-  leaves = λ l leaf at.
-      let is : IsLeafOf table.classes leaf = subst (IsLeafOf table.classes) (get_or_from_slice_get table.leaves l leaf leaf at)
-      (all.leaves l leaf (slice_get_within table.leaves l leaf at)) in
-      both-true (is_kind_type leaf.kind leaf.ty) (throws_exceptions table.classes leaf.kind) is.typed (throws table.classes are leaf.kind is.throws);
-}
-
 found-leaf : (o : Option Leaf) (ty : MethodTy) → leaf_row o ≡ Ok ty → (leaf : Leaf) × (o ≡ Some leaf) × (leaf.ty ≡ ty)
 found-leaf (Some leaf) ty e = (leaf, refl, cc)
 found-leaf None ty e = absurd cc

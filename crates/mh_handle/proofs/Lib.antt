@@ -1,7 +1,10 @@
 pub mod Answering
+pub mod AsTypeForms
+pub mod AsTypeResults
 pub mod AsTypeRuns
 pub mod AsTypeStands
 pub mod Asked
+pub mod Basics
 pub mod ConvertedParameters
 pub mod ConvertedSlots
 pub mod Copying

@@ -11,10 +11,10 @@ use Rattle.mh_edit.specs.declared.key.Key.{Key}
 use Rattle.mh_handle.specs.declared.error.HandleError.{HandleError}
 use Rattle.mh_handle.specs.declared.error.HandleError.TheVariants as handle
 use Rattle.mh_handle.specs.declared.handle.Handle.{Handle}
+use Rattle.mh_handle.specs.declared.work.Work.{Work}
 use Rattle.mh_handle.specs.Errors.{of_check}
 use Rattle.mh_handle.specs.Grows.{Grows}
 use Rattle.mh_handle.specs.Obeys.{Obeys}
-use Rattle.mh_handle.specs.Passes.{PassView}
 use Rattle.mh_handle.specs.Stands.{HandleView}
 use Rattle.mh_handle.specs.Works.{IsAccepted, Makes}
 
@@ -28,14 +28,13 @@ pub refused-obeys : (row : TypeOrRefusal) (e : CheckError) (r : Result Handle Ha
 refused-obeys row e (Ok h) tells is = absurd is
 refused-obeys row e (Err x) tells is = subst (λ v. Obeys row (Err v)) (sym is) (refusal-obeys row e tells)
 
-refusal-makes : (recipe : List Key) (pass : PassView) (e : CheckError) → Makes recipe pass pass (Err (of_check e))
-refusal-makes recipe pass check.NoMemory = (refl, inl refl)
-refusal-makes recipe pass (check.Refused e) = refl
+refusal-makes : (recipe : List Key) (w : Work) (e : CheckError) → Makes recipe w w (Err (of_check e))
+refusal-makes recipe w check.NoMemory = (refl, inl refl)
+refusal-makes recipe w (check.Refused e) = refl
 
-pub refused-makes : (recipe : List Key) (pass : PassView) (e : CheckError) (r : Result Handle HandleError) → IsErrAnd r (λ x. x ≡ of_check e) →
-    Makes recipe pass pass r
-refused-makes recipe pass e (Ok h) is = absurd is
-refused-makes recipe pass e (Err x) is = subst (λ v. Makes recipe pass pass (Err v)) (sym is) (refusal-makes recipe pass e)
+pub refused-makes : (recipe : List Key) (w : Work) (e : CheckError) (r : Result Handle HandleError) → IsErrAnd r (λ x. x ≡ of_check e) → Makes recipe w w r
+refused-makes recipe w e (Ok h) is = absurd is
+refused-makes recipe w e (Err x) is = subst (λ v. Makes recipe w w (Err v)) (sym is) (refusal-makes recipe w e)
 
 -- ---- a handle that was made, or want of memory or of numbers
 
@@ -57,6 +56,6 @@ pub memory-obeys : (row : TypeOrRefusal) (r : Result Handle HandleError) → IsE
 memory-obeys row (Ok h) is = absurd is
 memory-obeys row (Err x) is = subst (λ v. Obeys row (Err v)) (sym is) tt
 
-pub memory-makes : (recipe : List Key) (pass : PassView) (r : Result Handle HandleError) → IsErrAnd r (λ x. x ≡ handle.NoMemory) → Makes recipe pass pass r
-memory-makes recipe pass (Ok h) is = absurd is
-memory-makes recipe pass (Err x) is = subst (λ v. Makes recipe pass pass (Err v)) (sym is) (refl, inl refl)
+pub memory-makes : (recipe : List Key) (w : Work) (r : Result Handle HandleError) → IsErrAnd r (λ x. x ≡ handle.NoMemory) → Makes recipe w w r
+memory-makes recipe w (Ok h) is = absurd is
+memory-makes recipe w (Err x) is = subst (λ v. Makes recipe w w (Err v)) (sym is) (refl, inl refl)

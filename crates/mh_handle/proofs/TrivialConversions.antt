@@ -18,6 +18,7 @@ use Rattle.mh_tree.specs.Rows.{can_all}
 use Rattle.mh_tree.specs.Meaning.{Done, or_throw, then_others, conv_all, conv_result}
 use Rattle.mh_tree.proofs.Returning.{returned-typed}
 use Rattle.mh_tree.proofs.SoundConversions.{ConvertAll}
+use Rattle.mh_tree.proofs.Trivial.{trivial-result}
 use Rattle.mh_handle.specs.Recipe.{are_trivial}
 use Rattle.mh_handle.specs.Converting.{conversion_between, convs_of}
 
@@ -43,32 +44,12 @@ none-converted classes (s ∷ ss) (t ∷ ts) trivial =
     let p = both (is_trivial classes s t) (are_trivial classes ss ts) trivial in
     ap (λ b. cond b (convs_of classes ss ts) (conversion_between s t ∷ convs_of classes ss ts)) p.0 ∙ none-converted classes ss ts p.1
 
--- a result that keeps its type, or becomes one of a type above
-kept-value :
-    (classes : List Class) → AreClasses classes → (s t : Ty) (v : Value) (b : Bool) →
-    is_trivial classes s t ≡ true → can classes s t ≡ b → b ≡ true → has_type classes v s ≡ true →
-    found (value_conversion (cond b (Some (conversion_between s t)) None)) (λ c. or_throw (ret_conv classes c (Some v)) (λ w. Gave w [])) ≡ Gave (Some v) []
-kept-value classes are s t v true trivial is truly have =
-    ap (λ r. or_throw (result_map_both (λ w. Some w) (λ (e : Exc). e) r) (λ w. Gave w [])) (trivial-keeps classes are s t v trivial have)
-kept-value classes are s t v false trivial is truly have = absurd cc
-
-pub result-kept :
-    (classes : List Class) → AreClasses classes → (s t : Option Ty) (r : Option Value) →
-    is_trivial_ret classes s t ≡ true → HaveTypes classes (option_to_list r) (option_to_list s) → conv_result classes s t r ≡ Gave r []
-result-kept classes are None None None trivial have = refl
-result-kept classes are None None (Some v) trivial have = absurd have
-result-kept classes are (Some s) None r trivial have = absurd cc
-result-kept classes are None (Some t) r trivial have = absurd cc
-result-kept classes are (Some s) (Some t) None trivial have = absurd have
-result-kept classes are (Some s) (Some t) (Some v) trivial have =
-    kept-value classes are s t v (can classes s t) trivial refl (trivial-allowed classes s t trivial) have.0
-
 -- what runs is followed by nothing more
 pub run-kept :
     (classes : List Class) → AreClasses classes → (s t : Option Ty) (m : Done) (n : ℕ) →
     is_trivial_ret classes s t ≡ true → Returns classes m s → and_then m n (λ r k. conv_result classes s t r) ≡ m
 run-kept classes are s t (Gave r calls) n trivial returns =
-    ap (after calls) (result-kept classes are s t r trivial (returned-typed classes r calls s returns)) ∙ ap (Gave r) (append-nil calls)
+    ap (after calls) (trivial-result classes are s t r trivial (returned-typed classes r calls s returns)) ∙ ap (Gave r) (append-nil calls)
 run-kept classes are s t (Threw e calls) n trivial returns = refl
 run-kept classes are s t Stuck n trivial returns = absurd returns
 

@@ -85,7 +85,7 @@ AsksShown recipe old new (Ok None) = Learns old new × Lacks recipe_of new.nodes
 AsksShown recipe old new (Err e) = Edits recipe old new (Err NoMemory)
 
 -- what the making of a form answers that was neither asked for nor learnt
-abbrev pub Makes : List Key → PassView → PassView → Result (Bor FormView) EditError → Type 0
-Makes recipe old new (Ok form) = (form.now.recipe ≡ recipe) × (new.asked ≡ old.asked ++ form.now ∷ []) × ((number : ℕ) × Draws number old.seat new.seat)
-Makes recipe old new (Err NoMemory) = (new.asked ≡ old.asked) × ((new.seat ≡ old.seat) ⊎ ((number : ℕ) × Draws number old.seat new.seat))
-Makes recipe old new (Err (FormsFull drawn)) = (new.asked ≡ old.asked) × Draws drawn old.seat new.seat × (16384 < drawn) × (new.nodes ≡ old.nodes)
+abbrev pub MakesForm : List Key → PassView → PassView → Result (Bor FormView) EditError → Type 0
+MakesForm recipe old new (Ok form) = (form.now.recipe ≡ recipe) × (new.asked ≡ old.asked ++ form.now ∷ []) × ((number : ℕ) × Draws number old.seat new.seat)
+MakesForm recipe old new (Err NoMemory) = (new.asked ≡ old.asked) × ((new.seat ≡ old.seat) ⊎ ((number : ℕ) × Draws number old.seat new.seat))
+MakesForm recipe old new (Err (FormsFull drawn)) = (new.asked ≡ old.asked) × Draws drawn old.seat new.seat × (16384 < drawn) × (new.nodes ≡ old.nodes)

@@ -6,8 +6,24 @@ use Rattle.mh_handle.specs.declared.error.HandleError.{HandleError}
 use Rattle.mh_handle.specs.declared.error.HandleError.TheVariants.{NoMemory, FormsFull, Refused}
 use Rattle.mh_handle.specs.declared.handle.Handle.{Handle}
 use Rattle.mh_handle.specs.declared.work.Work.{Work}
+use Rattle.mh_leaf.specs.LeafTable.{LeafTable}
+use Rattle.mh_values.specs.declared.class.Class.{Class}
+use Rattle.mh_tree.specs.Tree.{Tree}
 use Rattle.mh_handle.specs.Index.{recipe_of}
-use Rattle.mh_handle.specs.Passes.{PassView, AsksFor, NotAsked, Draws, DrawsAtMostOne, IsFormOf}
+use Rattle.mh_handle.specs.Stands.{HandleView, Stands}
+use Rattle.mh_handle.specs.Passes.{AsksFor, NotAsked, Draws, DrawsAtMostOne, IsFormOf}
+
+-- the leaves of the work
+abbrev pub leaves_of : Work → LeafTable
+leaves_of w = w.leaves.now
+
+-- the classes of the work's leaves
+abbrev pub classes_of : Work → List Class
+classes_of w = w.leaves.now.classes
+
+-- the handle stands for the tree over the work's leaves
+abbrev pub StandsIn : Work → HandleView → Tree → Type 0
+StandsIn w h t = Stands w.leaves.now h t
 
 -- the pass is one of the table, and may draw so many numbers
 pub record IsReady (w : Work) (numbers : ℕ) : Type 0 where
@@ -21,12 +37,16 @@ pub record GoesOn (old new : Work) : Type 0 where
   pub cells : new.pass.now.cells ≡ old.pass.now.cells
   pub learnt : StartsWith new.pass.now.nodes old.pass.now.nodes
 
--- what a call leaves of the pass that makes a handle by one edit, whose form is the one that the pass has learnt for this recipe; where no number is left it
+-- what a call leaves of the work that makes a handle by one edit, whose form is the one that the pass has learnt for this recipe; where no number is left it
 -- has learnt none, and a refusal by the rule leaves all as it was
-abbrev pub Makes : List Key → PassView → PassView → Result Handle HandleError → Type 0
-Makes recipe old new (Ok h) = (h.form.recipe ≡ recipe) × AsksFor h.form old new × DrawsAtMostOne recipe old new × IsFormOf recipe new.nodes h.form
-Makes recipe old new (Err NoMemory) = (new.asked ≡ old.asked) × DrawsAtMostOne recipe old new
-Makes recipe old new (Err (FormsFull drawn)) = NotAsked recipe old new × Draws drawn old.seat new.seat × (16384 < drawn) × Lacks recipe_of new.nodes recipe
+abbrev pub Makes : List Key → Work → Work → Result Handle HandleError → Type 0
+Makes recipe old new (Ok h) =
+    (h.form.recipe ≡ recipe) × AsksFor h.form old.pass.now new.pass.now × DrawsAtMostOne recipe old.pass.now new.pass.now
+    × IsFormOf recipe new.pass.now.nodes h.form
+Makes recipe old new (Err NoMemory) = (new.pass.now.asked ≡ old.pass.now.asked) × DrawsAtMostOne recipe old.pass.now new.pass.now
+Makes recipe old new (Err (FormsFull drawn)) =
+    NotAsked recipe old.pass.now new.pass.now × Draws drawn old.pass.now.seat new.pass.now.seat × (16384 < drawn)
+    × Lacks recipe_of new.pass.now.nodes recipe
 Makes recipe old new (Err (Refused e)) = new ≡ old
 
 -- the call is not refused by a rule

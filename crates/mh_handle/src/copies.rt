@@ -3,17 +3,15 @@ ghost use Rattle.mh_leaf.specs.LeafTable.{LeafTable};
 ghost use Rattle.mh_tree.specs.Tree.{Tree};
 ghost use Rattle.mh_form.specs.Run.{sense};
 ghost use Rattle.mh_handle.specs.Stands.{Stands};
-ghost use Rattle.mh_handle.specs.Works.{GoesOn};
 
 use crate::handle::Handle;
 use crate::work::Work;
 use mh_base::NoMemory;
 use mh_form::{Bound, copy_fields};
-use std::alloc::Global;
 
 impl<'t> Handle<'t> {
     /// A copy of the handle, which stands for what the handle stands for. It asks for no edit.
-    pub fn copy(&self, alloc: Global, w: &mut Work<'_, 't>) -> Result<Handle<'t>, NoMemory>
+    pub fn copy(&self, w: &mut Work<'_, 't>) -> Result<Handle<'t>, NoMemory>
         ensures same { w.new ≡ w.old }
         ensures form { IfOk result (λ h. h.form ≡ self.now.form) }
         ensures ty { IfOk result (λ h. h.ty ≡ self.now.ty) }
@@ -24,7 +22,6 @@ impl<'t> Handle<'t> {
         ensures stands { (table : LeafTable) (t : Tree) → Stands table self.now t
             → IfOk result (λ h. Stands table h t) }
     {
-        let _leaves = w.leaves;
         Ok(Handle {
             ty: self.ty.share()?,
             weight: self.weight,
@@ -32,7 +29,7 @@ impl<'t> Handle<'t> {
             form: self.form,
             bound: Bound {
                 body: self.bound.body,
-                fields: copy_fields(alloc, self.bound.fields.as_slice())?,
+                fields: copy_fields(w.alloc, self.bound.fields.as_slice())?,
             },
         })
     }

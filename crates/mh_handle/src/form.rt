@@ -7,8 +7,9 @@ use mh_setonce::Keyed;
 use std::alloc::Global;
 use std::marker::Model;
 
-/// A form (OpenJDK's `LambdaForm`): what a recipe makes, with a number of its own, from 1 to 16,384;
-/// the base of all forms has 0. Contracts see the number and the recipe, which determines the body.
+/// A form (OpenJDK's `LambdaForm`): what a recipe makes, with a number of its own, from 1 to
+/// 16,384; the base of all forms has 0. Contracts see the number and the recipe, which determines
+/// the body.
 #[derive(Drop)]
 pub struct Form {
     number: u64,

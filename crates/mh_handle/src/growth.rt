@@ -29,26 +29,36 @@ pub struct Growth<'t> {
     pub fields: Fields<'t>,
 }
 
-/// The handle that an edit makes of a form with its fields and the types of its side parts.
-fn edited<'t, R: Wait>(
-    rt: &R,
-    alloc: Global,
-    w: &mut Work<'_, 't>,
+/// What a handle is made from: a form with its fields, and the types of its side parts.
+#[derive(Drop)]
+struct Untyped<'t> {
     form: &'t Form,
     fields: Fields<'t>,
     sides: MethodTys,
+}
+
+/// The handle that an edit makes.
+fn edited<'t, R: Wait>(
+    w: &mut Work<'_, 't>,
+    rt: &R,
+    from: Untyped<'t>,
     by: Growth<'t>,
 ) -> Result<Handle<'t>, HandleError>
-    requires fits { IsTrue (fits by.key (body_of form.now.recipe)) }
-    requires shaped { HasShape (applied by.key (body_of form.now.recipe)) by.ty }
+    requires fits { IsTrue (fits by.key (body_of from.form.now.recipe)) }
+    requires shaped { HasShape (applied by.key (body_of from.form.now.recipe)) by.ty }
     requires light { by.weight ≤ 256 }
     requires ready { IsReady w.old 1 }
     ensures goes_on { GoesOn w.old w.new }
-    ensures makes { Makes (form.entry.now.recipe ++ by.entry.key ∷ [])
-        w.old.pass.now w.new.pass.now result }
+    ensures makes { Makes (from.entry.form.now.recipe ++ by.entry.key ∷ []) w.old w.new result }
     ensures accepted { IsAccepted result }
-    ensures grows { GrowsBy (untyped form.entry.now sides fields.entry.items) by.entry result }
+    ensures grows { GrowsBy
+        (untyped from.entry.form.now from.entry.sides from.entry.fields.items) by.entry result }
 {
+    let Untyped {
+        form,
+        fields,
+        sides,
+    } = from;
     let Growth {
         ty,
         weight,
@@ -57,8 +67,8 @@ fn edited<'t, R: Wait>(
         fields: more_fields,
     } = by;
     let (fields, sides) = joined(fields, more_fields, sides, more_sides)?;
-    let ty = Shared::new(alloc, ty)?;
-    let form = w.edit(rt, alloc, form, key)?;
+    let ty = Shared::new(w.alloc, ty)?;
+    let form = w.edit(rt, form, key)?;
     Ok(Handle {
         ty,
         weight,
@@ -75,9 +85,8 @@ impl<'t> Handle<'t> {
     /// The handle after an edit of its form.
     pub fn grown<R: Wait>(
         self,
-        rt: &R,
-        alloc: Global,
         w: &mut Work<'_, 't>,
+        rt: &R,
         by: Growth<'t>,
     ) -> Result<Handle<'t>, HandleError>
         requires fits { IsTrue (fits by.key (handle_body self)) }
@@ -85,8 +94,7 @@ impl<'t> Handle<'t> {
         requires light { by.weight ≤ 256 }
         requires ready { IsReady w.old 1 }
         ensures goes_on { GoesOn w.old w.new }
-        ensures makes { Makes (self.entry.form.recipe ++ by.entry.key ∷ [])
-            w.old.pass.now w.new.pass.now result }
+        ensures makes { Makes (self.entry.form.recipe ++ by.entry.key ∷ []) w.old w.new result }
         ensures accepted { IsAccepted result }
         ensures grows { GrowsBy self.entry by.entry result }
     {
@@ -98,14 +106,18 @@ impl<'t> Handle<'t> {
             bound,
         } = self;
         let Bound { body: _, fields } = bound;
-        edited(rt, alloc, w, form, fields, sides, by)
+        let from = Untyped {
+            form,
+            fields,
+            sides,
+        };
+        edited(w, rt, from, by)
     }
 
     /// A handle whose form is made by a root.
     pub fn rooted<R: Wait>(
-        rt: &R,
-        alloc: Global,
         w: &mut Work<'_, 't>,
+        rt: &R,
         by: Growth<'t>,
     ) -> Result<Handle<'t>, HandleError>
         requires fits { IsTrue (fits by.key nothing) }
@@ -113,12 +125,16 @@ impl<'t> Handle<'t> {
         requires light { by.weight ≤ 256 }
         requires ready { IsReady w.old 1 }
         ensures goes_on { GoesOn w.old w.new }
-        ensures makes { Makes (by.entry.key ∷ []) w.old.pass.now w.new.pass.now result }
+        ensures makes { Makes (by.entry.key ∷ []) w.old w.new result }
         ensures accepted { IsAccepted result }
         ensures grows { GrowsBy base_handle by.entry result }
     {
-        let base = w.forms.base();
-        edited(rt, alloc, w, base, Vec::new(alloc), Seq::new(alloc), by)
+        let from = Untyped {
+            form: w.forms.base(),
+            fields: Vec::new(w.alloc),
+            sides: Seq::new(w.alloc),
+        };
+        edited(w, rt, from, by)
     }
 
     /// The handle as a part of another one: the field that holds it, and the types that it holds.
@@ -149,7 +165,7 @@ pub fn one_field<'t>(alloc: Global, field: Field<'t>) -> Result<Fields<'t>, NoMe
     Ok(fields)
 }
 
-/// Fields and side types, each with more of them behind.
+/// Fields and side types, each followed by more of them.
 fn joined<'t>(
     fields: Fields<'t>,
     more_fields: Fields<'t>,

@@ -49,8 +49,8 @@ impl<'t> Handle<'t> {
         )
     }
 
-    /// Calls a form that was edited from the handle's, on the handle's fields and those of the edit,
-    /// and types the result by a return type.
+    /// Calls a form that was edited from the handle's, on the handle's fields and those of the
+    /// edit, and types the result by a return type.
     pub fn invoke_edited(
         &self,
         alloc: Global,

@@ -2,8 +2,7 @@ ghost use Rattle.std.specs.Prelude.{◌≡◌, ◌<◌, length, IfOk};
 ghost use Rattle.mh_leaf.specs.WellTyped.{IsWellTyped};
 ghost use Rattle.mh_tree.specs.Tree as tree;
 ghost use Rattle.mh_handle.specs.Recipe.{recipe};
-ghost use Rattle.mh_handle.specs.Stands.{Stands};
-ghost use Rattle.mh_handle.specs.Works.{IsReady, GoesOn, Makes, IsAccepted};
+ghost use Rattle.mh_handle.specs.Works.{IsReady, GoesOn, Makes, IsAccepted, StandsIn, leaves_of};
 
 use crate::error::HandleError;
 use crate::growth::{Growth, one_field};
@@ -14,36 +13,33 @@ use mh_edit::Key;
 use mh_form::{Field, shape};
 use mh_leaves::Leaves;
 use mh_values::LeafId;
-use std::alloc::Global;
 use std::sync::Wait;
 
 /// A handle of a leaf. It is never refused.
 pub fn leaf<'t, R: Wait>(
     w: &mut Work<'_, 't>,
     rt: &R,
-    alloc: Global,
     id: LeafId,
 ) -> Result<Handle<'t>, HandleError>
-    requires leaf { id.0 < length w.old.leaves.now.leaves }
+    requires leaf { id.0 < length (leaves_of w.old).leaves }
     requires ready { IsReady w.old 1 }
     ensures goes_on { GoesOn w.old w.new }
-    ensures makes { Makes (recipe w.old.leaves.now (tree.Leaf id)) w.old.pass.now w.new.pass.now
-        result }
+    ensures makes { Makes (recipe (leaves_of w.old) (tree.Leaf id)) w.old w.new result }
     ensures accepted { IsAccepted result }
-    ensures stands { IfOk result (λ h. Stands w.old.leaves.now h (tree.Leaf id)) }
+    ensures stands { IfOk result (λ h. StandsIn w.old h (tree.Leaf id)) }
 {
     are_well_typed(w.leaves);
-    let ty = w.leaves.ty(id).copy(alloc)?;
-    let shape = shape(alloc, &ty)?;
-    let fields = one_field(alloc, Field::Leaf(id))?;
+    let ty = w.leaves.ty(id).copy(w.alloc)?;
+    let shape = shape(w.alloc, &ty)?;
+    let fields = one_field(w.alloc, Field::Leaf(id))?;
     let by = Growth {
         ty,
         weight: 1,
-        sides: Seq::new(alloc),
+        sides: Seq::new(w.alloc),
         key: Key::LeafRoot { shape },
         fields,
     };
-    Handle::rooted(rt, alloc, w, by)
+    Handle::rooted(w, rt, by)
 }
 
 // What the leaves of a manifest are. It does nothing when it runs.

@@ -3,7 +3,7 @@ ghost use Rattle.mh_setonce.specs.Puts.{PutIn, Refused};
 ghost use Rattle.mh_setonce.specs.Walks.{Distinct, FindsNode, Has, Lacks, StartsWith};
 ghost use Rattle.mh_handle.specs.Form.{FormView, body_of};
 ghost use Rattle.mh_handle.specs.Index.{recipe_of};
-ghost use Rattle.mh_handle.specs.Passes.{AsksShown, IsFormOf, Learns, Makes, pass_at};
+ghost use Rattle.mh_handle.specs.Passes.{AsksShown, IsFormOf, Learns, MakesForm, pass_at};
 
 use crate::error::EditError;
 use crate::form::Form;
@@ -132,7 +132,7 @@ impl<'t> FormPass<'t> {
         requires new { Lacks recipe_of self.old.asked recipe }
         ensures cells { self.new.cells ≡ self.old.cells }
         ensures learnt { StartsWith self.new.nodes self.old.nodes }
-        ensures makes { Makes recipe self.old self.new result }
+        ensures makes { MakesForm recipe self.old self.new result }
         ensures form { IfOk result (λ form. IsFormOf recipe self.new.nodes form.now) }
     {
         self.seen.reserve()?;
@@ -149,8 +149,8 @@ impl<'t> FormPass<'t> {
 
 /// Puts a form into the chain, unless one with its recipe stands there.
 ///
-/// The forms of the chain and this one have numbers of their own, from 1 to 16,384, so that a cell is
-/// left for it; no contract says so, and a chain that seems full is asked again.
+/// The forms of the chain and this one have numbers of their own, from 1 to 16,384, so that a cell
+/// is left for it; no contract says so, and a chain that seems full is asked again.
 fn put_form<'t, R: Wait>(
     rt: &R,
     alloc: Global,

@@ -61,12 +61,8 @@ impl FormTable {
         FormPass::new(alloc, self.chain.walk(alloc), seat)
     }
 
-    /// The form whose recipe is that of `form` followed by the key. One that the pass has asked for
-    /// is answered without memory, and one that the chain shows without drawing a number; any other
-    /// is made.
-    ///
-    /// Where the chain seems full, it looks again, for which it takes `rt`. It answers `FormsFull` where the number drawn is above 16,384. A refusal may leave a
-    /// number drawn, which is then spent.
+    /// The form whose recipe is that of `form` followed by the key, as `Work::edit` says, which
+    /// calls it. Where the chain seems full, it looks again, for which it takes `rt`.
     pub fn edit<'t, R: Wait>(
         &'t self,
         rt: &R,

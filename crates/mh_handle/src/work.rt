@@ -15,9 +15,10 @@ use mh_values::Classes;
 use std::alloc::Global;
 use std::sync::Wait;
 
-/// What a thread makes handles with: the table of forms, the thread's own pass over it, and the
-/// leaves of the run.
+/// What a thread makes handles with: the allocator, the table of forms, the thread's own pass over
+/// it, and the leaves of the run.
 pub struct Work<'w, 't> {
+    pub alloc: Global,
     pub forms: &'t FormTable,
     pub pass: &'w mut FormPass<'t>,
     pub leaves: &'t Leaves,
@@ -34,20 +35,19 @@ impl<'w, 't> Work<'w, 't> {
         classes
     }
 
-    /// The form whose recipe is that of `form` followed by the key, as `FormTable::edit`.
-    pub(crate) fn edit<R: Wait>(
-        &mut self,
-        rt: &R,
-        alloc: Global,
-        form: &'t Form,
-        key: Key,
-    ) -> Result<&'t Form, EditError>
+    /// The form whose recipe is that of `form` followed by the key. One that the pass has asked for
+    /// is answered without memory, and one that the chain shows without drawing a number; any other
+    /// is made.
+    ///
+    /// It answers `FormsFull` where the number drawn is above 16,384. A refusal may leave a number
+    /// drawn, which is then spent.
+    pub fn edit<R: Wait>(&mut self, rt: &R, form: &'t Form, key: Key) -> Result<&'t Form, EditError>
         requires fits { IsTrue (fits key (body_of form.now.recipe)) }
         requires ready { IsReady self.old 1 }
         ensures goes_on { GoesOn self.old self.new }
         ensures edits { Edits (form.entry.now.recipe ++ key ∷ []) self.old.pass.now
             self.new.pass.now result }
     {
-        self.forms.edit(rt, alloc, self.pass, form, key)
+        self.forms.edit(rt, self.alloc, self.pass, form, key)
     }
 }

@@ -1,207 +1,298 @@
-use crate::trees::{
-    ADD, ARR, DIV, FAIL, Joined, LESS, Making, NOTHING, Root, SAME, SAW, SUB, Step, TICK, Typed,
-    ZIN, answer_of, form_numbers, tree_leaves,
-};
+use crate::trees::{Making, answer_of, form_numbers, tree_leaves};
 use mh_base::NoMemory;
 use mh_handle::{Answer, HandleError};
 use mh_leaves::Leaves;
+use mh_steps::{
+    ADD, ARR, DIV, FAIL, Joined, LESS, NOTHING, Root, SAME, SAW, SUB, Step, TEXT, TICK, Typed, ZIN,
+};
 use mh_texts::{show_exc, show_value};
 use mh_values::{ClassId, Classes, Exc, Outcome};
 use std::alloc::Global;
 use std::sync::Wait;
 use std::test::Fail;
 
-/// A handle, the arguments of a call, and how it ended with the numbers of the leaves that it
-/// called, or why the handle was refused.
-type Case = (Making, &'static [&'static str], &'static str);
+/// A handle, the arguments of a call, and what is wanted: how it ends with the numbers of the leaves
+/// that it calls, or why the handle is refused.
+struct Case {
+    name: &'static str,
+    making: Making,
+    arguments: &'static [&'static str],
+    wanted: &'static str,
+}
 
 const LONGS_63: &str = "(JJJJJJJJJJJJJJJJJJJJJJJJJJJJJJJJJJJJJJJJJJJJJJJJJJJJJJJJJJJJJJJ)V";
 
 const LONGS_64: &str = "(JJJJJJJJJJJJJJJJJJJJJJJJJJJJJJJJJJJJJJJJJJJJJJJJJJJJJJJJJJJJJJJJ)V";
 
 static ADAPTERS: [Case; 14] = [
-    ((Root::Constant("()I", "I:7"), &[]), &[], "i:7 calls"),
-    (
-        (
-            Root::Constant("()J", "I:7"),
-            &[Step::Typed("(I)V", Typed::Drop(0))],
-        ),
-        &["i:1"],
-        "j:7 calls",
-    ),
-    (
-        (Root::Leaf(ADD), &[Step::Bind(1, "I:10")]),
-        &["i:1"],
-        "i:11 calls 0",
-    ),
-    (
-        (Root::Leaf(SUB), &[Step::Bind(1, "I:10")]),
-        &["i:1"],
-        "i:-9 calls 1",
-    ),
-    (
-        (
-            Root::Leaf(SUB),
-            &[Step::Typed("(III)I", Typed::Permute(&[2, 0]))],
-        ),
-        &["i:1", "i:2", "i:3"],
-        "i:2 calls 1",
-    ),
-    (
-        (
-            Root::Leaf(ADD),
-            &[Step::Typed("(I)I", Typed::Permute(&[0, 0]))],
-        ),
-        &["i:5"],
-        "i:10 calls 0",
-    ),
-    (
-        (
-            Root::Leaf(ADD),
-            &[Step::Typed("(I)I", Typed::Permute(&[0]))],
-        ),
-        &[],
-        "refused java/lang/IllegalArgumentException s:permute",
-    ),
-    (
-        (
-            Root::Leaf(NOTHING),
-            &[
+    Case {
+        name: "a constant",
+        making: Making {
+            root: Root::Constant("()I", "I:7"),
+            steps: &[],
+        },
+        arguments: &[],
+        wanted: "i:7 calls",
+    },
+    Case {
+        name: "a constant of a long, with an int dropped",
+        making: Making {
+            root: Root::Constant("()J", "I:7"),
+            steps: &[Step::Typed("(I)V", Typed::Drop(0))],
+        },
+        arguments: &["i:1"],
+        wanted: "j:7 calls",
+    },
+    Case {
+        name: "add bound at its second parameter",
+        making: Making {
+            root: Root::Leaf(ADD),
+            steps: &[Step::Bind(1, "I:10")],
+        },
+        arguments: &["i:1"],
+        wanted: "i:11 calls 0",
+    },
+    Case {
+        name: "sub bound at its second parameter",
+        making: Making {
+            root: Root::Leaf(SUB),
+            steps: &[Step::Bind(1, "I:10")],
+        },
+        arguments: &["i:1"],
+        wanted: "i:-9 calls 1",
+    },
+    Case {
+        name: "sub permuted",
+        making: Making {
+            root: Root::Leaf(SUB),
+            steps: &[Step::Typed("(III)I", Typed::Permute(&[2, 0]))],
+        },
+        arguments: &["i:1", "i:2", "i:3"],
+        wanted: "i:2 calls 1",
+    },
+    Case {
+        name: "add of one argument twice",
+        making: Making {
+            root: Root::Leaf(ADD),
+            steps: &[Step::Typed("(I)I", Typed::Permute(&[0, 0]))],
+        },
+        arguments: &["i:5"],
+        wanted: "i:10 calls 0",
+    },
+    Case {
+        name: "a permute that names too few arguments",
+        making: Making {
+            root: Root::Leaf(ADD),
+            steps: &[Step::Typed("(I)I", Typed::Permute(&[0]))],
+        },
+        arguments: &[],
+        wanted: "refused java/lang/IllegalArgumentException s:permute",
+    },
+    Case {
+        name: "127 longs dropped",
+        making: Making {
+            root: Root::Leaf(NOTHING),
+            steps: &[
                 Step::Typed(LONGS_63, Typed::Drop(0)),
                 Step::Typed(LONGS_64, Typed::Drop(0)),
             ],
-        ),
-        &["j:0"; 127],
-        "void calls 5",
-    ),
-    (
-        (
-            Root::Leaf(NOTHING),
-            &[
+        },
+        arguments: &["j:0"; 127],
+        wanted: "void calls 5",
+    },
+    Case {
+        name: "an int dropped before 127 longs",
+        making: Making {
+            root: Root::Leaf(NOTHING),
+            steps: &[
                 Step::Typed(LONGS_63, Typed::Drop(0)),
                 Step::Typed(LONGS_64, Typed::Drop(0)),
                 Step::Typed("(I)V", Typed::Drop(0)),
             ],
-        ),
-        &[],
-        "refused java/lang/IllegalArgumentException s:drop",
-    ),
-    (
-        (Root::Leaf(SAME), &[Step::Typed("(I)J", Typed::AsType)]),
-        &["i:5"],
-        "j:5 calls 4",
-    ),
-    // The first conversion fails first.
-    (
-        (
-            Root::Leaf(ADD),
-            &[Step::Typed("(Ljava/lang/Object;Ljava/lang/Object;)I", Typed::AsType)],
-        ),
-        &["s:x", "null"],
-        "throws java/lang/ClassCastException s: calls",
-    ),
-    (
-        (
-            Root::Identity("()I"),
-            &[Step::Typed("(I)V", Typed::Drop(0))],
-        ),
-        &["i:1", "i:2"],
-        "i:2 calls",
-    ),
-    (
-        (
-            Root::Identity("()I"),
-            &[
+        },
+        arguments: &[],
+        wanted: "refused java/lang/IllegalArgumentException s:drop",
+    },
+    Case {
+        name: "an int returned as a long",
+        making: Making {
+            root: Root::Leaf(SAME),
+            steps: &[Step::Typed("(I)J", Typed::AsType)],
+        },
+        arguments: &["i:5"],
+        wanted: "j:5 calls 4",
+    },
+    Case {
+        name: "the first conversion fails first",
+        making: Making {
+            root: Root::Leaf(ADD),
+            steps: &[Step::Typed("(Ljava/lang/Object;Ljava/lang/Object;)I", Typed::AsType)],
+        },
+        arguments: &["s:x", "null"],
+        wanted: "throws java/lang/ClassCastException s: calls",
+    },
+    Case {
+        name: "an identity with an int dropped",
+        making: Making {
+            root: Root::Identity("()I"),
+            steps: &[Step::Typed("(I)V", Typed::Drop(0))],
+        },
+        arguments: &["i:1", "i:2"],
+        wanted: "i:2 calls",
+    },
+    Case {
+        name: "an identity permuted after a drop",
+        making: Making {
+            root: Root::Identity("()I"),
+            steps: &[
                 Step::Typed("(II)V", Typed::Drop(1)),
                 Step::Typed("(III)I", Typed::Permute(&[0, 2, 1])),
             ],
-        ),
-        &["i:1", "i:2", "i:3"],
-        "i:1 calls",
-    ),
-    (
-        (
-            Root::Identity("()I"),
-            &[Step::Typed("(III)I", Typed::Permute(&[2]))],
-        ),
-        &["i:1", "i:2", "i:3"],
-        "i:3 calls",
-    ),
+        },
+        arguments: &["i:1", "i:2", "i:3"],
+        wanted: "i:1 calls",
+    },
+    Case {
+        name: "an identity of the last of three",
+        making: Making {
+            root: Root::Identity("()I"),
+            steps: &[Step::Typed("(III)I", Typed::Permute(&[2]))],
+        },
+        arguments: &["i:1", "i:2", "i:3"],
+        wanted: "i:3 calls",
+    },
 ];
 
 static ARRAYS: [Case; 6] = [
-    (
-        (Root::Leaf(ADD), &[Step::Typed("()[I", Typed::Spread(2))]),
-        &["a:I[i:1,i:2]"],
-        "i:3 calls 0",
-    ),
-    (
-        (Root::Leaf(ADD), &[Step::Typed("()[I", Typed::Spread(2))]),
-        &["a:I[i:1,i:2,i:3]"],
-        "throws java/lang/IllegalArgumentException s:spread calls",
-    ),
-    (
-        (Root::Leaf(ADD), &[Step::Typed("()[I", Typed::Spread(2))]),
-        &["null"],
-        "throws java/lang/NullPointerException s: calls",
-    ),
-    (
-        (
-            Root::Leaf(NOTHING),
-            &[Step::Typed("()[I", Typed::Spread(0))],
-        ),
-        &["null"],
-        "void calls 5",
-    ),
-    (
-        (Root::Leaf(ARR), &[Step::Typed("()[I", Typed::Gather(2))]),
-        &["i:1", "i:2"],
-        "a:I[i:1,i:2] calls 8",
-    ),
-    (
-        (Root::Leaf(ARR), &[Step::Typed("()[I", Typed::Gather(0))]),
-        &[],
-        "a:I[] calls 8",
-    ),
+    Case {
+        name: "two items spread",
+        making: Making {
+            root: Root::Leaf(ADD),
+            steps: &[Step::Typed("()[I", Typed::Spread(2))],
+        },
+        arguments: &["a:I[i:1,i:2]"],
+        wanted: "i:3 calls 0",
+    },
+    Case {
+        name: "three items for two",
+        making: Making {
+            root: Root::Leaf(ADD),
+            steps: &[Step::Typed("()[I", Typed::Spread(2))],
+        },
+        arguments: &["a:I[i:1,i:2,i:3]"],
+        wanted: "throws java/lang/IllegalArgumentException s:spread calls",
+    },
+    Case {
+        name: "null for two items",
+        making: Making {
+            root: Root::Leaf(ADD),
+            steps: &[Step::Typed("()[I", Typed::Spread(2))],
+        },
+        arguments: &["null"],
+        wanted: "throws java/lang/NullPointerException s: calls",
+    },
+    Case {
+        name: "null for no item",
+        making: Making {
+            root: Root::Leaf(NOTHING),
+            steps: &[Step::Typed("()[I", Typed::Spread(0))],
+        },
+        arguments: &["null"],
+        wanted: "void calls 5",
+    },
+    Case {
+        name: "two items gathered",
+        making: Making {
+            root: Root::Leaf(ARR),
+            steps: &[Step::Typed("()[I", Typed::Gather(2))],
+        },
+        arguments: &["i:1", "i:2"],
+        wanted: "a:I[i:1,i:2] calls 8",
+    },
+    Case {
+        name: "no item gathered",
+        making: Making {
+            root: Root::Leaf(ARR),
+            steps: &[Step::Typed("()[I", Typed::Gather(0))],
+        },
+        arguments: &[],
+        wanted: "a:I[] calls 8",
+    },
 ];
 
 static BRANCHES: [Case; 8] = [
-    (
-        (Root::Guard(LESS, ADD, SUB), &[]),
-        &["i:1", "i:2"],
-        "i:3 calls 6 0",
-    ),
-    (
-        (Root::Guard(LESS, ADD, SUB), &[]),
-        &["i:2", "i:1"],
-        "i:1 calls 6 1",
-    ),
-    (
-        (Root::Guard(FAIL, ADD, SUB), &[]),
-        &["i:1", "i:2"],
-        "throws java/lang/RuntimeException s: calls 10",
-    ),
-    (
-        (Root::Catch(DIV, ClassId::ARITHMETIC, SAW), &[]),
-        &["i:1", "i:0"],
-        "i:1 calls 2 7",
-    ),
-    (
-        (Root::Catch(DIV, ClassId::ARITHMETIC, SAW), &[]),
-        &["i:6", "i:3"],
-        "i:2 calls 2",
-    ),
-    ((Root::Identity("()J"), &[]), &["j:-9"], "j:-9 calls"),
-    (
-        (Root::Throw("()I", ClassId::RUNTIME_EXCEPTION), &[]),
-        &["x:java/lang/ArithmeticException"],
-        "throws java/lang/ArithmeticException s: calls",
-    ),
-    (
-        (Root::Throw("()I", ClassId::RUNTIME_EXCEPTION), &[]),
-        &["null"],
-        "throws java/lang/NullPointerException s: calls",
-    ),
+    Case {
+        name: "a test that gives true",
+        making: Making {
+            root: Root::Guard(LESS, ADD, SUB),
+            steps: &[],
+        },
+        arguments: &["i:1", "i:2"],
+        wanted: "i:3 calls 6 0",
+    },
+    Case {
+        name: "a test that gives false",
+        making: Making {
+            root: Root::Guard(LESS, ADD, SUB),
+            steps: &[],
+        },
+        arguments: &["i:2", "i:1"],
+        wanted: "i:1 calls 6 1",
+    },
+    Case {
+        name: "a test that throws",
+        making: Making {
+            root: Root::Guard(FAIL, ADD, SUB),
+            steps: &[],
+        },
+        arguments: &["i:1", "i:2"],
+        wanted: "throws java/lang/RuntimeException s: calls 10",
+    },
+    Case {
+        name: "an exception that is caught",
+        making: Making {
+            root: Root::Catch(DIV, ClassId::ARITHMETIC, SAW),
+            steps: &[],
+        },
+        arguments: &["i:1", "i:0"],
+        wanted: "i:1 calls 2 7",
+    },
+    Case {
+        name: "no exception to catch",
+        making: Making {
+            root: Root::Catch(DIV, ClassId::ARITHMETIC, SAW),
+            steps: &[],
+        },
+        arguments: &["i:6", "i:3"],
+        wanted: "i:2 calls 2",
+    },
+    Case {
+        name: "an identity of a long",
+        making: Making {
+            root: Root::Identity("()J"),
+            steps: &[],
+        },
+        arguments: &["j:-9"],
+        wanted: "j:-9 calls",
+    },
+    Case {
+        name: "an exception thrown",
+        making: Making {
+            root: Root::Throw("()I", ClassId::RUNTIME_EXCEPTION),
+            steps: &[],
+        },
+        arguments: &["x:java/lang/ArithmeticException"],
+        wanted: "throws java/lang/ArithmeticException s: calls",
+    },
+    Case {
+        name: "null thrown",
+        making: Making {
+            root: Root::Throw("()I", ClassId::RUNTIME_EXCEPTION),
+            steps: &[],
+        },
+        arguments: &["null"],
+        wanted: "throws java/lang/NullPointerException s: calls",
+    },
 ];
 
 /// Steps to weight 256 from a leaf.
@@ -236,46 +327,76 @@ const CALLS_128: &str = "\
     \x204 4 4 4 4 4 4 4 4 4 4 4 4 4 4 4 4 4 4 4 4 4 4 4 4 4 4 4 4 4 4 4\
     \x204 4 4 4 4 4 4 4 4 4 4 4 4 4 4 4 4 4 4 4 4 4 4 4 4 4 4 4 4 4 4 4";
 
-static PARTS: [Case; 6] = [
-    // The later filter runs first.
-    (
-        (
-            Root::Leaf(SUB),
-            &[
+static PARTS: [Case; 7] = [
+    Case {
+        name: "a text that goes through filters",
+        making: Making {
+            root: Root::Leaf(TEXT),
+            steps: &[
+                Step::Joined(TEXT, Joined::Filter(0)),
+                Step::Joined(TEXT, Joined::Filter(0)),
+            ],
+        },
+        arguments: &["s:abc"],
+        wanted: "s:abc calls 11 11 11",
+    },
+    Case {
+        name: "the later filter runs first",
+        making: Making {
+            root: Root::Leaf(SUB),
+            steps: &[
                 Step::Joined(TICK, Joined::Filter(1)),
                 Step::Joined(TICK, Joined::Filter(0)),
             ],
-        ),
-        &["i:7", "i:7"],
-        "i:-1 calls 3 3 1",
-    ),
-    (
-        (
-            Root::Leaf(ADD),
-            &[Step::Joined(NOTHING, Joined::Collect(2))],
-        ),
-        &["i:1", "i:2"],
-        "i:3 calls 5 0",
-    ),
-    (
-        (
-            Root::Leaf(ADD),
-            &[Step::Joined(NOTHING, Joined::Collect(3))],
-        ),
-        &[],
-        "refused java/lang/IllegalArgumentException s:collect",
-    ),
-    (
-        (Root::Leaf(SUB), &[Step::Joined(TICK, Joined::Fold(0))]),
-        &["i:5"],
-        "i:-5 calls 3 1",
-    ),
-    ((Root::Leaf(SAME), &STEPS_256), &["i:4", "i:5"], CALLS_128),
-    (
-        (Root::Leaf(SAME), &STEPS_257),
-        &[],
-        "refused java/lang/InternalError s:weight",
-    ),
+        },
+        arguments: &["i:7", "i:7"],
+        wanted: "i:-1 calls 3 3 1",
+    },
+    Case {
+        name: "a void filter after the last argument",
+        making: Making {
+            root: Root::Leaf(ADD),
+            steps: &[Step::Joined(NOTHING, Joined::Collect(2))],
+        },
+        arguments: &["i:1", "i:2"],
+        wanted: "i:3 calls 5 0",
+    },
+    Case {
+        name: "a void filter past the last argument",
+        making: Making {
+            root: Root::Leaf(ADD),
+            steps: &[Step::Joined(NOTHING, Joined::Collect(3))],
+        },
+        arguments: &[],
+        wanted: "refused java/lang/IllegalArgumentException s:collect",
+    },
+    Case {
+        name: "a combiner",
+        making: Making {
+            root: Root::Leaf(SUB),
+            steps: &[Step::Joined(TICK, Joined::Fold(0))],
+        },
+        arguments: &["i:5"],
+        wanted: "i:-5 calls 3 1",
+    },
+    Case {
+        name: "a tree of weight 256",
+        making: Making {
+            root: Root::Leaf(SAME),
+            steps: &STEPS_256,
+        },
+        arguments: &["i:4", "i:5"],
+        wanted: CALLS_128,
+    },
+    Case {
+        name: "a tree of weight 257",
+        making: Making {
+            root: Root::Leaf(SAME),
+            steps: &STEPS_257,
+        },
+        arguments: &[],
+        wanted: "refused java/lang/InternalError s:weight",
+    },
 ];
 
 /// A word before an exception.
@@ -321,90 +442,139 @@ fn result_text(
     }
 }
 
-/// How a handle is refused, or how the call of it ends.
+/// How the handle is refused, or how the call of it ends.
 fn case_text<R: Wait>(
     rt: &R,
     alloc: Global,
     leaves: &Leaves,
-    making: &Making,
-    arguments: &[&str],
+    case: &Case,
 ) -> Result<Vec<u8>, NoMemory> {
-    let answer = answer_of(rt, alloc, leaves, making, arguments);
+    let answer = answer_of(rt, alloc, leaves, &case.making, case.arguments);
     result_text(alloc, &answer, leaves.classes())
 }
 
-fn holds<R: Wait>(rt: &R, alloc: Global, leaves: &Leaves, case: &Case) -> Result<bool, NoMemory> {
-    let (making, arguments, wanted) = case;
-    let text = case_text(rt, alloc, leaves, making, *arguments)?;
-    Ok(text.as_slice() == wanted.as_bytes())
-}
-
-fn all_hold<R: Wait>(rt: &R, alloc: Global, cases: &[Case]) -> Result<bool, NoMemory> {
+/// The name of the first case that does not end as is wanted.
+fn first_failing<R: Wait>(
+    rt: &R,
+    alloc: Global,
+    cases: &[Case],
+) -> Result<Option<&'static str>, NoMemory> {
     let leaves = tree_leaves(alloc)?;
     for case in cases {
-        if !holds(rt, alloc, &leaves, case)? {
-            return Ok(false);
+        let text = case_text(rt, alloc, &leaves, case)?;
+        if text.as_slice() != case.wanted.as_bytes() {
+            return Ok(Some(case.name));
         }
     }
-    Ok(true)
+    Ok(None)
 }
 
 #[test]
 fn adapters(rt: HostRuntime) -> Result<(), Fail> {
-    assert!(rt; all_hold(&rt, rt.alloc(), &ADAPTERS)?);
+    assert_eq!(rt; first_failing(&rt, rt.alloc(), &ADAPTERS)?, None);
     Ok(())
 }
 
 #[test]
 fn arrays(rt: HostRuntime) -> Result<(), Fail> {
-    assert!(rt; all_hold(&rt, rt.alloc(), &ARRAYS)?);
+    assert_eq!(rt; first_failing(&rt, rt.alloc(), &ARRAYS)?, None);
     Ok(())
 }
 
 #[test]
 fn branches(rt: HostRuntime) -> Result<(), Fail> {
-    assert!(rt; all_hold(&rt, rt.alloc(), &BRANCHES)?);
+    assert_eq!(rt; first_failing(&rt, rt.alloc(), &BRANCHES)?, None);
     Ok(())
 }
 
 #[test]
 fn parts(rt: HostRuntime) -> Result<(), Fail> {
-    assert!(rt; all_hold(&rt, rt.alloc(), &PARTS)?);
+    assert_eq!(rt; first_failing(&rt, rt.alloc(), &PARTS)?, None);
     Ok(())
 }
 
 /// Two handles, and the numbers of their forms, which are drawn from 1 on.
-static PAIRS: [(Making, Making, (u64, u64)); 5] = [
-    ((Root::Leaf(ADD), &[]), (Root::Leaf(SUB), &[]), (1, 1)),
-    (
-        (Root::Leaf(ADD), &[Step::Bind(1, "I:10")]),
-        (Root::Leaf(SUB), &[Step::Bind(1, "I:3")]),
-        (2, 2),
-    ),
-    (
-        (Root::Leaf(ADD), &[Step::Bind(1, "I:10")]),
-        (Root::Leaf(SAME), &[]),
-        (2, 3),
-    ),
-    (
-        (Root::Leaf(ADD), &[Step::Typed("(I)V", Typed::Drop(0))]),
-        (Root::Leaf(ZIN), &[Step::Typed("(I)V", Typed::Drop(0))]),
-        (2, 2),
-    ),
-    (
-        (Root::Leaf(ADD), &[Step::Typed("(I)V", Typed::Drop(0))]),
-        (Root::Leaf(ADD), &[Step::Typed("(I)V", Typed::Drop(1))]),
-        (2, 3),
-    ),
+struct Pair {
+    name: &'static str,
+    first: Making,
+    second: Making,
+    numbers: (u64, u64),
+}
+
+static PAIRS: [Pair; 5] = [
+    Pair {
+        name: "leaves of one shape",
+        first: Making {
+            root: Root::Leaf(ADD),
+            steps: &[],
+        },
+        second: Making {
+            root: Root::Leaf(SUB),
+            steps: &[],
+        },
+        numbers: (1, 1),
+    },
+    Pair {
+        name: "bound at one position",
+        first: Making {
+            root: Root::Leaf(ADD),
+            steps: &[Step::Bind(1, "I:10")],
+        },
+        second: Making {
+            root: Root::Leaf(SUB),
+            steps: &[Step::Bind(1, "I:3")],
+        },
+        numbers: (2, 2),
+    },
+    Pair {
+        name: "one bound and one not",
+        first: Making {
+            root: Root::Leaf(ADD),
+            steps: &[Step::Bind(1, "I:10")],
+        },
+        second: Making {
+            root: Root::Leaf(SAME),
+            steps: &[],
+        },
+        numbers: (2, 3),
+    },
+    Pair {
+        name: "drops at one position",
+        first: Making {
+            root: Root::Leaf(ADD),
+            steps: &[Step::Typed("(I)V", Typed::Drop(0))],
+        },
+        second: Making {
+            root: Root::Leaf(ZIN),
+            steps: &[Step::Typed("(I)V", Typed::Drop(0))],
+        },
+        numbers: (2, 2),
+    },
+    Pair {
+        name: "drops at two positions",
+        first: Making {
+            root: Root::Leaf(ADD),
+            steps: &[Step::Typed("(I)V", Typed::Drop(0))],
+        },
+        second: Making {
+            root: Root::Leaf(ADD),
+            steps: &[Step::Typed("(I)V", Typed::Drop(1))],
+        },
+        numbers: (2, 3),
+    },
 ];
 
 #[test]
 fn shares_forms_of_equal_recipes(rt: HostRuntime) -> Result<(), Fail> {
     let alloc = rt.alloc();
     let leaves = tree_leaves(alloc)?;
-    for (first, second, wanted) in &PAIRS {
-        let numbers = form_numbers(&rt, alloc, &leaves, first, second);
-        assert!(rt; matches!(numbers, Ok(found) if found == *wanted));
+    for pair in &PAIRS {
+        let name = pair.name;
+        let numbers = form_numbers(&rt, alloc, &leaves, &pair.first, &pair.second);
+        assert!(rt;
+            matches!(numbers, Ok(found) if found == pair.numbers),
+            "{name}"
+        );
     }
     Ok(())
 }

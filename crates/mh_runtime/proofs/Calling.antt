@@ -14,6 +14,7 @@ use Rattle.mh_handle.specs.declared.error.EditError.TheVariants.{NoMemory, Forms
 use Rattle.mh_handle.specs.declared.error.HandleError.{HandleError}
 use Rattle.mh_handle.specs.declared.error.HandleError.TheVariants as handle
 use Rattle.mh_handle.specs.declared.handle.Handle.{Handle}
+use Rattle.mh_handle.specs.declared.work.Work.{Work}
 use Rattle.mh_handle.specs.Passes.{PassView}
 use Rattle.mh_handle.specs.Recipe.{at_type as keys_at, convert_keys, recipe}
 use Rattle.mh_handle.specs.Stands.{HandleView, Stands}
@@ -22,7 +23,7 @@ use Rattle.mh_astype.specs.Calls.{AsksBy, call_keys, unless_refused}
 use Rattle.mh_plan.specs.Forms.{at_type, used_edits}
 use Rattle.mh_runtime.specs.Asking.{Asks, AreTooMany, DrawsInOrder, HasAsked, Stopped}
 use Rattle.mh_runtime.proofs.Asking.{asked-again, asked-full, asked-more}
-use Rattle.mh_runtime.proofs.Counting.{is_one, one-more, too_many-more}
+use Rattle.mh_runtime.proofs.Counting.{is_one, one-more, or-true, too_many-more}
 use Rattle.mh_plan.proofs.Recipes.{same_recipe-equivalence}
 
 -- ---- recipes of a use as another type
@@ -34,7 +35,7 @@ edits_at table r w asked c =
     if is_same_method_type own asked then []
     else at_type (with_type c (λ ty. astype_row table.classes ty w asked)) (λ _. (r ++ keys_at c (convert_keys table.classes asked)) ∷ []))
 
--- nothing is added and no recipe is made, or the recipe has what is added behind
+-- nothing is added and no recipe is made, or the recipe is followed by what is added
 abbrev Uses : List Key → List Key → List (List Key) → Type 0
 Uses r keys edits = ((keys ≡ []) × (edits ≡ [])) ⊎ (edits ≡ (r ++ keys) ∷ [])
 
@@ -57,49 +58,47 @@ uses table t h asked st =
 
 -- a call asks first for one recipe, and then for others
 first-asked : (before : List (List Key)) (r : List Key) → is_one (before ++ r ∷ []) r ≡ true
-first-asked before r = one-more before r r ∙ (ap (λ b. is_one before r || b) (same_recipe-equivalence.refl r) ∙ either (is_one before r))
-  where
-    either : (b : Bool) → (b || true) ≡ true
-    either true = refl
-    either false = refl
+first-asked before r = one-more before r r ∙ (ap (λ b. is_one before r || b) (same_recipe-equivalence.refl r) ∙ or-true (is_one before r))
 
 two : (before : List (List Key)) (r s : List Key) → (before ++ r ∷ []) ++ s ∷ [] ≡ before ++ (r ∷ s ∷ [])
 two before r s = append_assoc before (r ∷ []) (s ∷ [])
 
-asks-none : (r : List Key) (old mid new : PassView) (answer : Result Answer EditError) → ((before : List (List Key)) → HasAsked before old →
-    HasAsked (before ++ r ∷ []) mid) → AsksBy r [] mid new answer → Asks (r ∷ []) old new answer
-asks-none r old mid new (Ok a) first same = λ before has. subst (HasAsked (before ++ r ∷ [])) (sym same) (first before has)
+asks-none : (r : List Key) (old mid new : Work) (answer : Result Answer EditError) → ((before : List (List Key)) → HasAsked before old.pass.now →
+    HasAsked (before ++ r ∷ []) mid.pass.now) → AsksBy r [] mid new answer → Asks (r ∷ []) old new answer
+asks-none r old mid new (Ok a) first same = λ before has. subst (λ (w : Work). HasAsked (before ++ r ∷ []) w.pass.now) (sym same) (first before has)
 asks-none r old mid new (Err NoMemory) first same = tt
 asks-none r old mid new (Err (FormsFull drawn)) first same = absurd same
 
-asks-keys : (r keys : List Key) (old mid new : PassView) (answer : Result Answer EditError) → (DrawsInOrder old → DrawsInOrder mid) →
-    ((before : List (List Key)) → HasAsked before old → HasAsked (before ++ r ∷ []) mid) → AsksBy r keys mid new answer →
+asks-keys : (r keys : List Key) (old mid new : Work) (answer : Result Answer EditError) → (DrawsInOrder old.pass.now → DrawsInOrder mid.pass.now) →
+    ((before : List (List Key)) → HasAsked before old.pass.now → HasAsked (before ++ r ∷ []) mid.pass.now) → AsksBy r keys mid new answer →
     Asks (r ∷ (r ++ keys) ∷ []) old new answer
 asks-keys r [] old mid new (Ok a) kept first same = λ before has.
-    subst (λ rs. HasAsked rs new) (two before r (r ++ []))
-    (subst (λ s. HasAsked ((before ++ r ∷ []) ++ s ∷ []) new) (sym (append-nil r))
-    (subst (HasAsked ((before ++ r ∷ []) ++ r ∷ [])) (sym same) (asked-again (before ++ r ∷ []) mid r (first before has) (first-asked before r))))
+    subst (λ rs. HasAsked rs new.pass.now) (two before r (r ++ []))
+    (subst (λ s. HasAsked ((before ++ r ∷ []) ++ s ∷ []) new.pass.now) (sym (append-nil r))
+    (subst (λ (w : Work). HasAsked ((before ++ r ∷ []) ++ r ∷ []) w.pass.now) (sym same)
+    (asked-again (before ++ r ∷ []) mid.pass.now r (first before has) (first-asked before r))))
 asks-keys r [] old mid new (Err NoMemory) kept first same = tt
 asks-keys r [] old mid new (Err (FormsFull drawn)) kept first same = absurd same
 asks-keys r (k ∷ keys) old mid new (Ok a) kept first asks = λ before has.
-    subst (λ rs. HasAsked rs new) (two before r (r ++ k ∷ keys))
-    (asked-more (before ++ r ∷ []) mid new asks.0.0 (r ++ k ∷ keys) (first before has) asks.0.1 asks.0.2)
+    subst (λ rs. HasAsked rs new.pass.now) (two before r (r ++ k ∷ keys))
+    (asked-more (before ++ r ∷ []) mid.pass.now new.pass.now asks.0.0 (r ++ k ∷ keys) (first before has) asks.0.1 asks.0.2)
 asks-keys r (k ∷ keys) old mid new (Err NoMemory) kept first asks = tt
 asks-keys r (k ∷ keys) old mid new (Err (FormsFull drawn)) kept first asks = λ in_order before has.
     subst AreTooMany (two before r (r ++ k ∷ keys))
-    (asked-full (before ++ r ∷ []) mid new.seat (r ++ k ∷ keys) drawn (first before has) (kept in_order) asks.0.0 asks.1 asks.2)
+    (asked-full (before ++ r ∷ []) mid.pass.now new.pass.now.seat (r ++ k ∷ keys) drawn (first before has) (kept in_order) asks.0.0 asks.1 asks.2)
 
 -- a generic call of what stands for a tree, and the handle given back
-pub asks-generic : (table table' : LeafTable) (t : Tree) (h : HandleView) (asked : MethodTy) (old mid new new' : PassView) (answer : Result Answer EditError) →
-    table' ≡ table → new' ≡ new → Stands table h t → (DrawsInOrder old → DrawsInOrder mid) → ((before : List (List Key)) → HasAsked before old →
-    HasAsked (before ++ recipe table t ∷ []) mid) → AsksBy h.form.recipe (call_keys table'.classes h.ty h.weight asked) mid new answer →
+pub asks-generic : (table table' : LeafTable) (t : Tree) (h : HandleView) (asked : MethodTy) (old mid new new' : Work) (answer : Result Answer EditError) →
+    table' ≡ table → new' ≡ new → Stands table h t → (DrawsInOrder old.pass.now → DrawsInOrder mid.pass.now) →
+    ((before : List (List Key)) → HasAsked before old.pass.now → HasAsked (before ++ recipe table t ∷ []) mid.pass.now) →
+    AsksBy h.form.recipe (call_keys table'.classes h.ty h.weight asked) mid new answer →
     Asks (recipe table t ∷ used_edits table t asked) old new' answer
 asks-generic table table' t h asked old mid new new' answer same back st kept first asks =
     let keys : List Key = call_keys table.classes h.ty h.weight asked in
     let asks' : AsksBy h.form.recipe keys mid new answer =
     subst (λ (x : LeafTable). AsksBy h.form.recipe (call_keys x.classes h.ty h.weight asked) mid new answer) same asks in
-    let first' : (before : List (List Key)) → HasAsked before old → HasAsked (before ++ h.form.recipe ∷ []) mid =
-    λ before has. subst (λ r. HasAsked (before ++ r ∷ []) mid) (sym st.made) (first before has) in
+    let first' : (before : List (List Key)) → HasAsked before old.pass.now → HasAsked (before ++ h.form.recipe ∷ []) mid.pass.now =
+    λ before has. subst (λ r. HasAsked (before ++ r ∷ []) mid.pass.now) (sym st.made) (first before has) in
     subst (λ p. Asks (recipe table t ∷ used_edits table t asked) old p answer) (sym back)
     (subst (λ r. Asks (r ∷ used_edits table t asked) old new answer) st.made
     (⊎_elim
@@ -118,10 +117,10 @@ stopped-early r more old (FormsFull drawn) first = λ in_order before has.
     subst AreTooMany (append_assoc before (r ∷ []) more) (too_many-more (before ++ r ∷ []) more (first in_order before has))
 
 -- an error that is handed on
-pub stops : {A : Type 0} (recipes : List (List Key)) (old new : PassView) (e : EditError) (r : Result A EditError) → IsErrAnd r (λ x. x ≡ e) →
-    Stopped recipes old e → Asks recipes old new r
+pub stops : {A : Type 0} (recipes : List (List Key)) (old new : Work) (e : EditError) (r : Result A EditError) → IsErrAnd r (λ x. x ≡ e) →
+    Stopped recipes old.pass.now e → Asks recipes old new r
 stops recipes old new e (Ok a) is stopped = absurd is
-stops recipes old new e (Err x) is stopped = subst (Stopped recipes old) (sym is) stopped
+stops recipes old new e (Err x) is stopped = subst (Stopped recipes old.pass.now) (sym is) stopped
 
 -- ---- leaves that stay
 
@@ -132,12 +131,12 @@ moved P table table' h t same st holds = subst (λ x. P x t) same (holds t (subs
 
 -- ---- handles of leaves
 
-pub asks-leaf : (r : List Key) (old new : PassView) (h : Handle) → Makes r old new (Ok h) → (before : List (List Key)) → HasAsked before old →
-    HasAsked (before ++ r ∷ []) new
-asks-leaf r old new h makes before has = asked-more before old new h.form r has makes.0 makes.1
+pub asks-leaf : (r : List Key) (old new : Work) (h : Handle) → Makes r old new (Ok h) → (before : List (List Key)) → HasAsked before old.pass.now →
+    HasAsked (before ++ r ∷ []) new.pass.now
+asks-leaf r old new h makes before has = asked-more before old.pass.now new.pass.now h.form r has makes.0 makes.1
 
-pub full-leaf : (r : List Key) (old new : PassView) (e : HandleError) (drawn : ℕ) → e ≡ handle.FormsFull drawn → Makes r old new (Err e) →
-    Stopped (r ∷ []) old (FormsFull drawn)
+pub full-leaf : (r : List Key) (old new : Work) (e : HandleError) (drawn : ℕ) → e ≡ handle.FormsFull drawn → Makes r old new (Err e) →
+    Stopped (r ∷ []) old.pass.now (FormsFull drawn)
 full-leaf r old new e drawn is makes = λ in_order before has.
     let m : Makes r old new (Err (handle.FormsFull drawn)) = subst (λ x. Makes r old new (Err x)) is makes in
-    asked-full before old new.seat r drawn has in_order m.0.0 m.1 m.2
+    asked-full before old.pass.now new.pass.now.seat r drawn has in_order m.0.0 m.1 m.2

@@ -21,14 +21,14 @@ or-false : (b : Bool) → (b || false) ≡ b
 or-false true = refl
 or-false false = refl
 
-or-true : (b : Bool) → (b || true) ≡ true
+pub or-true : (b : Bool) → (b || true) ≡ true
 or-true true = refl
 or-true false = refl
 
 pub one-more : (recipes : List (List Key)) (r q : List Key) → is_one (recipes ++ r ∷ []) q ≡ (is_one recipes q || same_recipe q r)
 one-more recipes r q = list_any-append (same_recipe q) recipes (r ∷ []) ∙ ap (λ b. is_one recipes q || b) (or-false (same_recipe q r))
 
--- a recipe that is there changes nothing where it is put behind
+-- a recipe that is there changes nothing where it is put last
 pub again : (recipes : List (List Key)) (r q : List Key) → is_one recipes r ≡ true → is_one (recipes ++ r ∷ []) q ≡ is_one recipes q
 again recipes r q there = one-more recipes r q ∙ cases (same_recipe q r) refl
   where

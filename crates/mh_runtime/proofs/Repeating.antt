@@ -23,7 +23,7 @@ module _ {X : Type 0} (f : X → List (List Key)) where
       ap (flat_map f) (take_more xs i x within)
       ∙ (flat_map-append f (take i xs) (get_or xs i x ∷ []) ∙ ap (λ y. flat_map f (take i xs) ++ y) (append-nil (f (get_or xs i x)) ∙ ap f (sym is)))
 
-  -- what a pass has asked for behind the first of some calls
+  -- what a pass has asked for after the first of some calls
   abbrev pub AsksUpTo : List X → ℕ → PassView → PassView → Type 0
   AsksUpTo xs i old new = (before : List (List Key)) → HasAsked before old → HasAsked (before ++ flat_map f (take i xs)) new
 

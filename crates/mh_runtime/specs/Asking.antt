@@ -1,4 +1,4 @@
--- What calls leave of a pass, by the recipes that they make.
+-- What calls leave of a thread's work, by the recipes that they make.
 use Rattle.std.specs.Prelude.{◌≡◌, ◌+◌, ◌^◌, ◌<◌, ◌≤◌, ℕ, List, ◌++◌, length, map, Result, Ok, Err, OnOk}
 use Rattle.std.specs.List.{list_any, IsDistinct}
 use Rattle.std.specs.Set.{distinct_count}
@@ -25,12 +25,12 @@ pub record IsWork (w : Work) : Type 0 where
   pub in_order : DrawsInOrder w.pass.now
 
 -- a pass that draws its numbers in order still does, where the call was not refused
-abbrev pub KeepsOrder : {A E : Type 0} → PassView → PassView → Result A E → Type 0
-KeepsOrder old new result = DrawsInOrder old → OnOk result (DrawsInOrder new)
+abbrev pub KeepsOrder : {A E : Type 0} → Work → Work → Result A E → Type 0
+KeepsOrder old new result = DrawsInOrder old.pass.now → OnOk result (DrawsInOrder new.pass.now)
 
 -- at most so many numbers were drawn
-abbrev pub DrawsAtMost : ℕ → PassView → PassView → Type 0
-DrawsAtMost count old new = old.seat.room ≤ new.seat.room + count
+abbrev pub DrawsAtMost : ℕ → Work → Work → Type 0
+DrawsAtMost count old new = old.pass.now.seat.room ≤ new.pass.now.seat.room + count
 
 -- the pass has asked for forms of these recipes and of no others, and for none twice
 pub record HasAsked (recipes : List (List Key)) (pass : PassView) : Type 0 where
@@ -47,10 +47,10 @@ abbrev pub Stopped : List (List Key) → PassView → EditError → Type 0
 Stopped recipes old (FormsFull drawn) = DrawsInOrder old → (before : List (List Key)) → HasAsked before old → AreTooMany (before ++ recipes)
 Stopped recipes old NoMemory = Unit {0}
 
--- what a call leaves of a pass that makes these recipes: a form of each was asked for, whichever were made before
-abbrev pub Asks : {A : Type 0} → List (List Key) → PassView → PassView → Result A EditError → Type 0
-Asks recipes old new (Ok a) = (before : List (List Key)) → HasAsked before old → HasAsked (before ++ recipes) new
-Asks recipes old new (Err e) = Stopped recipes old e
+-- what a call leaves of the work that makes these recipes: a form of each was asked for, whichever were made before
+abbrev pub Asks : {A : Type 0} → List (List Key) → Work → Work → Result A EditError → Type 0
+Asks recipes old new (Ok a) = (before : List (List Key)) → HasAsked before old.pass.now → HasAsked (before ++ recipes) new.pass.now
+Asks recipes old new (Err e) = Stopped recipes old.pass.now e
 
 -- P holds where no number was left for a form
 abbrev pub IfFull : {A : Type 0} → Result A EditError → Type 0 → Type 0

@@ -1,5 +1,6 @@
 ghost use Rattle.std.specs.Prelude.{◌≡◌, ◌<◌, ◌^◌, [], length, All, IfOk, OnOk};
 ghost use Rattle.mh_handle.specs.Passes.{pass_at, seat_at};
+ghost use Rattle.mh_handle.specs.Works.{leaves_of};
 ghost use Rattle.mh_plan.specs.Forms.{thread_edits, plan_edits, forms};
 ghost use Rattle.mh_plan.specs.Results.{IsCallOf, AreCallsOf, thread_results, results_of, thread_said, results_said, thread_keys_said, keys_said};
 ghost use Rattle.mh_runtime.specs.Asking.{Asks, IsWork, IfFull};
@@ -33,24 +34,22 @@ fn has_few_forms(pass: &FormPass<'_>)
 fn run_thread<'t, R: Wait>(
     w: &mut Work<'_, 't>,
     rt: &R,
-    alloc: Global,
     calls: &ThreadCalls,
 ) -> Result<Answers, WorkError>
-    requires calls { All (IsCallOf w.old.leaves.now) calls.now }
+    requires calls { All (IsCallOf (leaves_of w.old)) calls.now }
     requires work { IsWork w.old }
     ensures leaves { w.new.leaves ≡ w.old.leaves }
     ensures work { OnOk result (IsWork w.new) }
     ensures results { IfOk result
-        (λ answers. thread_said answers ≡ thread_results w.old.leaves.now calls.now) }
+        (λ answers. thread_said answers ≡ thread_results (leaves_of w.old) calls.now) }
     ensures keys { IfOk result
-        (λ answers. thread_keys_said answers ≡ thread_keys w.old.leaves.now calls.now) }
-    ensures asks { Asks (thread_edits w.old.leaves.now calls.now)
-        w.old.pass.now w.new.pass.now result }
+        (λ answers. thread_keys_said answers ≡ thread_keys (leaves_of w.old) calls.now) }
+    ensures asks { Asks (thread_edits (leaves_of w.old) calls.now) w.old w.new result }
 {
-    let mut answers = Seq::new(alloc);
+    let mut answers = Seq::new(w.alloc);
     for next in calls.as_slice() {
         has_few_forms(w.pass);
-        answers.push(call(w, rt, alloc, next)?)?;
+        answers.push(call(w, rt, next)?)?;
     }
     Ok(answers)
 }
@@ -59,22 +58,20 @@ fn run_thread<'t, R: Wait>(
 fn run_threads<'t, R: Wait>(
     w: &mut Work<'_, 't>,
     rt: &R,
-    alloc: Global,
     plan: &Plan,
 ) -> Result<ThreadAnswers, WorkError>
-    requires calls { AreCallsOf w.old.leaves.now plan.now }
+    requires calls { AreCallsOf (leaves_of w.old) plan.now }
     requires work { IsWork w.old }
     ensures leaves { w.new.leaves ≡ w.old.leaves }
     ensures results { IfOk result
-        (λ threads. results_said threads ≡ results_of w.old.leaves.now plan.now) }
+        (λ threads. results_said threads ≡ results_of (leaves_of w.old) plan.now) }
     ensures keys { IfOk result
-        (λ threads. keys_said threads ≡ plan_keys w.old.leaves.now plan.now) }
-    ensures asks { Asks (plan_edits w.old.leaves.now plan.now)
-        w.old.pass.now w.new.pass.now result }
+        (λ threads. keys_said threads ≡ plan_keys (leaves_of w.old) plan.now) }
+    ensures asks { Asks (plan_edits (leaves_of w.old) plan.now) w.old w.new result }
 {
-    let mut threads = Seq::new(alloc);
+    let mut threads = Seq::new(w.alloc);
     for calls in plan.as_slice() {
-        threads.push(run_thread(w, rt, alloc, calls)?)?;
+        threads.push(run_thread(w, rt, calls)?)?;
     }
     Ok(threads)
 }
@@ -98,12 +95,14 @@ fn run_over<'t, R: Wait>(
 {
     let mut pass = table.first_pass(alloc, seat)?;
     let mut w = Work {
+        alloc,
         forms: table,
         pass: &mut pass,
         leaves,
     };
-    let threads = run_threads(&mut w, rt, alloc, plan);
+    let threads = run_threads(&mut w, rt, plan);
     let Work {
+        alloc: _,
         forms: _,
         pass: asked,
         leaves: _,

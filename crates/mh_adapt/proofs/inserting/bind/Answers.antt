@@ -15,37 +15,39 @@ use Rattle.mh_adapt.proofs.inserting.bind.Goals as goal
 
 pub fitted-requires : goal.fitted-requires
 fitted-requires g c =
-    let at : slice_get c.args.t.ty.params c.args.pos ≡ Some c.get-param.result.now =
+    let at : slice_get c.args.target.ty.params c.args.position ≡ Some c.get-param.result.now =
     sym (λ i. slice_get ((c.ty.ensures.ty i).params) (c.from.ensures i)) ∙ c.get-param.ensures in
-    let w = bind-fitting c.args.w.now.leaves.now.classes c.args.t c.args.pos c.args.v c.in_ok-own.own c.in_ok-own.ensures.tells c.get-param.result.now at in
-    (w.0, ap (λ cs. fit cs c.args.v c.get-param.result.now) c.classes-classes.ensures.classes ∙ w.1)
+    let w = bind-fitting c.args.w.now.leaves.now.classes c.args.target c.args.position c.args.value c.in_ok-own.own c.in_ok-own.ensures.tells
+    c.get-param.result.now at in
+    (w.0, ap (λ cs. fit cs c.args.value c.get-param.result.now) c.classes-classes.ensures.classes ∙ w.1)
 
 pub grown-requires-clause-fits : goal.grown-requires-clause-fits
 grown-requires-clause-fits g c =
-    bind-fits c.args.w.now.leaves.now.classes c.args.t c.args.pos c.args.v c.in_ok-own.own c.in_ok-own.ensures.tells c.in_ok-own.ensures.shaped
+    bind-fits c.args.w.now.leaves.now.classes c.args.target c.args.position c.args.value c.in_ok-own.own c.in_ok-own.ensures.tells c.in_ok-own.ensures.shaped
 
 pub grown-requires-clause-shaped : goal.grown-requires-clause-shaped
 grown-requires-clause-shaped g c =
-    bind-shaped c.args.w.now.leaves.now.classes c.args.t c.args.pos c.args.v c.in_ok-own.own c.in_ok-own.ensures.tells c.in_ok-own.ensures.shaped
+    bind-shaped c.args.w.now.leaves.now.classes c.args.target c.args.position c.args.value c.in_ok-own.own c.in_ok-own.ensures.tells c.in_ok-own.ensures.shaped
 
 pub returns-clause-gains : goal.returns-clause-gains
-returns-clause-gains g c = grown-gains c.args.t c.in_ok-own.own c.weight.result c.new.result (key.Bind c.args.pos) c.in_ok-fields.fields.items c.grown.result
+returns-clause-gains g c = grown-gains c.args.target c.in_ok-own.own c.weight.result c.new.result (key.Bind c.args.position) c.in_ok-fields.fields.items
+    c.grown.result
     c.weight.ensures.weight c.new.ensures c.grown.ensures.grows
 
 pub returns-clause-stands : goal.returns-clause-stands
 returns-clause-stands g c a st =
     let row = c.in_ok-own.ensures.tells in
-    let at : slice_get c.args.t.ty.params c.args.pos ≡ Some c.get-param.result.now =
+    let at : slice_get c.args.target.ty.params c.args.position ≡ Some c.get-param.result.now =
     sym (λ i. slice_get ((c.ty.ensures.ty i).params) (c.from.ensures i)) ∙ c.get-param.ensures in
-    let fits : fit c.args.w.now.leaves.now.classes c.args.v c.get-param.result.now ≡ Ok c.fitted.result =
-    sym (ap (λ cs. fit cs c.args.v c.get-param.result.now) c.classes-classes.ensures.classes) ∙ c.fitted.ensures in
-    let own = key.Bind c.args.pos in
-    if-ok (λ x. Grows c.args.t x c.in_ok-own.own (1 + c.weight.result) c.new.result own c.in_ok-fields.fields.items)
-    (λ x. Stands c.args.w.now.leaves.now x (tree.Bind a c.args.pos c.args.v)) c.grown.result c.grown.ensures.grows
+    let fits : fit c.args.w.now.leaves.now.classes c.args.value c.get-param.result.now ≡ Ok c.fitted.result =
+    sym (ap (λ cs. fit cs c.args.value c.get-param.result.now) c.classes-classes.ensures.classes) ∙ c.fitted.ensures in
+    let own = key.Bind c.args.position in
+    if-ok (λ x. Grows c.args.target x c.in_ok-own.own (1 + c.weight.result) c.new.result own c.in_ok-fields.fields.items)
+    (λ x. Stands c.args.w.now.leaves.now x (tree.Bind a c.args.position c.args.value)) c.grown.result c.grown.ensures.grows
     (λ x grows.
-    bind-stands c.args.w.now.leaves.now c.args.t x a c.args.pos c.args.v c.fitted.result c.get-param.result.now c.in_ok-own.own row at fits
-    (bind-fits c.args.w.now.leaves.now.classes c.args.t c.args.pos c.args.v c.in_ok-own.own row c.in_ok-own.ensures.shaped)
-    (grows-as c.args.t x c.in_ok-own.own (1 + c.weight.result) (1 + c.args.t.weight) c.new.result [] own own c.in_ok-fields.fields.items
-        (field.Val (erased c.fitted.result) ∷ [])
+    bind-stands c.args.w.now.leaves.now c.args.target x a c.args.position c.args.value c.fitted.result c.get-param.result.now c.in_ok-own.own row at fits
+    (bind-fits c.args.w.now.leaves.now.classes c.args.target c.args.position c.args.value c.in_ok-own.own row c.in_ok-own.ensures.shaped)
+    (grows-as c.args.target x c.in_ok-own.own (1 + c.weight.result) (1 + c.args.target.weight) c.new.result [] own own c.in_ok-fields.fields.items
+    (field.Val (erased c.fitted.result) ∷ [])
     (ap (λ n. 1 + n) c.weight.ensures.weight) c.new.ensures refl (c.in_ok-fields.ensures ∙ ap (λ s. field.Val s ∷ []) c.erase-slot.ensures) grows)
     st)

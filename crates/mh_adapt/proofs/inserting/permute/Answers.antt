@@ -17,11 +17,11 @@ pub grown-requires-clause-fits : goal.grown-requires-clause-fits
 grown-requires-clause-fits g c =
     let is : key.Permute c.in_ok-basics.basics c.in_ok-reorder.reorder ≡ key.Permute (map basic_of c.args.ty.now.params) c.args.reorder.now =
     ap₂ (λ (bs : List Basic) (r : List ℕ). key.Permute bs r) c.in_ok-basics.ensures c.in_ok-reorder.ensures in
-    subst (λ k. IsTrue (fits k (handle_body c.args.t))) (sym is)
-    (permute-fits c.args.t c.args.ty.now c.args.reorder.now c.in_ok-own.own c.in_ok-own.ensures.tells c.in_ok-own.ensures.shaped)
+    subst (λ k. IsTrue (fits k (handle_body c.args.target))) (sym is)
+    (permute-fits c.args.target c.args.ty.now c.args.reorder.now c.in_ok-own.own c.in_ok-own.ensures.tells c.in_ok-own.ensures.shaped)
 
 pub returns-clause-gains : goal.returns-clause-gains
-returns-clause-gains g c = grown-gains c.args.t c.in_ok-own.own c.weight.result c.new.result (key.Permute c.in_ok-basics.basics c.in_ok-reorder.reorder)
+returns-clause-gains g c = grown-gains c.args.target c.in_ok-own.own c.weight.result c.new.result (key.Permute c.in_ok-basics.basics c.in_ok-reorder.reorder)
     c.new-2.result.items c.grown.result c.weight.ensures.weight c.new.ensures c.grown.ensures.grows
 
 pub returns-clause-stands : goal.returns-clause-stands
@@ -30,11 +30,11 @@ returns-clause-stands g c a st =
     let made = key.Permute c.in_ok-basics.basics c.in_ok-reorder.reorder in
     let own = key.Permute (map basic_of c.args.ty.now.params) c.args.reorder.now in
     let is : made ≡ own = ap₂ (λ (bs : List Basic) (r : List ℕ). key.Permute bs r) c.in_ok-basics.ensures c.in_ok-reorder.ensures in
-    if-ok (λ x. Grows c.args.t x c.in_ok-own.own (1 + c.weight.result) c.new.result made c.new-2.result.items)
+    if-ok (λ x. Grows c.args.target x c.in_ok-own.own (1 + c.weight.result) c.new.result made c.new-2.result.items)
     (λ x. Stands c.args.w.now.leaves.now x (tree.Permute a c.args.ty.now c.args.reorder.now)) c.grown.result c.grown.ensures.grows
     (λ x grows.
-    permute-stands c.args.w.now.leaves.now c.args.t x a c.args.ty.now c.args.reorder.now c.in_ok-own.own row
-    (permute-fits c.args.t c.args.ty.now c.args.reorder.now c.in_ok-own.own row c.in_ok-own.ensures.shaped)
-    (grows-as c.args.t x c.in_ok-own.own (1 + c.weight.result) (1 + c.args.t.weight) c.new.result [] made own c.new-2.result.items []
+    permute-stands c.args.w.now.leaves.now c.args.target x a c.args.ty.now c.args.reorder.now c.in_ok-own.own row
+    (permute-fits c.args.target c.args.ty.now c.args.reorder.now c.in_ok-own.own row c.in_ok-own.ensures.shaped)
+    (grows-as c.args.target x c.in_ok-own.own (1 + c.weight.result) (1 + c.args.target.weight) c.new.result [] made own c.new-2.result.items []
     (ap (λ n. 1 + n) c.weight.ensures.weight) c.new.ensures is c.new-2.ensures.items grows)
     st)

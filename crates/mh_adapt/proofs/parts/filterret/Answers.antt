@@ -5,12 +5,13 @@ use Rattle.mh_adapt.proofs.PartAnswers.{adds-gains, adds-stands}
 use Rattle.mh_adapt.proofs.parts.filterret.Goals as goal
 
 pub returns-clause-gains : goal.returns-clause-gains
-returns-clause-gains g c = adds-gains c.in_ok-own.own c.args.t (filterret_key c.args.f.ty) c.args.f c.in_ok-by.by c.in_ok-by.ensures c.grown.result
+returns-clause-gains g c = adds-gains c.in_ok-own.own c.args.target (filterret_key c.args.filter.ty) c.args.filter c.in_ok-by.by c.in_ok-by.ensures
+    c.grown.result
     c.grown.ensures.grows
 
 pub returns-clause-stands : goal.returns-clause-stands
 returns-clause-stands g c a b st sp =
-    adds-stands c.in_ok-own.own c.args.t (filterret_key c.args.f.ty) c.args.f c.in_ok-by.by c.in_ok-by.ensures
+    adds-stands c.in_ok-own.own c.args.target (filterret_key c.args.filter.ty) c.args.filter c.in_ok-by.by c.in_ok-by.ensures
     c.args.w.now.leaves.now (tree.FilterRet a b) c.grown.result c.grown.ensures.grows (λ h grows.
-    filterret-stands c.args.w.now.leaves.now c.args.t h c.args.f a b c.in_ok-by.ensures.fields.0 c.in_ok-own.own c.in_ok-own.ensures.tells
-        c.in_ok-by.ensures.fields.2 grows st sp)
+    filterret-stands c.args.w.now.leaves.now c.args.target h c.args.filter a b c.in_ok-by.ensures.fields.0 c.in_ok-own.own c.in_ok-own.ensures.tells
+    c.in_ok-by.ensures.fields.2 grows st sp)

@@ -15,67 +15,67 @@ use Rattle.mh_astype.proofs.calls.invoke_converted.Goals as goal
 
 pub edit-requires-clause-fits : goal.edit-requires-clause-fits
 edit-requires-clause-fits g c =
-    let key : c.in_ok-key.key ≡ convert_key c.args.w.now.leaves.now.classes c.args.call.now c.args.h.now.ty =
+    let key : c.in_ok-key.key ≡ convert_key c.args.w.now.leaves.now.classes c.args.call.now c.args.handle.now.ty =
     c.in_ok-key.ensures ∙ ap₂ (λ (cs : List Class) (own : MethodTy). convert_key cs c.args.call.now own) c.classes-classes.ensures.classes c.ty.ensures.ty in
-    let P : Key → Type 0 = λ k. fits k (handle_body c.args.h.now) ≡ true in
+    let P : Key → Type 0 = λ k. fits k (handle_body c.args.handle.now) ≡ true in
     let Q : FormView → Type 0 = λ f. fits c.in_ok-key.key (body_of f.recipe) ≡ true in
     subst Q (sym c.form.ensures)
     (subst P (sym key)
-    (convert-fits c.args.w.now.leaves.now.classes c.args.h.now c.args.call.now c.args.call.now
-    (ret_entry_of c.args.w.now.leaves.now.classes c.args.h.now.ty.ret c.args.call.now.ret) c.ty.ensures.shaped c.requires.row))
+    (convert-fits c.args.w.now.leaves.now.classes c.args.handle.now c.args.call.now c.args.call.now
+    (ret_entry_of c.args.w.now.leaves.now.classes c.args.handle.now.ty.ret c.args.call.now.ret) c.ty.ensures.shaped c.requires.row))
 
 pub returns-in_err-form-clause-asks : goal.returns-in_err-form-clause-asks
 returns-in_err-form-clause-asks g c =
-    let key : c.in_ok-key.key ≡ convert_key c.args.w.now.leaves.now.classes c.args.call.now c.args.h.now.ty =
+    let key : c.in_ok-key.key ≡ convert_key c.args.w.now.leaves.now.classes c.args.call.now c.args.handle.now.ty =
     c.in_ok-key.ensures ∙ ap₂ (λ (cs : List Class) (own : MethodTy). convert_key cs c.args.call.now own) c.classes-classes.ensures.classes c.ty.ensures.ty in
-    let P : FormView → Type 0 = λ f. Edits (f.recipe ++ c.in_ok-key.key ∷ []) c.args.w.now.pass.now c.edit.new.pass (Err c.in_err-form.field-0.0) in
-    asks-error c.args.w.now.leaves.now.classes c.args.call.now c.args.h.now.ty c.args.h.now.form.recipe c.in_ok-key.key c.args.w.now.pass.now c.edit.new.pass
-        c.in_err-form.field-0.0 c.from_residual-in_err-form.result
+    let P : FormView → Type 0 = λ f. Edits (f.recipe ++ c.in_ok-key.key ∷ []) c.args.w.now.pass.now c.edit.new.self.pass.now (Err c.in_err-form.field-0.0) in
+    asks-error c.args.w.now.leaves.now.classes c.args.call.now c.args.handle.now.ty c.args.handle.now.form.recipe c.in_ok-key.key c.args.w.now c.edit.new.self
+    c.in_err-form.field-0.0 c.from_residual-in_err-form.result
     c.requires.changes key (subst P c.form.ensures c.in_err-form.ensures.edits) c.from_residual-in_err-form.ensures.1
 
 pub invoke_edited-requires : goal.invoke_edited-requires
 invoke_edited-requires g c =
-    let key : c.in_ok-key.key ≡ convert_key c.args.w.now.leaves.now.classes c.args.call.now c.args.h.now.ty =
+    let key : c.in_ok-key.key ≡ convert_key c.args.w.now.leaves.now.classes c.args.call.now c.args.handle.now.ty =
     c.in_ok-key.ensures ∙ ap₂ (λ (cs : List Class) (own : MethodTy). convert_key cs c.args.call.now own) c.classes-classes.ensures.classes c.ty.ensures.ty in
-    let fields : c.in_ok-more.more.items ≡ convert_fields c.args.w.now.leaves.now.classes c.args.call.now c.args.h.now.ty =
+    let fields : c.in_ok-more.more.items ≡ convert_fields c.args.w.now.leaves.now.classes c.args.call.now c.args.handle.now.ty =
     c.in_ok-more.ensures ∙ ap₂ (λ (cs : List Class) (own : MethodTy). convert_fields cs c.args.call.now own) c.classes-classes.ensures.classes c.ty-2.ensures.ty
-        in
-    let made : c.in_ok-form.form.now.recipe ≡ c.args.h.now.form.recipe ++ c.in_ok-key.key ∷ [] =
+    in
+    let made : c.in_ok-form.form.now.recipe ≡ c.args.handle.now.form.recipe ++ c.in_ok-key.key ∷ [] =
     c.in_ok-form.ensures.edits.0 ∙ ap (λ (f : FormView). f.recipe ++ c.in_ok-key.key ∷ []) c.form.ensures in
     record {
       runs =
-          converted-runs c.args.w.now.leaves.now c.classes-classes.ensures.are c.args.call.now c.args.h.now c.in_ok-form.form.now c.in_ok-key.key
-              c.in_ok-more.more.items c.requires.row c.requires.changes key fields made
+          converted-runs c.args.w.now.leaves.now c.classes-classes.ensures.are c.args.call.now c.args.handle.now c.in_ok-form.form.now c.in_ok-key.key
+          c.in_ok-more.more.items c.requires.row c.requires.changes key fields made
           c.requires.stands.0 c.args.args.now c.args.n c.requires.stands.1 c.requires.typed c.ranges.n.fits;
     }
 
 pub returns-in_err-invoke_edited-clause-asks : goal.returns-in_err-invoke_edited-clause-asks
 returns-in_err-invoke_edited-clause-asks g c =
-    let key : c.in_ok-key.key ≡ convert_key c.args.w.now.leaves.now.classes c.args.call.now c.args.h.now.ty =
+    let key : c.in_ok-key.key ≡ convert_key c.args.w.now.leaves.now.classes c.args.call.now c.args.handle.now.ty =
     c.in_ok-key.ensures ∙ ap₂ (λ (cs : List Class) (own : MethodTy). convert_key cs c.args.call.now own) c.classes-classes.ensures.classes c.ty.ensures.ty in
-    let P : FormView → Type 0 = λ f. Edits (f.recipe ++ c.in_ok-key.key ∷ []) c.args.w.now.pass.now c.edit.new.pass (Ok c.in_ok-form.form) in
-    asks-late c.args.w.now.leaves.now.classes c.args.call.now c.args.h.now.ty c.args.h.now.form.recipe c.in_ok-key.key c.args.w.now.pass.now c.edit.new.pass
-        c.in_ok-form.form c.from_residual-in_err-invoke_edited.result
+    let P : FormView → Type 0 = λ f. Edits (f.recipe ++ c.in_ok-key.key ∷ []) c.args.w.now.pass.now c.edit.new.self.pass.now (Ok c.in_ok-form.form) in
+    asks-late c.args.w.now.leaves.now.classes c.args.call.now c.args.handle.now.ty c.args.handle.now.form.recipe c.in_ok-key.key c.args.w.now c.edit.new.self
+    c.in_ok-form.form c.from_residual-in_err-invoke_edited.result
     c.requires.changes key (subst P c.form.ensures c.in_ok-form.ensures.edits) c.from_residual-in_err-invoke_edited.ensures.1
 
 pub returns-clause-asks : goal.returns-clause-asks
 returns-clause-asks g c =
-    let key : c.in_ok-key.key ≡ convert_key c.args.w.now.leaves.now.classes c.args.call.now c.args.h.now.ty =
+    let key : c.in_ok-key.key ≡ convert_key c.args.w.now.leaves.now.classes c.args.call.now c.args.handle.now.ty =
     c.in_ok-key.ensures ∙ ap₂ (λ (cs : List Class) (own : MethodTy). convert_key cs c.args.call.now own) c.classes-classes.ensures.classes c.ty.ensures.ty in
-    let P : FormView → Type 0 = λ f. Edits (f.recipe ++ c.in_ok-key.key ∷ []) c.args.w.now.pass.now c.edit.new.pass (Ok c.in_ok-form.form) in
-    asks-edited c.args.w.now.leaves.now.classes c.args.call.now c.args.h.now.ty c.args.h.now.form.recipe c.in_ok-key.key c.args.w.now.pass.now c.edit.new.pass
-        c.requires.changes key
+    let P : FormView → Type 0 = λ f. Edits (f.recipe ++ c.in_ok-key.key ∷ []) c.args.w.now.pass.now c.edit.new.self.pass.now (Ok c.in_ok-form.form) in
+    asks-edited c.args.w.now.leaves.now.classes c.args.call.now c.args.handle.now.ty c.args.handle.now.form.recipe c.in_ok-key.key c.args.w.now c.edit.new.self
+    c.requires.changes key
     c.in_ok-form.form c.in_ok-invoke_edited.field-0 (subst P c.form.ensures c.in_ok-form.ensures.edits)
 
 pub returns-clause-answer : goal.returns-clause-answer
 returns-clause-answer g c t st =
-    let key : c.in_ok-key.key ≡ convert_key c.args.w.now.leaves.now.classes c.args.call.now c.args.h.now.ty =
+    let key : c.in_ok-key.key ≡ convert_key c.args.w.now.leaves.now.classes c.args.call.now c.args.handle.now.ty =
     c.in_ok-key.ensures ∙ ap₂ (λ (cs : List Class) (own : MethodTy). convert_key cs c.args.call.now own) c.classes-classes.ensures.classes c.ty.ensures.ty in
-    let fields : c.in_ok-more.more.items ≡ convert_fields c.args.w.now.leaves.now.classes c.args.call.now c.args.h.now.ty =
+    let fields : c.in_ok-more.more.items ≡ convert_fields c.args.w.now.leaves.now.classes c.args.call.now c.args.handle.now.ty =
     c.in_ok-more.ensures ∙ ap₂ (λ (cs : List Class) (own : MethodTy). convert_fields cs c.args.call.now own) c.classes-classes.ensures.classes c.ty-2.ensures.ty
-        in
-    let made : c.in_ok-form.form.now.recipe ≡ c.args.h.now.form.recipe ++ c.in_ok-key.key ∷ [] =
+    in
+    let made : c.in_ok-form.form.now.recipe ≡ c.args.handle.now.form.recipe ++ c.in_ok-key.key ∷ [] =
     c.in_ok-form.ensures.edits.0 ∙ ap (λ (f : FormView). f.recipe ++ c.in_ok-key.key ∷ []) c.form.ensures in
-    converted-answer c.args.w.now.leaves.now c.classes-classes.ensures.are c.args.call.now c.args.h.now c.in_ok-form.form.now c.in_ok-key.key
-        c.in_ok-more.more.items c.requires.row c.requires.changes key fields made
+    converted-answer c.args.w.now.leaves.now c.classes-classes.ensures.are c.args.call.now c.args.handle.now c.in_ok-form.form.now c.in_ok-key.key
+    c.in_ok-more.more.items c.requires.row c.requires.changes key fields made
     t c.args.args.now c.args.n c.in_ok-invoke_edited.field-0 st c.requires.typed c.ranges.n.fits c.in_ok-invoke_edited.ensures.run

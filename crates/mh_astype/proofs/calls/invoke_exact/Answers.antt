@@ -10,26 +10,27 @@ use Rattle.mh_astype.proofs.calls.invoke_exact.Goals as goal
 
 pub invoke-requires-clause-typed : goal.invoke-requires-clause-typed
 invoke-requires-clause-typed c =
-    let is : is_same_method_type c.args.h.now.ty c.args.call.now ≡ true =
-    types-are c.is_same_method_type.result c.ty.result.now c.args.h.now.ty c.args.call.now c.if-is_same_method_type.true c.is_same_method_type.ensures
-        c.ty.ensures.ty in
-    own-typed c.args.leaves.now.classes c.args.h.now.ty c.args.call.now c.args.args.now is c.requires.typed
+    let is : is_same_method_type c.args.handle.now.ty c.args.call.now ≡ true =
+    types-are c.is_same_method_type.result c.ty.result.now c.args.handle.now.ty c.args.call.now c.if-is_same_method_type.true c.is_same_method_type.ensures
+    c.ty.ensures.ty in
+    own-typed c.args.leaves.now.classes c.args.handle.now.ty c.args.call.now c.args.args.now is c.requires.typed
 
 pub invoke-requires-clause-runs : goal.invoke-requires-clause-runs
 invoke-requires-clause-runs c =
-    let is : is_same_method_type c.args.h.now.ty c.args.call.now ≡ true =
-    types-are c.is_same_method_type.result c.ty.result.now c.args.h.now.ty c.args.call.now c.if-is_same_method_type.true c.is_same_method_type.ensures
-        c.ty.ensures.ty in
-    typed_run-well_formed c.args.leaves.now c.args.h.now c.requires.stands.0 c.args.args.now c.args.n c.requires.stands.1
-    (own-typed c.args.leaves.now.classes c.args.h.now.ty c.args.call.now c.args.args.now is c.requires.typed) c.ranges.n.fits
+    let is : is_same_method_type c.args.handle.now.ty c.args.call.now ≡ true =
+    types-are c.is_same_method_type.result c.ty.result.now c.args.handle.now.ty c.args.call.now c.if-is_same_method_type.true c.is_same_method_type.ensures
+    c.ty.ensures.ty in
+    typed_run-well_formed c.args.leaves.now c.args.handle.now c.requires.stands.0 c.args.args.now c.args.n c.requires.stands.1
+    (own-typed c.args.leaves.now.classes c.args.handle.now.ty c.args.call.now c.args.args.now is c.requires.typed) c.ranges.n.fits
 
 pub returns-in_ok-exc : goal.returns-in_ok-exc
 returns-in_ok-exc c t st =
-    let other : is_same_method_type c.args.h.now.ty c.args.call.now ≡ false =
-    differs c.is_same_method_type.result c.ty.result.now c.args.h.now.ty c.args.call.now c.if-is_same_method_type.false c.is_same_method_type.ensures
-        c.ty.ensures.ty in
-    thrown-answer _ _ c.in_ok-exc.exc (mismatch c.args.leaves.now.classes c.args.h.now.ty c.args.call.now) c.thrown.result c.thrown.ensures
+    let other : is_same_method_type c.args.handle.now.ty c.args.call.now ≡ false =
+    differs c.is_same_method_type.result c.ty.result.now c.args.handle.now.ty c.args.call.now c.if-is_same_method_type.false c.is_same_method_type.ensures
+    c.ty.ensures.ty in
+    thrown-answer _ _ c.in_ok-exc.exc (mismatch c.args.leaves.now.classes c.args.handle.now.ty c.args.call.now) c.thrown.result c.thrown.ensures
     (c.in_ok-exc.ensures ∙ ap₂ (λ (cs : List Class) (own : MethodTy). mismatch cs own c.args.call.now) c.classes.ensures
-        c.ty-else-is_same_method_type.ensures.ty)
-    (exact-differs c.args.leaves.now c.args.h.now t c.args.call.now st c.args.args.now c.args.n other) (exact_keys-differs c.args.leaves.now c.args.h.now t
-        c.args.call.now st other)
+    c.ty-else-is_same_method_type.ensures.ty)
+    (exact-differs c.args.leaves.now c.args.handle.now t c.args.call.now st c.args.args.now c.args.n other)
+    (exact_keys-differs c.args.leaves.now c.args.handle.now t
+    c.args.call.now st other)

@@ -10,77 +10,82 @@ use Rattle.mh_astype.proofs.use_as.as_type.Goals as goal
 
 pub returns-in_err-asked-clause-obeys : goal.returns-in_err-asked-clause-obeys
 returns-in_err-asked-clause-obeys g c =
-    let other : is_same_method_type c.args.h.ty c.args.ty.now ≡ false =
-    differs c.is_same_method_type.result c.ty.result.now c.args.h.ty c.args.ty.now c.if-is_same_method_type.false c.is_same_method_type.ensures c.ty.ensures.ty
-        in
-    let row : astype_row c.classes.result.now c.ty-2.result.now c.weight.result c.args.ty.now ≡ use_row c.args.w.now.leaves.now.classes c.args.h.ty
-        c.args.h.weight c.args.ty.now =
-    row-at c.classes.result.now c.args.w.now.leaves.now.classes c.ty-2.result.now c.args.h.ty c.weight.result c.args.h.weight c.args.ty.now
-        c.classes.ensures.classes c.ty-2.ensures.ty c.weight.ensures.weight
-    ∙ row-of-other c.args.w.now.leaves.now.classes c.args.h.ty c.args.h.weight c.args.ty.now other in
+    let other : is_same_method_type c.args.target.ty c.args.ty.now ≡ false =
+    differs c.is_same_method_type.result c.ty.result.now c.args.target.ty c.args.ty.now c.if-is_same_method_type.false c.is_same_method_type.ensures
+    c.ty.ensures.ty
+    in
+    let row : astype_row c.classes.result.now c.ty-2.result.now c.weight.result c.args.ty.now ≡ use_row c.args.w.now.leaves.now.classes c.args.target.ty
+    c.args.target.weight c.args.ty.now =
+    row-at c.classes.result.now c.args.w.now.leaves.now.classes c.ty-2.result.now c.args.target.ty c.weight.result c.args.target.weight c.args.ty.now
+    c.classes.ensures.classes c.ty-2.ensures.ty c.weight.ensures.weight
+    ∙ row-of-other c.args.w.now.leaves.now.classes c.args.target.ty c.args.target.weight c.args.ty.now other in
     subst (λ r. Obeys r c.from_residual.result) row (refused-obeys (astype_row c.classes.result.now c.ty-2.result.now c.weight.result c.args.ty.now)
-        c.in_err-asked.field-0.0 c.from_residual.result c.in_err-asked.ensures c.from_residual.ensures.1)
+    c.in_err-asked.field-0.0 c.from_residual.result c.in_err-asked.ensures c.from_residual.ensures.1)
 
 pub returns-in_err-asked-clause-makes : goal.returns-in_err-asked-clause-makes
-returns-in_err-asked-clause-makes g c = refused-makes c.args.h.form.recipe _ c.args.w.now.pass.now c.in_err-asked.field-0.0 c.from_residual.result
+returns-in_err-asked-clause-makes g c = refused-makes c.args.target.form.recipe _ c.args.w.now c.in_err-asked.field-0.0 c.from_residual.result
     c.from_residual.ensures.1
 
 pub used-requires-clause-row : goal.used-requires-clause-row
 used-requires-clause-row g c =
-    let row : astype_row c.args.w.now.leaves.now.classes c.args.h.ty c.args.h.weight c.args.ty.now ≡ Ok c.in_ok-asked.asked =
-    sym (row-at c.classes.result.now c.args.w.now.leaves.now.classes c.ty-2.result.now c.args.h.ty c.weight.result c.args.h.weight c.args.ty.now
-        c.classes.ensures.classes c.ty-2.ensures.ty c.weight.ensures.weight)
+    let row : astype_row c.args.w.now.leaves.now.classes c.args.target.ty c.args.target.weight c.args.ty.now ≡ Ok c.in_ok-asked.asked =
+    sym (row-at c.classes.result.now c.args.w.now.leaves.now.classes c.ty-2.result.now c.args.target.ty c.weight.result c.args.target.weight c.args.ty.now
+    c.classes.ensures.classes c.ty-2.ensures.ty c.weight.ensures.weight)
     ∙ c.in_ok-asked.ensures in
-    found-row c.args.w.now.leaves.now.classes c.args.h.ty c.args.h.weight c.args.ty.now c.in_ok-asked.asked row
+    found-row c.args.w.now.leaves.now.classes c.args.target.ty c.args.target.weight c.args.ty.now c.in_ok-asked.asked row
 
 pub returns-clause-obeys : goal.returns-clause-obeys
 returns-clause-obeys g c =
-    let other : is_same_method_type c.args.h.ty c.args.ty.now ≡ false =
-    differs c.is_same_method_type.result c.ty.result.now c.args.h.ty c.args.ty.now c.if-is_same_method_type.false c.is_same_method_type.ensures c.ty.ensures.ty
-        in
-    let row : use_row c.args.w.now.leaves.now.classes c.args.h.ty c.args.h.weight c.args.ty.now ≡ Ok c.in_ok-asked.asked =
-    sym (row-of-other c.args.w.now.leaves.now.classes c.args.h.ty c.args.h.weight c.args.ty.now other)
-    ∙ (sym (row-at c.classes.result.now c.args.w.now.leaves.now.classes c.ty-2.result.now c.args.h.ty c.weight.result c.args.h.weight c.args.ty.now
-        c.classes.ensures.classes c.ty-2.ensures.ty c.weight.ensures.weight)
+    let other : is_same_method_type c.args.target.ty c.args.ty.now ≡ false =
+    differs c.is_same_method_type.result c.ty.result.now c.args.target.ty c.args.ty.now c.if-is_same_method_type.false c.is_same_method_type.ensures
+    c.ty.ensures.ty
+    in
+    let row : use_row c.args.w.now.leaves.now.classes c.args.target.ty c.args.target.weight c.args.ty.now ≡ Ok c.in_ok-asked.asked =
+    sym (row-of-other c.args.w.now.leaves.now.classes c.args.target.ty c.args.target.weight c.args.ty.now other)
+    ∙ (sym (row-at c.classes.result.now c.args.w.now.leaves.now.classes c.ty-2.result.now c.args.target.ty c.weight.result c.args.target.weight c.args.ty.now
+    c.classes.ensures.classes c.ty-2.ensures.ty c.weight.ensures.weight)
     ∙ c.in_ok-asked.ensures) in
-    used-obeys _ c.args.w.now.leaves.now.classes c.in_ok-asked.asked c.args.h c.used.result row c.used.ensures.accepted c.used.ensures.used
+    used-obeys _ c.args.w.now.leaves.now.classes c.in_ok-asked.asked c.args.target c.used.result row c.used.ensures.accepted c.used.ensures.used
 
 pub returns-clause-makes : goal.returns-clause-makes
 returns-clause-makes g c =
-    let other : is_same_method_type c.args.h.ty c.args.ty.now ≡ false =
-    differs c.is_same_method_type.result c.ty.result.now c.args.h.ty c.args.ty.now c.if-is_same_method_type.false c.is_same_method_type.ensures c.ty.ensures.ty
-        in
-    let row : astype_row c.args.w.now.leaves.now.classes c.args.h.ty c.args.h.weight c.args.ty.now ≡ Ok c.in_ok-asked.asked =
-    sym (row-at c.classes.result.now c.args.w.now.leaves.now.classes c.ty-2.result.now c.args.h.ty c.weight.result c.args.h.weight c.args.ty.now
-        c.classes.ensures.classes c.ty-2.ensures.ty c.weight.ensures.weight)
+    let other : is_same_method_type c.args.target.ty c.args.ty.now ≡ false =
+    differs c.is_same_method_type.result c.ty.result.now c.args.target.ty c.args.ty.now c.if-is_same_method_type.false c.is_same_method_type.ensures
+    c.ty.ensures.ty
+    in
+    let row : astype_row c.args.w.now.leaves.now.classes c.args.target.ty c.args.target.weight c.args.ty.now ≡ Ok c.in_ok-asked.asked =
+    sym (row-at c.classes.result.now c.args.w.now.leaves.now.classes c.ty-2.result.now c.args.target.ty c.weight.result c.args.target.weight c.args.ty.now
+    c.classes.ensures.classes c.ty-2.ensures.ty c.weight.ensures.weight)
     ∙ c.in_ok-asked.ensures in
-    used-makes c.args.w.now.leaves.now.classes c.args.h.ty c.args.h.weight c.args.ty.now c.in_ok-asked.asked c.args.h.form.recipe c.args.w.now.pass.now _
-        c.used.result other row c.used.ensures.makes
+    used-makes c.args.w.now.leaves.now.classes c.args.target.ty c.args.target.weight c.args.ty.now c.in_ok-asked.asked c.args.target.form.recipe c.args.w.now _
+    c.used.result other row c.used.ensures.makes
 
 pub returns-clause-stands : goal.returns-clause-stands
 returns-clause-stands g c t st =
-    let other : is_same_method_type c.args.h.ty c.args.ty.now ≡ false =
-    differs c.is_same_method_type.result c.ty.result.now c.args.h.ty c.args.ty.now c.if-is_same_method_type.false c.is_same_method_type.ensures c.ty.ensures.ty
-        in
-    let row : astype_row c.args.w.now.leaves.now.classes c.args.h.ty c.args.h.weight c.args.ty.now ≡ Ok c.in_ok-asked.asked =
-    sym (row-at c.classes.result.now c.args.w.now.leaves.now.classes c.ty-2.result.now c.args.h.ty c.weight.result c.args.h.weight c.args.ty.now
-        c.classes.ensures.classes c.ty-2.ensures.ty c.weight.ensures.weight)
+    let other : is_same_method_type c.args.target.ty c.args.ty.now ≡ false =
+    differs c.is_same_method_type.result c.ty.result.now c.args.target.ty c.args.ty.now c.if-is_same_method_type.false c.is_same_method_type.ensures
+    c.ty.ensures.ty
+    in
+    let row : astype_row c.args.w.now.leaves.now.classes c.args.target.ty c.args.target.weight c.args.ty.now ≡ Ok c.in_ok-asked.asked =
+    sym (row-at c.classes.result.now c.args.w.now.leaves.now.classes c.ty-2.result.now c.args.target.ty c.weight.result c.args.target.weight c.args.ty.now
+    c.classes.ensures.classes c.ty-2.ensures.ty c.weight.ensures.weight)
     ∙ c.in_ok-asked.ensures in
-    asked-stands c.args.w.now.leaves.now c.args.ty.now c.in_ok-asked.asked c.args.h t c.used.result c.classes.ensures.are other row st c.used.ensures.used
+    asked-stands c.args.w.now.leaves.now c.args.ty.now c.in_ok-asked.asked c.args.target t c.used.result c.classes.ensures.are other row st c.used.ensures.used
 
 pub returns-then-is_same_method_type-clause-used : goal.returns-then-is_same_method_type-clause-used
 returns-then-is_same_method_type-clause-used g c =
-    use-same c.args.w.now.leaves.now.classes c.args.ty.now c.args.h
-    (types-are c.is_same_method_type.result c.ty.result.now c.args.h.ty c.args.ty.now c.if-is_same_method_type.true c.is_same_method_type.ensures
-        c.ty.ensures.ty)
+    use-same c.args.w.now.leaves.now.classes c.args.ty.now c.args.target
+    (types-are c.is_same_method_type.result c.ty.result.now c.args.target.ty c.args.ty.now c.if-is_same_method_type.true c.is_same_method_type.ensures
+    c.ty.ensures.ty)
 
 pub returns-clause-used : goal.returns-clause-used
 returns-clause-used g c =
-    let other : is_same_method_type c.args.h.ty c.args.ty.now ≡ false =
-    differs c.is_same_method_type.result c.ty.result.now c.args.h.ty c.args.ty.now c.if-is_same_method_type.false c.is_same_method_type.ensures c.ty.ensures.ty
-        in
-    let row : astype_row c.args.w.now.leaves.now.classes c.args.h.ty c.args.h.weight c.args.ty.now ≡ Ok c.in_ok-asked.asked =
-    sym (row-at c.classes.result.now c.args.w.now.leaves.now.classes c.ty-2.result.now c.args.h.ty c.weight.result c.args.h.weight c.args.ty.now
-        c.classes.ensures.classes c.ty-2.ensures.ty c.weight.ensures.weight)
+    let other : is_same_method_type c.args.target.ty c.args.ty.now ≡ false =
+    differs c.is_same_method_type.result c.ty.result.now c.args.target.ty c.args.ty.now c.if-is_same_method_type.false c.is_same_method_type.ensures
+    c.ty.ensures.ty
+    in
+    let row : astype_row c.args.w.now.leaves.now.classes c.args.target.ty c.args.target.weight c.args.ty.now ≡ Ok c.in_ok-asked.asked =
+    sym (row-at c.classes.result.now c.args.w.now.leaves.now.classes c.ty-2.result.now c.args.target.ty c.weight.result c.args.target.weight c.args.ty.now
+    c.classes.ensures.classes c.ty-2.ensures.ty c.weight.ensures.weight)
     ∙ c.in_ok-asked.ensures in
-    use-other c.args.w.now.leaves.now.classes c.args.h.ty c.args.ty.now c.in_ok-asked.asked c.args.h c.used.result other row c.used.ensures.used
+    use-other c.args.w.now.leaves.now.classes c.args.target.ty c.args.ty.now c.in_ok-asked.asked c.args.target c.used.result other row c.used.ensures.used

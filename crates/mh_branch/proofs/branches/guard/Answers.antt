@@ -4,25 +4,26 @@ use Rattle.mh_branch.proofs.branches.guard.Goals as goal
 
 pub guarding-requires : goal.guarding-requires
 guarding-requires g c =
-    record { few = guard-few c.args.c c.args.t c.args.e c.in_ok-own.own c.in_ok-own.ensures }
+    record { few = guard-few c.args.test c.args.target c.args.fallback c.in_ok-own.own c.in_ok-own.ensures }
 
 pub rooted-requires-clause-fits : goal.rooted-requires-clause-fits
 rooted-requires-clause-fits g c =
-    guard-fits-by c.args.c c.args.t c.args.e c.in_ok-own.own c.in_ok-own.ensures c.in_ok-by.by c.in_ok-by.ensures
+    guard-fits-by c.args.test c.args.target c.args.fallback c.in_ok-own.own c.in_ok-own.ensures c.in_ok-by.by c.in_ok-by.ensures
 
 pub rooted-requires-clause-light : goal.rooted-requires-clause-light
 rooted-requires-clause-light g c =
-    guard-light c.args.c c.args.t c.args.e c.in_ok-own.own c.in_ok-own.ensures c.in_ok-by.by c.in_ok-by.ensures
+    guard-light c.args.test c.args.target c.args.fallback c.in_ok-own.own c.in_ok-own.ensures c.in_ok-by.by c.in_ok-by.ensures
 
 pub returns-clause-makes : goal.returns-clause-makes
 returns-clause-makes g c =
-    guard-makes c.args.c c.args.t c.args.e c.in_ok-own.own c.in_ok-own.ensures c.in_ok-by.by c.in_ok-by.ensures
-    c.args.w.now.pass.now c.rooted.new.w.pass.now c.rooted.result c.rooted.ensures.makes
+    guard-makes c.args.test c.args.target c.args.fallback c.in_ok-own.own c.in_ok-own.ensures c.in_ok-by.by c.in_ok-by.ensures
+    c.args.w.now c.rooted.new.w c.rooted.result c.rooted.ensures.makes
 
 pub returns-clause-gains : goal.returns-clause-gains
-returns-clause-gains g c = guard-gains c.in_ok-own.own c.args.c c.args.t c.args.e c.in_ok-by.by c.rooted.result c.in_ok-by.ensures c.rooted.ensures.grows
+returns-clause-gains g c = guard-gains c.in_ok-own.own c.args.test c.args.target c.args.fallback c.in_ok-by.by c.rooted.result c.in_ok-by.ensures
+    c.rooted.ensures.grows
 
 pub returns-clause-stands : goal.returns-clause-stands
 returns-clause-stands g c a b d tests stands others =
-    guard-answers c.args.c c.args.t c.args.e c.in_ok-own.own c.in_ok-own.ensures c.in_ok-by.by c.in_ok-by.ensures
+    guard-answers c.args.test c.args.target c.args.fallback c.in_ok-own.own c.in_ok-own.ensures c.in_ok-by.by c.in_ok-by.ensures
     c.args.w.now.leaves.now c.rooted.result a b d c.rooted.ensures.grows tests stands others

@@ -5,9 +5,9 @@ use Rattle.mh_branch.proofs.roots.throw.Goals as goal
 
 pub returns-clause-makes : goal.returns-clause-makes
 returns-clause-makes g c =
-    throw-makes c.args.ret c.in_ok-shape.shape.ret c.args.w.now.pass.now c.rooted.new.w.pass.now c.rooted.result
+    throw-makes c.args.ret c.in_ok-shape.shape.ret c.args.w.now c.rooted.new.w c.rooted.result
     (throw-ret c.classes.result.now c.args.ret c.args.class c.in_ok-own.own c.in_ok-shape.shape c.in_ok-own.ensures c.in_ok-shape.ensures)
-        c.rooted.ensures.makes
+    c.rooted.ensures.makes
 
 pub returns-clause-stands : goal.returns-clause-stands
 returns-clause-stands g c =
@@ -15,4 +15,4 @@ returns-clause-stands g c =
     sym (ap (λ cs. throw_row cs c.args.ret c.args.class) c.classes.ensures.classes) ∙ c.in_ok-own.ensures in
     throw-answers c.args.w.now.leaves.now c.args.ret c.args.class c.in_ok-own.own c.in_ok-shape.shape.ret c.new.result c.new-2.result.items c.rooted.result
     c.classes.ensures.are row (throw-ret c.args.w.now.leaves.now.classes c.args.ret c.args.class c.in_ok-own.own c.in_ok-shape.shape row c.in_ok-shape.ensures)
-        c.new.ensures c.new-2.ensures.items c.rooted.ensures.grows
+    c.new.ensures c.new-2.ensures.items c.rooted.ensures.grows

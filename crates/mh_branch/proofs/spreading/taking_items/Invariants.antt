@@ -4,4 +4,4 @@ use Rattle.mh_branch.proofs.spreading.taking_items.Given as goal
 
 -- the parameters that stay, and so many items
 abbrev pub invariant-loop : goal.invariant-loop
-invariant-loop l = l.params.items ≡ take l.kept l.t.params ++ replicate l.counter (item_type l.component)
+invariant-loop l = l.params.items ≡ take l.kept l.own.params ++ replicate l.counter (item_type l.component)

@@ -9,8 +9,8 @@ use Rattle.mh_handle.proofs.growth.edited.Goals as goal
 
 pub invariant_of-result : goal.invariant_of-result
 invariant_of-result g c =
-    let old = body_of c.args.form.now.recipe in
-    let made : body_of c.in_ok-form.form.now.recipe ≡ applied c.args.by.key old = ap body_of c.in_ok-form.ensures.edits.0 ∙ body_of-snoc c.args.form.now.recipe
+    let old = body_of c.args.from.form.now.recipe in
+    let made : body_of c.in_ok-form.form.now.recipe ≡ applied c.args.by.key old = ap body_of c.in_ok-form.ensures.edits.0 ∙ body_of-snoc c.args.from.form.now.recipe
     c.args.by.key in (
       c.body.ensures,
       c.requires.light,

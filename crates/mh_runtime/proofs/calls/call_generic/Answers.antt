@@ -14,32 +14,32 @@ use Rattle.mh_runtime.proofs.calls.call_generic.Goals as goal
 
 pub returns-in_err-handle-clause-asks : goal.returns-in_err-handle-clause-asks
 returns-in_err-handle-clause-asks g c =
-    stops _ c.args.w.now.pass.now c.leaf_handle.new.w.pass.now c.in_err-handle.field-0.0 c.from_residual.result c.from_residual.ensures.1
+    stops _ c.args.w.now c.leaf_handle.new.w c.in_err-handle.field-0.0 c.from_residual.result c.from_residual.ensures.1
     (stopped-early (recipe c.args.w.now.leaves.now (tree.Leaf c.args.id)) (used_edits c.args.w.now.leaves.now (tree.Leaf c.args.id) c.args.ty.now)
     c.args.w.now.pass.now c.in_err-handle.field-0.0 c.in_err-handle.ensures.asks)
 
 pub returns-clause-in_order : goal.returns-clause-in_order
 returns-clause-in_order g c =
-    kept-by-both c.in_ok-handle.handle.form.recipe _ c.args.w.now.pass.now c.leaf_handle.new.w.pass.now c.invoke_generic-answer.new.w.pass.now
-        c.give_back.new.w.pass.now
-    c.invoke_generic-answer.result c.in_ok-handle.ensures.in_order (ap (λ (w : Work). w.pass.now) c.give_back.ensures) c.invoke_generic-answer.ensures.asks
+    kept-by-both c.in_ok-handle.handle.form.recipe _ c.args.w.now c.leaf_handle.new.w c.invoke_generic-answer.new.w
+    c.give_back.new.w
+    c.invoke_generic-answer.result c.in_ok-handle.ensures.in_order c.give_back.ensures c.invoke_generic-answer.ensures.asks
 
 pub returns-clause-draws : goal.returns-clause-draws
 returns-clause-draws g c =
-    drawn-for-both c.in_ok-handle.handle.form.recipe _ c.args.w.now.pass.now c.leaf_handle.new.w.pass.now c.invoke_generic-answer.new.w.pass.now
-        c.give_back.new.w.pass.now
-    c.invoke_generic-answer.result c.in_ok-handle.ensures.draws (ap (λ (w : Work). w.pass.now) c.give_back.ensures) c.invoke_generic-answer.ensures.asks
+    drawn-for-both c.in_ok-handle.handle.form.recipe _ c.args.w.now c.leaf_handle.new.w c.invoke_generic-answer.new.w
+    c.give_back.new.w
+    c.invoke_generic-answer.result c.in_ok-handle.ensures.draws c.give_back.ensures c.invoke_generic-answer.ensures.asks
 
 pub returns-clause-answer : goal.returns-clause-answer
 returns-clause-answer g c =
     moved (λ (table : LeafTable) (t : Tree). IfOk c.invoke_generic-answer.result (IsAnswer (generic table t c.args.ty.now c.args.args.now 0)
-        (generic_keys table t c.args.ty.now)))
+    (generic_keys table t c.args.ty.now)))
     c.args.w.now.leaves.now c.leaf_handle.new.w.leaves.now c.in_ok-handle.handle (tree.Leaf c.args.id)
     (ap (λ leaves. leaves.now) c.in_ok-handle.ensures.goes_on.leaves) c.in_ok-handle.ensures.stands c.invoke_generic-answer.ensures.answer
 
 pub returns-clause-asks : goal.returns-clause-asks
 returns-clause-asks g c =
     asks-generic c.args.w.now.leaves.now c.leaf_handle.new.w.leaves.now (tree.Leaf c.args.id) c.in_ok-handle.handle c.args.ty.now
-    c.args.w.now.pass.now c.leaf_handle.new.w.pass.now c.invoke_generic-answer.new.w.pass.now c.give_back.new.w.pass.now c.invoke_generic-answer.result
-    (ap (λ leaves. leaves.now) c.in_ok-handle.ensures.goes_on.leaves) (ap (λ (w : Work). w.pass.now) c.give_back.ensures) c.in_ok-handle.ensures.stands
+    c.args.w.now c.leaf_handle.new.w c.invoke_generic-answer.new.w c.give_back.new.w c.invoke_generic-answer.result
+    (ap (λ leaves. leaves.now) c.in_ok-handle.ensures.goes_on.leaves) c.give_back.ensures c.in_ok-handle.ensures.stands
     c.in_ok-handle.ensures.in_order c.in_ok-handle.ensures.asks c.invoke_generic-answer.ensures.asks

@@ -7,29 +7,29 @@ use Rattle.mh_runtime.proofs.calls.leaf_handle.Goals as goal
 
 pub returns-in-Ok-clause-asks : goal.returns-in-Ok-clause-asks
 returns-in-Ok-clause-asks g c =
-    asks-leaf (recipe c.args.w.now.leaves.now (tree.Leaf c.args.id)) c.args.w.now.pass.now c.leaf.new.w.pass.now c.in-Ok.handle c.in-Ok.ensures.makes
+    asks-leaf (recipe c.args.w.now.leaves.now (tree.Leaf c.args.id)) c.args.w.now c.leaf.new.w c.in-Ok.handle c.in-Ok.ensures.makes
 
 pub returns-in-Err-FormsFull-clause-asks : goal.returns-in-Err-FormsFull-clause-asks
 returns-in-Err-FormsFull-clause-asks g c =
-    full-leaf (recipe c.args.w.now.leaves.now (tree.Leaf c.args.id)) c.args.w.now.pass.now c.leaf.new.w.pass.now c.in-Err-FormsFull.field-0
-        c.in-Err-FormsFull.drawn
+    full-leaf (recipe c.args.w.now.leaves.now (tree.Leaf c.args.id)) c.args.w.now c.leaf.new.w c.in-Err-FormsFull.field-0
+    c.in-Err-FormsFull.drawn
     c.in-Err-FormsFull.field-0-is c.in-Err-FormsFull.ensures.makes
 
 pub returns-in-Ok-clause-in_order : goal.returns-in-Ok-clause-in_order
 returns-in-Ok-clause-in_order g c =
-    kept-by-handle (recipe c.args.w.now.leaves.now (tree.Leaf c.args.id)) c.args.w.now.pass.now c.leaf.new.w.pass.now c.in-Ok.handle c.in-Ok.ensures.makes
+    kept-by-handle (recipe c.args.w.now.leaves.now (tree.Leaf c.args.id)) c.args.w.now c.leaf.new.w c.in-Ok.handle c.in-Ok.ensures.makes
 
 pub returns-in-Ok-clause-draws : goal.returns-in-Ok-clause-draws
 returns-in-Ok-clause-draws g c =
-    drawn-for-handle (recipe c.args.w.now.leaves.now (tree.Leaf c.args.id)) c.args.w.now.pass.now c.leaf.new.w.pass.now (Ok c.in-Ok.handle)
-        c.in-Ok.ensures.makes
+    drawn-for-handle (recipe c.args.w.now.leaves.now (tree.Leaf c.args.id)) c.args.w.now c.leaf.new.w (Ok c.in-Ok.handle)
+    c.in-Ok.ensures.makes
 
 pub returns-in-Err-NoMemory-clause-draws : goal.returns-in-Err-NoMemory-clause-draws
 returns-in-Err-NoMemory-clause-draws g c =
-    drawn-for-handle (recipe c.args.w.now.leaves.now (tree.Leaf c.args.id)) c.args.w.now.pass.now c.leaf.new.w.pass.now (Err c.in-Err-NoMemory.field-0)
-        c.in-Err-NoMemory.ensures.makes
+    drawn-for-handle (recipe c.args.w.now.leaves.now (tree.Leaf c.args.id)) c.args.w.now c.leaf.new.w (Err c.in-Err-NoMemory.field-0)
+    c.in-Err-NoMemory.ensures.makes
 
 pub returns-in-Err-FormsFull-clause-draws : goal.returns-in-Err-FormsFull-clause-draws
 returns-in-Err-FormsFull-clause-draws g c =
-    drawn-for-handle (recipe c.args.w.now.leaves.now (tree.Leaf c.args.id)) c.args.w.now.pass.now c.leaf.new.w.pass.now (Err c.in-Err-FormsFull.field-0)
-        c.in-Err-FormsFull.ensures.makes
+    drawn-for-handle (recipe c.args.w.now.leaves.now (tree.Leaf c.args.id)) c.args.w.now c.leaf.new.w (Err c.in-Err-FormsFull.field-0)
+    c.in-Err-FormsFull.ensures.makes

@@ -6,7 +6,7 @@ use Rattle.mh_runtime.proofs.running.run_over.Goals as goal
 pub returns-in_err-threads-clause-full : goal.returns-in_err-threads-clause-full
 returns-in_err-threads-clause-full g c =
     full-run (plan_edits c.args.leaves.now c.args.plan.now) c.in_ok-pass.pass c.in_err-threads.field-0.0 c.from_residual-in_err-threads.result
-        c.from_residual-in_err-threads.ensures.1
+    c.from_residual-in_err-threads.ensures.1
     (none-asked c.in_ok-pass.pass c.args.table.now c.args.seat c.in_ok-pass.ensures)
     (first-in_order c.in_ok-pass.pass c.args.table.now c.args.seat c.in_ok-pass.ensures c.requires.seat) c.in_err-threads.ensures.asks
 

@@ -13,21 +13,21 @@ use Rattle.mh_runtime.proofs.running.run_thread.Goals as goal
 pub returns-in_err-call-clause-asks : goal.returns-in_err-call-clause-asks
 returns-in_err-call-clause-asks g c =
     let same : c.loop-next.w.leaves.now ≡ c.args.w.now.leaves.now = ap (λ leaves. leaves.now) c.loop-next.invariant.leaves in
-    stops _ c.args.w.now.pass.now c.call.new.w.pass.now c.in_err-call.field-0.0 c.from_residual.result c.from_residual.ensures.1
+    stops _ c.args.w.now c.call.new.w c.in_err-call.field-0.0 c.from_residual.result c.from_residual.ensures.1
     (subst (λ (calls : List Call). Stopped (thread_edits c.args.w.now.leaves.now calls) c.args.w.now.pass.now c.in_err-call.field-0.0)
-        c.as_slice-next-items.ensures
+    c.as_slice-next-items.ensures
     (stopped-at (call_edits c.args.w.now.leaves.now) c.as_slice-next-items.result.now c.loop-next.next-index c.next-item.result c.args.w.now.pass.now
-        c.loop-next.w.pass.now c.in_err-call.field-0.0
+    c.loop-next.w.pass.now c.in_err-call.field-0.0
     c.loop-next-test.true c.next-item.is c.loop-next.invariant.asks c.loop-next.invariant.work.in_order
     (subst (λ (table : LeafTable). Stopped (call_edits table c.next-item.result) c.loop-next.w.pass.now c.in_err-call.field-0.0) same
-        c.in_err-call.ensures.asks)))
+    c.in_err-call.ensures.asks)))
 
 pub loop-next-preserved : goal.loop-next-preserved
 loop-next-preserved g c =
     let same : c.loop-next.w.leaves.now ≡ c.args.w.now.leaves.now = ap (λ leaves. leaves.now) c.loop-next.invariant.leaves in
     let answer : IsAnswer (result_of c.args.w.now.leaves.now c.next-item.result) (keys_of c.args.w.now.leaves.now c.next-item.result) c.in_ok-call.field-0 =
     subst (λ (table : LeafTable). IsAnswer (result_of table c.next-item.result) (keys_of table c.next-item.result) c.in_ok-call.field-0) same
-        c.in_ok-call.ensures.answer in
+    c.in_ok-call.ensures.answer in
     record {
       leaves = c.call.ensures.goes_on.leaves ∙ c.loop-next.invariant.leaves;
       work = record {
@@ -43,12 +43,12 @@ loop-next-preserved g c =
       asks = asks-next (call_edits c.args.w.now.leaves.now) c.as_slice-next-items.result.now c.loop-next.next-index c.next-item.result c.args.w.now.pass.now
           c.loop-next.w.pass.now c.call.new.w.pass.now
           c.loop-next-test.true c.next-item.is c.loop-next.invariant.asks
-          (subst (λ (table : LeafTable). Asks (call_edits table c.next-item.result) c.loop-next.w.pass.now c.call.new.w.pass.now (Ok c.in_ok-call.field-0)) same
-              c.in_ok-call.ensures.asks);
+          (subst (λ (table : LeafTable). Asks (call_edits table c.next-item.result) c.loop-next.w c.call.new.w (Ok c.in_ok-call.field-0)) same
+          c.in_ok-call.ensures.asks);
     }
 
 pub returns-clause-asks : goal.returns-clause-asks
 returns-clause-asks g c =
     asks-all (call_edits c.args.w.now.leaves.now) c.as_slice-next-items.result.now c.args.calls.now c.loop-next.next-index c.args.w.now.pass.now
-        c.loop-next.w.pass.now
+    c.loop-next.w.pass.now
     c.loop-next-test.false c.as_slice-next-items.ensures c.loop-next.invariant.asks

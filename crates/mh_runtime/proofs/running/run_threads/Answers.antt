@@ -12,14 +12,14 @@ use Rattle.mh_runtime.proofs.running.run_threads.Goals as goal
 pub returns-in_err-run_thread-clause-asks : goal.returns-in_err-run_thread-clause-asks
 returns-in_err-run_thread-clause-asks g c =
     let same : c.loop-calls.w.leaves.now ≡ c.args.w.now.leaves.now = ap (λ leaves. leaves.now) c.loop-calls.invariant.leaves in
-    stops _ c.args.w.now.pass.now c.run_thread.new.w.pass.now c.in_err-run_thread.field-0.0 c.from_residual.result c.from_residual.ensures.1
+    stops _ c.args.w.now c.run_thread.new.w c.in_err-run_thread.field-0.0 c.from_residual.result c.from_residual.ensures.1
     (subst (λ (plan : List (List Call)). Stopped (plan_edits c.args.w.now.leaves.now plan) c.args.w.now.pass.now c.in_err-run_thread.field-0.0)
-        c.as_slice-calls-items.ensures
+    c.as_slice-calls-items.ensures
     (stopped-at (thread_edits c.args.w.now.leaves.now) c.as_slice-calls-items.result.now c.loop-calls.calls-index c.calls-item.result c.args.w.now.pass.now
-        c.loop-calls.w.pass.now c.in_err-run_thread.field-0.0
+    c.loop-calls.w.pass.now c.in_err-run_thread.field-0.0
     c.loop-calls-test.true c.calls-item.is c.loop-calls.invariant.asks c.loop-calls.invariant.work.in_order
     (subst (λ (table : LeafTable). Stopped (thread_edits table c.calls-item.result) c.loop-calls.w.pass.now c.in_err-run_thread.field-0.0) same
-        c.in_err-run_thread.ensures.asks)))
+    c.in_err-run_thread.ensures.asks)))
 
 pub loop-calls-preserved : goal.loop-calls-preserved
 loop-calls-preserved g c =
@@ -38,12 +38,12 @@ loop-calls-preserved g c =
       asks = asks-next (thread_edits c.args.w.now.leaves.now) c.as_slice-calls-items.result.now c.loop-calls.calls-index c.calls-item.result
           c.args.w.now.pass.now c.loop-calls.w.pass.now c.run_thread.new.w.pass.now
           c.loop-calls-test.true c.calls-item.is c.loop-calls.invariant.asks
-          (subst (λ (table : LeafTable). Asks (thread_edits table c.calls-item.result) c.loop-calls.w.pass.now c.run_thread.new.w.pass.now
-              (Ok c.in_ok-run_thread.field-0)) same c.in_ok-run_thread.ensures.asks);
+          (subst (λ (table : LeafTable). Asks (thread_edits table c.calls-item.result) c.loop-calls.w c.run_thread.new.w
+          (Ok c.in_ok-run_thread.field-0)) same c.in_ok-run_thread.ensures.asks);
     }
 
 pub returns-clause-asks : goal.returns-clause-asks
 returns-clause-asks g c =
     asks-all (thread_edits c.args.w.now.leaves.now) c.as_slice-calls-items.result.now c.args.plan.now c.loop-calls.calls-index c.args.w.now.pass.now
-        c.loop-calls.w.pass.now
+    c.loop-calls.w.pass.now
     c.loop-calls-test.false c.as_slice-calls-items.ensures c.loop-calls.invariant.asks

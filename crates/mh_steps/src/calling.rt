@@ -1,0 +1,50 @@
+ghost use Rattle.std.specs.Prelude.{◌≡◌, IfOk, IsTrue, length};
+ghost use Rattle.mh_values.specs.HasType.{HaveTypes};
+ghost use Rattle.mh_tree.specs.Meaning.{exact};
+ghost use Rattle.mh_tree.specs.Tree.{Tree};
+ghost use Rattle.mh_handle.specs.Answers.{IsAnswer};
+ghost use Rattle.mh_handle.specs.Stands.{Stands, StandsForSome};
+ghost use Rattle.mh_astype.specs.Calls.{exact_keys};
+
+use mh_astype::invoke_exact;
+use mh_base::NoMemory;
+use mh_handle::{Answer, Handle};
+use mh_leaves::Leaves;
+use mh_values::{Classes, Items, Ty, Value, has_type};
+use std::alloc::Global;
+
+/// Whether values have these types, one by one.
+pub fn are_typed(values: &[Value], types: &[Ty], classes: &Classes) -> bool
+    ensures { IsTrue result → HaveTypes classes.now values.now types.now }
+{
+    let [value, values @ ..] = values else {
+        return types.is_empty();
+    };
+    let [ty, types @ ..] = types else {
+        return false;
+    };
+    has_type(value, *ty, classes) && are_typed(values, types, classes)
+}
+
+/// Calls a handle by its own type, as the first of its invocation. Arguments that do not have the
+/// types of its parameters are told as want of memory.
+pub fn call_typed<'t>(
+    alloc: Global,
+    handle: &Handle<'t>,
+    leaves: &Leaves,
+    args: &Items,
+) -> Result<Answer, NoMemory>
+    requires stands { StandsForSome leaves.now handle.now }
+    ensures { (t : Tree) → Stands leaves.now handle.now t → IfOk result
+        (IsAnswer (exact leaves.now t handle.now.ty args.now 0)
+        (exact_keys leaves.now t handle.now.ty)) }
+{
+    if !are_typed(
+        args.as_slice(),
+        handle.ty().params.as_slice(),
+        leaves.classes(),
+    ) {
+        return Err(NoMemory);
+    }
+    invoke_exact(alloc, handle, leaves, handle.ty(), args, 0)
+}

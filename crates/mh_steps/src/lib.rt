@@ -1,0 +1,17 @@
+//! Handles made by steps from the leaves of one small manifest, and called: what tests and
+//! measurements share.
+#![tactic(auto)]
+
+mod calling;
+mod literals;
+mod making;
+mod manifest;
+mod start;
+mod step;
+
+pub use calling::{are_typed, call_typed};
+pub use literals::items_of;
+pub use making::made;
+pub use manifest::{ADD, ARR, DIV, FAIL, LESS, MANIFEST, NOTHING, SAME, SAW, SUB, TEXT, TICK, ZIN};
+pub use start::Start;
+pub use step::{Joined, Root, Step, Typed};

@@ -1,0 +1,238 @@
+//! Handles made by roots and adapters, which are given as texts.
+
+ghost use Rattle.std.specs.Prelude.{◌≤◌, length, IfOk};
+ghost use Rattle.mh_handle.specs.Stands.{StandsForSome};
+ghost use Rattle.mh_handle.specs.Works.{IsReady, leaves_of};
+ghost use Rattle.mh_steps.specs.Spending.{Spends};
+
+use crate::literals::{ret_of, type_of, value_of};
+use crate::step::{Joined, Root, Step, Typed};
+use mh_adapt::{bind, collect, drop_args, filter, filterret, fold, permute};
+use mh_astype::as_type;
+use mh_branch::{catch, constant, gather, guard, identity, spread, throw};
+use mh_handle::{Handle, HandleError, Work, leaf};
+use mh_values::{ClassId, LeafId, MethodTy};
+use std::sync::Wait;
+
+fn leaf_at<'t, R: Wait>(w: &mut Work<'_, 't>, rt: &R, id: LeafId) -> Result<Handle<'t>, HandleError>
+    requires ready { IsReady w.old 1 }
+    ensures spends { Spends 1 w.old w.new }
+    ensures stands { IfOk result (StandsForSome (leaves_of w.old)) }
+{
+    if id.0 >= w.leaves.count() {
+        return Err(HandleError::NoMemory);
+    }
+    leaf(w, rt, id)
+}
+
+fn guarded<'t, R: Wait>(
+    w: &mut Work<'_, 't>,
+    rt: &R,
+    test: LeafId,
+    target: LeafId,
+    fallback: LeafId,
+) -> Result<Handle<'t>, HandleError>
+    requires ready { IsReady w.old 4 }
+    ensures spends { Spends 4 w.old w.new }
+    ensures stands { IfOk result (StandsForSome (leaves_of w.old)) }
+{
+    let test = leaf_at(w, rt, test)?;
+    let target = leaf_at(w, rt, target)?;
+    let fallback = leaf_at(w, rt, fallback)?;
+    guard(w, rt, test, target, fallback)
+}
+
+fn caught<'t, R: Wait>(
+    w: &mut Work<'_, 't>,
+    rt: &R,
+    target: LeafId,
+    class: ClassId,
+    handler: LeafId,
+) -> Result<Handle<'t>, HandleError>
+    requires ready { IsReady w.old 3 }
+    ensures spends { Spends 3 w.old w.new }
+    ensures stands { IfOk result (StandsForSome (leaves_of w.old)) }
+{
+    let target = leaf_at(w, rt, target)?;
+    let handler = leaf_at(w, rt, handler)?;
+    catch(w, rt, target, class, handler)
+}
+
+fn constant_of<'t, R: Wait>(
+    w: &mut Work<'_, 't>,
+    rt: &R,
+    text: &str,
+    value: &str,
+) -> Result<Handle<'t>, HandleError>
+    requires ready { IsReady w.old 1 }
+    ensures spends { Spends 1 w.old w.new }
+    ensures stands { IfOk result (StandsForSome (leaves_of w.old)) }
+{
+    let classes = w.leaves.classes();
+    let ret = ret_of(w.alloc, text, classes)?;
+    let value = value_of(w.alloc, value, classes)?;
+    constant(w, rt, ret, value)
+}
+
+fn rooted<'t, R: Wait>(w: &mut Work<'_, 't>, rt: &R, root: Root) -> Result<Handle<'t>, HandleError>
+    requires ready { IsReady w.old 4 }
+    ensures spends { Spends 4 w.old w.new }
+    ensures stands { IfOk result (StandsForSome (leaves_of w.old)) }
+{
+    let classes = w.leaves.classes();
+    match root {
+        Root::Leaf(id) => leaf_at(w, rt, id),
+        Root::Constant(text, value) => constant_of(w, rt, text, value),
+        Root::Identity(text) => {
+            let ty = ret_of(w.alloc, text, classes)?;
+            identity(w, rt, ty)
+        }
+        Root::Throw(text, class) => {
+            let ret = ret_of(w.alloc, text, classes)?;
+            throw(w, rt, ret, class)
+        }
+        Root::Guard(test, target, fallback) => guarded(w, rt, test, target, fallback),
+        Root::Catch(target, class, handler) => caught(w, rt, target, class, handler),
+    }
+}
+
+fn bound<'t, R: Wait>(
+    w: &mut Work<'_, 't>,
+    rt: &R,
+    target: Handle<'t>,
+    position: u8,
+    text: &str,
+) -> Result<Handle<'t>, HandleError>
+    requires ready { IsReady w.old 1 }
+    requires stands { StandsForSome (leaves_of w.old) target }
+    ensures spends { Spends 1 w.old w.new }
+    ensures stands { IfOk result (StandsForSome (leaves_of w.old)) }
+{
+    let value = value_of(w.alloc, text, w.leaves.classes())?;
+    bind(w, rt, target, position, value)
+}
+
+fn by_type<'t, R: Wait>(
+    w: &mut Work<'_, 't>,
+    rt: &R,
+    target: Handle<'t>,
+    ty: &MethodTy,
+    how: Typed,
+) -> Result<Handle<'t>, HandleError>
+    requires ready { IsReady w.old 2 }
+    requires stands { StandsForSome (leaves_of w.old) target }
+    ensures spends { Spends 2 w.old w.new }
+    ensures stands { IfOk result (StandsForSome (leaves_of w.old)) }
+{
+    match how {
+        Typed::Drop(position) => drop_args(w, rt, target, position, &ty.params),
+        Typed::Permute(reorder) => permute(w, rt, target, ty, reorder),
+        Typed::Spread(count) => spread(w, rt, target, ty.ret, count),
+        Typed::Gather(count) => gather(w, rt, target, ty.ret, count),
+        Typed::AsType => as_type(w, rt, target, ty),
+    }
+}
+
+fn with_type<'t, R: Wait>(
+    w: &mut Work<'_, 't>,
+    rt: &R,
+    target: Handle<'t>,
+    text: &str,
+    how: Typed,
+) -> Result<Handle<'t>, HandleError>
+    requires ready { IsReady w.old 2 }
+    requires stands { StandsForSome (leaves_of w.old) target }
+    ensures spends { Spends 2 w.old w.new }
+    ensures stands { IfOk result (StandsForSome (leaves_of w.old)) }
+{
+    let ty = type_of(w.alloc, text, w.leaves.classes())?;
+    by_type(w, rt, target, &ty, how)
+}
+
+fn by_part<'t, R: Wait>(
+    w: &mut Work<'_, 't>,
+    rt: &R,
+    target: Handle<'t>,
+    part: Handle<'t>,
+    how: Joined,
+) -> Result<Handle<'t>, HandleError>
+    requires ready { IsReady w.old 1 }
+    requires stands { StandsForSome (leaves_of w.old) target }
+    requires part { StandsForSome (leaves_of w.old) part }
+    ensures spends { Spends 1 w.old w.new }
+    ensures stands { IfOk result (StandsForSome (leaves_of w.old)) }
+{
+    match how {
+        Joined::Filter(position) => filter(w, rt, target, position, part),
+        Joined::Fold(position) => fold(w, rt, target, position, part),
+        Joined::Collect(position) => collect(w, rt, target, position, part),
+    }
+}
+
+fn with_part<'t, R: Wait>(
+    w: &mut Work<'_, 't>,
+    rt: &R,
+    target: Handle<'t>,
+    id: LeafId,
+    how: Joined,
+) -> Result<Handle<'t>, HandleError>
+    requires ready { IsReady w.old 2 }
+    requires stands { StandsForSome (leaves_of w.old) target }
+    ensures spends { Spends 2 w.old w.new }
+    ensures stands { IfOk result (StandsForSome (leaves_of w.old)) }
+{
+    let part = leaf_at(w, rt, id)?;
+    by_part(w, rt, target, part, how)
+}
+
+fn doubled<'t, R: Wait>(
+    w: &mut Work<'_, 't>,
+    rt: &R,
+    target: Handle<'t>,
+) -> Result<Handle<'t>, HandleError>
+    requires ready { IsReady w.old 1 }
+    requires stands { StandsForSome (leaves_of w.old) target }
+    ensures spends { Spends 1 w.old w.new }
+    ensures stands { IfOk result (StandsForSome (leaves_of w.old)) }
+{
+    let part = target.copy(w)?;
+    filterret(w, rt, target, part)
+}
+
+fn adapted<'t, R: Wait>(
+    w: &mut Work<'_, 't>,
+    rt: &R,
+    target: Handle<'t>,
+    step: Step,
+) -> Result<Handle<'t>, HandleError>
+    requires ready { IsReady w.old 2 }
+    requires stands { StandsForSome (leaves_of w.old) target }
+    ensures spends { Spends 2 w.old w.new }
+    ensures stands { IfOk result (StandsForSome (leaves_of w.old)) }
+{
+    match step {
+        Step::Bind(position, text) => bound(w, rt, target, position, text),
+        Step::Typed(text, how) => with_type(w, rt, target, text, how),
+        Step::Joined(id, how) => with_part(w, rt, target, id, how),
+        Step::Doubled => doubled(w, rt, target),
+    }
+}
+
+/// The handle of a root after up to 100 steps, for which up to 204 numbers of forms may be drawn.
+pub fn made<'t, R: Wait>(
+    w: &mut Work<'_, 't>,
+    rt: &R,
+    root: Root,
+    steps: &[Step],
+) -> Result<Handle<'t>, HandleError>
+    requires ready { IsReady w.old 204 }
+    requires few { length steps.now ≤ 100 }
+    ensures spends { Spends 204 w.old w.new }
+    ensures stands { IfOk result (StandsForSome (leaves_of w.old)) }
+{
+    let mut h = rooted(w, rt, root)?;
+    for step in steps {
+        h = adapted(w, rt, h, *step)?;
+    }
+    Ok(h)
+}
