@@ -138,7 +138,10 @@ static LEAVES_OF_LONGS: [(&str, u32, Told); 3] = [
 #[test]
 fn a_leaf_takes_at_most_255_slots(rt: HostRuntime) -> Result<(), Fail> {
     for (word, count, want) in LEAVES_OF_LONGS.iter().copied() {
-        assert!(rt; registers(rt.alloc(), word, count, want)?, "{word} with {count} longs");
+        assert!(rt;
+            registers(rt.alloc(), word, count, want)?,
+            "{word} with {count} longs"
+        );
     }
     Ok(())
 }
@@ -175,7 +178,10 @@ fn leaves_are_found_by_their_texts(rt: HostRuntime) -> Result<(), Fail> {
     let leaves = read_manifest(rt.alloc(), manifest).map_err(|_| NoMemory)?;
     for row in FOUND.iter().copied() {
         let (owner, name, descriptor, how, _) = row;
-        assert!(rt; is_found(&leaves, row), "{owner}.{name}:{descriptor} {how:?}");
+        assert!(rt;
+            is_found(&leaves, row),
+            "{owner}.{name}:{descriptor} {how:?}"
+        );
     }
     Ok(())
 }

@@ -6,4 +6,3 @@ pub mod Fitting
 pub mod FoundCalls
 pub mod Numbers
 pub mod Recipes
-mod Refused

@@ -1,4 +1,4 @@
-ghost use Rattle.std.specs.Prelude.{◌≡◌, [], map, OnOk};
+ghost use Rattle.std.specs.Prelude.{◌≡◌, [], ◌∷◌, ◌++◌, map, OnOk};
 ghost use Rattle.mh_base.specs.Lines.{TakesLine, TellsLine, built_from};
 ghost use Rattle.mh_plan.specs.Plan.{leaf_named, call_by, leaf_call, with_call, call_line, tokens_meaning, line_meaning};
 ghost use Rattle.mh_plan.specs.Fault.{TellsLines};
@@ -64,6 +64,14 @@ fn read_call(
     Ok(call_by(line.word, leaf, ty, values))
 }
 
+// Begins a thread after the others, without calls.
+fn add_thread(alloc: Global, threads: &mut Vec<ThreadCalls>) -> Result<(), NoMemory>
+    ensures { OnOk result (threads.new.items ≡ threads.old.items ++ [] ∷ []) }
+{
+    threads.push(Seq::new(alloc))?;
+    Ok(())
+}
+
 // Puts a call after those of the last thread.
 fn add_call(threads: &mut Vec<ThreadCalls>, call: Call) -> Result<(), NoMemory>
     ensures { OnOk result (threads.new.items ≡ with_call threads.old.items call) }
@@ -117,7 +125,7 @@ fn read_tokens(
         }
         [_, _] => Err(LineError::Kind(PlanKind::NoSite)),
         _ => {
-            threads.push(Seq::new(alloc))?;
+            add_thread(alloc, threads)?;
             Ok(())
         }
     }
