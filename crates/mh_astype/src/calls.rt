@@ -70,8 +70,9 @@ fn invoke_converted<'t, R: Wait>(
     let classes = w.classes();
     let key = convert_key(w.alloc, call, handle.ty(), classes)?;
     let more = convert_fields(w.alloc, call, handle.ty(), classes)?;
+    let leaves = w.leaves;
     let form = w.edit(rt, handle.form(), key)?;
-    Ok(handle.invoke_edited(w.alloc, form, more, call.ret, w.leaves, args, n)?)
+    Ok(handle.invoke_edited(w.alloc, form, more, call.ret, leaves, args, n)?)
 }
 
 /// A call through the conversions to the type, of which maybe none changes anything.

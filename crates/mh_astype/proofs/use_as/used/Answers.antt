@@ -1,11 +1,19 @@
-use Rattle.std.proofs.Common.{◌≡◌, true}
+use Rattle.std.proofs.Common.{◌≡◌, true, ap, ◌∙◌, subst, sym, ◌+◌, ◌≤◌, arith}
+use Rattle.mh_values.specs.declared.types.MethodTy.{MethodTy}
 use Rattle.mh_convert.specs.Conversion.{is_trivial_ret}
 use Rattle.mh_handle.specs.Recipe.{are_trivial}
+use Rattle.mh_handle.specs.Stands.{HandleView, HasShape, handle_body}
 use Rattle.mh_values.proofs.SameTypes.{both}
 use Rattle.mh_astype.proofs.Asking.{used-retyped}
 use Rattle.mh_astype.proofs.Calling.{kept-is}
-use Rattle.mh_astype.proofs.Using.{kept-shaped, trivial}
+use Rattle.mh_astype.proofs.Using.{kept-shaped, light, trivial}
 use Rattle.mh_astype.proofs.use_as.used.Goals as goal
+
+pub retyped-requires-clause-light : goal.retyped-requires-clause-light
+retyped-requires-clause-light g c =
+    let most : 1 + c.args.target.weight ≤ 256 =
+    light c.args.w.now.leaves.now.classes c.args.target.ty c.args.target.weight c.args.ty c.args.ty c.requires.row in
+    omega (arith, c.weight-weight.ensures.weight)
 
 pub retyped-requires-clause-shaped : goal.retyped-requires-clause-shaped
 retyped-requires-clause-shaped g c =
@@ -14,10 +22,14 @@ retyped-requires-clause-shaped g c =
     c.is_trivial.ensures c.classes.ensures c.ty.ensures.ty in
     let params = both (are_trivial c.args.w.now.leaves.now.classes c.args.ty.params c.args.target.ty.params) (is_trivial_ret c.args.w.now.leaves.now.classes
     c.args.target.ty.ret c.args.ty.ret) kept in
-    kept-shaped c.args.w.now.leaves.now.classes c.args.target c.args.ty c.args.ty c.ty.ensures.shaped c.requires.row params.0
+    let P : MethodTy → Type 0 = λ m. HasShape (handle_body c.args.target) m in
+    subst P (sym c.in_ok-new.ensures)
+    (kept-shaped c.args.w.now.leaves.now.classes c.args.target c.args.ty c.args.ty c.ty.ensures.shaped c.requires.row params.0)
 
-pub returns-then-is_trivial-clause-used : goal.returns-then-is_trivial-clause-used
-returns-then-is_trivial-clause-used g c =
+pub returns-in_ok-new-clause-used : goal.returns-in_ok-new-clause-used
+returns-in_ok-new-clause-used g c =
+    let view : MethodTy → HandleView = λ m. record c.args.target { ty = m; weight = 1 + c.weight-weight.result } in
     used-retyped c.classes.result.now c.args.w.now.leaves.now.classes c.ty.result.now c.weight-weight.result c.args.ty c.args.target c.retyped.result
     c.is_trivial.result
-    c.if-is_trivial.true c.is_trivial.ensures c.classes.ensures c.ty.ensures.ty c.weight-weight.ensures.weight c.retyped.ensures
+    c.if-is_trivial.true c.is_trivial.ensures c.classes.ensures c.ty.ensures.ty c.weight-weight.ensures.weight
+    (c.retyped.ensures ∙ ap view c.in_ok-new.ensures)
