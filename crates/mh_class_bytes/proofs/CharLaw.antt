@@ -50,8 +50,21 @@ half_range u h = (grind (arith, nat_tests), grind (arith, nat_tests))
 -- a half by itself
 lone : (at u : ℕ) (rest : List ℕ) → is_half u ≡ true → ((low : ℕ) (more : List ℕ) → is_high u ≡ true → is_low low ≡ true → ¬ (rest ≡ unit_bytes low ++ more)) →
     FindsChars at (unit_bytes u ++ rest) (Err at)
-lone at u rest h alone = (0, omega arith, record { chars = []; whole = tt; before = refl; half = u; rest = rest; is_half = half_range u h; here = refl; alone =
-    alone })
+lone at u rest h alone = (
+  0,
+  omega arith,
+  record {
+    chars = [];
+    whole = tt;
+    before = refl;
+    half = u;
+    rest = rest;
+    is_half = half_range u h;
+    here = refl;
+    alone =
+        alone;
+  },
+)
 
 low_small : (v : ℕ) → is_low v ≡ true → v < 2 ^ 16
 low_small v h = grind (arith, nat_tests)
@@ -81,22 +94,22 @@ found-apart at u v units hu hv apart r f true e = lone at u (flat_map unit_bytes
 found-apart at u v units hu hv apart r f false e =
     let b = char_bytes-small u hu in
     subst (λ (x : List ℕ). FindsChars at (x ++ flat_map unit_bytes (v ∷ units)) (preceded_by (u ∷ []) r)) b (after_char at (length (unit_bytes u)) u
-        (flat_map unit_bytes (v ∷ units)) r (omega arith, e) (ap length b) f)
+    (flat_map unit_bytes (v ∷ units)) r (omega arith, e) (ap length b) f)
 
 found-two : (at u v : ℕ) (units : List ℕ) → u < 2 ^ 16 → v < 2 ^ 16 → (r s : Result (List ℕ) ℕ) → FindsChars (at + 6) (flat_map unit_bytes units) s →
     FindsChars (at + length (unit_bytes u)) (flat_map unit_bytes (v ∷ units)) r
     → (t : Bool) → (is_high u && is_low v) ≡ t →
-        FindsChars at (flat_map unit_bytes (u ∷ v ∷ units)) (cond t (preceded_by (joined u v ∷ []) s) (cond (is_half u) (Err at) (preceded_by (u ∷ []) r)))
+    FindsChars at (flat_map unit_bytes (u ∷ v ∷ units)) (cond t (preceded_by (joined u v ∷ []) s) (cond (is_half u) (Err at) (preceded_by (u ∷ []) r)))
 found-two at u v units hu hv r s g f true e =
     let b = char_bytes-joined u v e in
     let hl = high_low u v e in
     let len : length (char_bytes (joined u v)) ≡ 6 = omega (arith, ap length b, length-append (unit_bytes u) (unit_bytes v), long_half u hl.0, long_half v hl.1)
-        in
+    in
     let whole : char_bytes (joined u v) ++ flat_map unit_bytes units ≡ flat_map unit_bytes (u ∷ v ∷ units) =
     ap (λ (x : List ℕ). x ++ flat_map unit_bytes units) b ∙ append_assoc (unit_bytes u) (unit_bytes v) (flat_map unit_bytes units)
     ∙ ap (λ (x : List ℕ). unit_bytes u ++ x) (sym (flat_map-cons unit_bytes v units)) ∙ sym (flat_map-cons unit_bytes u (v ∷ units)) in
     subst (λ (x : List ℕ). FindsChars at x (preceded_by (joined u v ∷ []) s)) whole (after_char at 6 (joined u v) (flat_map unit_bytes units) s
-        (grind (arith, nat_tests), grind (arith, nat_tests)) len g)
+    (grind (arith, nat_tests), grind (arith, nat_tests)) len g)
 found-two at u v units hu hv r s g f false e = subst (λ (x : List ℕ). FindsChars at x (cond (is_half u) (Err at) (preceded_by (u ∷ []) r)))
     (sym (flat_map-cons unit_bytes u (v ∷ units))) (found-apart at u v units hu hv e r f (is_half u) refl)
 

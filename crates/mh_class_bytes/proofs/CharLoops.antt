@@ -28,7 +28,7 @@ pub showing-next : (bytes : List ℕ) (at : ℕ) (found : List ℕ) → IsShowin
 showing-next bytes at found s lt =
     let c = unwrap_or (first_char (drop at bytes)) 0xFFFD in
     let step = shown-first (drop at bytes) (is_at-next bytes at s.place lt) ∙ ap (λ (b : List ℕ). c ∷ shown (units_from 0 b))
-        (drop-drop (first_len (drop at bytes)) at bytes) in
+    (drop-drop (first_len (drop at bytes)) at bytes) in
     let rest = shown (units_from 0 (drop (at + first_len (drop at bytes)) bytes)) in
     record { place = is_at-more bytes at s.place lt; so_far = append_assoc found (c ∷ []) rest ∙ ap (λ (x : List ℕ). found ++ x) (sym step) ∙ s.so_far }
 
@@ -38,7 +38,7 @@ at_end bytes at le = nil_from_length (drop at bytes) (omega (arith, length-drop 
 pub showing-done : (bytes : List ℕ) (at : ℕ) (found : List ℕ) → IsShowing bytes at found → length bytes ≤ at → found ≡ shown_text bytes
 showing-done bytes at found s le =
     sym (append-nil found) ∙ ap (λ (x : List ℕ). found ++ x) (sym (ap (λ (b : List ℕ). shown (units_from 0 b)) (at_end bytes at le) ∙ ap shown units_in-nil ∙
-        shown-nil)) ∙ s.so_far
+    shown-nil)) ∙ s.so_far
 
 pub record IsDecoding (bytes : List ℕ) (at : ℕ) (found : List ℕ) : Type 0 where
   pub place : IsAt bytes at
@@ -52,8 +52,8 @@ chars-next : (bytes : List ℕ) (at : ℕ) → IsAt bytes at → at < length byt
     (chars_from (at + first_len (drop at bytes)) (units_from 0 (drop (at + first_len (drop at bytes)) bytes)))
 chars-next bytes at i lt =
     chars-first (drop at bytes) at (is_at-next bytes at i lt) ∙
-        ap (λ (b : List ℕ). told (first_char (drop at bytes)) at (chars_from (at + first_len (drop at bytes)) (units_from 0 b)))
-        (drop-drop (first_len (drop at bytes)) at bytes)
+    ap (λ (b : List ℕ). told (first_char (drop at bytes)) at (chars_from (at + first_len (drop at bytes)) (units_from 0 b)))
+    (drop-drop (first_len (drop at bytes)) at bytes)
 
 pub decoding-next : (bytes : List ℕ) (at : ℕ) (found : List ℕ) (c : ℕ) → IsDecoding bytes at found → at < length bytes → first_char (drop at bytes) ≡ Some c →
     IsDecoding bytes (at + first_len (drop at bytes)) (found ++ c ∷ [])

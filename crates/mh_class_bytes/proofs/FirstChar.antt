@@ -30,14 +30,14 @@ pub data Begins (bytes : List ℕ) : Type 0 where
   pair : (v : ℕ) (us : List ℕ) → units_from 0 bytes ≡ value bytes ∷ v ∷ us → (is_high (value bytes) && is_low v) ≡ true →
       first_char bytes ≡ Some (joined (value bytes) v)
       → 6 ≡ first_len bytes → us ≡ units_from 0 (drop (first_len bytes) bytes) → IsSound (drop (first_len bytes) bytes) → first_len bytes ≤ length bytes →
-          Begins bytes
+      Begins bytes
   apart : (v : ℕ) (us : List ℕ) → units_from 0 bytes ≡ value bytes ∷ v ∷ us → (is_high (value bytes) && is_low v) ≡ false →
       first_char bytes ≡ as_char (value bytes)
       → length (unit_bytes (value bytes)) ≡ first_len bytes → v ∷ us ≡ units_from 0 (drop (first_len bytes) bytes) → IsSound (drop (first_len bytes) bytes) →
-          first_len bytes ≤ length bytes → Begins bytes
+      first_len bytes ≤ length bytes → Begins bytes
   last : units_from 0 bytes ≡ value bytes ∷ [] → first_char bytes ≡ as_char (value bytes)
       → length (unit_bytes (value bytes)) ≡ first_len bytes → [] ≡ units_from 0 (drop (first_len bytes) bytes) → IsSound (drop (first_len bytes) bytes) →
-          first_len bytes ≤ length bytes → Begins bytes
+      first_len bytes ≤ length bytes → Begins bytes
 
 first-pair : (bytes : List ℕ) → begins_pair bytes ≡ true → (first_char bytes ≡ Some (joined (value bytes) (value (rest_of bytes))))
     × (first_len bytes ≡ unit_len bytes + unit_len (rest_of bytes))
@@ -73,7 +73,7 @@ begins bytes sound some =
           let both : units_from 0 bytes ≡ value bytes ∷ value rest ∷ units_from 0 (rest_of rest) = units ∙ ap (λ (us : List ℕ). value bytes ∷ us) units2 in
           let there : ltb 0 (unit_len rest) ≡ true = grind (arith, nat_tests) in
           let test : begins_pair bytes ≡ (is_high (value bytes) && is_low (value rest)) =
-              middle (is_high (value bytes)) (ltb 0 (unit_len rest)) (is_low (value rest)) there in
+          middle (is_high (value bytes)) (ltb 0 (unit_len rest)) (is_low (value rest)) there in
           let go : (t : Bool) → (is_high (value bytes) && is_low (value rest)) ≡ t → Begins bytes = λ t.
           elim t as (λ t. (is_high (value bytes) && is_low (value rest)) ≡ t → Begins bytes) [
             | true ↦ λ h.
@@ -81,14 +81,14 @@ begins bytes sound some =
                 let hl = high_low (value bytes) (value rest) h in
                 let six : 6 ≡ first_len bytes = omega (arith, f.1, worth.len_is, worth2.len_is, long_half (value bytes) hl.0, long_half (value rest) hl.1) in
                 let d : drop (first_len bytes) bytes ≡ rest_of rest = ap (λ (n : ℕ). drop n bytes) f.1 ∙ sym (drop-drop (unit_len rest) (unit_len bytes) bytes)
-                    in
+                in
                 pair (value rest) (units_from 0 (rest_of rest)) both h f.0 six (ap (units_from 0) (sym d))
-                    (subst IsSound (sym d) (sound-rest rest rest_sound pos2)) (omega (arith, f.1, within, within2, len2))
+                (subst IsSound (sym d) (sound-rest rest rest_sound pos2)) (omega (arith, f.1, within, within2, len2))
             | false ↦ λ h.
                 let f = first-unit bytes (test ∙ h) in
                 let d : drop (first_len bytes) bytes ≡ rest = ap (λ (n : ℕ). drop n bytes) f.1 in
                 apart (value rest) (units_from 0 (rest_of rest)) both h f.0 (sym (f.1 ∙ worth.len_is)) (sym (ap (units_from 0) d ∙ units2))
-                    (subst IsSound (sym d) rest_sound) (omega (arith, f.1, within))
+                (subst IsSound (sym d) rest_sound) (omega (arith, f.1, within))
           ] in
           go (is_high (value bytes) && is_low (value rest)) refl
       | inr none ↦
@@ -99,5 +99,5 @@ begins bytes sound some =
           let d : drop (first_len bytes) bytes ≡ rest = ap (λ (n : ℕ). drop n bytes) f.1 in
           let no_units : units_from 0 rest ≡ [] = ap (units_from 0) nil ∙ units_in-nil in
           last (units ∙ ap (λ (us : List ℕ). value bytes ∷ us) no_units) f.0 (sym (f.1 ∙ worth.len_is)) (sym (ap (units_from 0) d ∙ no_units))
-              (subst IsSound (sym d) rest_sound) (omega (arith, f.1, within))
+          (subst IsSound (sym d) rest_sound) (omega (arith, f.1, within))
     ]

@@ -43,10 +43,10 @@ pub complete : {K A : Type 0} (f : Format K A) (p : Position) (x : A) (text rest
     Spells f p.at text x → reads f p ≡ Ok (x, skip (length text) p)
 complete {K = K} (number kind n) p x text rest le split s =
     number_again kind n p text rest le split s.0 ∙ ap (λ (v : ℕ). okr K (v, skip n p)) (sym s.1) ∙ ap (λ (m : Position). okr K (x, m))
-        (same_place p n (length text) (sym s.0))
+    (same_place p n (length text) (sym s.0))
 complete {K = K} (run kind n) p x text rest le split s =
     run_again kind n p text rest le split s.0 ∙ ap (λ (v : List ℕ). okr K (v, skip n p)) (sym s.1) ∙ ap (λ (m : Position). okr K (x, m))
-        (same_place p n (length text) (sym s.0))
+    (same_place p n (length text) (sym s.0))
 complete {K = K} here p x text rest le split s = ap (λ (v : ℕ). okr K (v, p)) (sym s.1) ∙ ap (λ (m : Position). okr K (x, m)) (no_bytes p text s.0)
 complete {K = K} (verdict (Ok v)) p x text rest le split s = ap (λ (m : Position). okr K (tt, m)) (no_bytes p text s.0)
 complete {K = K} (verdict (Err d)) p x text rest le split s = absurd (cc s.1)
@@ -63,7 +63,7 @@ complete {K = K} (part short n left f) p x text rest le split s =
     let inside : drop p.at (take (p.at + n) p.bytes) ≡ text ++ [] = cut_front n p ∙ ap (take n) split ∙ take_at text rest n s.0 ∙ sym (append-nil text) in
     let second = complete f (cut (p.at + n) p) x text [] (omega (arith, s.0, length-take-le (p.at + n) p.bytes (omega (arith, s.0)))) inside s.1 in
     let third : reads f (cut (p.at + n) p) ≡ Ok (x, skip n (cut (p.at + n) p)) =
-        second ∙ ap (λ (m : Position). okr K (x, m)) (same_place (cut (p.at + n) p) (length text) n s.0) in
+    second ∙ ap (λ (m : Position). okr K (x, m)) (same_place (cut (p.at + n) p) (length text) n s.0) in
     let same : eqb (p.at + n) (p.at + n) ≡ true = grind (arith, nat_tests) in
     rw (first, third, same) (ap (λ (m : Position). okr K (x, m)) (same_place p n (length text) (sym s.0)))
 complete {K = K} (f >>= g) p x text rest le split s =
@@ -75,7 +75,7 @@ complete {K = K} (f >>= g) p x text rest le split s =
     let m = skip (length t1) p in
     let le2 : m.at ≤ length m.bytes = split_len p t1 (t2 ++ rest) le split1 in
     let split2 : drop m.at m.bytes ≡ t2 ++ rest = sym (drop-drop (length t1) p.at p.bytes) ∙ ap (drop (length t1)) split1 ∙ drop_at t1 (t2 ++ rest) (length t1)
-        refl in
+    refl in
     let second = complete (g y) m x t2 rest le2 split2 s.5 in
     let len : p.at + length t1 + length t2 ≡ p.at + length text = omega (arith, ap length s.3, length-append t1 t2) in
     rw first (second ∙ ap (λ (k : ℕ). okr K (x, at_place k)) len)

@@ -83,8 +83,15 @@ pub taken : {K A : Type 0} (f : Format K A) (p : Position) (x : A) (q : Position
     q ≡ skip n p → Stands f p x q
 taken f p x q n le s e =
     let len = front_len n p le in
-    record { text = front n p; rest = drop n (drop p.at p.bytes); split = sym (take-append-drop n (drop p.at p.bytes)); within = omega (arith, len); spells =
-        s; after = e ∙ ap (λ (m : ℕ). skip m p) (sym len) }
+    record {
+      text = front n p;
+      rest = drop n (drop p.at p.bytes);
+      split = sym (take-append-drop n (drop p.at p.bytes));
+      within = omega (arith, len);
+      spells =
+          s;
+      after = e ∙ ap (λ (m : ℕ). skip m p) (sym len);
+    }
 
 -- what takes no bytes
 pub nothing : {K A : Type 0} (f : Format K A) (p : Position) (x : A) (q : Position) → p.at ≤ length p.bytes → Spells f p.at [] x → q ≡ p → Stands f p x q
@@ -100,9 +107,9 @@ pub two_parts : {K A B : Type 0} (f : Format K A) (g : A → Format K B) (p : Po
     drop p.at p.bytes ≡ t1 ++ r1 → Spells f p.at t1 y → Stands (g y) (skip (length t1) p) x q → Stands (f >>= g) p x q
 two_parts f g p y x q t1 r1 split s t =
     let r1-is : drop (p.at + length t1) p.bytes ≡ r1 = sym (drop-drop (length t1) p.at p.bytes) ∙ ap (drop (length t1)) split ∙ drop_at t1 r1 (length t1) refl
-        in
+    in
     let whole : drop p.at p.bytes ≡ (t1 ++ t.text) ++ t.rest = split ∙ ap (λ (r : List ℕ). t1 ++ r) (sym r1-is ∙ t.split) ∙ sym (append_assoc t1 t.text t.rest)
-        in
+    in
     let len : p.at + length t1 + length t.text ≡ p.at + length (t1 ++ t.text) = omega (arith, length-append t1 t.text) in
     record {
       text = t1 ++ t.text;

@@ -24,12 +24,33 @@ sound {K = K} (check true place kind) p x q le e = let k = ok_pair K tt p x q e 
 sound (check false place kind) p x q le e = absurd cc
 sound (refuse place kind) p x q le e = absurd cc
 sound {K = K} (done y) p x q le e = let k = ok_pair K y p x q e in nothing (done y) p x q le (refl, sym k.0) (sym k.1)
-sound (choose true f g) p x q le e = let s = sound f p x q le e in record { text = s.text; rest = s.rest; split = s.split; within = s.within; spells =
-    s.spells; after = s.after }
-sound (choose false f g) p x q le e = let s = sound g p x q le e in record { text = s.text; rest = s.rest; split = s.split; within = s.within; spells =
-    s.spells; after = s.after }
-sound (blame place kind f) p x q le e = let s = sound f p x q le (blamed_ok place kind (reads f p) (x, q) e) in record { text = s.text; rest = s.rest; split =
-    s.split; within = s.within; spells = s.spells; after = s.after }
+sound (choose true f g) p x q le e = let s = sound f p x q le e in record {
+  text = s.text;
+  rest = s.rest;
+  split = s.split;
+  within = s.within;
+  spells =
+      s.spells;
+  after = s.after;
+}
+sound (choose false f g) p x q le e = let s = sound g p x q le e in record {
+  text = s.text;
+  rest = s.rest;
+  split = s.split;
+  within = s.within;
+  spells =
+      s.spells;
+  after = s.after;
+}
+sound (blame place kind f) p x q le e = let s = sound f p x q le (blamed_ok place kind (reads f p) (x, q) e) in record {
+  text = s.text;
+  rest = s.rest;
+  split =
+      s.split;
+  within = s.within;
+  spells = s.spells;
+  after = s.after;
+}
 sound (part short n left f) p x q le e =
     let b = and_then_ok (or_fault short (bytes_at n p)) (λ c. and_then (reads f (cut c.1.at p)) (filled left c.1)) (x, q) e in
     let c = b.0 in
@@ -43,7 +64,7 @@ sound (part short n left f) p x q le e =
     let at_end : p.at + length s.text ≡ p.at + n = sym (ap (λ (z : Position). z.at) s.after) ∙ k.0 ∙ end in
     let same : front n p ≡ s.text = whole_part n p s.text s.rest r.0 (sym (cut_front n p) ∙ s.split) at_end in
     let spells : Spells f p.at (front n p) x = subst (λ (v : _). Spells f p.at (front n p) v) k.1 (subst (λ (t : List ℕ). Spells f p.at t y.0) (sym same)
-        s.spells) in
+    s.spells) in
     taken (part short n left f) p x q n r.0 (front_len n p r.0, spells) (sym k.2 ∙ r.2)
 sound (f >>= g) p x q le e =
     let b = and_then_ok (reads f p) (λ y. reads (g y.0) y.1) (x, q) e in

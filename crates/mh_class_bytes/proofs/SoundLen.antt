@@ -59,5 +59,5 @@ pub sound_plain : (bytes : List ℕ) (at total : ℕ) → at < length bytes → 
     at + sound_from 0 (drop at bytes) ≡ total → (at + 1) + sound_from 0 (drop (at + 1) bytes) ≡ total
 sound_plain bytes at total lt low high h =
     let one : unit_len (drop at bytes) ≡ 1 = ap unit_len (drop-cons bytes at 0 lt) ∙ len_1 (get_or bytes at 0) (drop (suc at) bytes) (omega arith) (omega arith)
-        in
+    in
     sound_step bytes at 1 total (sym one) h (omega arith)

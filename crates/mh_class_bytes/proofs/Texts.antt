@@ -15,9 +15,12 @@ nothing = ([], tt, refl)
 one_more : (bytes : List ℕ) (k n : ℕ) → unit_len bytes ≡ suc k → IsText (take n (drop (suc k) bytes)) → IsText (take (suc k + n) bytes)
 one_more bytes k n h t =
     let f : IsFront bytes (suc k) = subst (λ (m : ℕ). IsFront bytes m) h (unit_len-sound bytes (omega arith)) in
-    let e : take (suc k + n) bytes ≡ take (suc k) bytes ++ take n (drop (suc k) bytes) = take-add (suc k) n bytes in
-    (f.unit ∷ t.0, (f.small, t.1), e ∙ ap (λ (x : List ℕ). x ++ take n (drop (suc k) bytes)) f.front ∙ ap (λ (x : List ℕ). unit_bytes f.unit ++ x) t.2 ∙
-        sym (flat_map-cons unit_bytes f.unit t.0))
+    let e : take (suc k + n) bytes ≡ take (suc k) bytes ++ take n (drop (suc k) bytes) = take-add (suc k) n bytes in (
+      f.unit ∷ t.0,
+      (f.small, t.1),
+      e ∙ ap (λ (x : List ℕ). x ++ take n (drop (suc k) bytes)) f.front ∙ ap (λ (x : List ℕ). unit_bytes f.unit ++ x) t.2 ∙
+          sym (flat_map-cons unit_bytes f.unit t.0),
+    )
 
 -- what stands before the first bad byte is a text
 front_is_text : (fuel : ℕ) (bytes : List ℕ) → length bytes ≤ fuel → IsText (take (sound_from 0 bytes) bytes)

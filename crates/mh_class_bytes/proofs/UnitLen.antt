@@ -46,8 +46,16 @@ short_zero a b h k = grind (arith, nat_tests)
 
 is_three : (a b c : ℕ) → three_test a b c ≡ true → (0xE0 ≤ a) × (a < 0xF0) × (0x80 ≤ b) × (b < 0xC0) × (0x80 ≤ c) × (c < 0xC0)
     × (0x800 ≤ 4096 * (a - 0xE0) + 64 * (b - 0x80) + (c - 0x80))
-is_three a b c h = (grind (arith, nat_tests), grind (arith, nat_tests), grind (arith, nat_tests), grind (arith, nat_tests), grind (arith, nat_tests), grind
-    (arith, nat_tests), grind (arith, nat_tests))
+is_three a b c h = (
+  grind (arith, nat_tests),
+  grind (arith, nat_tests),
+  grind (arith, nat_tests),
+  grind (arith, nat_tests),
+  grind (arith, nat_tests),
+  grind
+      (arith, nat_tests),
+  grind (arith, nat_tests),
+)
 
 front_1 : (a : ℕ) (rest : List ℕ) → (ltb 0 a && ltb a 0x80) ≡ true → IsFront (a ∷ rest) 1
 front_1 a rest h =
@@ -62,13 +70,16 @@ front_2 a rest h =
     let p = a - 0xC0 in
     let q = get_or rest 0 0 - 0x80 in
     let s = second rest (omega arith) in
-    let range : (64 * p + q ≡ 0) ⊎ (0x80 ≤ 64 * p + q) = elim (cases_lt (64 * p + q) 0x80) [ inl lt ↦ inl (short_zero a (get_or rest 0 0) h lt) | inr le ↦ inr
-        le ] in
+    let range : (64 * p + q ≡ 0) ⊎ (0x80 ≤ 64 * p + q) = elim (cases_lt (64 * p + q) 0x80) [
+      | inl lt ↦ inl (short_zero a (get_or rest 0 0) h lt)
+      | inr le ↦ inr
+          le
+    ] in
     let e = unit_bytes-2 p q (omega arith) (omega arith) range in
     let pa : 0xC0 + p ≡ a = omega arith in
     let qb : 0x80 + q ≡ get_or rest 0 0 = omega arith in
     let whole : unit_bytes (64 * p + q) ≡ a ∷ take 1 rest = e ∙ ap (λ (x : ℕ). x ∷ (0x80 + q) ∷ []) pa ∙ ap (λ (y : ℕ). a ∷ y ∷ []) qb ∙
-        ap (λ (ys : List ℕ). a ∷ ys) (sym s.0) in
+    ap (λ (ys : List ℕ). a ∷ ys) (sym s.0) in
     record { unit = 64 * p + q; small = omega arith; len_is = sym (ap length e); front = sym whole; within = omega (arith, s.1) }
 
 front_3 : (a : ℕ) (rest : List ℕ) → three_test a (get_or rest 0 0) (get_or rest 1 0) ≡ true → IsFront (a ∷ rest) 3
@@ -83,7 +94,7 @@ front_3 a rest h =
     let qb : 0x80 + q ≡ get_or rest 0 0 = omega arith in
     let rc : 0x80 + r ≡ get_or rest 1 0 = omega arith in
     let whole : unit_bytes (4096 * p + 64 * q + r) ≡ a ∷ take 2 rest = e ∙ ap (λ (x : ℕ). x ∷ (0x80 + q) ∷ (0x80 + r) ∷ []) pa ∙
-        ap (λ (y : ℕ). a ∷ y ∷ (0x80 + r) ∷ []) qb ∙ ap (λ (z : ℕ). a ∷ get_or rest 0 0 ∷ z ∷ []) rc ∙ ap (λ (ys : List ℕ). a ∷ ys) (sym s.0) in
+    ap (λ (y : ℕ). a ∷ y ∷ (0x80 + r) ∷ []) qb ∙ ap (λ (z : ℕ). a ∷ get_or rest 0 0 ∷ z ∷ []) rc ∙ ap (λ (ys : List ℕ). a ∷ ys) (sym s.0) in
     record { unit = 4096 * p + 64 * q + r; small = omega arith; len_is = sym (ap length e); front = sym whole; within = omega (arith, s.1) }
 
 -- A unit that is found is spelled there.
@@ -127,7 +138,7 @@ complete_3 : (p q r : ℕ) (rest : List ℕ) → p < 16 → q < 64 → r < 64 �
     unit_len (unit_bytes (4096 * p + 64 * q + r) ++ rest) ≡ length (unit_bytes (4096 * p + 64 * q + r))
 complete_3 p q r rest hp hq hr big =
     rw (unit_bytes-3 p q r hp hq hr big) (len_3 (0xE0 + p) (0x80 + q) (0x80 + r) rest (omega arith) (omega arith) (omega arith) (omega arith) (omega arith)
-        (omega arith) (omega arith))
+    (omega arith) (omega arith))
 
 -- A unit that is spelled is found, whatever follows it.
 pub unit_len-complete : (u : ℕ) (rest : List ℕ) → u < 2 ^ 16 → unit_len (unit_bytes u ++ rest) ≡ length (unit_bytes u)

@@ -60,8 +60,12 @@ value-take : (n : ℕ) (bytes : List ℕ) → 0 < n → n < 4 → n ≤ length b
 value-take zero bytes h k le = absurd (omega arith)
 value-take (suc zero) bytes h k le = rw (get_or-take 1 bytes 0 0 (omega arith)) refl
 value-take (suc (suc zero)) bytes h k le = rw (get_or-take 2 bytes 0 0 (omega arith), get_or-take 2 bytes 1 0 (omega arith)) refl
-value-take (suc (suc (suc zero))) bytes h k le = rw (get_or-take 3 bytes 0 0 (omega arith), get_or-take 3 bytes 1 0 (omega arith), get_or-take 3 bytes 2 0
-    (omega arith)) refl
+value-take (suc (suc (suc zero))) bytes h k le = rw (
+  get_or-take 3 bytes 0 0 (omega arith),
+  get_or-take 3 bytes 1 0 (omega arith),
+  get_or-take 3 bytes 2 0
+      (omega arith),
+) refl
 value-take (suc (suc (suc (suc n)))) bytes h k le = absurd (omega arith)
 
 unit_bytes-few : (u : ℕ) → length (unit_bytes u) < 4
@@ -84,9 +88,9 @@ value-front bytes h =
     let f = unit_len-sound bytes h in
     let few = unit_bytes-few f.unit in
     let taken : unit_value (unit_len bytes) (take (unit_len bytes) bytes) ≡ unit_value (unit_len bytes) bytes =
-        value-take (unit_len bytes) bytes h (omega (arith, f.len_is)) f.within in
+    value-take (unit_len bytes) bytes h (omega (arith, f.len_is)) f.within in
     let spelled : unit_value (unit_len bytes) (take (unit_len bytes) bytes) ≡ f.unit = ap (unit_value (unit_len bytes)) f.front ∙
-        ap (λ (n : ℕ). unit_value n (unit_bytes f.unit)) f.len_is ∙ unit_value-bytes f.unit f.small in
+    ap (λ (n : ℕ). unit_value n (unit_bytes f.unit)) f.len_is ∙ unit_value-bytes f.unit f.small in
     let is : unit_value (unit_len bytes) bytes ≡ f.unit = sym taken ∙ spelled in
     record { small = omega (arith, is, f.small); len_is = f.len_is ∙ ap (λ (u : ℕ). length (unit_bytes u)) (sym is); front = f.front ∙ ap unit_bytes (sym is) }
 
@@ -96,7 +100,7 @@ value-spelled u rest h =
     let len = unit_len-complete u rest h in
     let front : take (length (unit_bytes u)) (unit_bytes u ++ rest) ≡ unit_bytes u = take_at (unit_bytes u) rest _ refl in
     let v = value-take (length (unit_bytes u)) (unit_bytes u ++ rest) (unit_bytes-some u) (unit_bytes-few u) (omega (arith, length-append (unit_bytes u) rest))
-        in
+    in
     ap (λ (n : ℕ). unit_value n (unit_bytes u ++ rest)) len ∙ sym v ∙ ap (unit_value (length (unit_bytes u))) front ∙ unit_value-bytes u h
 
 -- The units of a spelling are the units.
@@ -110,4 +114,4 @@ units_in-spelled (u ∷ units) h =
     let d : drop (unit_len (unit_bytes u ++ rest)) (unit_bytes u ++ rest) ≡ rest = drop_at (unit_bytes u) rest _ (sym len) in
     let v = value-spelled u rest h.0 in
     rw flat_map-cons (next ∙ ap (λ (w : ℕ). w ∷ units_from 0 (drop (unit_len (unit_bytes u ++ rest)) (unit_bytes u ++ rest))) v ∙
-        ap (λ (bs : List ℕ). u ∷ units_from 0 bs) d ∙ ap (λ (us : List ℕ). u ∷ us) (units_in-spelled units h.1))
+    ap (λ (bs : List ℕ). u ∷ units_from 0 bs) d ∙ ap (λ (us : List ℕ). u ∷ us) (units_in-spelled units h.1))

@@ -34,7 +34,7 @@ unit_len (a ∷ rest) =
     if nat_lt 0 a && nat_lt a 0x80 then 1
     else (if (a == 0xC0 && slice_index rest 0 == 0x80) || (nat_le 0xC2 a && nat_lt a 0xE0 && is_continuation (slice_index rest 0)) then 2
     else (if ((a == 0xE0 && nat_le 0xA0 (slice_index rest 0)) || (nat_lt 0xE0 a && nat_lt a 0xF0)) && is_continuation (slice_index rest 0) && is_continuation
-        (slice_index rest 1) then 3
+    (slice_index rest 1) then 3
     else 0))
 
 -- how many bytes of whole units stand at the front, after the bytes inside the first one that are passed

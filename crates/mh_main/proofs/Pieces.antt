@@ -18,20 +18,22 @@ pub AppendsPart-behind : (old mid new : Option (List ℕ)) (a b c : List ℕ) �
 AppendsPart-behind None mid new a b c before part = (0, tt)
 AppendsPart-behind (Some x) None new a b c before part = absurd before
 AppendsPart-behind (Some x) (Some y) None a b c before part = absurd part.1
-AppendsPart-behind (Some x) (Some y) (Some z) a b c before part =
-    (length a + min part.0 (length b), part.1 ∙ ap (λ r. r ++ take part.0 b) before ∙ append_assoc x a (take part.0 b) ∙
-        ap (λ r. x ++ r) (sym (take-within a b c part.0)))
+AppendsPart-behind (Some x) (Some y) (Some z) a b c before part = (
+  length a + min part.0 (length b),
+  part.1 ∙ ap (λ r. r ++ take part.0 b) before ∙ append_assoc x a (take part.0 b) ∙
+      ap (λ r. x ++ r) (sym (take-within a b c part.0)),
+)
 
 -- the pieces up to a place, the one there, and the rest
 flat_map-at : (pieces : List (Bor (List ℕ))) (i : ℕ) (d : Bor (List ℕ)) → i < length pieces →
     flat_map (λ p. p.now) pieces ≡ flat_map (λ p. p.now) (take i pieces) ++ ((get_or pieces i d).now ++ flat_map (λ p. p.now) (drop (i + 1) pieces))
 flat_map-at pieces i d in_range =
     ap (flat_map (λ p. p.now)) (sym (take-append-drop i pieces)) ∙ flat_map-append (λ p. p.now) (take i pieces) (drop i pieces) ∙
-        ap (λ r. flat_map (λ p. p.now) (take i pieces) ++ flat_map (λ p. p.now) r) (drop_more pieces i d in_range)
+    ap (λ r. flat_map (λ p. p.now) (take i pieces) ++ flat_map (λ p. p.now) r) (drop_more pieces i d in_range)
 
 -- a write that broke off at a piece
 pub AppendsPart-at : (old mid new : Option (List ℕ)) (pieces : List (Bor (List ℕ))) (i : ℕ) (d : Bor (List ℕ)) → i < length pieces →
     Appends old mid (flat_map (λ p. p.now) (take i pieces)) → AppendsPart mid new (get_or pieces i d).now → AppendsPart old new (flat_map (λ p. p.now) pieces)
 AppendsPart-at old mid new pieces i d in_range before part =
     rw (flat_map-at pieces i d in_range) (AppendsPart-behind old mid new (flat_map (λ p. p.now) (take i pieces)) (get_or pieces i d).now
-        (flat_map (λ p. p.now) (drop (i + 1) pieces)) before part)
+    (flat_map (λ p. p.now) (drop (i + 1) pieces)) before part)

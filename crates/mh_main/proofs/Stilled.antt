@@ -48,7 +48,7 @@ never-refused untold P accepted is = accepted
 done-status :
     (names : List (List ℕ)) (files : List ℕ → Told) (before now : List ℕ → ℕ) (i : Input) (stop : Stop) →
     InputsStill (Some (sites names)) before now → StopsIn (IsReached (sites names) files) before now stop → Refuses i stop → IsAccepted i →
-        IsDoneOrWant (stop_status stop)
+    IsDoneOrWant (stop_status stop)
 done-status names files before now i NoMemory still stops refuses accepted = inr refl
 done-status names files before now i (ReadFault at) still stops refuses accepted = absurd (unfailed names files before now at.now still stops.0 stops.1)
 done-status names files before now i (TooLong at) still stops refuses accepted = absurd (never-refused i _ accepted refuses)

@@ -46,7 +46,7 @@ long_of-refused text r e parses refused =
     elim (or_cases (bytes_eq (signed_decimal (signed_digits_value 10 text)) text) (bytes_eq (codes "-0") text) parts.1) [
       | inl w ↦
           let read : r ≡ Ok (signed_digits_value 10 text) = parse_long (signed_digits_value 10 text) text r parts.0 (sym ((bytes_eq-Decides _ _).0 w)) parses in
-              cc
+          cc
       | inr w ↦
           let read : r ≡ Ok (pos 0) = parse_minus_zero r (subst (λ t. ParsesSigned w64 10 t r) (sym ((bytes_eq-Decides (codes "-0") text).0 w)) parses) in cc
     ])

@@ -18,8 +18,15 @@ use Rattle.mh_convert.specs.Conversion.{fit, ret_conversion_of}
 use Rattle.mh_leaf.specs.Outcome.{boolean_type}
 use Rattle.mh_tree.specs.Rows.{TypeOrRefusal, illegal, provided, provided_fit, limited, taking, count_of, gives_at, component_of, takes_array, names_types, folded, ends_with, can_all, can_be_used_as, mismatch, takes_exception, handles, constant_row, identity_row, throw_row, bind_row, drop_row, permute_row, filter_row, filterret_row, fold_row, collect_row, spread_row, gather_row, astype_row, guard_row, catch_row}
 pub use Rattle.mh_tree.proofs.Provided.{with_type-parts, provided-parts, provided_some-parts, provided_fit-parts, limited-is}
-pub use Rattle.mh_tree.proofs.RowPartsAdapters.{bind_row-parts, drop_row-parts, permute_row-parts, filter_row-parts, filterret_row-parts, fold_row-parts,
-    collect_row-parts}
+pub use Rattle.mh_tree.proofs.RowPartsAdapters.{
+  bind_row-parts,
+  drop_row-parts,
+  permute_row-parts,
+  filter_row-parts,
+  filterret_row-parts,
+  fold_row-parts,
+  collect_row-parts,
+}
 
 pub constant_row-parts : (classes : List Class) (t : Option Ty) (v : Value) (u : MethodTy) → constant_row classes t v ≡ Ok u → (r : Ty) × (w : Value)
     × (t ≡ Some r) × (fit classes v r ≡ Ok w) × (u ≡ method_type [] (Some r))

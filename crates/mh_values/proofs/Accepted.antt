@@ -46,7 +46,7 @@ begins_element p b bs s told goes =
       | inr e ↦ elim (cases_Bool (is_base b)) [
         | inl base ↦
             let is : Some (after_type p) ≡ Some s = sym (ap (λ t. if t then Some (standing.Name p false) else (if is_base b then Some (after_type p) else None))
-                e ∙
+            e ∙
             ap (λ t. if t then Some (after_type p) else None) base) ∙ told in
             record {
               element = letter b;

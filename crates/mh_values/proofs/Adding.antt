@@ -18,7 +18,7 @@ use Rattle.mh_values.proofs.Longer.{ascending-add, distinct-add, class_named-new
 
 found-add : (m n : BTreeMap (Vec ℕ) ClassId) (xs : List Class) (y : Class) (key : List ℕ) (v : ClassId) →
     ((name : List ℕ) → number_at m name ≡ class_named xs name) → WritesText m n key (Some v) → class_named xs key ≡ None → y.name ≡ key →
-        v ≡ class_at (length xs) → (name : List ℕ) →
+    v ≡ class_at (length xs) → (name : List ℕ) →
     number_at n name ≡ class_named (xs ++ y ∷ []) name
 found-add m n xs y key v old updates new same here name =
     elim (cases_Bool (bytes_eq key name)) [

@@ -11,7 +11,7 @@ returns-in-Ok-clause-broken g c = λ failed.
       due-of-program (said c.args.words.now) (g.I.Inputs.told c.args.inputs.now) (g.I.Inputs.faults c.args.inputs.now)
           (g.I.Inputs.faults c.read_program.new.inputs)
           c.run_program.result (held_names c.in-Run.names) c.in-Ok.program due.0 (rw c.in-Run.is at c.in-Some.ensures) c.in-Ok.ensures.ok
-              c.in-Ok.ensures.no_fault due.1,
+          c.in-Ok.ensures.no_fault due.1,
       due.2,
     )
 
@@ -30,22 +30,22 @@ returns-in-Err-list_sites-clause-broken g c = λ failed. (
   due-at-stop (said c.args.words.now) (g.I.Inputs.told c.args.inputs.now) (g.I.Inputs.faults c.args.inputs.now) (g.I.Inputs.faults c.list_sites.new.inputs)
       c.answer_stop-in-Err-list_sites.result (sites (said c.in-Sites.names.now)) c.in-Err-list_sites.stop (rw c.in-Sites.is at c.in-Some.ensures)
       c.answer_stop-in-Err-list_sites.ensures.idle (c.answer_stop-in-Err-list_sites.ensures.spoken failed) c.in-Err-list_sites.ensures.stop
-          c.in-Err-list_sites.ensures.refuses,
+      c.in-Err-list_sites.ensures.refuses,
   c.answer_stop-in-Err-list_sites.ensures.broken failed,
 )
 
 pub returns-in-Err-list_sites-clause-refusal_wanted : goal.returns-in-Err-list_sites-clause-refusal_wanted
 returns-in-Err-list_sites-clause-refusal_wanted g c = λ wanted still quiet.
     sites-refused (command_of (said c.args.words.now)) (said c.in-Sites.names.now) (g.I.Inputs.told c.args.inputs.now) (g.I.Inputs.faults c.args.inputs.now)
-        (g.I.Inputs.faults c.list_sites.new.inputs) c.in-Err-list_sites.stop (g.S.Sink.faults c.args.sink.now)
-        (g.S.Sink.faults c.answer_stop-in-Err-list_sites.new.sink) c.answer_stop-in-Err-list_sites.result.status (rw c.in-Sites.is at c.in-Some.ensures)
-        c.in-Err-list_sites.ensures.stop
+    (g.I.Inputs.faults c.list_sites.new.inputs) c.in-Err-list_sites.stop (g.S.Sink.faults c.args.sink.now)
+    (g.S.Sink.faults c.answer_stop-in-Err-list_sites.new.sink) c.answer_stop-in-Err-list_sites.result.status (rw c.in-Sites.is at c.in-Some.ensures)
+    c.in-Err-list_sites.ensures.stop
     c.answer_stop-in-Err-list_sites.ensures.failed c.answer_stop-in-Err-list_sites.ensures.status still quiet
 
 pub returns-in-Err-list_sites-clause-complete : goal.returns-in-Err-list_sites-clause-complete
 returns-in-Err-list_sites-clause-complete g c = λ accepted fits still quiet.
     sites-done (command_of (said c.args.words.now)) (said c.in-Sites.names.now) (g.I.Inputs.told c.args.inputs.now) (g.I.Inputs.faults c.args.inputs.now)
-        (g.I.Inputs.faults c.list_sites.new.inputs) c.in-Err-list_sites.stop (g.S.Sink.faults c.args.sink.now)
-        (g.S.Sink.faults c.answer_stop-in-Err-list_sites.new.sink) c.answer_stop-in-Err-list_sites.result.status (rw c.in-Sites.is at c.in-Some.ensures)
-        c.in-Err-list_sites.ensures.stop
+    (g.I.Inputs.faults c.list_sites.new.inputs) c.in-Err-list_sites.stop (g.S.Sink.faults c.args.sink.now)
+    (g.S.Sink.faults c.answer_stop-in-Err-list_sites.new.sink) c.answer_stop-in-Err-list_sites.result.status (rw c.in-Sites.is at c.in-Some.ensures)
+    c.in-Err-list_sites.ensures.stop
     c.in-Err-list_sites.ensures.refuses c.answer_stop-in-Err-list_sites.ensures.failed c.answer_stop-in-Err-list_sites.ensures.status accepted still quiet

@@ -48,7 +48,7 @@ returns-in_err-ret c =
     let whole = decided c.args.classes.now c.args.end c.args.texts.now c.saturating_sub.result c.saturating_sub-2.result c.last_of-last.result.now
     c.in_ok-params.params (Err c.in_err-ret.field-0.0) c.saturating_sub.ensures c.last_of-last.ensures place c.in_ok-params.ensures c.in_err-ret.ensures in
     TellsType-handed c.from_residual-in_err-ret.result c.in_err-ret.field-0.0 _ c.from_residual-in_err-ret.ensures.1
-        (TellsType-err c.in_err-ret.field-0.0 _ whole)
+    (TellsType-err c.in_err-ret.field-0.0 _ whole)
 
 pub returns : goal.returns
 returns c =

@@ -17,7 +17,7 @@ returns-in_default c =
     let b = c.bytes-bytes.result.now in
     let none : first_char (drop c.loop-at.at b) ≡ None = ap first_char (sym c.split_at.ensures.back) ∙ sym c.read_first-first.ensures.char ∙ c.in_default.is in
     let exact : chars_of c.args.self.now ≡ Err c.loop-at.at =
-        rw (← c.bytes-bytes.ensures.bytes) (decoding-stops b c.loop-at.at c.loop-at.chars.items c.loop-at.invariant c.loop-at-test.true none) in
+    rw (← c.bytes-bytes.ensures.bytes) (decoding-stops b c.loop-at.at c.loop-at.chars.items c.loop-at.invariant c.loop-at-test.true none) in
     record { ok = tt; lone = chars_law-lone c.args.self.now c.loop-at.at c.bytes-bytes.ensures.text exact; exact = exact }
 
 pub overflow_add-at : goal.overflow_add-at
@@ -40,12 +40,12 @@ loop-at-preserved c =
     let b = c.bytes-bytes.result.now in
     let len : c.read_first-first.result.len ≡ first_len (drop c.loop-at.at b) = c.read_first-first.ensures.len ∙ ap first_len c.split_at.ensures.back in
     let some : first_char (drop c.loop-at.at b) ≡ Some c.in-Some.char = ap first_char (sym c.split_at.ensures.back) ∙ sym c.read_first-first.ensures.char ∙
-        c.in-Some.is in
+    c.in-Some.is in
     rw (len, c.in_ok-push.ensures.items) (decoding-next b c.loop-at.at c.loop-at.chars.items c.in-Some.char c.loop-at.invariant c.loop-at-test.true some)
 
 pub returns : goal.returns
 returns c =
     let b = c.bytes-bytes.result.now in
     let exact : chars_of c.args.self.now ≡ Ok c.loop-at.chars.items =
-        rw (← c.bytes-bytes.ensures.bytes) (decoding-done b c.loop-at.at c.loop-at.chars.items c.loop-at.invariant c.loop-at-test.false) in
+    rw (← c.bytes-bytes.ensures.bytes) (decoding-done b c.loop-at.at c.loop-at.chars.items c.loop-at.invariant c.loop-at-test.false) in
     record { ok = chars_law-ok c.args.self.now c.loop-at.chars.items c.bytes-bytes.ensures.text exact; lone = tt; exact = exact }

@@ -34,12 +34,12 @@ loop-at-preserved c =
     let b = c.bytes-bytes.result.now in
     let len : c.read_first-first.result.len ≡ first_len (drop c.loop-at.at b) = c.read_first-first.ensures.len ∙ ap first_len c.split_at.ensures.back in
     let char : c.unwrap_or.result ≡ unwrap_or (first_char (drop c.loop-at.at b)) 0xFFFD =
-        c.unwrap_or.ensures ∙ ap (λ x. unwrap_or x 0xFFFD) (c.read_first-first.ensures.char ∙ ap first_char c.split_at.ensures.back) in
+    c.unwrap_or.ensures ∙ ap (λ x. unwrap_or x 0xFFFD) (c.read_first-first.ensures.char ∙ ap first_char c.split_at.ensures.back) in
     rw (len, c.in_ok-push.ensures.items, char) (showing-next b c.loop-at.at c.loop-at.chars.items c.loop-at.invariant c.loop-at-test.true)
 
 pub returns : goal.returns
 returns c =
     let b = c.bytes-bytes.result.now in
     let exact : c.loop-at.chars.items ≡ shown_text c.args.self.now =
-        rw (← c.bytes-bytes.ensures.bytes) (showing-done b c.loop-at.at c.loop-at.chars.items c.loop-at.invariant c.loop-at-test.false) in
+    rw (← c.bytes-bytes.ensures.bytes) (showing-done b c.loop-at.at c.loop-at.chars.items c.loop-at.invariant c.loop-at-test.false) in
     record { ok = shown_law c.args.self.now c.loop-at.chars.items c.bytes-bytes.ensures.text exact; exact = exact }
