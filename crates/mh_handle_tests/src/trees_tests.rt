@@ -11,8 +11,8 @@ use std::alloc::Global;
 use std::sync::Wait;
 use std::test::Fail;
 
-/// A handle, the arguments of a call, and what is wanted: how it ends with the numbers of the leaves
-/// that it calls, or why the handle is refused.
+/// A handle, the arguments of a call, and what is wanted: how it ends with the numbers of the
+/// leaves that it calls, or why the handle is refused.
 struct Case {
     name: &'static str,
     making: Making,

@@ -82,8 +82,8 @@ fn call_generic<'t, R: Wait>(
     ensures answer { IfOk result
         (IsAnswer (generic (leaves_of w.old) (tree.Leaf id) ty.now args.now 0)
         (generic_keys (leaves_of w.old) (tree.Leaf id) ty.now)) }
-    ensures asks { Asks
-        (recipe (leaves_of w.old) (tree.Leaf id) ∷ used_edits (leaves_of w.old) (tree.Leaf id) ty.now) w.old w.new result }
+    ensures asks { Asks (recipe (leaves_of w.old) (tree.Leaf id)
+        ∷ used_edits (leaves_of w.old) (tree.Leaf id) ty.now) w.old w.new result }
     ensures in_order { KeepsOrder w.old w.new result }
     ensures draws { DrawsAtMost 2 w.old w.new }
 {
