@@ -9,8 +9,9 @@ use Rattle.mh_main.specs.declared.program.Program.{Program}
 use Rattle.mh_classfile.specs.Class.{Class}
 use Rattle.mh_plan.specs.Forms.{forms}
 use Rattle.mh_main.specs.Words.{Command, Named, command_of, run}
-use Rattle.mh_main.specs.Input.{IfAccepted, IfProgram, IfRefused, Input, command_input, fault_line, input_of, listed, missing, named_input, place_line, program, refused, too_long_line, untold, usage}
-use Rattle.mh_main.specs.Stops.{Refuses, StopsIn, IsReached, stop_line, stop_status, unread_line}
+use Rattle.mh_main.specs.Input.{IfAccepted, IfProgram, IfRefused, Input, command_input, fault_line, input_of, listed, missing, most_forms, named_input, place_line, program, refused, too_long_line, untold, usage}
+use Rattle.mh_main.specs.Status.{no_memory}
+use Rattle.mh_main.specs.Stops.{Refuses, StopsIn, IsReachedInput, stop_line, stop_status, unread_line}
 use Rattle.mh_main.specs.Due.{FailsToRead, IsDue, IsDueOf, IsIdle, IsListingOf, IsReportOf}
 
 -- a stop that is no want of memory has a line that is due
@@ -18,8 +19,8 @@ pub due-at-stop :
     (words : List (List ℕ)) (files : List ℕ → Told) (before now : List ℕ → ℕ) (answer : TopAnswer) (command : Command) (stop : Stop) →
     Some command ≡ command_of words →
     IsIdle answer →
-    stop_status stop ≢ 3 →
-    StopsIn (IsReached command files) before now stop →
+    stop_status stop ≢ no_memory →
+    StopsIn (IsReachedInput command files) before now stop →
     Refuses (command_input command files) stop →
     IsDue words files before now answer (stop_line stop)
 due-at-stop words files before now answer command NoMemory asked idle spoken stops refuses = absurd (spoken refl)
@@ -60,7 +61,7 @@ due-of-program words files before now answer names p bytes asked is same (inl re
           (accepted (named_input names files) p (λ q. IsReportOf q answer bytes) (λ classes. IsListingOf classes answer bytes) is report),
     )
 due-of-program words files before now answer names p bytes asked is same (inr full) =
-    let fills : IfAccepted (input_of (command_of words) files) (λ q. 16384 < forms q.leaves q.plan) (λ classes. ⊥) =
-    subst (λ o. IfAccepted (input_of o files) (λ q. 16384 < forms q.leaves q.plan) (λ classes. ⊥)) asked
-    (accepted (named_input names files) p (λ q. 16384 < forms q.leaves q.plan) (λ classes. ⊥) is full.1.0) in
+    let fills : IfAccepted (input_of (command_of words) files) (λ q. most_forms < forms q.leaves q.plan) (λ classes. ⊥) =
+    subst (λ o. IfAccepted (input_of o files) (λ q. most_forms < forms q.leaves q.plan) (λ classes. ⊥)) asked
+    (accepted (named_input names files) p (λ q. most_forms < forms q.leaves q.plan) (λ classes. ⊥) is full.1.0) in
     inr (full.0, inr (inr (inr (same, (fills, full.1.1)))))

@@ -13,12 +13,12 @@ take-within a b c n =
     let few : min n (length b) ≤ length b = omega arith in
     take-append-add a (b ++ c) (min n (length b)) ∙ ap (λ r. a ++ r) (take-append-le (min n (length b)) b c few ∙ take_min n b)
 
--- a front part of the next piece, behind pieces that were written whole
-pub AppendsPart-behind : (old mid new : Option (List ℕ)) (a b c : List ℕ) → Appends old mid a → AppendsPart mid new b → AppendsPart old new (a ++ (b ++ c))
-AppendsPart-behind None mid new a b c before part = (0, tt)
-AppendsPart-behind (Some x) None new a b c before part = absurd before
-AppendsPart-behind (Some x) (Some y) None a b c before part = absurd part.1
-AppendsPart-behind (Some x) (Some y) (Some z) a b c before part = (
+-- a front part of the next piece, after pieces that were written whole
+pub AppendsPart-after : (old mid new : Option (List ℕ)) (a b c : List ℕ) → Appends old mid a → AppendsPart mid new b → AppendsPart old new (a ++ (b ++ c))
+AppendsPart-after None mid new a b c before part = (0, tt)
+AppendsPart-after (Some x) None new a b c before part = absurd before
+AppendsPart-after (Some x) (Some y) None a b c before part = absurd part.1
+AppendsPart-after (Some x) (Some y) (Some z) a b c before part = (
   length a + min part.0 (length b),
   part.1 ∙ ap (λ r. r ++ take part.0 b) before ∙ append_assoc x a (take part.0 b) ∙
       ap (λ r. x ++ r) (sym (take-within a b c part.0)),
@@ -35,5 +35,5 @@ flat_map-at pieces i d in_range =
 pub AppendsPart-at : (old mid new : Option (List ℕ)) (pieces : List (Bor (List ℕ))) (i : ℕ) (d : Bor (List ℕ)) → i < length pieces →
     Appends old mid (flat_map (λ p. p.now) (take i pieces)) → AppendsPart mid new (get_or pieces i d).now → AppendsPart old new (flat_map (λ p. p.now) pieces)
 AppendsPart-at old mid new pieces i d in_range before part =
-    rw (flat_map-at pieces i d in_range) (AppendsPart-behind old mid new (flat_map (λ p. p.now) (take i pieces)) (get_or pieces i d).now
+    rw (flat_map-at pieces i d in_range) (AppendsPart-after old mid new (flat_map (λ p. p.now) (take i pieces)) (get_or pieces i d).now
     (flat_map (λ p. p.now) (drop (i + 1) pieces)) before part)

@@ -6,8 +6,9 @@ use Rattle.mh_outside.specs.Causes.{IsStill, Rose}
 use Rattle.mh_main.specs.declared.stop.Stop.{Stop}
 use Rattle.mh_main.specs.declared.stop.Stop.TheVariants.{NoMemory, ReadFault, TooLong, Fault, Place}
 use Rattle.mh_main.specs.Words.{Command, sites}
-use Rattle.mh_main.specs.Input.{IfRefused, Input, IsAccepted, command_input, input_of, listed, missing, program, refused, untold, usage}
-use Rattle.mh_main.specs.Stops.{InputsStill, IsDoneOrWant, IsReached, IsRefusedOrWant, ReachesClass, Refuses, StopsIn, stop_status}
+use Rattle.mh_main.specs.Input.{IfRefused, Input, AreAccepted, command_input, input_of, listed, missing, program, refused, untold, usage}
+use Rattle.mh_main.specs.Status.{IsDoneOrWant, IsRefusedOrWant, write_failed}
+use Rattle.mh_main.specs.Stops.{InputsStill, IsReachedInput, ReachesClass, Refuses, StopsIn, stop_status}
 
 never-both : (before now : ℕ) → IsStill before now → Rose before now → ⊥
 never-both before now still rose = absurd (omega arith)
@@ -25,19 +26,19 @@ named-class room (first ∷ names) files name (inr more) =
 -- no read of a class file failed
 unfailed :
     (names : List (List ℕ)) (files : List ℕ → Told) (before now : List ℕ → ℕ) (at : List ℕ) →
-    InputsStill (Some (sites names)) before now → IsReached (sites names) files at → Rose (before at) (now at) → ⊥
+    InputsStill (Some (sites names)) before now → IsReachedInput (sites names) files at → Rose (before at) (now at) → ⊥
 unfailed names files before now at still reached rose = never-both (before at) (now at) (still at (named-class _ names files at reached)) rose
 
 refused-status :
     (names : List (List ℕ)) (files : List ℕ → Told) (before now : List ℕ → ℕ) (stop : Stop) →
-    InputsStill (Some (sites names)) before now → StopsIn (IsReached (sites names) files) before now stop → IsRefusedOrWant (stop_status stop)
+    InputsStill (Some (sites names)) before now → StopsIn (IsReachedInput (sites names) files) before now stop → IsRefusedOrWant (stop_status stop)
 refused-status names files before now NoMemory still stops = inr refl
 refused-status names files before now (ReadFault at) still stops = absurd (unfailed names files before now at.now still stops.0 stops.1)
 refused-status names files before now (TooLong at) still stops = inl refl
 refused-status names files before now (Fault at line kind) still stops = inl refl
 refused-status names files before now (Place at place kind) still stops = inl refl
 
-never-refused : (i : Input) (P : List ℕ → Type 0) → IsAccepted i → IfRefused i P → ⊥
+never-refused : (i : Input) (P : List ℕ → Type 0) → AreAccepted i → IfRefused i P → ⊥
 never-refused usage P accepted is = accepted
 never-refused (refused line) P accepted is = accepted
 never-refused (program p) P accepted is = is
@@ -47,7 +48,7 @@ never-refused untold P accepted is = accepted
 
 done-status :
     (names : List (List ℕ)) (files : List ℕ → Told) (before now : List ℕ → ℕ) (i : Input) (stop : Stop) →
-    InputsStill (Some (sites names)) before now → StopsIn (IsReached (sites names) files) before now stop → Refuses i stop → IsAccepted i →
+    InputsStill (Some (sites names)) before now → StopsIn (IsReachedInput (sites names) files) before now stop → Refuses i stop → AreAccepted i →
     IsDoneOrWant (stop_status stop)
 done-status names files before now i NoMemory still stops refuses accepted = inr refl
 done-status names files before now i (ReadFault at) still stops refuses accepted = absurd (unfailed names files before now at.now still stops.0 stops.1)
@@ -56,15 +57,15 @@ done-status names files before now i (Fault at line kind) still stops refuses ac
 done-status names files before now i (Place at place kind) still stops refuses accepted = absurd (never-refused i _ accepted refuses)
 
 -- the status of a stop, where the sink did not fail
-spoken : (before now status due : ℕ) → IsStill before now → (status ≡ 7 → Rose before now) → (status ≢ 7 → status ≡ due) → status ≡ due
+spoken : (before now status due : ℕ) → IsStill before now → (status ≡ write_failed → Rose before now) → (status ≢ write_failed → status ≡ due) → status ≡ due
 spoken before now status due still failed is = is (λ seven. never-both before now still (failed seven))
 
 pub sites-refused :
     (o : Option Command) (names : List (List ℕ)) (files : List ℕ → Told) (before now : List ℕ → ℕ) (stop : Stop) (old new status : ℕ) →
     Some (sites names) ≡ o →
-    StopsIn (IsReached (sites names) files) before now stop →
-    (status ≡ 7 → Rose old new) →
-    (status ≢ 7 → status ≡ stop_status stop) →
+    StopsIn (IsReachedInput (sites names) files) before now stop →
+    (status ≡ write_failed → Rose old new) →
+    (status ≢ write_failed → status ≡ stop_status stop) →
     InputsStill o before now →
     IsStill old new →
     IsRefusedOrWant status
@@ -75,11 +76,11 @@ sites-refused o names files before now stop old new status asked stops failed is
 pub sites-done :
     (o : Option Command) (names : List (List ℕ)) (files : List ℕ → Told) (before now : List ℕ → ℕ) (stop : Stop) (old new status : ℕ) →
     Some (sites names) ≡ o →
-    StopsIn (IsReached (sites names) files) before now stop →
+    StopsIn (IsReachedInput (sites names) files) before now stop →
     Refuses (command_input (sites names) files) stop →
-    (status ≡ 7 → Rose old new) →
-    (status ≢ 7 → status ≡ stop_status stop) →
-    IsAccepted (input_of o files) →
+    (status ≡ write_failed → Rose old new) →
+    (status ≢ write_failed → status ≡ stop_status stop) →
+    AreAccepted (input_of o files) →
     InputsStill o before now →
     IsStill old new →
     IsDoneOrWant status

@@ -14,8 +14,8 @@ use Rattle.mh_main.specs.declared.program.Program.{Program}
 use Rattle.mh_main.specs.Words.{Command, command_of}
 use Rattle.mh_main.specs.Ledger.{Ledger}
 use Rattle.mh_main.specs.Program.{naming_of, text}
-use Rattle.mh_main.specs.Input.{input, IfAccepted, IfRefused}
-use Rattle.mh_main.specs.Stops.{IsReached, unread_line}
+use Rattle.mh_main.specs.Input.{input, IfAccepted, IfRefused, most_forms}
+use Rattle.mh_main.specs.Stops.{IsReachedInput, unread_line}
 
 -- the line for refused words
 abbrev pub usage_line : List ℕ
@@ -50,9 +50,9 @@ abbrev pub Reports : List (List ℕ) → (List ℕ → Told) → TopAnswer → L
 Reports words files answer bytes =
     IfAccepted (input words files) (λ p. IsReportOf p answer bytes) (λ classes. IsListingOf classes answer bytes)
 
--- the line of a program whose calls need more than 16,384 forms
+-- the line of a program whose calls need more forms than there are numbers for
 abbrev pub IsFullOf : Program → List ℕ → Type 0
-IsFullOf p bytes = (16384 < forms p.leaves p.plan) × (bytes ≡ full_line)
+IsFullOf p bytes = (most_forms < forms p.leaves p.plan) × (bytes ≡ full_line)
 
 -- what is due of a program: its report, or that it needs too many forms, and then nothing is answered
 abbrev pub IsDueOf : Program → TopAnswer → List ℕ → Type 0
@@ -62,10 +62,10 @@ IsDueOf p answer bytes = IsReportOf p answer bytes ⊎ (IsIdle answer × IsFullO
 abbrev pub AnswersCalls : List (List ℕ) → (List ℕ → Told) → List (List Answer) → Type 0
 AnswersCalls words files threads = IfAccepted (input words files) (λ p. AreAnswersOf p threads) (λ classes. threads ≡ [])
 
--- the line of a program that the words and the files give and whose calls need more than 16,384 forms
+-- the line of a program that the words and the files give and whose calls need more forms than there are numbers for
 abbrev pub FillsForms : List (List ℕ) → (List ℕ → Told) → List ℕ → Type 0
 FillsForms words files bytes =
-    IfAccepted (input words files) (λ p. 16384 < forms p.leaves p.plan) (λ classes. ⊥) × (bytes ≡ full_line)
+    IfAccepted (input words files) (λ p. most_forms < forms p.leaves p.plan) (λ classes. ⊥) × (bytes ≡ full_line)
 
 -- the line of the first input that is refused, where no read failed
 abbrev pub RefusesInput : List (List ℕ) → (List ℕ → Told) → (List ℕ → ℕ) → (List ℕ → ℕ) → List ℕ → Type 0
@@ -79,7 +79,7 @@ RefusesWords words bytes = (command_of words ≡ None) × (bytes ≡ usage_line)
 abbrev pub FailsToRead : Option Command → (List ℕ → Told) → (List ℕ → ℕ) → (List ℕ → ℕ) → List ℕ → Type 0
 FailsToRead None files before now bytes = ⊥
 FailsToRead (Some command) files before now bytes =
-    (name : List ℕ) × IsReached command files name × Rose (before name) (now name) × (bytes ≡ unread_line name)
+    (name : List ℕ) × IsReachedInput command files name × Rose (before name) (now name) × (bytes ≡ unread_line name)
 
 -- bytes that are due for this reason were added
 abbrev pub Writes : (List ℕ → Type 0) → Option (List ℕ) → Option (List ℕ) → Type 0

@@ -91,7 +91,7 @@ abbrev pub class_meant : List ℕ → Checked ClassKind Class → (Class → Inp
 class_meant name (Ok c) next = next c
 class_meant name (Err fault) next = refused (place_line name fault.at (class_word fault.kind))
 
--- a class in front of others, where there are some
+-- a class before others, where there are some
 abbrev pub with_class : Class → Input → Input
 with_class c (listed classes) = listed (c ∷ classes)
 with_class c usage = usage
@@ -167,13 +167,13 @@ IsRefused missing = ⊥
 IsRefused untold = ⊥
 
 -- the inputs are accepted
-abbrev pub IsAccepted : Input → Type 0
-IsAccepted usage = ⊥
-IsAccepted (refused line) = ⊥
-IsAccepted (program p) = Unit {0}
-IsAccepted (listed classes) = Unit {0}
-IsAccepted missing = ⊥
-IsAccepted untold = ⊥
+abbrev pub AreAccepted : Input → Type 0
+AreAccepted usage = ⊥
+AreAccepted (refused line) = ⊥
+AreAccepted (program p) = Unit {0}
+AreAccepted (listed classes) = Unit {0}
+AreAccepted missing = ⊥
+AreAccepted untold = ⊥
 
 -- the first input that stops the reading is told not to be there
 abbrev pub IsMissing : Input → Type 0
@@ -184,17 +184,21 @@ IsMissing (listed classes) = ⊥
 IsMissing missing = Unit {0}
 IsMissing untold = ⊥
 
+-- how many forms there are numbers for
+abbrev pub most_forms : ℕ
+most_forms = 16384
+
 -- the calls of a program need at most as many forms as there are numbers
 abbrev pub FitsForms : Input → Type 0
 FitsForms usage = Unit {0}
 FitsForms (refused line) = Unit {0}
-FitsForms (program p) = forms p.leaves p.plan ≤ 16384
+FitsForms (program p) = forms p.leaves p.plan ≤ most_forms
 FitsForms (listed classes) = Unit {0}
 FitsForms missing = Unit {0}
 FitsForms untold = Unit {0}
 
 -- where it is told, a file within its limit has this meaning
-abbrev pub Means : {T K : Type 0} → ℕ → (List ℕ → Result T K) → Told → T → Type 0
-Means limit meaning (file bytes) value = (meaning bytes ≡ Ok value) × (length bytes ≤ limit)
-Means limit meaning nothing value = Unit {0}
-Means limit meaning absent value = ⊥
+abbrev pub HasMeaning : {T K : Type 0} → ℕ → (List ℕ → Result T K) → Told → T → Type 0
+HasMeaning limit meaning (file bytes) value = (meaning bytes ≡ Ok value) × (length bytes ≤ limit)
+HasMeaning limit meaning nothing value = Unit {0}
+HasMeaning limit meaning absent value = ⊥

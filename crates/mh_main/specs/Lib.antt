@@ -4,5 +4,6 @@ pub mod Input
 pub mod Kinds
 pub mod Ledger
 pub mod Program
+pub mod Status
 pub mod Stops
 pub mod Words

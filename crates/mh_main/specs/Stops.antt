@@ -1,5 +1,5 @@
 -- Why there is no program.
-use Rattle.std.specs.Prelude.{◌≡◌, ◌⊎◌, ℕ, ◌-◌, List, [], ◌∷◌, ◌++◌, codes, ◌<◌, ◌≤◌, length, Result, Err, ◌≢◌, Option, None, Some}
+use Rattle.std.specs.Prelude.{◌≡◌, ◌⊎◌, ℕ, ◌-◌, List, [], ◌∷◌, ◌++◌, codes, ◌<◌, ◌≤◌, length, Result, Err, Option, None, Some}
 use Rattle.std.specs.List.{Contains}
 use Rattle.mh_base.specs.declared.lines.LineFault.{LineFault}
 use Rattle.mh_outside.specs.Causes.{Rose, IsStill, AreSame}
@@ -13,8 +13,9 @@ use Rattle.mh_class_pool.specs.declared.fault.ClassKind.{ClassKind}
 use Rattle.mh_classfile.specs.Class.{Class}
 use Rattle.mh_classfile.specs.File.{class_or_fault}
 use Rattle.mh_main.specs.Kinds.{class_word}
+use Rattle.mh_main.specs.Status.{refused, no_memory, unread}
 use Rattle.mh_main.specs.Words.{Named, Command, run, sites}
-use Rattle.mh_main.specs.Input.{Input, IfRefused, Means, too_long_line, fault_line, place_line, leaves_limit, class_limit, most_sites, scripts}
+use Rattle.mh_main.specs.Input.{Input, IfRefused, HasMeaning, too_long_line, fault_line, place_line, leaves_limit, class_limit, most_sites, scripts}
 
 -- the line for an input that could not be read
 abbrev pub unread_line : List ℕ → List ℕ
@@ -77,21 +78,21 @@ ClassStopIn room absent stop = ⊥
 abbrev pub ReachesInput : Named → (List ℕ → Told) → List ℕ → Type 0
 ReachesInput names files name =
     (name ≡ names.leaves)
-    ⊎ ((leaves : LeafTable) × (name ≡ names.scripts) × Means leaves_limit manifest (files names.leaves) leaves)
-    ⊎ ((leaves : LeafTable) × (name ≡ names.plan) × Means leaves_limit manifest (files names.leaves) leaves
-    × Means leaves_limit scripts (files names.scripts) tt)
+    ⊎ ((leaves : LeafTable) × (name ≡ names.scripts) × HasMeaning leaves_limit manifest (files names.leaves) leaves)
+    ⊎ ((leaves : LeafTable) × (name ≡ names.plan) × HasMeaning leaves_limit manifest (files names.leaves) leaves
+    × HasMeaning leaves_limit scripts (files names.scripts) tt)
 
 -- the class file is one of those named, and each before it was accepted, as far as it is told
 abbrev pub ReachesClass : ℕ → List (List ℕ) → (List ℕ → Told) → List ℕ → Type 0
 ReachesClass room [] files name = ⊥
 ReachesClass room (first ∷ names) files name =
     (name ≡ first)
-    ⊎ ((c : Class) × Means class_limit (class_or_fault room) (files first) c × ReachesClass (room - length c.sites) names files name)
+    ⊎ ((c : Class) × HasMeaning class_limit (class_or_fault room) (files first) c × ReachesClass (room - length c.sites) names files name)
 
 -- the input is one of the command's, and each before it was accepted, as far as it is told
-abbrev pub IsReached : Command → (List ℕ → Told) → List ℕ → Type 0
-IsReached (run names) files name = ReachesInput names files name
-IsReached (sites names) files name = ReachesClass most_sites names files name
+abbrev pub IsReachedInput : Command → (List ℕ → Told) → List ℕ → Type 0
+IsReachedInput (run names) files name = ReachesInput names files name
+IsReachedInput (sites names) files name = ReachesClass most_sites names files name
 
 -- the reading stopped at an input: at a read fault it was reached and its count rose, and else no count did
 abbrev pub StopsIn : (List ℕ → Type 0) → (List ℕ → ℕ) → (List ℕ → ℕ) → Stop → Type 0
@@ -111,11 +112,11 @@ Refuses said (Place at place kind) = IfRefused said (λ line. line ≡ place_lin
 
 -- the status that a stop comes with
 abbrev pub stop_status : Stop → ℕ
-stop_status NoMemory = 3
-stop_status (ReadFault at) = 6
-stop_status (TooLong at) = 1
-stop_status (Fault at line kind) = 1
-stop_status (Place at place kind) = 1
+stop_status NoMemory = no_memory
+stop_status (ReadFault at) = unread
+stop_status (TooLong at) = refused
+stop_status (Fault at line kind) = refused
+stop_status (Place at place kind) = refused
 
 -- the name is one of the command's inputs
 abbrev pub IsInput : Command → List ℕ → Type 0
@@ -126,23 +127,3 @@ IsInput (sites names) name = Contains names name
 abbrev pub InputsStill : Option Command → (List ℕ → ℕ) → (List ℕ → ℕ) → Type 0
 InputsStill None before now = Unit {0}
 InputsStill (Some command) before now = (name : List ℕ) → IsInput command name → IsStill (before name) (now name)
-
--- a status that a run ends with: 0 to 4, 6 or 7
-abbrev pub IsStatus : ℕ → Type 0
-IsStatus status = (status ≤ 7) × (status ≢ 5)
-
--- the input is refused, or memory was wanting
-abbrev pub IsRefusedOrWant : ℕ → Type 0
-IsRefusedOrWant status = (status ≡ 1) ⊎ (status ≡ 3)
-
--- an input could not be read, or memory was wanting
-abbrev pub IsUnreadOrWant : ℕ → Type 0
-IsUnreadOrWant status = (status ≡ 6) ⊎ (status ≡ 3)
-
--- the run is complete, or memory was wanting
-abbrev pub IsDoneOrWant : ℕ → Type 0
-IsDoneOrWant status = (status ≡ 0) ⊎ (status ≡ 3)
-
--- the run is complete, or memory or forms were wanting
-abbrev pub IsDoneFullOrWant : ℕ → Type 0
-IsDoneFullOrWant status = (status ≡ 0) ⊎ ((status ≡ 3) ⊎ (status ≡ 4))

@@ -21,23 +21,22 @@ pub data Command : Type 0 where
   run : Named → Command
   sites : List (List ℕ) → Command
 
--- `--leaves F --scripts F --plan F`, in this order
-abbrev pub input_words : List ℕ → List ℕ → List ℕ → List ℕ → List ℕ → List ℕ → Option Command
-input_words leaves_word leaves scripts_word scripts plan_word plan =
-    if bytes_eq leaves_word (codes "--leaves") && bytes_eq scripts_word (codes "--scripts") && bytes_eq plan_word (codes "--plan")
-    then Some (run (record { leaves = leaves; scripts = scripts; plan = plan })) else None
-
--- the words of a run behind its mode
+-- the words of a run after its mode: `--leaves F --scripts F --plan F`, in this order
 abbrev pub run_words : List (List ℕ) → Option Command
 run_words (leaves_word ∷ leaves ∷ scripts_word ∷ scripts ∷ plan_word ∷ plan ∷ []) =
-    input_words leaves_word leaves scripts_word scripts plan_word plan
+    if bytes_eq leaves_word (codes "--leaves") && bytes_eq scripts_word (codes "--scripts") && bytes_eq plan_word (codes "--plan")
+    then Some (run (record { leaves = leaves; scripts = scripts; plan = plan })) else None
 run_words _ = None
 
--- up to 64 names of class files
-abbrev pub sites_words : List (List ℕ) → Option Command
-sites_words names = if nat_le (length names) 64 then Some (sites names) else None
+-- how many class files may be named
+abbrev pub most_classes : ℕ
+most_classes = 64
 
--- the words behind `--mode`
+-- names of class files, at most so many
+abbrev pub sites_words : List (List ℕ) → Option Command
+sites_words names = if nat_le (length names) most_classes then Some (sites names) else None
+
+-- the words after `--mode`
 abbrev pub mode_words : List ℕ → List (List ℕ) → Option Command
 mode_words mode rest =
     if bytes_eq mode (codes "run") then run_words rest

@@ -7,6 +7,7 @@ mod listing;
 mod program;
 mod reading;
 mod running;
+pub mod status;
 mod stop;
 mod words;
 

@@ -1,6 +1,7 @@
 ghost use Rattle.std.specs.Prelude.{◌≡◌, ◌++◌, ◌≤◌, List, ℕ, IfOk, IfErr, OnOk, length};
 ghost use Rattle.mh_listing.specs.Listing.{listing, listing_from};
 ghost use Rattle.mh_outside.specs.Causes.{AreSame};
+ghost use Rattle.mh_outside.specs.Kept.{KeepsInputs};
 ghost use Rattle.mh_main.specs.Kinds.{class_word};
 ghost use Rattle.mh_main.specs.Words.{said};
 ghost use Rattle.mh_main.specs.Input.{IfListed, classes_input, most_sites};
@@ -9,7 +10,6 @@ ghost use Rattle.mh_main.specs.Stops.{StopsAt, StopsIn, ClassStopIn, ReachesClas
 
 use crate::reading::read_input;
 use crate::stop::Stop;
-use mh_base::NoMemory;
 use mh_class_pool::{ClassError, ClassKind};
 use mh_classfile::read;
 use mh_listing::{push_count, push_sites};
@@ -21,16 +21,6 @@ const CLASS_LIMIT: usize = 1_048_576;
 
 /// How many call sites all class files may have together.
 const MOST_SITES: u32 = 4096;
-
-impl<'a> From<NoMemory> for Stop<'a> {
-    ghost use Rattle.mh_main.specs.declared.stop.Stop.TheVariants.{NoMemory as WithoutMemory};
-
-    ghost from_gives = { λ _ stop. stop ≡ WithoutMemory };
-
-    fn from(_: NoMemory) -> Self {
-        Stop::NoMemory
-    }
-}
 
 // The name of a kind of fault, as a refusal prints it.
 fn class_word(kind: ClassKind) -> &'static str
@@ -53,7 +43,7 @@ fn class_word(kind: ClassKind) -> &'static str
 }
 
 // Reads a class file that may have `room` call sites, lists them from number `first` on, and gives
-// the number behind the last.
+// the number after the last.
 #[tactic(auto, using(crate::proofs::Unread::class_unread_in))]
 fn list_class<'a, I: Inputs>(
     alloc: Global,
@@ -63,8 +53,8 @@ fn list_class<'a, I: Inputs>(
     first: u32,
     text: &mut Vec<u8>,
 ) -> Result<u32, Stop<'a>>
-    ensures told { (n : List ℕ) → I.told inputs.new n ≡ I.told inputs.old n }
-    ensures later { (n : List ℕ) → I.faults inputs.old n ≤ I.faults inputs.new n }
+    ensures keeps { KeepsInputs (I.told inputs.old) (I.told inputs.new)
+        (I.faults inputs.old) (I.faults inputs.new) }
     ensures no_fault { OnOk result (AreSame (I.faults inputs.old) (I.faults inputs.new)) }
     ensures stop { IfErr result
         (λ stop. StopsAt name.now (I.faults inputs.old) (I.faults inputs.new) stop) }
@@ -99,8 +89,8 @@ fn list_classes<'a, I: Inputs>(
     first: u32,
     text: &mut Vec<u8>,
 ) -> Result<(), Stop<'a>>
-    ensures told { (n : List ℕ) → I.told inputs.new n ≡ I.told inputs.old n }
-    ensures later { (n : List ℕ) → I.faults inputs.old n ≤ I.faults inputs.new n }
+    ensures keeps { KeepsInputs (I.told inputs.old) (I.told inputs.new)
+        (I.faults inputs.old) (I.faults inputs.new) }
     ensures no_fault { OnOk result (AreSame (I.faults inputs.old) (I.faults inputs.new)) }
     ensures stop { IfErr result
         (λ stop. StopsIn (ReachesClass room (said names.now) (I.told inputs.old))
@@ -125,8 +115,8 @@ pub fn list_sites<'a, I: Inputs>(
     inputs: &mut I,
     names: &'a [&'a str],
 ) -> Result<Vec<u8>, Stop<'a>>
-    ensures told { (n : List ℕ) → I.told inputs.new n ≡ I.told inputs.old n }
-    ensures later { (n : List ℕ) → I.faults inputs.old n ≤ I.faults inputs.new n }
+    ensures keeps { KeepsInputs (I.told inputs.old) (I.told inputs.new)
+        (I.faults inputs.old) (I.faults inputs.new) }
     ensures no_fault { OnOk result (AreSame (I.faults inputs.old) (I.faults inputs.new)) }
     ensures stop { IfErr result
         (λ stop. StopsIn (ReachesClass most_sites (said names.now) (I.told inputs.old))

@@ -1,11 +1,12 @@
 ghost use Rattle.std.specs.Prelude.{◌≡◌, ◌≤◌, List, ℕ, IfOk, IfErr, OnOk, length};
 ghost use Rattle.mh_outside.specs.Causes.{AreSame};
+ghost use Rattle.mh_outside.specs.Kept.{KeepsInputs};
 ghost use Rattle.mh_outside.specs.Told.{IsWhole};
 ghost use Rattle.mh_leaves.specs.Manifest.{manifest, kind_word as manifest_word};
 ghost use Rattle.mh_plan.specs.Results.{AreCallsOf};
 ghost use Rattle.mh_plan.specs.Plan.{plan, kind_word as plan_word};
 ghost use Rattle.mh_main.specs.Words.{held_names};
-ghost use Rattle.mh_main.specs.Input.{Means, named_input, IfProgram, scripts, scripts_word, leaves_limit, plan_limit};
+ghost use Rattle.mh_main.specs.Input.{HasMeaning, named_input, IfProgram, scripts, scripts_word, leaves_limit, plan_limit};
 ghost use Rattle.mh_main.specs.Stops.{StopsAt, StopIn, StopsIn, ReachesInput, Refuses, UnreadIn};
 
 use crate::Program;
@@ -29,8 +30,8 @@ pub(crate) fn read_input<'a, I: Inputs>(
     name: &'a str,
     limit: usize,
 ) -> Result<Vec<u8>, Stop<'a>>
-    ensures told { (n : List ℕ) → I.told inputs.new n ≡ I.told inputs.old n }
-    ensures later { (n : List ℕ) → I.faults inputs.old n ≤ I.faults inputs.new n }
+    ensures keeps { KeepsInputs (I.told inputs.old) (I.told inputs.new)
+        (I.faults inputs.old) (I.faults inputs.new) }
     ensures no_fault { OnOk result (AreSame (I.faults inputs.old) (I.faults inputs.new)) }
     ensures stop { IfErr result
         (λ stop. StopsAt name.now (I.faults inputs.old) (I.faults inputs.new) stop) }
@@ -52,15 +53,15 @@ fn read_leaves<'a, I: Inputs>(
     inputs: &mut I,
     name: &'a str,
 ) -> Result<Leaves, Stop<'a>>
-    ensures told { (n : List ℕ) → I.told inputs.new n ≡ I.told inputs.old n }
-    ensures later { (n : List ℕ) → I.faults inputs.old n ≤ I.faults inputs.new n }
+    ensures keeps { KeepsInputs (I.told inputs.old) (I.told inputs.new)
+        (I.faults inputs.old) (I.faults inputs.new) }
     ensures no_fault { OnOk result (AreSame (I.faults inputs.old) (I.faults inputs.new)) }
     ensures stop { IfErr result
         (λ stop. StopsAt name.now (I.faults inputs.old) (I.faults inputs.new) stop) }
     ensures refuses { IfErr result
         (λ stop. StopIn leaves_limit manifest_word manifest (I.told inputs.old name.now) stop) }
     ensures ok { IfOk result
-        (λ leaves. Means leaves_limit manifest (I.told inputs.old name.now) leaves) }
+        (λ leaves. HasMeaning leaves_limit manifest (I.told inputs.old name.now) leaves) }
 {
     let bytes = read_input(alloc, inputs, name, LEAVES_LIMIT)?;
     match read_manifest(alloc, &bytes) {
@@ -72,14 +73,14 @@ fn read_leaves<'a, I: Inputs>(
 
 #[tactic(auto, using(crate::proofs::Unread::unread_in))]
 fn read_scripts<'a, I: Inputs>(alloc: Global, inputs: &mut I, name: &'a str) -> Result<(), Stop<'a>>
-    ensures told { (n : List ℕ) → I.told inputs.new n ≡ I.told inputs.old n }
-    ensures later { (n : List ℕ) → I.faults inputs.old n ≤ I.faults inputs.new n }
+    ensures keeps { KeepsInputs (I.told inputs.old) (I.told inputs.new)
+        (I.faults inputs.old) (I.faults inputs.new) }
     ensures no_fault { OnOk result (AreSame (I.faults inputs.old) (I.faults inputs.new)) }
     ensures stop { IfErr result
         (λ stop. StopsAt name.now (I.faults inputs.old) (I.faults inputs.new) stop) }
     ensures refuses { IfErr result
         (λ stop. StopIn leaves_limit scripts_word scripts (I.told inputs.old name.now) stop) }
-    ensures ok { OnOk result (Means leaves_limit scripts (I.told inputs.old name.now) tt) }
+    ensures ok { OnOk result (HasMeaning leaves_limit scripts (I.told inputs.old name.now) tt) }
 {
     let bytes = read_input(alloc, inputs, name, LEAVES_LIMIT)?;
     match no_scripts(&bytes) {
@@ -95,8 +96,8 @@ fn read_calls<'a, I: Inputs>(
     name: &'a str,
     leaves: &Leaves,
 ) -> Result<Plan, Stop<'a>>
-    ensures told { (n : List ℕ) → I.told inputs.new n ≡ I.told inputs.old n }
-    ensures later { (n : List ℕ) → I.faults inputs.old n ≤ I.faults inputs.new n }
+    ensures keeps { KeepsInputs (I.told inputs.old) (I.told inputs.new)
+        (I.faults inputs.old) (I.faults inputs.new) }
     ensures no_fault { OnOk result (AreSame (I.faults inputs.old) (I.faults inputs.new)) }
     ensures stop { IfErr result
         (λ stop. StopsAt name.now (I.faults inputs.old) (I.faults inputs.new) stop) }
@@ -104,7 +105,7 @@ fn read_calls<'a, I: Inputs>(
         (λ stop. StopIn plan_limit plan_word (λ bytes. plan bytes leaves.now)
         (I.told inputs.old name.now) stop) }
     ensures ok { IfOk result
-        (λ calls. Means plan_limit (λ bytes. plan bytes leaves.now)
+        (λ calls. HasMeaning plan_limit (λ bytes. plan bytes leaves.now)
         (I.told inputs.old name.now) calls) }
     ensures calls { IfOk result (AreCallsOf leaves.now) }
 {
@@ -122,8 +123,8 @@ pub fn read_program<'a, I: Inputs>(
     inputs: &mut I,
     names: Names<'a>,
 ) -> Result<Program, Stop<'a>>
-    ensures told { (n : List ℕ) → I.told inputs.new n ≡ I.told inputs.old n }
-    ensures later { (n : List ℕ) → I.faults inputs.old n ≤ I.faults inputs.new n }
+    ensures keeps { KeepsInputs (I.told inputs.old) (I.told inputs.new)
+        (I.faults inputs.old) (I.faults inputs.new) }
     ensures no_fault { OnOk result (AreSame (I.faults inputs.old) (I.faults inputs.new)) }
     ensures stop { IfErr result
         (λ stop. StopsIn (ReachesInput (held_names names.entry) (I.told inputs.old))

@@ -1,20 +1,23 @@
-ghost use Rattle.std.specs.Prelude.{◌≡◌, ◌≢◌, ◌<◌, ◌≤◌, [], List, ℕ, None, IfOk};
+ghost use Rattle.std.specs.Prelude.{◌≡◌, ◌≢◌, ◌<◌, [], None, IfOk};
 ghost use Rattle.std.specs.List.{flat_map};
 ghost use Rattle.std.specs.Io.KnownBytes.{Appends, Keeps};
-ghost use Rattle.mh_outside.specs.Causes.{Rose, IsStill, AreSame, AppendsPart};
+ghost use Rattle.mh_outside.specs.Causes.{IsStill, AreSame, AppendsPart};
+ghost use Rattle.mh_outside.specs.Kept.{KeepsInputs};
 ghost use Rattle.mh_plan.specs.Forms.{forms};
 ghost use Rattle.mh_plan.specs.Results.{AreCallsOf};
 ghost use Rattle.mh_runtime.specs.Asking.{IfFull};
 ghost use Rattle.mh_main.specs.Words.{command_of, said, IsListing};
 ghost use Rattle.mh_main.specs.Ledger.{Ledger, Naming};
 ghost use Rattle.mh_main.specs.Program.{text};
-ghost use Rattle.mh_main.specs.Input.{input, IsRefused, IsAccepted, IsMissing, FitsForms};
-ghost use Rattle.mh_main.specs.Stops.{stop_line, stop_status, InputsStill, IsStatus, IsRefusedOrWant, IsUnreadOrWant, IsDoneOrWant, IsDoneFullOrWant};
+ghost use Rattle.mh_main.specs.Input.{input, IsRefused, AreAccepted, IsMissing, FitsForms, most_forms};
+ghost use Rattle.mh_main.specs.Stops.{stop_line, stop_status, InputsStill};
+ghost use Rattle.mh_main.specs.Status.{done, refused, usage_wanted, no_memory, forms_full, unread, write_failed, IsStatus, IsRefusedOrWant, IsUnreadOrWant, IsDoneOrWant, IsDoneFullOrWant, FailsWhere};
 ghost use Rattle.mh_main.specs.Due.{AnswersCalls, AreAnswersOf, FailsToRead, FillsForms, IsDue, IsDueOf, IsFullOf, IsIdle, IsListingOf, IsReportOf, RefusesInput, RefusesWords, Reports, Writes, WritesPart};
 
 use crate::lines::{FULL, USAGE, write_pieces};
 use crate::listing::list_sites;
 use crate::reading::read_program;
+use crate::status::{DONE, FORMS_FULL, NO_MEMORY, REFUSED, UNREAD, USAGE_WANTED, WRITE_FAILED};
 use crate::stop::Stop;
 use crate::words::{Command, read_words};
 use crate::{Program, TopAnswer};
@@ -26,27 +29,6 @@ use mh_runtime::{WorkError, run_plan};
 use std::alloc::Global;
 use std::sync::Wait;
 use std::thread::Threads;
-
-/// What was asked for was written.
-const DONE: u8 = 0;
-
-/// An input was refused.
-const REFUSED: u8 = 1;
-
-/// The words were refused.
-const USAGE_WANTED: u8 = 2;
-
-/// No memory was left.
-const NO_MEMORY: u8 = 3;
-
-/// No number was left for a form.
-const FORMS_FULL: u8 = 4;
-
-/// An input could not be read.
-const READ_FAILED: u8 = 6;
-
-/// The text could not be written.
-const WRITE_FAILED: u8 = 7;
 
 fn nothing_ran(alloc: Global, status: u8) -> TopAnswer
     ensures status { result.status ≡ status }
@@ -63,16 +45,14 @@ fn nothing_ran(alloc: Global, status: u8) -> TopAnswer
 // Writes a line that takes no memory, and gives the status that it comes with, or that of a write
 // that failed.
 fn answer_line<S: Sink>(alloc: Global, sink: &mut S, status: u8, pieces: &[&[u8]]) -> TopAnswer
-    requires { status ≢ 7 }
+    requires { status ≢ write_failed }
     ensures idle { IsIdle result }
-    ensures status { result.status ≢ 7 → result.status ≡ status }
-    ensures written { result.status ≢ 7
+    ensures status { result.status ≢ write_failed → result.status ≡ status }
+    ensures written { result.status ≢ write_failed
         → Appends (S.taken sink.old) (S.taken sink.new) (flat_map (λ p. p.now) pieces.now) }
-    ensures still { result.status ≢ 7 → S.faults sink.new ≡ S.faults sink.old }
-    ensures part { result.status ≡ 7
+    ensures part { result.status ≡ write_failed
         → AppendsPart (S.taken sink.old) (S.taken sink.new) (flat_map (λ p. p.now) pieces.now) }
-    ensures failed { result.status ≡ 7 → Rose (S.faults sink.old) (S.faults sink.new) }
-    ensures fault { S.faults sink.old < S.faults sink.new → result.status ≡ 7 }
+    ensures fails { FailsWhere result.status (S.faults sink.old) (S.faults sink.new) }
 {
     match write_pieces(sink, pieces) {
         Ok(()) => nothing_ran(alloc, status),
@@ -89,7 +69,7 @@ fn run_and_report<R: Wait>(
     requires { AreCallsOf program.now.leaves program.now.plan }
     ensures answers { IfOk result (λ r. AreAnswersOf program.now r.0) }
     ensures text { IfOk result (λ r. r.1.items ≡ text program.now []) }
-    ensures full { IfFull result (16384 < forms program.now.leaves program.now.plan) }
+    ensures full { IfFull result (most_forms < forms program.now.leaves program.now.plan) }
 {
     let run = run_plan(rt, alloc, &program.leaves, &program.plan)?;
     let text = report(alloc, &run.threads, 0, run.forms, 0, &program.leaves)?;
@@ -121,12 +101,12 @@ fn answer_report<S: Sink>(
     ensures threads { result.threads ≡ threads }
     ensures ledger { (naming : Naming) → Ledger naming 0 result.table result.attempts }
     ensures attempts { result.attempts ≡ [] }
-    ensures status { result.status ≢ 7 → result.status ≡ 0 }
-    ensures written { result.status ≢ 7 → Appends (S.taken sink.old) (S.taken sink.new) text.now }
-    ensures still { result.status ≢ 7 → S.faults sink.new ≡ S.faults sink.old }
-    ensures part { result.status ≡ 7 → AppendsPart (S.taken sink.old) (S.taken sink.new) text.now }
-    ensures failed { result.status ≡ 7 → Rose (S.faults sink.old) (S.faults sink.new) }
-    ensures fault { S.faults sink.old < S.faults sink.new → result.status ≡ 7 }
+    ensures status { result.status ≢ write_failed → result.status ≡ done }
+    ensures written { result.status ≢ write_failed
+        → Appends (S.taken sink.old) (S.taken sink.new) text.now }
+    ensures part { result.status ≡ write_failed
+        → AppendsPart (S.taken sink.old) (S.taken sink.new) text.now }
+    ensures fails { FailsWhere result.status (S.faults sink.old) (S.faults sink.new) }
 {
     match write_whole(sink, text) {
         Ok(()) => answered(alloc, DONE, threads),
@@ -142,19 +122,17 @@ fn run_program<R: Wait, S: Sink>(
     program: &Program,
 ) -> TopAnswer
     requires { AreCallsOf program.now.leaves program.now.plan }
-    ensures done { result.status ≡ 0
+    ensures report { result.status ≡ done
         → Writes (IsReportOf program.now result) (S.taken sink.old) (S.taken sink.new) }
-    ensures answers { result.status ≡ 0 → AreAnswersOf program.now result.threads }
-    ensures full { result.status ≡ 4
+    ensures answers { result.status ≡ done → AreAnswersOf program.now result.threads }
+    ensures full { result.status ≡ forms_full
         → Writes (IsFullOf program.now) (S.taken sink.old) (S.taken sink.new) }
-    ensures broken { result.status ≡ 7
+    ensures broken { result.status ≡ write_failed
         → WritesPart (IsDueOf program.now result) (S.taken sink.old) (S.taken sink.new) }
-    ensures nothing { result.status ≡ 3 → Keeps (S.taken sink.old) (S.taken sink.new) }
-    ensures idle { result.status ≢ 0 → result.status ≢ 7 → IsIdle result }
-    ensures status { result.status ≢ 7 → IsDoneFullOrWant result.status }
-    ensures still { result.status ≢ 7 → S.faults sink.new ≡ S.faults sink.old }
-    ensures failed { result.status ≡ 7 → Rose (S.faults sink.old) (S.faults sink.new) }
-    ensures fault { S.faults sink.old < S.faults sink.new → result.status ≡ 7 }
+    ensures nothing { result.status ≡ no_memory → Keeps (S.taken sink.old) (S.taken sink.new) }
+    ensures idle { result.status ≢ done → result.status ≢ write_failed → IsIdle result }
+    ensures status { result.status ≢ write_failed → IsDoneFullOrWant result.status }
+    ensures fails { FailsWhere result.status (S.faults sink.old) (S.faults sink.new) }
 {
     match run_and_report(rt, alloc, program) {
         Ok((threads, text)) => answer_report(alloc, sink, threads, &text),
@@ -168,22 +146,21 @@ fn run_program<R: Wait, S: Sink>(
 // Says why there is no program.
 fn answer_stop<S: Sink>(alloc: Global, sink: &mut S, stop: Stop<'_>) -> TopAnswer
     ensures idle { IsIdle result }
-    ensures status { result.status ≢ 7 → result.status ≡ stop_status stop.entry }
-    ensures written { result.status ≢ 7 → stop_status stop.entry ≢ 3
+    ensures status { result.status ≢ write_failed → result.status ≡ stop_status stop.entry }
+    ensures written { result.status ≢ write_failed → stop_status stop.entry ≢ no_memory
         → Appends (S.taken sink.old) (S.taken sink.new) (stop_line stop.entry) }
-    ensures nothing { stop_status stop.entry ≡ 3 → Keeps (S.taken sink.old) (S.taken sink.new) }
-    ensures still { result.status ≢ 7 → S.faults sink.new ≡ S.faults sink.old }
-    ensures broken { result.status ≡ 7
+    ensures nothing { stop_status stop.entry ≡ no_memory
+        → Keeps (S.taken sink.old) (S.taken sink.new) }
+    ensures broken { result.status ≡ write_failed
         → AppendsPart (S.taken sink.old) (S.taken sink.new) (stop_line stop.entry) }
-    ensures spoken { result.status ≡ 7 → stop_status stop.entry ≢ 3 }
-    ensures failed { result.status ≡ 7 → Rose (S.faults sink.old) (S.faults sink.new) }
-    ensures fault { S.faults sink.old < S.faults sink.new → result.status ≡ 7 }
+    ensures spoken { result.status ≡ write_failed → stop_status stop.entry ≢ no_memory }
+    ensures fails { FailsWhere result.status (S.faults sink.old) (S.faults sink.new) }
 {
     match stop {
         Stop::NoMemory => nothing_ran(alloc, NO_MEMORY),
         Stop::ReadFault(name) => {
             let line: &[&[u8]] = &[b"cannot read ", name.as_bytes(), b"\n"];
-            answer_line(alloc, sink, READ_FAILED, line)
+            answer_line(alloc, sink, UNREAD, line)
         }
         Stop::TooLong(name) => {
             let line: &[&[u8]] = &[b"refused ", name.as_bytes(), b" too long\n"];
@@ -221,12 +198,12 @@ fn answer_stop<S: Sink>(alloc: Global, sink: &mut S, stop: Stop<'_>) -> TopAnswe
 // Writes the listing of class files.
 fn answer_listing<S: Sink>(alloc: Global, sink: &mut S, text: &[u8]) -> TopAnswer
     ensures idle { IsIdle result }
-    ensures status { result.status ≢ 7 → result.status ≡ 0 }
-    ensures written { result.status ≢ 7 → Appends (S.taken sink.old) (S.taken sink.new) text.now }
-    ensures still { result.status ≢ 7 → S.faults sink.new ≡ S.faults sink.old }
-    ensures part { result.status ≡ 7 → AppendsPart (S.taken sink.old) (S.taken sink.new) text.now }
-    ensures failed { result.status ≡ 7 → Rose (S.faults sink.old) (S.faults sink.new) }
-    ensures fault { S.faults sink.old < S.faults sink.new → result.status ≡ 7 }
+    ensures status { result.status ≢ write_failed → result.status ≡ done }
+    ensures written { result.status ≢ write_failed
+        → Appends (S.taken sink.old) (S.taken sink.new) text.now }
+    ensures part { result.status ≡ write_failed
+        → AppendsPart (S.taken sink.old) (S.taken sink.new) text.now }
+    ensures fails { FailsWhere result.status (S.faults sink.old) (S.faults sink.new) }
 {
     match write_whole(sink, text) {
         Ok(()) => nothing_ran(alloc, DONE),
@@ -246,49 +223,47 @@ pub fn top<'a, R: Threads + Wait + Sync, I: Inputs, S: Sink, G: Gate + Sync>(
 ) -> TopAnswer
     ensures known { IsStatus result.status }
 
-    // What was written, by the status: at 7 a front part of what was due at another one.
-    ensures headline { result.status ≡ 0
+    // What was written, by the status: at `write_failed` a front part of what was due.
+    ensures headline { result.status ≡ done
         → Writes (Reports (said words.now) (I.told inputs.old) result)
         (S.taken sink.old) (S.taken sink.new) }
-    ensures answers { result.status ≡ 0
+    ensures answers { result.status ≡ done
         → AnswersCalls (said words.now) (I.told inputs.old) result.threads }
-    ensures refused { result.status ≡ 1
+    ensures refusal { result.status ≡ refused
         → Writes (RefusesInput (said words.now) (I.told inputs.old)
         (I.faults inputs.old) (I.faults inputs.new)) (S.taken sink.old) (S.taken sink.new) }
-    ensures usage { result.status ≡ 2
+    ensures usage { result.status ≡ usage_wanted
         → Writes (RefusesWords (said words.now)) (S.taken sink.old) (S.taken sink.new) }
-    ensures nothing { result.status ≡ 3 → Keeps (S.taken sink.old) (S.taken sink.new) }
-    ensures full { result.status ≡ 4
+    ensures nothing { result.status ≡ no_memory → Keeps (S.taken sink.old) (S.taken sink.new) }
+    ensures full { result.status ≡ forms_full
         → Writes (FillsForms (said words.now) (I.told inputs.old))
         (S.taken sink.old) (S.taken sink.new) }
-    ensures unread { result.status ≡ 6
+    ensures unreadable { result.status ≡ unread
         → Writes (FailsToRead (command_of (said words.now)) (I.told inputs.old)
         (I.faults inputs.old) (I.faults inputs.new)) (S.taken sink.old) (S.taken sink.new) }
-    ensures broken { result.status ≡ 7
+    ensures broken { result.status ≡ write_failed
         → WritesPart (IsDue (said words.now) (I.told inputs.old)
         (I.faults inputs.old) (I.faults inputs.new) result) (S.taken sink.old) (S.taken sink.new) }
-    ensures idle { result.status ≢ 0 → result.status ≢ 7 → IsIdle result }
+    ensures idle { result.status ≢ done → result.status ≢ write_failed → IsIdle result }
     ensures listed { IsListing (command_of (said words.now)) → IsIdle result }
 
-    // 7 comes exactly where the sink failed.
-    ensures failed { result.status ≡ 7 → Rose (S.faults sink.old) (S.faults sink.new) }
-    ensures fault { S.faults sink.old < S.faults sink.new → result.status ≡ 7 }
-    ensures still { result.status ≢ 7 → S.faults sink.new ≡ S.faults sink.old }
+    // The status `write_failed` comes exactly where the sink failed.
+    ensures fails { FailsWhere result.status (S.faults sink.old) (S.faults sink.new) }
 
     // A read that failed is never passed over, and never told as want of memory.
-    ensures told { (n : List ℕ) → I.told inputs.new n ≡ I.told inputs.old n }
-    ensures later { (n : List ℕ) → I.faults inputs.old n ≤ I.faults inputs.new n }
-    ensures no_fault { result.status ≢ 6 → result.status ≢ 7
+    ensures keeps { KeepsInputs (I.told inputs.old) (I.told inputs.new)
+        (I.faults inputs.old) (I.faults inputs.new) }
+    ensures no_fault { result.status ≢ unread → result.status ≢ write_failed
         → AreSame (I.faults inputs.old) (I.faults inputs.new) }
 
     // Where nothing failed, the words and the inputs decide the status, but for want of memory; a
     // program is run to its end if its calls need no more forms than there are.
-    ensures usage_wanted { command_of (said words.now) ≡ None
-        → IsStill (S.faults sink.old) (S.faults sink.new) → result.status ≡ 2 }
+    ensures usage_due { command_of (said words.now) ≡ None
+        → IsStill (S.faults sink.old) (S.faults sink.new) → result.status ≡ usage_wanted }
     ensures refusal_wanted { IsRefused (input (said words.now) (I.told inputs.old))
         → InputsStill (command_of (said words.now)) (I.faults inputs.old) (I.faults inputs.new)
         → IsStill (S.faults sink.old) (S.faults sink.new) → IsRefusedOrWant result.status }
-    ensures complete { IsAccepted (input (said words.now) (I.told inputs.old))
+    ensures complete { AreAccepted (input (said words.now) (I.told inputs.old))
         → FitsForms (input (said words.now) (I.told inputs.old))
         → InputsStill (command_of (said words.now)) (I.faults inputs.old) (I.faults inputs.new)
         → IsStill (S.faults sink.old) (S.faults sink.new) → IsDoneOrWant result.status }

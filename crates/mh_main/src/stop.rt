@@ -1,7 +1,7 @@
 ghost use Rattle.std.specs.Prelude.{◌≡◌};
 ghost use Rattle.mh_main.specs.Input.{scripts, scripts_word};
 
-use mh_base::LineFault;
+use mh_base::{LineFault, NoMemory};
 
 /// What is wrong with a line of the scripts.
 #[derive(Clone, Copy, Debug, PartialEq, Eq)]
@@ -46,4 +46,14 @@ pub enum Stop<'a> {
     Fault(&'a str, u32, &'a str),
     /// The named class file has a fault at a place, of the kind that is printed so.
     Place(&'a str, usize, &'a str),
+}
+
+impl<'a> From<NoMemory> for Stop<'a> {
+    ghost use Rattle.mh_main.specs.declared.stop.Stop.TheVariants.{NoMemory as WithoutMemory};
+
+    ghost from_gives = { λ _ stop. stop ≡ WithoutMemory };
+
+    fn from(_: NoMemory) -> Self {
+        Stop::NoMemory
+    }
 }

@@ -1,5 +1,5 @@
 ghost use Rattle.std.specs.Prelude.{◌≡◌};
-ghost use Rattle.mh_main.specs.Words.{said, command_of, mode_words, run_words, sites_words, input_words, commanded};
+ghost use Rattle.mh_main.specs.Words.{said, command_of, mode_words, run_words, sites_words, commanded};
 
 /// The names of the inputs of a run.
 #[derive(Clone, Copy, Debug)]
@@ -21,36 +21,24 @@ pub enum Command<'a> {
 /// How many class files may be named.
 const MOST_CLASSES: usize = 64;
 
-// A run, where the words between the names are its options.
-fn input_words<'a>(
-    leaves_word: &str,
-    leaves: &'a str,
-    scripts_word: &str,
-    scripts: &'a str,
-    plan_word: &str,
-    plan: &'a str,
-) -> Option<Command<'a>>
-    ensures { commanded result
-        ≡ input_words leaves_word.now leaves.now scripts_word.now scripts.now plan_word.now plan.now }
-{
-    if leaves_word == "--leaves" && scripts_word == "--scripts" && plan_word == "--plan" {
-        Some(Command::Run(Names {
-            leaves,
-            scripts,
-            plan,
-        }))
-    } else {
-        None
-    }
-}
-
-// The words of a run behind its mode.
+// The words of a run after its mode: its options in order, each with a name.
 fn run_words<'a>(words: &'a [&'a str]) -> Option<Command<'a>>
     ensures { commanded result ≡ run_words (said words.now) }
 {
     match words {
         [leaves_word, leaves, scripts_word, scripts, plan_word, plan] => {
-            input_words(leaves_word, leaves, scripts_word, scripts, plan_word, plan)
+            if *leaves_word == "--leaves"
+                && *scripts_word == "--scripts"
+                && *plan_word == "--plan"
+            {
+                Some(Command::Run(Names {
+                    leaves,
+                    scripts,
+                    plan,
+                }))
+            } else {
+                None
+            }
         }
         _ => None,
     }
@@ -67,7 +55,7 @@ fn sites_words<'a>(names: &'a [&'a str]) -> Option<Command<'a>>
     }
 }
 
-// The words behind `--mode`.
+// The words after `--mode`.
 fn mode_words<'a>(mode: &str, rest: &'a [&'a str]) -> Option<Command<'a>>
     ensures { commanded result ≡ mode_words mode.now (said rest.now) }
 {

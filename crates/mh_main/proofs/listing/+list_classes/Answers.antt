@@ -9,7 +9,7 @@ returns-clause-ok g t c =
     (listed-all c.list_classes.result (g.I.Inputs.told c.args.inputs.now c.in-Some.name.now.now) c.args.room c.args.first c.in_ok-next.next
     c.in-Some.name.now.now (said c.in-Some.others.now) (g.I.Inputs.told c.args.inputs.now) (g.I.Inputs.told c.list_class.new.inputs)
     c.args.text.now.items c.list_class.new.text.items c.list_classes.new.text.items
-    c.in_ok-next.ensures.told c.in_ok-next.ensures.ok (rw c.saturating_sub-room.ensures at c.list_classes.ensures.ok))
+    c.in_ok-next.ensures.keeps.told c.in_ok-next.ensures.ok (rw c.saturating_sub-room.ensures at c.list_classes.ensures.ok))
 
 pub returns-clause-refuses : goal.returns-clause-refuses
 returns-clause-refuses g t c =
@@ -17,7 +17,7 @@ returns-clause-refuses g t c =
     (refuses-all c.list_classes.result (g.I.Inputs.told c.args.inputs.now c.in-Some.name.now.now) c.args.room c.args.first c.in_ok-next.next
     c.in-Some.name.now.now (said c.in-Some.others.now) (g.I.Inputs.told c.args.inputs.now) (g.I.Inputs.told c.list_class.new.inputs)
     c.args.text.now.items c.list_class.new.text.items
-    c.in_ok-next.ensures.told c.in_ok-next.ensures.ok (rw c.saturating_sub-room.ensures at c.list_classes.ensures.refuses))
+    c.in_ok-next.ensures.keeps.told c.in_ok-next.ensures.ok (rw c.saturating_sub-room.ensures at c.list_classes.ensures.refuses))
 
 pub returns-clause-stop : goal.returns-clause-stop
 returns-clause-stop g t c =
@@ -26,4 +26,4 @@ returns-clause-stop g t c =
     c.in-Some.name.now.now (said c.in-Some.others.now) (g.I.Inputs.told c.args.inputs.now) (g.I.Inputs.told c.list_class.new.inputs)
     (g.I.Inputs.faults c.args.inputs.now) (g.I.Inputs.faults c.list_class.new.inputs) (g.I.Inputs.faults c.list_classes.new.inputs)
     c.args.text.now.items c.list_class.new.text.items
-    c.in_ok-next.ensures.told c.in_ok-next.ensures.no_fault c.in_ok-next.ensures.ok (rw c.saturating_sub-room.ensures at c.list_classes.ensures.stop))
+    c.in_ok-next.ensures.keeps.told c.in_ok-next.ensures.no_fault c.in_ok-next.ensures.ok (rw c.saturating_sub-room.ensures at c.list_classes.ensures.stop))

@@ -1,10 +1,11 @@
 use Rattle.std.proofs.Common.{◌≢◌, rules, refl, inl, arith}
+use Rattle.mh_main.specs.Status.{write_failed}
 use Rattle.mh_main.specs.Due.{full_line}
 use Rattle.mh_main.specs.Program.{naming_of}
 use Rattle.mh_main.proofs.running.run_program.Goals as goal
 
-pub returns-in-Ok-clause-done : goal.returns-in-Ok-clause-done
-returns-in-Ok-clause-done g c = λ done. (
+pub returns-in-Ok-clause-report : goal.returns-in-Ok-clause-report
+returns-in-Ok-clause-report g c = λ done. (
   c.in-Ok.text.items,
   (c.answer_report.ensures.ledger (naming_of c.args.program.now.plan), search rules, search rules),
   search rules,
@@ -19,5 +20,5 @@ returns-in-Ok-clause-broken g c = λ failed. (
 
 pub returns-in-Err-FormsFull-clause-full : goal.returns-in-Err-FormsFull-clause-full
 returns-in-Err-FormsFull-clause-full g c = λ full.
-    let ok : c.answer_line.result.status ≢ 7 = λ bad. omega (arith, full, bad) in
+    let ok : c.answer_line.result.status ≢ write_failed = λ bad. omega (arith, full, bad) in
     (full_line, (search rules, refl), rw c.as_bytes.ensures.value at c.answer_line.ensures.written ok)

@@ -40,7 +40,7 @@ returns-in-Err-list_sites-clause-refusal_wanted g c = λ wanted still quiet.
     (g.I.Inputs.faults c.list_sites.new.inputs) c.in-Err-list_sites.stop (g.S.Sink.faults c.args.sink.now)
     (g.S.Sink.faults c.answer_stop-in-Err-list_sites.new.sink) c.answer_stop-in-Err-list_sites.result.status (rw c.in-Sites.is at c.in-Some.ensures)
     c.in-Err-list_sites.ensures.stop
-    c.answer_stop-in-Err-list_sites.ensures.failed c.answer_stop-in-Err-list_sites.ensures.status still quiet
+    c.answer_stop-in-Err-list_sites.ensures.fails.failed c.answer_stop-in-Err-list_sites.ensures.status still quiet
 
 pub returns-in-Err-list_sites-clause-complete : goal.returns-in-Err-list_sites-clause-complete
 returns-in-Err-list_sites-clause-complete g c = λ accepted fits still quiet.
@@ -48,4 +48,4 @@ returns-in-Err-list_sites-clause-complete g c = λ accepted fits still quiet.
     (g.I.Inputs.faults c.list_sites.new.inputs) c.in-Err-list_sites.stop (g.S.Sink.faults c.args.sink.now)
     (g.S.Sink.faults c.answer_stop-in-Err-list_sites.new.sink) c.answer_stop-in-Err-list_sites.result.status (rw c.in-Sites.is at c.in-Some.ensures)
     c.in-Err-list_sites.ensures.stop
-    c.in-Err-list_sites.ensures.refuses c.answer_stop-in-Err-list_sites.ensures.failed c.answer_stop-in-Err-list_sites.ensures.status accepted still quiet
+    c.in-Err-list_sites.ensures.refuses c.answer_stop-in-Err-list_sites.ensures.fails.failed c.answer_stop-in-Err-list_sites.ensures.status accepted still quiet
