@@ -2,7 +2,7 @@
 use Rattle.std.proofs.Common.{◌≡◌, refl, sym, subst, ap, ◌∙◌, ℕ, ◌<◌, true, false, not, List, [], ◌∷◌, length, map, Some, Ok, nat_le}
 use Rattle.std.specs.Prelude.{slice_get, IsTrue}
 use Rattle.std.specs.Option.{option_map, option_map_or}
-use Rattle.std.proofs.lemmas.Bool.{lt-ltb}
+use Rattle.std.proofs.lemmas.Bool.{and_from, and_parts, lt-ltb}
 use Rattle.std.proofs.lemmas.List.{length-map}
 use Rattle.std.proofs.lemmas.Option.{slice_get-map, slice_get_within}
 use Rattle.mh_values.specs.declared.class.Class.{Class}
@@ -11,12 +11,10 @@ use Rattle.mh_values.specs.declared.types.Ty.{Ty}
 use Rattle.mh_values.specs.declared.value.Value.{Value}
 use Rattle.mh_values.specs.Computation.{spliced}
 use Rattle.mh_values.specs.Same.{is_same_return}
-use Rattle.mh_values.proofs.SameTypes.{both, both-true, same_return-is}
+use Rattle.mh_values.proofs.SameTypes.{same_return-is}
 use Rattle.mh_convert.specs.Conversion.{fit}
 use Rattle.mh_tree.specs.Rows.{bind_row, drop_row, permute_row, names_types}
 use Rattle.mh_tree.proofs.RowParts.{bind_row-parts, drop_row-parts, permute_row-parts}
-use Rattle.mh_form.specs.declared.basic.Basic.{Basic}
-use Rattle.mh_form.specs.declared.basic.Basic.TheVariants as basic
 use Rattle.mh_form.specs.Erasure.{basic_of}
 use Rattle.mh_edit.specs.declared.key.Key.TheVariants as key
 use Rattle.mh_edit.specs.Applied.{applied}
@@ -44,7 +42,7 @@ module _ (classes : List Class) (h : HandleView) (place : ℕ) (v : Value) (u : 
   pub bind-fits : IsShaped h → IsTrue (fits (key.Bind place) (handle_body h))
   bind-fits shaped =
       let inside : place < length (handle_body h).params = subst (λ n. place < n) (sym (arity h shaped)) bind-inside in
-      both-true _ _ (ap not shaped.made) (lt-ltb _ _ inside)
+      and_from _ _ (ap not shaped.made) (lt-ltb _ _ inside)
 
   pub bind-shaped : IsShaped h → HasShape (applied (key.Bind place) (handle_body h)) u
   bind-shaped shaped =
@@ -56,7 +54,7 @@ module _ (classes : List Class) (h : HandleView) (place : ℕ) (v : Value) (u : 
 
 module _ (h : HandleView) (place : ℕ) (types : List Ty) (u : MethodTy) (row : drop_row h.ty h.weight place types ≡ Ok u) (shaped : IsShaped h) where
   pub drop-fits : IsTrue (fits (key.Add place (map basic_of types)) (handle_body h))
-  drop-fits = both-true _ _ (ap not shaped.made) (ap (nat_le place) (arity h shaped) ∙ (drop_row-parts h.ty h.weight place types u row).0)
+  drop-fits = and_from _ _ (ap not shaped.made) (ap (nat_le place) (arity h shaped) ∙ (drop_row-parts h.ty h.weight place types u row).0)
 
   pub drop-shaped : HasShape (applied (key.Add place (map basic_of types)) (handle_body h)) u
   drop-shaped =
@@ -73,17 +71,17 @@ each-named params [] [] named = refl
 each-named params [] (t ∷ types) named = absurd cc
 each-named params (i ∷ reorder) [] named = absurd cc
 each-named params (i ∷ reorder) (t ∷ types) named =
-    let q = both (is_same_return (slice_get params i) (Some t)) (names_types params reorder types) named in
+    let q = and_parts (is_same_return (slice_get params i) (Some t)) (names_types params reorder types) named in
     let at : slice_get params i ≡ Some t = same_return-is (slice_get params i) (Some t) q.0 in
     let here : is_basic_at (map basic_of params) i (basic_of t) ≡ true =
     ap (λ o. option_map_or (is_same_basic (basic_of t)) o false) (slice_get-map basic_of params i ∙ ap (option_map basic_of) at) ∙
     same_basic-itself (basic_of t) in
-    both-true _ _ here (each-named params reorder types q.1)
+    and_from _ _ here (each-named params reorder types q.1)
 
 module _ (h : HandleView) (asked : MethodTy) (reorder : List ℕ) (u : MethodTy) (row : permute_row h.ty h.weight asked reorder ≡ Ok u) (shaped : IsShaped h)
   where
     pub permute-fits : IsTrue (fits (key.Permute (map basic_of asked.params) reorder) (handle_body h))
     permute-fits =
         let q = permute_row-parts h.ty h.weight asked reorder u row in
-        both-true _ _ (ap not shaped.made)
+        and_from _ _ (ap not shaped.made)
         (ap (names_each (map basic_of asked.params) reorder) shaped.params ∙ each-named asked.params reorder h.ty.params q.0)

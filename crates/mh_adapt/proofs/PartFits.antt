@@ -2,18 +2,17 @@
 use Rattle.std.proofs.Common.{◌≡◌, refl, sym, ap, ap₂, ◌∙◌, ℕ, ◌+◌, ◌-◌, ◌≤◌, true, false, not, List, [], drop, length, length-append, length-drop, map, Option, Some, None, nat_le, arith}
 use Rattle.std.specs.Prelude.{slice_get, IsTrue}
 use Rattle.std.specs.Option.{option_map, option_map_or}
-use Rattle.std.proofs.lemmas.Bool.{le-leb}
+use Rattle.std.proofs.lemmas.Bool.{and_from, le-leb}
 use Rattle.std.proofs.lemmas.List.{length-map}
 use Rattle.std.proofs.lemmas.Option.{slice_get-map, slice_get_within}
 use Rattle.mh_values.specs.declared.types.Ty.{Ty}
 use Rattle.mh_values.specs.declared.types.MethodTy.{MethodTy}
 use Rattle.mh_values.specs.Computation.{spliced}
 use Rattle.mh_values.specs.Same.{begins_with_types}
-use Rattle.mh_values.proofs.SameTypes.{begins_with-rest, both-true, same_return-is}
+use Rattle.mh_values.proofs.SameTypes.{begins_with-rest, same_return-is}
 use Rattle.mh_tree.specs.Rows.{count_of, folded, gives_at}
 use Rattle.mh_tree.proofs.SoundAdapters.{at_most}
 use Rattle.mh_form.specs.declared.basic.Basic.{Basic}
-use Rattle.mh_form.specs.declared.basic.Basic.TheVariants as basic
 use Rattle.mh_form.specs.declared.body.FormBody.{FormBody}
 use Rattle.mh_form.specs.Erasure.{basic_of, basic_ret_of}
 use Rattle.mh_edit.specs.declared.key.Key.TheVariants as key
@@ -47,7 +46,7 @@ pub collect-fits :
     body.params ≡ map basic_of params →
     IsTrue (fits (key.Collect place basics (basic_ret_of ret)) body)
 collect-fits params place basics ret body gives begun shaped =
-    both-true (not (is_nothing body)) (takes_result body.params place (basic_ret_of ret)) begun
+    and_from (not (is_nothing body)) (takes_result body.params place (basic_ret_of ret)) begun
     (ap (λ ps. takes_result ps place (basic_ret_of ret)) shaped ∙ takes-given ret place params gives)
 
 -- the parameters that a combiner takes come after the one for which it gives a value
@@ -76,8 +75,8 @@ fold-fits t place c body gives begins begun shaped =
     let taken = taken-count c.ret in
     let many : length body.params ≡ length t.params = ap length shaped ∙ length-map t.params basic_of in
     let fit : nat_le (place + length c.params + taken_by (basic_ret_of c.ret)) (length body.params) ≡ true = le-leb _ _ (omega (arith, room, taken, many)) in
-    both-true (not (is_nothing body)) _ begun
-    (both-true (takes_result body.params place (basic_ret_of c.ret)) _ (ap (λ ps. takes_result ps place (basic_ret_of c.ret)) shaped ∙
+    and_from (not (is_nothing body)) _ begun
+    (and_from (takes_result body.params place (basic_ret_of c.ret)) _ (ap (λ ps. takes_result ps place (basic_ret_of c.ret)) shaped ∙
     takes-given c.ret place t.params gives) fit)
 
 -- parameters put in for what a part's result takes the place of, erased

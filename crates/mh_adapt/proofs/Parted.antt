@@ -37,8 +37,8 @@ pub record DoesAs (table : LeafTable) (h : HandleView) (k : Key) (f : Field) (u 
   pub returns : IsSound table.classes (mean table t) u
 
 pub stands-parted :
-    (table : LeafTable) (h h' g : HandleView) (a b t : Tree) (row : MethodTy → ℕ → MethodTy → ℕ → TypeOrRefusal) (key_of : MethodTy → Key) (u : MethodTy) (f : Field)
-    →
+    (table : LeafTable) (h h' g : HandleView) (a b t : Tree) (row : MethodTy → ℕ → MethodTy → ℕ → TypeOrRefusal)
+    (key_of : MethodTy → Key) (u : MethodTy) (f : Field) →
     IsOfTwo table row key_of a b t →
     row h.ty h.weight g.ty g.weight ≡ Ok u →
     Grows h h' u (1 + h.weight + g.weight) (g.ty ∷ g.sides) (key_of g.ty) (f ∷ []) →

@@ -1,5 +1,6 @@
 -- A handle whose arguments are put into another order stands for the Permute of the tree.
 use Rattle.std.proofs.Common.{◌≡◌, ◌≢◌, refl, sym, subst, ap, ap₂, ◌∙◌, ℕ, ◌+◌, true, List, [], ◌∷◌, ◌++◌, Some, Ok, map, length, append-nil}
+use Rattle.std.proofs.lemmas.Bool.{and_parts}
 use Rattle.std.specs.Prelude.{slice_get, option_to_list, IsTrue}
 use Rattle.std.specs.Option.{option_map}
 use Rattle.std.proofs.lemmas.List.{length-map}
@@ -11,7 +12,7 @@ use Rattle.mh_values.specs.declared.value.Value.{Value}
 use Rattle.mh_values.specs.Computation.{Stuck, found}
 use Rattle.mh_values.specs.HasType.{HaveTypes}
 use Rattle.mh_values.specs.Same.{is_same_return}
-use Rattle.mh_values.proofs.SameTypes.{both, same_return-is}
+use Rattle.mh_values.proofs.SameTypes.{same_return-is}
 use Rattle.mh_leaf.specs.LeafTable.{LeafTable}
 use Rattle.mh_tree.specs.Tree.{Tree, weight}
 use Rattle.mh_tree.specs.Tree as tree
@@ -46,7 +47,7 @@ picked-erased classes args params [] [] have named = refl
 picked-erased classes args params [] (t ∷ types) have named = absurd cc
 picked-erased classes args params (i ∷ reorder) [] have named = absurd cc
 picked-erased classes args params (i ∷ reorder) (t ∷ types) have named =
-    let q = both (is_same_return (slice_get params i) (Some t)) (names_types params reorder types) named in
+    let q = and_parts (is_same_return (slice_get params i) (Some t)) (names_types params reorder types) named in
     let v = types-get classes args params i t have (same_return-is (slice_get params i) (Some t) q.0) in
     let slot : slice_get (map erased args) i ≡ Some (erased v.0) = slice_get-map erased args i ∙ ap (option_map erased) v.1 in
     ap₂ picked_more slot (picked-erased classes args params reorder types have q.1)

@@ -1,5 +1,6 @@
 -- What exact and generic calls of a handle answer that stands for a tree.
 use Rattle.std.proofs.Common.{◌≡◌, ◌≢◌, refl, sym, ap, ap₂, ◌∙◌, subst, ℕ, ◌+◌, ◌<◌, ◌^◌, Bool, true, false, List, [], ◌∷◌, ◌++◌, length, map, Option, Some, Ok, Err}
+use Rattle.std.proofs.lemmas.Bool.{and_parts}
 use Rattle.std.proofs.lemmas.List.{append-nil}
 use Rattle.mh_values.specs.declared.class.Class.{Class}
 use Rattle.mh_values.specs.declared.types.MethodTy.{MethodTy}
@@ -8,7 +9,6 @@ use Rattle.mh_values.specs.declared.value.Value.{Value}
 use Rattle.mh_values.specs.Classes.{AreClasses}
 use Rattle.mh_values.specs.Computation.{Stuck, and_then}
 use Rattle.mh_values.specs.HasType.{HaveTypes}
-use Rattle.mh_values.proofs.SameTypes.{both}
 use Rattle.mh_convert.specs.Conversion.{is_trivial_ret}
 use Rattle.mh_leaf.specs.LeafTable.{LeafTable}
 use Rattle.mh_tree.specs.Tree.{Tree, AsType}
@@ -109,7 +109,7 @@ module _
   where
     kept-args : conv_all table.classes asked.params h.ty.params args ≡ Ok args
     kept-args =
-        let p = both (are_trivial table.classes asked.params h.ty.params) (is_trivial_ret table.classes h.ty.ret asked.ret) kept in
+        let p = and_parts (are_trivial table.classes asked.params h.ty.params) (is_trivial_ret table.classes h.ty.ret asked.ret) kept in
         all-kept table.classes are asked.params h.ty.params args (astype_row-parts table.classes h.ty h.weight asked asked row).0 p.0 have
 
     pub kept-typed : HaveTypes table.classes args h.ty.params
@@ -119,7 +119,7 @@ module _
 
     pub kept-mean : (n : ℕ) → mean table t args n ≡ mean table (AsType t asked) args n
     kept-mean n =
-        let p = both (are_trivial table.classes asked.params h.ty.params) (is_trivial_ret table.classes h.ty.ret asked.ret) kept in
+        let p = and_parts (are_trivial table.classes asked.params h.ty.params) (is_trivial_ret table.classes h.ty.ret asked.ret) kept in
         let next : MethodTy → List Value → Done = λ own vs. and_then (mean table t vs n) n (λ r k. conv_result table.classes own.ret asked.ret r) in
         sym (ap (λ c. known c (λ own. or_throw (conv_all table.classes asked.params own.params args) (next own))) st.typed
         ∙ (or_throw-ok (conv_all table.classes asked.params h.ty.params args) args (next h.ty) kept-args

@@ -1,14 +1,13 @@
 -- The key and the fields of a use as another type: that the key fits, and keeps to the types.
 use Rattle.std.proofs.Common.{◌≡◌, sym, ap, ap₂, ◌∙◌, ℕ, ◌+◌, ◌≤◌, Bool, true, false, not, cond, ◌&&◌, List, [], ◌∷◌, ◌++◌, length, map, codes, Ok}
 use Rattle.std.specs.Prelude.{nat_le, option_to_list}
-use Rattle.std.proofs.lemmas.Bool.{eq-eqb, leb-true}
+use Rattle.std.proofs.lemmas.Bool.{and_from, and_parts, eq-eqb, leb-true}
 use Rattle.std.proofs.lemmas.List.{length-map}
 use Rattle.mh_values.specs.declared.class.Class.{Class}
 use Rattle.mh_values.specs.declared.types.MethodTy.{MethodTy}
 use Rattle.mh_values.specs.Class.{internal_error_class}
 use Rattle.mh_values.specs.Exception.{saying}
 use Rattle.mh_values.specs.Slots.{slots_of_all}
-use Rattle.mh_values.proofs.SameTypes.{both, both-true}
 use Rattle.mh_convert.specs.Conversion.{is_trivial_ret, ret_conversion_of}
 use Rattle.mh_tree.specs.Rows.{illegal, provided, limited, can_be_used_as, mismatch, astype_row}
 use Rattle.mh_tree.proofs.RowParts.{provided-parts, astype_row-parts}
@@ -47,7 +46,7 @@ convert-fits classes h asked u re shaped row =
     let q = astype_row-parts classes h.ty h.weight asked u row in
     let long : length (entries_of classes asked.params h.ty.params) ≡ length (handle_body h).params =
     length-entries classes asked.params h.ty.params q.0 ∙ sym (ap length shaped.params ∙ length-map h.ty.params basic_of) in
-    both-true _ _ (ap not shaped.made) (eq-eqb _ _ long)
+    and_from _ _ (ap not shaped.made) (eq-eqb _ _ long)
 
 -- what the key makes takes what the type says
 pub convert-shaped :
@@ -84,6 +83,6 @@ keys-kept classes asked own is = ap (λ b. cond b [] (convert_key classes asked 
 
 pub fields-kept : (classes : List Class) (asked own : MethodTy) → trivial classes asked own ≡ true → convert_fields classes asked own ≡ []
 fields-kept classes asked own is =
-    let p = both (are_trivial classes asked.params own.params) (is_trivial_ret classes own.ret asked.ret) is in
+    let p = and_parts (are_trivial classes asked.params own.params) (is_trivial_ret classes own.ret asked.ret) is in
     ap₂ (λ (a b : List Field). a ++ b) (ap (map (λ d. field.Conv d)) (none-converted classes asked.params own.params p.0))
     (ap (λ b. cond b [] (map (λ c. field.Ret c) (option_to_list (ret_conversion_of classes own.ret asked.ret)))) p.1)

@@ -1,5 +1,6 @@
 -- The keys of Spread and Gather fit the bodies of handles, where their rows give a type.
 use Rattle.std.proofs.Common.{◌≡◌, refl, sym, subst, ap, ◌∙◌, ℕ, ◌-◌, true, false, not, List, [], ◌∷◌, drop, length, map, Option, Some, Ok, nat_le}
+use Rattle.std.proofs.lemmas.Bool.{and_from, and_parts}
 use Rattle.std.specs.Prelude.{slice_get, IsTrue}
 use Rattle.std.specs.List.{list_all}
 use Rattle.std.specs.Option.{option_map, option_map_or}
@@ -13,7 +14,7 @@ use Rattle.mh_values.specs.declared.types.MethodTy.{MethodTy}
 use Rattle.mh_values.specs.Array.{item_type}
 use Rattle.mh_values.specs.HasType.{is_type_below}
 use Rattle.mh_values.specs.Same.{is_same_type}
-use Rattle.mh_values.proofs.SameTypes.{both, both-true, same_type-is}
+use Rattle.mh_values.proofs.SameTypes.{same_type-is}
 use Rattle.mh_tree.specs.Rows.{component_of, gather_row, spread_row}
 use Rattle.mh_tree.proofs.RowParts.{gather_row-parts, spread_row-parts}
 use Rattle.mh_tree.proofs.SoundGather.{last-there}
@@ -27,8 +28,8 @@ use Rattle.mh_handle.proofs.Basics.{same_basic-itself}
 one_basic : (t : Ty) (types : List Ty) → list_all (λ p. is_same_type p t) types ≡ true → list_all (is_same_basic (basic_of t)) (map basic_of types) ≡ true
 one_basic t [] h = refl
 one_basic t (s ∷ types) h =
-    let q = both (is_same_type s t) (list_all (λ p. is_same_type p t) types) h in
-    both-true _ _ (ap (λ u. is_same_basic (basic_of t) (basic_of u)) (same_type-is s t q.0) ∙ same_basic-itself (basic_of t)) (one_basic t types q.1)
+    let q = and_parts (is_same_type s t) (list_all (λ p. is_same_type p t) types) h in
+    and_from _ _ (ap (λ u. is_same_basic (basic_of t) (basic_of u)) (same_type-is s t q.0) ∙ same_basic-itself (basic_of t)) (one_basic t types q.1)
 
 pub spread-fits :
     (t : MethodTy) (weight : ℕ) (array : Option Ty) (count : ℕ) (c : Comp) (u : MethodTy) (body : FormBody) →
@@ -41,7 +42,8 @@ spread-fits t weight array count c u body row some begun shaped =
     let parts = spread_row-parts t weight array count u row in
     let same : Some parts.0 ≡ Some c = sym parts.1 ∙ some in
     let is : parts.0 ≡ c = cc in
-    let last = both (nat_le count (length t.params)) (list_all (λ p. is_same_type p (item_type parts.0)) (drop (length t.params - count) t.params)) parts.2 in
+    let last = and_parts (nat_le count (length t.params))
+    (list_all (λ p. is_same_type p (item_type parts.0)) (drop (length t.params - count) t.params)) parts.2 in
     let all : list_all (λ p. is_same_type p (item_type c)) (drop (length t.params - count) t.params) ≡ true =
     subst (λ d. list_all (λ p. is_same_type p (item_type d)) (drop (length t.params - count) t.params) ≡ true) is last.1 in
     let b = basic_of (item_type c) in
@@ -51,8 +53,8 @@ spread-fits t weight array count c u body row some begun shaped =
     ap (λ n. list_all (is_same_basic b) (drop (n - count) (map basic_of t.params))) many
     ∙ (ap (list_all (is_same_basic b)) (drop-map basic_of (length t.params - count) t.params) ∙
     one_basic (item_type c) (drop (length t.params - count) t.params) all) in
-    let ends : ends_with body.params count b ≡ true = ap (λ ps. ends_with ps count b) shaped ∙ both-true _ _ within basics in
-    both-true (not (is_nothing body)) (ends_with body.params count b) (ap not begun) ends
+    let ends : ends_with body.params count b ≡ true = ap (λ ps. ends_with ps count b) shaped ∙ and_from _ _ within basics in
+    and_from (not (is_nothing body)) (ends_with body.params count b) (ap not begun) ends
 
 -- what takes an array is a reference
 takes_reference : (classes : List Class) (c : Comp) (t : Ty) → is_type_below classes (ty.Array c) t ≡ true → is_same_basic basic.L (basic_of t) ≡ true
@@ -76,4 +78,4 @@ gather-fits classes t weight array count u b body row begun shaped =
     let ends : is_basic_at body.params (length body.params - 1) basic.L ≡ true =
     ap (λ ps. is_basic_at ps (length ps - 1) basic.L) shaped ∙ (ap (λ n. is_basic_at (map basic_of t.params) (n - 1) basic.L) (length-map t.params basic_of) ∙
     at) in
-    both-true (not (is_nothing body)) (is_basic_at body.params (length body.params - 1) basic.L) (ap not begun) ends
+    and_from (not (is_nothing body)) (is_basic_at body.params (length body.params - 1) basic.L) (ap not begun) ends

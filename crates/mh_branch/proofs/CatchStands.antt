@@ -2,7 +2,7 @@
 use Rattle.std.proofs.Common.{◌≡◌, refl, sym, subst, ap, ◌∙◌, ℕ, ◌+◌, ◌-◌, ◌<◌, ◌≤◌, ◌^◌, true, List, [], ◌∷◌, ◌++◌, take, length, map, Option, Ok, arith}
 use Rattle.std.specs.Prelude.{IsTrue}
 use Rattle.std.proofs.lemmas.List.{length-map, take-map}
-use Rattle.std.proofs.lemmas.Bool.{le-leb}
+use Rattle.std.proofs.lemmas.Bool.{and_parts, le-leb}
 use Rattle.std.specs.declared.sync.Arc.{Arc}
 use Rattle.std.specs.declared.alloc.Global.{Global}
 use Rattle.mh_values.specs.declared.class.Class.{Class}
@@ -17,7 +17,6 @@ use Rattle.mh_values.specs.Classes.{AreClasses}
 use Rattle.mh_values.specs.Computation.{Ran, Refines, guarded}
 use Rattle.mh_values.specs.HasType.{HaveTypes, is_type_below}
 use Rattle.mh_values.specs.Same.{begins_with_types}
-use Rattle.mh_values.proofs.SameTypes.{both}
 use Rattle.mh_leaf.specs.LeafTable.{LeafTable}
 use Rattle.mh_tree.specs.Rows.{catch_row, takes_exception}
 use Rattle.mh_tree.specs.Tree.{Tree, weight}
@@ -56,7 +55,7 @@ pub handler-few : (classes : List Class) (class : ClassId) (params types : List 
     length params - 1 ≤ length (map basic_of types)
 handler-few classes class [] types takes = absurd cc
 handler-few classes class (first ∷ others) types takes =
-    let q = both (is_type_below classes (ty.Class class) first) (begins_with_types types others) takes in
+    let q = and_parts (is_type_below classes (ty.Class class) first) (begins_with_types types others) takes in
     let few = first-few types others q.1 in
     omega arith
 

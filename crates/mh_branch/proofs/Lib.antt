@@ -15,4 +15,5 @@ mod RootStands
 mod Rooted
 mod SpreadCall
 mod SpreadRules
+mod SpreadItems
 mod SpreadStands

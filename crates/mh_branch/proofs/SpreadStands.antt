@@ -1,23 +1,21 @@
 -- A handle that spreads its last argument stands for the Spread of its tree.
 use Rattle.std.proofs.Common.{◌≡◌, ◌≢◌, refl, sym, subst, ap, ◌∙◌, ℕ, ◌+◌, ◌-◌, ◌<◌, ◌≤◌, ◌^◌, true, List, [], ◌∷◌, ◌++◌, append-nil, take, drop, length, map, Option, Some, Ok, nat_le, arith}
+use Rattle.std.proofs.lemmas.Bool.{and_parts}
 use Rattle.std.specs.Prelude.{slice_get}
 use Rattle.std.specs.List.{list_all}
 use Rattle.std.specs.Option.{option_map}
 use Rattle.std.proofs.lemmas.List.{length-map, length-drop, take_all}
 use Rattle.std.proofs.lemmas.Option.{slice_get-map}
-use Rattle.mh_values.specs.declared.class.Class.{Class}
 use Rattle.mh_values.specs.declared.types.Comp.{Comp}
 use Rattle.mh_values.specs.declared.types.Ty.{Ty}
 use Rattle.mh_values.specs.declared.types.Ty.TheVariants as ty
 use Rattle.mh_values.specs.declared.types.MethodTy.{MethodTy}
 use Rattle.mh_values.specs.declared.value.Value.{Value}
-use Rattle.mh_values.specs.declared.value.Value.TheVariants as value
 use Rattle.mh_values.specs.Array.{item_type, spread_values}
 use Rattle.mh_values.specs.Classes.{AreClasses}
-use Rattle.mh_values.specs.Computation.{Ran, Gave, Threw, Stuck, and_then, after, found, mapped, raised, spliced}
-use Rattle.mh_values.specs.HasType.{has_type, HaveTypes}
+use Rattle.mh_values.specs.Computation.{Ran, Stuck, and_then, found, spliced}
+use Rattle.mh_values.specs.HasType.{HaveTypes}
 use Rattle.mh_values.specs.Same.{is_same_type}
-use Rattle.mh_values.proofs.SameTypes.{both}
 use Rattle.mh_leaf.specs.LeafTable.{LeafTable}
 use Rattle.mh_tree.specs.Rows.{component_of, spread_row, taking}
 use Rattle.mh_tree.specs.Tree.{Tree, weight}
@@ -27,7 +25,7 @@ use Rattle.mh_tree.specs.Meaning.{Done, mean}
 use Rattle.mh_tree.specs.Sound.{IsSound}
 use Rattle.mh_tree.proofs.RowParts.{spread_row-parts}
 use Rattle.mh_tree.proofs.SoundAdapters.{at_most}
-use Rattle.mh_tree.proofs.SoundSpread.{Spreads, spreads, spliced_at, spread-sound}
+use Rattle.mh_tree.proofs.SoundSpread.{spreads, spliced_at, spread-sound}
 use Rattle.mh_tree.proofs.TypedLists.{types-get, types-length, types-splice}
 use Rattle.mh_form.specs.declared.slot.Slot.{Slot}
 use Rattle.mh_form.specs.Erasure.{basic_of, erased, erased_ran}
@@ -41,29 +39,11 @@ use Rattle.mh_edit.proofs.Places.{length-spliced}
 use Rattle.mh_handle.specs.Grows.{Grows}
 use Rattle.mh_handle.specs.Recipe.{at_some, recipe}
 use Rattle.mh_handle.specs.Stands.{HandleView, Stands, handle_body}
-use Rattle.mh_handle.proofs.Erasing.{erased-after, raised-low, returns-runs, spliced-map}
+use Rattle.mh_handle.proofs.Erasing.{returns-runs, spliced-map}
 use Rattle.mh_handle.proofs.Standing.{stands-grown}
 use Rattle.mh_branch.proofs.ArrayShapes.{spread-shaped}
+use Rattle.mh_branch.proofs.SpreadItems.{items-then, spread-erased}
 use Rattle.mh_branch.proofs.Rooted.{made-named}
-
--- what an array of a type is spread to, erased
-spread-erased : (classes : List Class) (c : Comp) (count : ℕ) (v : Value) → has_type classes v (ty.Array c) ≡ true →
-    spread_slots count (erased v) ≡ mapped (map erased) (spread_values count v)
-spread-erased classes c count (value.Array d items) typed = refl
-spread-erased classes c count value.Null typed = refl
-spread-erased classes c count v typed = absurd cc
-
--- what runs on the items that an array gives
-items-then :
-    (classes : List Class) (r : Ran (List Value)) (n : ℕ) (types : List Ty) (run : List Slot → ℕ → Ran (Option Slot)) (next : List Value → ℕ → Done) →
-    Spreads classes r types →
-    n < 2 ^ 32 →
-    ((items : List Value) (k : ℕ) → HaveTypes classes items types → k < 2 ^ 32 → run (map erased items) k ≡ erased_ran (next items k)) →
-    and_then (mapped (map erased) r) n run ≡ erased_ran (and_then r n next)
-items-then classes (Gave items calls) n types run next typed low same =
-    ap (after calls) (same items (raised n calls) typed (raised-low calls n low)) ∙ sym (erased-after calls (next items (raised n calls)))
-items-then classes (Threw e calls) n types run next typed low same = refl
-items-then classes Stuck n types run next typed low same = absurd typed
 
 pub spread-stands :
     (table : LeafTable) (h h' : HandleView) (t : Tree) (array : Option Ty) (count : ℕ) (c : Comp) (u : MethodTy) →
@@ -85,7 +65,7 @@ spread-stands table h h' t array count c u are st row some grows =
     let new = applied own old in
     let place = length h.ty.params - count in
     let params = spliced place count (ty.Array c ∷ []) h.ty.params in
-    let last = both (nat_le count (length h.ty.params)) (list_all (λ p. is_same_type p (item_type parts.0)) (drop place h.ty.params)) parts.2 in
+    let last = and_parts (nat_le count (length h.ty.params)) (list_all (λ p. is_same_type p (item_type parts.0)) (drop place h.ty.params)) parts.2 in
     let within : count ≤ length h.ty.params = at_most count (length h.ty.params) last.0 in
     let all : list_all (λ p. is_same_type p (item_type c)) (drop place h.ty.params) ≡ true =
     subst (λ d. list_all (λ p. is_same_type p (item_type d)) (drop place h.ty.params) ≡ true) is last.1 in

@@ -1,5 +1,6 @@
 pub mod UnitSpelling
 pub mod UnitLen
+pub mod UnitLenComplete
 pub mod SoundLen
 pub mod Texts
 pub mod FormatParts

@@ -3,7 +3,8 @@ use Rattle.std.proofs.Common.{get_or, drop-cons, ap, sym, ◌∙◌, ◌≡◌, 
 use Rattle.std.proofs.lemmas.Bool.Decides.{nat_tests}
 use Rattle.std.proofs.lemmas.List.{drop-drop, length-drop, nil_from_length}
 use Rattle.mh_class_bytes.specs.Mutf8.{unit_len, sound_from}
-use Rattle.mh_class_bytes.proofs.UnitLen.{unit_len-sound, len_1}
+use Rattle.mh_class_bytes.proofs.UnitLen.{unit_len-sound}
+use Rattle.mh_class_bytes.proofs.UnitLenComplete.{len_1}
 
 pub sound_from-skip : (k : ℕ) (bytes : List ℕ) → k ≤ length bytes → sound_from k bytes ≡ k + sound_from 0 (drop k bytes)
 unfolding sound_from

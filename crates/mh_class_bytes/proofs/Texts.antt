@@ -6,7 +6,8 @@ use Rattle.std.specs.List.{flat_map}
 use Rattle.std.proofs.Math.Seq.{take-length}
 use Rattle.std.proofs.lemmas.List.Concat.{flat_map-cons}
 use Rattle.mh_class_bytes.specs.Mutf8.{AreUnits, IsText, IsBadAt, unit_bytes, unit_len, sound_from}
-use Rattle.mh_class_bytes.proofs.UnitLen.{IsFront, unit_len-sound, unit_len-complete}
+use Rattle.mh_class_bytes.proofs.UnitLen.{IsFront, unit_len-sound}
+use Rattle.mh_class_bytes.proofs.UnitLenComplete.{unit_len-complete}
 use Rattle.mh_class_bytes.proofs.SoundLen.{sound_from-none, sound_from-unit, sound_from-nil, unit_len-nil}
 
 nothing : IsText []

@@ -6,7 +6,8 @@ use Rattle.std.proofs.lemmas.List.Concat.{flat_map-cons}
 use Rattle.mh_class_bytes.specs.Mutf8.{AreUnits, unit_bytes, unit_len, sound_from}
 use Rattle.mh_class_bytes.specs.Chars.{unit_value, units_from}
 use Rattle.mh_class_bytes.proofs.UnitSpelling.{unit_value-bytes}
-use Rattle.mh_class_bytes.proofs.UnitLen.{unit_len-sound, unit_len-complete}
+use Rattle.mh_class_bytes.proofs.UnitLen.{unit_len-sound}
+use Rattle.mh_class_bytes.proofs.UnitLenComplete.{unit_len-complete}
 use Rattle.mh_class_bytes.proofs.SoundLen.{sound_from-none, sound_from-unit}
 use Rattle.mh_class_bytes.proofs.Texts.{unit_bytes-some}
 

@@ -1,10 +1,10 @@
 -- A handle with the key of a conversion, or with none where nothing changes, stands for the AsType of its tree.
 use Rattle.std.proofs.Common.{◌≡◌, refl, sym, ap, ap₂, ◌∙◌, subst, ℕ, ◌+◌, Bool, true, false, cond, ◌&&◌, List, [], ◌∷◌, ◌++◌, length, map, Ok, length-append, arith}
+use Rattle.std.proofs.lemmas.Bool.{and_parts}
 use Rattle.std.specs.Prelude.{option_to_list}
 use Rattle.std.proofs.lemmas.List.{append-nil, length-map}
 use Rattle.mh_values.specs.declared.types.MethodTy.{MethodTy}
 use Rattle.mh_values.specs.Classes.{AreClasses}
-use Rattle.mh_values.proofs.SameTypes.{both}
 use Rattle.mh_convert.specs.Conversion.{is_trivial_ret, ret_conversion_of}
 use Rattle.mh_leaf.specs.LeafTable.{LeafTable}
 use Rattle.mh_tree.specs.Tree.{Tree, AsType}

@@ -1,10 +1,10 @@
 -- A handle that is used as another type stands for the AsType of its tree.
 use Rattle.std.proofs.Common.{◌≡◌, refl, sym, ap, ap₂, ◌∙◌, subst, ℕ, ◌+◌, Bool, true, false, cond, ◌&&◌, List, [], ◌∷◌, ◌++◌, length, map, Ok, length-append, arith}
+use Rattle.std.proofs.lemmas.Bool.{and_parts}
 use Rattle.std.specs.Prelude.{option_to_list}
 use Rattle.std.proofs.lemmas.List.{append-nil, length-map}
 use Rattle.mh_values.specs.declared.types.MethodTy.{MethodTy}
 use Rattle.mh_values.specs.Classes.{AreClasses}
-use Rattle.mh_values.proofs.SameTypes.{both}
 use Rattle.mh_convert.specs.Conversion.{is_trivial_ret, ret_conversion_of}
 use Rattle.mh_leaf.specs.LeafTable.{LeafTable}
 use Rattle.mh_tree.specs.Tree.{Tree, AsType}
@@ -39,7 +39,7 @@ module _
         (AsType t asked)
     unfolding viewed
     as-type number true is =
-        let p = both (are_trivial table.classes asked.params h.ty.params) (is_trivial_ret table.classes h.ty.ret asked.ret) is in
+        let p = and_parts (are_trivial table.classes asked.params h.ty.params) (is_trivial_ret table.classes h.ty.ret asked.ret) is in
         let keys : convert_keys table.classes asked h.ty ≡ [] =
         ap (λ b. cond b [] (Convert (entries_of table.classes asked.params h.ty.params) (ret_entry_of table.classes h.ty.ret asked.ret) ∷ [])) is in
         let convs : map (λ d. field.Conv d) (convs_of table.classes asked.params h.ty.params) ≡ [] =

@@ -6,7 +6,7 @@ use Rattle.std.proofs.lemmas.List.{map-append, length-map, length-replicate}
 use Rattle.std.proofs.lemmas.Option.{slice_get-map, get_or_from_slice_get, slice_get_within}
 use Rattle.std.specs.Option.{option_map}
 use Rattle.mh_setonce.specs.Walks.{Distinct, Lacks}
-use Rattle.mh_setonce.proofs.Nodes.{at_push}
+use Rattle.mh_base.proofs.Slices.{slice_get-push}
 use Rattle.mh_edit.specs.declared.key.Key.{Key}
 use Rattle.mh_handle.specs.Form.{FormView}
 use Rattle.mh_handle.specs.Hashes.{hash_of}
@@ -23,12 +23,12 @@ distinct-snoc {V} key vs v d new i j x y at_i at_j same =
     (λ (p : slice_get vs i ≡ Some x). ⊎_elim
     (λ (q : slice_get vs j ≡ Some y). d i j x y p q same)
     (λ (q : (j ≡ length vs) × (v ≡ y)). absurd (new i x p (same ∙ ap key (sym q.1))))
-    (at_push vs v j y at_j))
+    (slice_get-push vs v j y at_j))
     (λ (p : (i ≡ length vs) × (v ≡ x)). ⊎_elim
     (λ (q : slice_get vs j ≡ Some y). absurd (new j y q (sym same ∙ ap key (sym p.1))))
     (λ (q : (j ≡ length vs) × (v ≡ y)). p.0 ∙ sym q.0)
-    (at_push vs v j y at_j))
-    (at_push vs v i x at_i)
+    (slice_get-push vs v j y at_j))
+    (slice_get-push vs v i x at_i)
 
 zeros : (n i : ℕ) → slice_index (replicate n 0) i ≡ 0
 zeros zero i = refl

@@ -1,11 +1,12 @@
 -- Entries, conversions and parameters of a conversion to another type, and what it leaves of a body.
 use Rattle.std.proofs.Common.{◌≡◌, refl, sym, ap, ap₂, suc, ◌+◌, Bool, true, false, cond, ◌&&◌, List, [], ◌∷◌, ◌++◌, length, map, Option, Some, None, is_some, add-zero, arith}
+use Rattle.std.proofs.lemmas.Bool.{and_parts}
 use Rattle.std.specs.Prelude.{option_to_list, not, ◌==◌}
 use Rattle.mh_values.specs.declared.class.Class.{Class}
 use Rattle.mh_values.specs.declared.types.Primitive.{Primitive}
 use Rattle.mh_values.specs.declared.types.Ty.{Ty}
 use Rattle.mh_values.specs.declared.types.Ty.TheVariants as ty
-use Rattle.mh_values.proofs.SameTypes.{both, same_primitive-is}
+use Rattle.mh_values.proofs.SameTypes.{same_primitive-is}
 use Rattle.mh_convert.specs.declared.conv.Conv.{Conv}
 use Rattle.mh_convert.specs.declared.conv.RetConv.{RetConv}
 use Rattle.mh_convert.specs.Conversion.{can, is_trivial}
@@ -31,13 +32,13 @@ pub lengths : (classes : List Class) (ss ts : List Ty) → can_all classes ss ts
 lengths classes [] [] h = refl
 lengths classes [] (t ∷ ts) h = absurd cc
 lengths classes (s ∷ ss) [] h = absurd cc
-lengths classes (s ∷ ss) (t ∷ ts) h = ap suc (lengths classes ss ts (both (can classes s t) (can_all classes ss ts) h).1)
+lengths classes (s ∷ ss) (t ∷ ts) h = ap suc (lengths classes ss ts (and_parts (can classes s t) (can_all classes ss ts) h).1)
 
 pub length-entries : (classes : List Class) (ss ts : List Ty) → can_all classes ss ts ≡ true → length (entries_of classes ss ts) ≡ length ts
 length-entries classes [] [] h = refl
 length-entries classes [] (t ∷ ts) h = absurd cc
 length-entries classes (s ∷ ss) [] h = absurd cc
-length-entries classes (s ∷ ss) (t ∷ ts) h = ap suc (length-entries classes ss ts (both (can classes s t) (can_all classes ss ts) h).1)
+length-entries classes (s ∷ ss) (t ∷ ts) h = ap suc (length-entries classes ss ts (and_parts (can classes s t) (can_all classes ss ts) h).1)
 
 count-one : (b : Bool) (c : Basic) (es : List (Option Basic)) (d : Conv) (ds : List Conv) → length ds ≡ conv_count es →
     length (cond b ds (d ∷ ds)) ≡ conv_count (cond b None (Some c) ∷ es)
@@ -70,7 +71,7 @@ params-converted classes [] (t ∷ ts) h = absurd cc
 params-converted classes (s ∷ ss) [] h = absurd cc
 params-converted classes (s ∷ ss) (t ∷ ts) h =
     param-one (is_trivial classes s t) (basic_of t) (basic_of s) (entries_of classes ss ts) (map basic_of ts) (map basic_of ss) (below-basic classes s t)
-    (params-converted classes ss ts (both (can classes s t) (can_all classes ss ts) h).1)
+    (params-converted classes ss ts (and_parts (can classes s t) (can_all classes ss ts) h).1)
 
 -- the same where nothing is converted
 pub params-kept : (classes : List Class) (ss ts : List Ty) → can_all classes ss ts ≡ true → are_trivial classes ss ts ≡ true → map basic_of ts ≡ map basic_of ss
@@ -78,9 +79,9 @@ params-kept classes [] [] h k = refl
 params-kept classes [] (t ∷ ts) h k = absurd cc
 params-kept classes (s ∷ ss) [] h k = absurd cc
 params-kept classes (s ∷ ss) (t ∷ ts) h k =
-    let p = both (is_trivial classes s t) (are_trivial classes ss ts) k in
+    let p = and_parts (is_trivial classes s t) (are_trivial classes ss ts) k in
     ap₂ (λ (x : Basic) (xs : List Basic). x ∷ xs) (below-basic classes s t p.0)
-    (params-kept classes ss ts (both (can classes s t) (can_all classes ss ts) h).1 p.1)
+    (params-kept classes ss ts (and_parts (can classes s t) (can_all classes ss ts) h).1 p.1)
 
 -- the field of a result's conversion
 pub some-is : (o : Option RetConv) → is_some o ≡ true → (c : RetConv) × (o ≡ Some c)

@@ -1,5 +1,6 @@
 -- Converting the erasures of values gives the erasures of the converted values.
 use Rattle.std.proofs.Common.{◌≡◌, refl, sym, ap, ◌∙◌, subst, ℕ, Bool, true, false, cond, if◌then◌else◌, List, [], ◌∷◌, map, Option, Some, None, Result, Ok, Err}
+use Rattle.std.proofs.lemmas.Bool.{and_parts}
 use Rattle.std.specs.Prelude.{option_to_list}
 use Rattle.std.specs.Result.{result_map_both}
 use Rattle.mh_values.specs.declared.class.Class.{Class}
@@ -9,7 +10,6 @@ use Rattle.mh_values.specs.declared.value.Value.{Value}
 use Rattle.mh_values.specs.Classes.{AreClasses}
 use Rattle.mh_values.specs.Computation.{Ran, Gave, Threw, Stuck, and_then, found, mapped}
 use Rattle.mh_values.specs.HasType.{has_type, HaveTypes}
-use Rattle.mh_values.proofs.SameTypes.{both}
 use Rattle.mh_convert.specs.declared.conv.Conv.{Conv}
 use Rattle.mh_convert.specs.declared.conv.RetConv.{RetConv}
 use Rattle.mh_convert.specs.declared.conv.RetConv.TheVariants as ret
@@ -88,7 +88,7 @@ arguments-converted classes are [] (t ∷ ts) args n next allowed have = absurd 
 arguments-converted classes are (s ∷ ss) [] args n next allowed have = absurd cc
 arguments-converted classes are (s ∷ ss) (t ∷ ts) [] n next allowed have = absurd have
 arguments-converted classes are (s ∷ ss) (t ∷ ts) (v ∷ vs) n next allowed have =
-    let q = both (can classes s t) (can_all classes ss ts) allowed in
+    let q = and_parts (can classes s t) (can_all classes ss ts) allowed in
     argument-converted classes are s t v (is_trivial classes s t) (entries_of classes ss ts) (convs_of classes ss ts) (map erased vs) n
     (conv_all classes ss ts vs) next
     refl q.0 have.0 (λ more. arguments-converted classes are ss ts vs n more q.1 have.1)

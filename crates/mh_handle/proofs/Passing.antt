@@ -7,7 +7,7 @@ use Rattle.std.proofs.lemmas.List.Elements.{All-append}
 use Rattle.mh_setonce.specs.Walks.{StartsWith, Lacks, Has, Distinct, FindsNode}
 use Rattle.mh_edit.specs.declared.key.Key.{Key}
 use Rattle.mh_edit.proofs.Renaming.{slice_get-append_left}
-use Rattle.mh_setonce.proofs.Nodes.{at_push}
+use Rattle.mh_base.proofs.Slices.{slice_get-push}
 use Rattle.mh_handle.specs.Form.{FormView}
 use Rattle.mh_handle.specs.Index.{recipe_of}
 use Rattle.mh_handle.specs.Passes.{AreLearnt, Draws, IsFormOf, numbers_to, seat_at}
@@ -47,7 +47,7 @@ learnt-later nodes nodes' asked more l i f at =
 pub learnt-more : (nodes asked : List FormView) (form : FormView) (i : ℕ) → AreLearnt nodes asked → slice_get nodes i ≡ Some form →
     AreLearnt nodes (asked ++ form ∷ [])
 learnt-more nodes asked form i l here j f at = ⊎_elim (λ old. l j f old) (λ (q : (j ≡ length asked) × (form ≡ f)). (i, here ∙ ap Some q.1))
-    (at_push asked form j f at)
+    (slice_get-push asked form j f at)
 
 -- the same of a call that adds the form, or leaves all as it was
 pub learnt-added : {A E : Type 0} (nodes asked asked' : List FormView) (form : FormView) (i : ℕ) (r : Result A E) → AreLearnt nodes asked →

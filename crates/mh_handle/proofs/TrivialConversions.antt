@@ -1,5 +1,6 @@
 -- Conversions of which each changes nothing.
 use Rattle.std.proofs.Common.{◌≡◌, refl, ap, ◌∙◌, subst, ℕ, Bool, true, false, cond, List, [], ◌∷◌, Option, Some, None, Result, Ok}
+use Rattle.std.proofs.lemmas.Bool.{and_parts}
 use Rattle.std.specs.Prelude.{option_to_list}
 use Rattle.std.specs.Result.{result_map_both}
 use Rattle.std.proofs.lemmas.List.{append-nil}
@@ -11,7 +12,6 @@ use Rattle.mh_values.specs.Classes.{AreClasses}
 use Rattle.mh_values.specs.Computation.{Gave, Threw, Stuck, and_then, found, after}
 use Rattle.mh_values.specs.HasType.{has_type, HaveTypes}
 use Rattle.mh_values.specs.Returns.{Returns}
-use Rattle.mh_values.proofs.SameTypes.{both}
 use Rattle.mh_convert.specs.Conversion.{can, is_trivial, is_trivial_ret, ret_conv, value_conversion}
 use Rattle.mh_convert.proofs.Typed.{trivial-keeps, trivial-allowed}
 use Rattle.mh_tree.specs.Rows.{can_all}
@@ -31,8 +31,8 @@ all-kept classes are [] (t ∷ ts) args allowed trivial have = absurd cc
 all-kept classes are (s ∷ ss) [] args allowed trivial have = absurd cc
 all-kept classes are (s ∷ ss) (t ∷ ts) [] allowed trivial have = absurd have
 all-kept classes are (s ∷ ss) (t ∷ ts) (v ∷ vs) allowed trivial have =
-    let q = both (can classes s t) (can_all classes ss ts) allowed in
-    let p = both (is_trivial classes s t) (are_trivial classes ss ts) trivial in
+    let q = and_parts (can classes s t) (can_all classes ss ts) allowed in
+    let p = and_parts (is_trivial classes s t) (are_trivial classes ss ts) trivial in
     ap (λ r. then_others r (conv_all classes ss ts vs)) (trivial-keeps classes are s t v p.0 have.0)
     ∙ ap (then_others (Ok v)) (all-kept classes are ss ts vs q.1 p.1 have.1)
 
@@ -41,7 +41,7 @@ pub none-converted : (classes : List Class) (ss ts : List Ty) → are_trivial cl
 none-converted classes [] ts trivial = refl
 none-converted classes (s ∷ ss) [] trivial = refl
 none-converted classes (s ∷ ss) (t ∷ ts) trivial =
-    let p = both (is_trivial classes s t) (are_trivial classes ss ts) trivial in
+    let p = and_parts (is_trivial classes s t) (are_trivial classes ss ts) trivial in
     ap (λ b. cond b (convs_of classes ss ts) (conversion_between s t ∷ convs_of classes ss ts)) p.0 ∙ none-converted classes ss ts p.1
 
 -- what runs is followed by nothing more

@@ -61,7 +61,9 @@ argument_entries p = entries_at p.first p.arg
 
 -- the bootstrap method of a call site: its name, the method of that name, and the handle that calls it (a REF_invokeStatic)
 abbrev pub handle_entries : PlacedSite → List Entry
-handle_entries p = entries.Utf8 p.site.script ∷ entries.NameAndType p.first 11 ∷ entries.Methodref 10 (p.first + 1) ∷ entries.MethodHandle REF_invokeStatic (p.first + 2) ∷ []
+handle_entries p =
+    entries.Utf8 p.site.script ∷ entries.NameAndType p.first 11 ∷ entries.Methodref 10 (p.first + 1)
+    ∷ entries.MethodHandle REF_invokeStatic (p.first + 2) ∷ []
 
 -- the call of a call site: its type, its name and type, and the call by the bootstrap method of its number
 abbrev pub call_entries : PlacedSite → List Entry

@@ -8,8 +8,6 @@ use Rattle.mh_base.proofs.Slices.{slice_get-push}
 use Rattle.mh_setonce.specs.declared.learnt.Learnt.{Learnt}
 use Rattle.mh_setonce.specs.Walks.{StartsWith, Distinct, Lacks, Has}
 use Rattle.mh_setonce.specs.Rows.{node_of, nodes_of, fact_of, facts_of, Noted, IsWalk, Kept}
--- the name by which a crate above knows the items of a list with one more at its end
-pub use Rattle.mh_base.proofs.Slices.{slice_get-push as at_push}
 
 module _ {V : Type 0} where
   pub node_at : (ls : List (Learnt V)) (i : ℕ) (l : Learnt V) → slice_get ls i ≡ Some l → slice_get (nodes_of ls) i ≡ Some (node_of l)
@@ -83,7 +81,7 @@ module _ {V K : Type 0} (key : V → K) where
   longer cells ls l walk cell known new = record {
     noted = λ i m at. ⊎_elim (λ old. walk.noted i m old) (λ (t : (i ≡ length ls) × (l ≡ m)). subst
         (λ (z : ℕ × Learnt V). (slice_get cells z.0 ≡ Some z.1.mark.cell) × (z.1.mark.value ≡ z.1.node.now)) (λ j. (sym t.0 j, t.1 j)) (cell, known))
-        (at_push ls l i m at);
+        (slice_get-push ls l i m at);
     distinct = subst (Distinct key) (sym (map-append node_of ls (l ∷ []))) (distinct_more ls l walk.distinct new);
   }
 

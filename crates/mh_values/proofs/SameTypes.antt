@@ -12,8 +12,6 @@ use Rattle.mh_values.specs.declared.types.MethodTy.{MethodTy}
 use Rattle.mh_values.specs.Class.{class_at}
 use Rattle.mh_values.specs.HasType.{is_same_primitive}
 use Rattle.mh_values.specs.Same.{is_same_component, is_same_type, is_same_return, are_same_types, begins_with_types, is_same_method_type}
--- the names by which the crates above know the two halves of a test
-pub use Rattle.std.proofs.lemmas.Bool.{and_parts as both, and_from as both-true}
 
 pub same_class-is : (c d : ClassId) → (c.0 == d.0) ≡ true → c ≡ d
 same_class-is c d h = ap class_at (eqb-true c.0 d.0 h)

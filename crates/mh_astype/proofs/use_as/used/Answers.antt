@@ -1,9 +1,9 @@
 use Rattle.std.proofs.Common.{◌≡◌, true, ap, ◌∙◌, subst, sym, ◌+◌, ◌≤◌, arith}
+use Rattle.std.proofs.lemmas.Bool.{and_parts}
 use Rattle.mh_values.specs.declared.types.MethodTy.{MethodTy}
 use Rattle.mh_convert.specs.Conversion.{is_trivial_ret}
 use Rattle.mh_handle.specs.Recipe.{are_trivial}
 use Rattle.mh_handle.specs.Stands.{HandleView, HasShape, handle_body}
-use Rattle.mh_values.proofs.SameTypes.{both}
 use Rattle.mh_astype.proofs.Asking.{used-retyped}
 use Rattle.mh_astype.proofs.Calling.{kept-is}
 use Rattle.mh_astype.proofs.Using.{kept-shaped, light, trivial}
@@ -20,7 +20,8 @@ retyped-requires-clause-shaped g c =
     let kept : trivial c.args.w.now.leaves.now.classes c.args.ty c.args.target.ty ≡ true =
     kept-is c.is_trivial.result c.classes.result.now c.args.w.now.leaves.now.classes c.ty.result.now c.args.target.ty c.args.ty c.if-is_trivial.true
     c.is_trivial.ensures c.classes.ensures c.ty.ensures.ty in
-    let params = both (are_trivial c.args.w.now.leaves.now.classes c.args.ty.params c.args.target.ty.params) (is_trivial_ret c.args.w.now.leaves.now.classes
+    let params = and_parts (are_trivial c.args.w.now.leaves.now.classes c.args.ty.params c.args.target.ty.params)
+    (is_trivial_ret c.args.w.now.leaves.now.classes
     c.args.target.ty.ret c.args.ty.ret) kept in
     let P : MethodTy → Type 0 = λ m. HasShape (handle_body c.args.target) m in
     subst P (sym c.in_ok-new.ensures)

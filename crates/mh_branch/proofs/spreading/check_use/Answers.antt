@@ -9,6 +9,5 @@ returns-then-is_same_method_type c =
     let same : is_same_method_type c.args.own.now c.args.asked.now ≡ true = sym c.is_same_method_type.ensures ∙ c.if-is_same_method_type.true in
     let row : TypeOrRefusal = astype_row c.args.classes.now c.args.own.now c.args.weight c.args.asked.now in (
       ap (λ b. cond b (Ok c.args.own.now) row) same ∙ ap Ok (same_method_type-is c.args.own.now c.args.asked.now same),
-      sym
-          (ap (λ b. cond b c.args.weight (1 + c.args.weight)) same),
+      sym (ap (λ b. cond b c.args.weight (1 + c.args.weight)) same),
     )

@@ -20,11 +20,9 @@ returns-in_err-used-clause-obeys g c =
     (subst (λ (cs : List Class). IsSpreading cs c.ty.result.now c.weight.result c.args.array c.args.count c.in_ok-spreading.spreading) c.classes.ensures.classes
     c.in_ok-spreading.ensures)) in
     used-error c.args.w.now.leaves.now.classes c.args.target.ty c.args.target.weight c.args.array c.args.count c.in_ok-spreading.spreading.own
-    c.in_ok-spreading.spreading.asked
-    c.in_err-used.field-0.0
+    c.in_ok-spreading.spreading.asked c.in_err-used.field-0.0
     c.from_residual-in_err-used.result (spreading-row c.args.w.now.leaves.now.classes c.args.target.ty c.args.target.weight c.args.array c.args.count
-    c.in_ok-spreading.spreading found) found.used
-    c.in_err-used.ensures.obeys c.from_residual-in_err-used.ensures.1
+    c.in_ok-spreading.spreading found) found.used c.in_err-used.ensures.obeys c.from_residual-in_err-used.ensures.1
 
 pub returns-in_err-used-clause-makes : goal.returns-in_err-used-clause-makes
 returns-in_err-used-clause-makes g c =
@@ -133,8 +131,7 @@ returns-clause-sides g c =
     call-sides c.args.w.now.leaves.now.classes c.args.target c.in_ok-used.used c.args.array c.args.count c.in_ok-spreading.spreading found
     c.in_ok-used.ensures.obeys
     c.in_ok-used.ensures.used (1 + c.weight-2.result) c.new.result (key.Spread c.args.count c.basic_of.result) c.new-2.result.items c.grown.result
-    c.new.ensures
-    c.grown.ensures.grows
+    c.new.ensures c.grown.ensures.grows
 
 pub returns-clause-stands : goal.returns-clause-stands
 returns-clause-stands g c a st =

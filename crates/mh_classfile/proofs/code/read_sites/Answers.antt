@@ -14,7 +14,9 @@ returns-in_err-site-clause-gives c =
     let room : c.has_room-has_room.result ≡ ltb (length found) c.args.sites.now.room = c.has_room-has_room.ensures ∙ ap (λ (r : ℕ). ltb (length found) r)
     c.instructions.invariant.room in
     let lt : c.instructions.cursor.at < c.args.end = omega arith in
-    rw (p.1, p.2) (finding-stops c.args.code.now.pool.now c.args.code.now.method c.args.sites.now.room c.args.code.now.start c.args.end c.args.cursor.now c.instructions.cursor
+    rw (p.1, p.2) (finding-stops c.args.code.now.pool.now c.args.code.now.method c.args.sites.now.room c.args.code.now.start
+    c.args.end c.args.cursor.now
+    c.instructions.cursor
     c.args.sites.now.sites found _ c.instructions.invariant.finding lt (rw room at c.in_err-site.ensures.reads))
 
 pub instructions-preserved-in-Continue-branch-3 : goal.instructions-preserved-in-Continue-branch-3
@@ -40,7 +42,8 @@ instructions-preserved c =
     let reads = rw (room, c.in_default.is) at c.in_ok-site.ensures.reads in
     let e : found ≡ found ++ [] = sym (append-nil found) in
     record {
-      finding = rw e (finding-next c.args.code.now.pool.now c.args.code.now.method c.args.sites.now.room c.args.code.now.start c.args.end c.args.cursor.now c.instructions.cursor
+      finding = rw e (finding-next c.args.code.now.pool.now c.args.code.now.method c.args.sites.now.room c.args.code.now.start c.args.end c.args.cursor.now
+          c.instructions.cursor
           c.read_instruction.new.cursor c.args.sites.now.sites found [] c.instructions.invariant.finding lt c.in_ok-site.ensures.onward
           c.in_ok-site.ensures.moves reads);
       room = c.instructions.invariant.room;
@@ -49,5 +52,6 @@ instructions-preserved c =
 pub returns-clause-gives : goal.returns-clause-gives
 returns-clause-gives c =
     let le : c.args.end ≤ c.instructions.cursor.at = omega arith in
-    finding-done c.args.code.now.pool.now c.args.code.now.method c.args.sites.now.room c.args.code.now.start c.args.end c.args.cursor.now c.instructions.cursor c.args.sites.now.sites
+    finding-done c.args.code.now.pool.now c.args.code.now.method c.args.sites.now.room c.args.code.now.start c.args.end c.args.cursor.now
+    c.instructions.cursor c.args.sites.now.sites
     c.instructions.sites.sites c.instructions.invariant.finding le

@@ -10,11 +10,10 @@ use Rattle.mh_handle.proofs.growth.edited.Goals as goal
 pub invariant_of-result : goal.invariant_of-result
 invariant_of-result g c =
     let old = body_of c.args.from.form.now.recipe in
-    let made : body_of c.in_ok-form.form.now.recipe ≡ applied c.args.by.key old = ap body_of c.in_ok-form.ensures.edits.0 ∙ body_of-snoc c.args.from.form.now.recipe
-    c.args.by.key in (
+    let made : body_of c.in_ok-form.form.now.recipe ≡ applied c.args.by.key old =
+    ap body_of c.in_ok-form.ensures.edits.0 ∙ body_of-snoc c.args.from.form.now.recipe c.args.by.key in (
       c.body.ensures,
       c.requires.light,
       ap is_nothing made ∙ made-applied c.args.by.key old c.requires.fits,
-      subst
-          (λ t. HasShape (body_of c.in_ok-form.form.now.recipe) t) (sym c.in_ok-ty.ensures) (ap (λ b. b.params) made ∙ c.requires.shaped),
+      subst (λ t. HasShape (body_of c.in_ok-form.form.now.recipe) t) (sym c.in_ok-ty.ensures) (ap (λ b. b.params) made ∙ c.requires.shaped),
     )
