@@ -1,14 +1,25 @@
 //! The program `mh`: it hands its words, the files and standard output to the library.
 #![tactic(auto)]
 
-use mh_main::top;
-use mh_outside::{OpenGate, RealInputs, RealSink};
-use std::alloc::AllocError;
-use std::process::ExitCode;
-use std::{env, io};
+ghost use Rattle.std.specs.Prelude.{◌≡◌, ◌≢◌, None};
+ghost use Rattle.std.specs.Process.{exit_status};
+ghost use Rattle.std.specs.Io.KnownBytes.{Keeps};
+ghost use Rattle.mh_outside.specs.Causes.{AreSame, IsStill};
+ghost use Rattle.mh_outside.specs.Kept.{KeepsInputs};
+ghost use Rattle.mh_main.specs.Words.{command_of, said};
+ghost use Rattle.mh_main.specs.Input.{input, AreAccepted, FitsForms, IsMissing, IsRefused};
+ghost use Rattle.mh_main.specs.Stops.{InputsStill};
+ghost use Rattle.mh_main.specs.Status.{refused, usage_wanted, no_memory, forms_full, unread, write_failed, IsStatus, FailsWhere, IsRefusedOrWant, IsUnreadOrWant, IsDoneOrWant};
+ghost use Rattle.mh_main.specs.Due.{FailsToRead, FillsForms, RefusesInput, RefusesWords, Writes};
 
-/// No memory was left, already for the words.
-const NO_MEMORY: u8 = 3;
+use mh_main::status::NO_MEMORY;
+use mh_main::top;
+use mh_outside::{Inputs, OpenGate, RealInputs, RealSink, Sink};
+use std::alloc::{AllocError, Global};
+use std::process::ExitCode;
+use std::sync::Wait;
+use std::thread::Threads;
+use std::{env, io};
 
 // The words after the program's name.
 fn words(rt: &HostRuntime) -> io::Result<Vec<String>> {
@@ -28,6 +39,53 @@ fn borrowed<'w>(rt: &HostRuntime, words: &'w [String]) -> Result<Vec<&'w str>, A
     Ok(texts)
 }
 
+/// Runs the program, and ends with the status of its answer: what `top` says of that status, this
+/// says of the exit status.
+fn run<'a, R: Threads + Wait + Sync, I: Inputs, S: Sink>(
+    rt: &R,
+    alloc: Global,
+    words: &'a [&'a str],
+    inputs: &mut I,
+    sink: &mut S,
+) -> ExitCode
+    ensures known { IsStatus (exit_status result) }
+
+    // What was written, by the status.
+    ensures refusal { exit_status result ≡ refused
+        → Writes (RefusesInput (said words.now) (I.told inputs.old)
+        (I.faults inputs.old) (I.faults inputs.new)) (S.taken sink.old) (S.taken sink.new) }
+    ensures usage { exit_status result ≡ usage_wanted
+        → Writes (RefusesWords (said words.now)) (S.taken sink.old) (S.taken sink.new) }
+    ensures nothing { exit_status result ≡ no_memory
+        → Keeps (S.taken sink.old) (S.taken sink.new) }
+    ensures full { exit_status result ≡ forms_full
+        → Writes (FillsForms (said words.now) (I.told inputs.old))
+        (S.taken sink.old) (S.taken sink.new) }
+    ensures unreadable { exit_status result ≡ unread
+        → Writes (FailsToRead (command_of (said words.now)) (I.told inputs.old)
+        (I.faults inputs.old) (I.faults inputs.new)) (S.taken sink.old) (S.taken sink.new) }
+
+    // Which status it is.
+    ensures fails { FailsWhere (exit_status result) (S.faults sink.old) (S.faults sink.new) }
+    ensures keeps { KeepsInputs (I.told inputs.old) (I.told inputs.new)
+        (I.faults inputs.old) (I.faults inputs.new) }
+    ensures no_fault { exit_status result ≢ unread → exit_status result ≢ write_failed
+        → AreSame (I.faults inputs.old) (I.faults inputs.new) }
+    ensures usage_due { command_of (said words.now) ≡ None
+        → IsStill (S.faults sink.old) (S.faults sink.new) → exit_status result ≡ usage_wanted }
+    ensures refusal_wanted { IsRefused (input (said words.now) (I.told inputs.old))
+        → InputsStill (command_of (said words.now)) (I.faults inputs.old) (I.faults inputs.new)
+        → IsStill (S.faults sink.old) (S.faults sink.new) → IsRefusedOrWant (exit_status result) }
+    ensures complete { AreAccepted (input (said words.now) (I.told inputs.old))
+        → FitsForms (input (said words.now) (I.told inputs.old))
+        → InputsStill (command_of (said words.now)) (I.faults inputs.old) (I.faults inputs.new)
+        → IsStill (S.faults sink.old) (S.faults sink.new) → IsDoneOrWant (exit_status result) }
+    ensures unread_wanted { IsMissing (input (said words.now) (I.told inputs.old))
+        → IsStill (S.faults sink.old) (S.faults sink.new) → IsUnreadOrWant (exit_status result) }
+{
+    ExitCode::from(top(rt, alloc, words, inputs, sink, &OpenGate).status)
+}
+
 fn main(rt: HostRuntime) -> ExitCode {
     let words = match words(&rt) {
         Ok(words) => words,
@@ -42,6 +100,5 @@ fn main(rt: HostRuntime) -> ExitCode {
     };
     let mut inputs = RealInputs::new(rt.alloc(), &rt);
     let mut sink = RealSink::new(&rt);
-    let answer = top(&rt, rt.alloc(), &texts, &mut inputs, &mut sink, &OpenGate);
-    ExitCode::from(answer.status)
+    run(&rt, rt.alloc(), &texts, &mut inputs, &mut sink)
 }

@@ -33,7 +33,7 @@ fn reads_up_to_the_limit(rt: HostRuntime) -> Result<(), Fail> {
         (4, Err(ReadWhole::TooLong)),
         (usize::MAX, Ok(5)),
     ] {
-        assert!(rt; read_len(rt.alloc(), limit)? == want);
+        assert!(rt; read_len(rt.alloc(), limit)? == want, "limit {limit}");
     }
     Ok(())
 }

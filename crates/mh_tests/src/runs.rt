@@ -1,3 +1,4 @@
+use mh_main::status::{DONE, NO_MEMORY, REFUSED, UNREAD, WRITE_FAILED};
 use mh_main::top;
 use mh_outside::{MemoryInputs, MemorySink, OpenGate};
 use std::alloc::{AllocError, Global};
@@ -88,146 +89,257 @@ fn run<R: Threads + Wait + Sync>(
     Ok((answer.status, sink))
 }
 
-/// The leaves, the plan, the reads and the writes that fail, the status and the text of a run.
-type Run = (
-    &'static str,
-    &'static str,
-    &'static [u64],
-    &'static [u64],
-    u8,
-    &'static str,
-);
-
-fn holds<R: Threads + Wait + Sync>(rt: &R, alloc: Global, row: &Run) -> Result<bool, AllocError> {
-    let (leaves, plan, reads, writes, status, text) = *row;
-    let (found, sink) = run(rt, alloc, (leaves, plan), reads, writes)?;
-    Ok(found == status && sink.bytes.as_slice() == text.as_bytes())
+/// A run, its status and its text.
+struct Run {
+    name: &'static str,
+    leaves: &'static str,
+    plan: &'static str,
+    /// The numbers of the reads that fail.
+    reads: &'static [u64],
+    /// The numbers of the writes that fail.
+    writes: &'static [u64],
+    status: u8,
+    text: &'static str,
 }
 
+fn holds<R: Threads + Wait + Sync>(rt: &R, alloc: Global, row: &Run) -> Result<bool, AllocError> {
+    let files = (row.leaves, row.plan);
+    let (status, sink) = run(rt, alloc, files, row.reads, row.writes)?;
+    Ok(status == row.status && sink.bytes.as_slice() == row.text.as_bytes())
+}
+
+/// Runs in which nothing fails.
 static RUNS: [Run; 10] = [
-    (LEAVES, PLAN, &[], &[], 0, TEXT),
-    // Sums wrap to 32 bits.
-    (
-        LEAVES,
-        "thread\nexact leaf:demo/Host.add:(II)I (II)I i:2147483647 i:1\n",
-        &[],
-        &[],
-        0,
-        "thread 0\nreturns i:-2147483648 calls 0\nattempts 0 forms 1 types 0\n",
-    ),
-    (LEAVES, "", &[], &[], 0, "attempts 0 forms 0 types 0\n"),
-    (
-        HOST,
-        "thread\ngeneric leaf:demo/Host.wide:(JI)J (Ljava/lang/Object;I)J I:5 i:0\ngeneric leaf:demo/Host.wide:(JI)J (Ljava/lang/Object;I)J J:5 i:0\ngeneric leaf:demo/Host.wide:(JI)J (Ljava/lang/Object;I)J s:x i:0\ngeneric leaf:demo/Host.wide:(JI)J (Ljava/lang/Object;I)J null i:0\n",
-        &[],
-        &[],
-        0,
-        "thread 0\nreturns j:5 calls 3\nreturns j:5 calls 3\nthrows java/lang/ClassCastException s: calls -\nthrows java/lang/NullPointerException s: calls -\nattempts 0 forms 2 types 0\n",
-    ),
-    (
-        HOST,
-        "thread\ngeneric leaf:demo/Host.flag:(Z)V (Ljava/lang/Number;)V J:1\n",
-        &[],
-        &[],
-        0,
-        "thread 0\nthrows java/lang/invoke/WrongMethodTypeException s:have\\s(Z)V\\swant\\s(Ljava/lang/Number;)V calls -\nattempts 0 forms 1 types 0\n",
-    ),
-    (
-        HOST,
-        "thread\ngeneric leaf:demo/Host.flag:(Z)V (Ljava/lang/Object;)V Z:true\nthread\ngeneric leaf:demo/Host.same:(I)I (I)J i:-7\ngeneric leaf:demo/Host.same:(I)I (I)I i:7\n",
-        &[],
-        &[],
-        0,
-        "thread 0\nreturns void calls 4\nthread 1\nreturns j:-7 calls 2\nreturns i:7 calls 2\nattempts 0 forms 4 types 0\n",
-    ),
-    (
-        HOST,
-        "thread\nexact leaf:demo/Host.div:(II)I (II)I i:1 i:0\nexact leaf:demo/Host.div:(II)I (II)I i:-2147483648 i:-1\nexact leaf:demo/Host.add:(II)I (IJ)I i:1 j:2\n",
-        &[],
-        &[],
-        0,
-        "thread 0\nthrows java/lang/ArithmeticException s:/\\sby\\szero calls 1\nreturns i:-2147483648 calls 1\nthrows java/lang/invoke/WrongMethodTypeException s:have\\s(II)I\\swant\\s(IJ)I calls -\nattempts 0 forms 1 types 0\n",
-    ),
-    (
-        HOST,
-        "thread\ngeneric leaf:demo/Host.add:(II)I (II)I i:1 s:x\n",
-        &[],
-        &[],
-        1,
-        "refused plan.txt line 2 BadArguments\n",
-    ),
-    (
-        "class a/A java/lang/Object\nclass a/B no/Such\n",
-        "",
-        &[],
-        &[],
-        1,
-        "refused leaves.txt line 2 UnknownClass\n",
-    ),
-    (
-        "static java/lang/Object note ()V note\nstatic java/lang/Object note ()V note\n",
-        "",
-        &[],
-        &[],
-        1,
-        "refused leaves.txt line 2 Twice\n",
-    ),
+    Run {
+        name: "a call",
+        leaves: LEAVES,
+        plan: PLAN,
+        reads: &[],
+        writes: &[],
+        status: DONE,
+        text: TEXT,
+    },
+    Run {
+        name: "a sum that wraps",
+        leaves: LEAVES,
+        plan: "thread\nexact leaf:demo/Host.add:(II)I (II)I i:2147483647 i:1\n",
+        reads: &[],
+        writes: &[],
+        status: DONE,
+        text: "thread 0\nreturns i:-2147483648 calls 0\nattempts 0 forms 1 types 0\n",
+    },
+    Run {
+        name: "a plan without calls",
+        leaves: LEAVES,
+        plan: "",
+        reads: &[],
+        writes: &[],
+        status: DONE,
+        text: "attempts 0 forms 0 types 0\n",
+    },
+    Run {
+        name: "references that are unboxed",
+        leaves: HOST,
+        plan: "thread\ngeneric leaf:demo/Host.wide:(JI)J (Ljava/lang/Object;I)J I:5 i:0\ngeneric leaf:demo/Host.wide:(JI)J (Ljava/lang/Object;I)J J:5 i:0\ngeneric leaf:demo/Host.wide:(JI)J (Ljava/lang/Object;I)J s:x i:0\ngeneric leaf:demo/Host.wide:(JI)J (Ljava/lang/Object;I)J null i:0\n",
+        reads: &[],
+        writes: &[],
+        status: DONE,
+        text: "thread 0\nreturns j:5 calls 3\nreturns j:5 calls 3\nthrows java/lang/ClassCastException s: calls -\nthrows java/lang/NullPointerException s: calls -\nattempts 0 forms 2 types 0\n",
+    },
+    Run {
+        name: "a conversion that there is not",
+        leaves: HOST,
+        plan: "thread\ngeneric leaf:demo/Host.flag:(Z)V (Ljava/lang/Number;)V J:1\n",
+        reads: &[],
+        writes: &[],
+        status: DONE,
+        text: "thread 0\nthrows java/lang/invoke/WrongMethodTypeException s:have\\s(Z)V\\swant\\s(Ljava/lang/Number;)V calls -\nattempts 0 forms 1 types 0\n",
+    },
+    Run {
+        name: "results that are dropped and widened",
+        leaves: HOST,
+        plan: "thread\ngeneric leaf:demo/Host.flag:(Z)V (Ljava/lang/Object;)V Z:true\nthread\ngeneric leaf:demo/Host.same:(I)I (I)J i:-7\ngeneric leaf:demo/Host.same:(I)I (I)I i:7\n",
+        reads: &[],
+        writes: &[],
+        status: DONE,
+        text: "thread 0\nreturns void calls 4\nthread 1\nreturns j:-7 calls 2\nreturns i:7 calls 2\nattempts 0 forms 4 types 0\n",
+    },
+    Run {
+        name: "a division by zero",
+        leaves: HOST,
+        plan: "thread\nexact leaf:demo/Host.div:(II)I (II)I i:1 i:0\nexact leaf:demo/Host.div:(II)I (II)I i:-2147483648 i:-1\nexact leaf:demo/Host.add:(II)I (IJ)I i:1 j:2\n",
+        reads: &[],
+        writes: &[],
+        status: DONE,
+        text: "thread 0\nthrows java/lang/ArithmeticException s:/\\sby\\szero calls 1\nreturns i:-2147483648 calls 1\nthrows java/lang/invoke/WrongMethodTypeException s:have\\s(II)I\\swant\\s(IJ)I calls -\nattempts 0 forms 1 types 0\n",
+    },
+    Run {
+        name: "arguments that are refused",
+        leaves: HOST,
+        plan: "thread\ngeneric leaf:demo/Host.add:(II)I (II)I i:1 s:x\n",
+        reads: &[],
+        writes: &[],
+        status: REFUSED,
+        text: "refused plan.txt line 2 BadArguments\n",
+    },
+    Run {
+        name: "a class that is not there",
+        leaves: "class a/A java/lang/Object\nclass a/B no/Such\n",
+        plan: "",
+        reads: &[],
+        writes: &[],
+        status: REFUSED,
+        text: "refused leaves.txt line 2 UnknownClass\n",
+    },
+    Run {
+        name: "a leaf that is there twice",
+        leaves: "static java/lang/Object note ()V note\nstatic java/lang/Object note ()V note\n",
+        plan: "",
+        reads: &[],
+        writes: &[],
+        status: REFUSED,
+        text: "refused leaves.txt line 2 Twice\n",
+    },
 ];
 
 /// Runs of which one read fails.
 static READS: [Run; 6] = [
-    (LEAVES, PLAN, &[0], &[], 6, "cannot read leaves.txt\n"),
-    (LEAVES, PLAN, &[1], &[], 6, "cannot read leaves.txt\n"),
-    (LEAVES, PLAN, &[2], &[], 6, "cannot read scripts.txt\n"),
-    (LEAVES, PLAN, &[3], &[], 6, "cannot read plan.txt\n"),
-    (LEAVES, PLAN, &[4], &[], 6, "cannot read plan.txt\n"),
-    (LEAVES, PLAN, &[5], &[], 0, TEXT),
+    Run {
+        name: "no manifest",
+        leaves: LEAVES,
+        plan: PLAN,
+        reads: &[0],
+        writes: &[],
+        status: UNREAD,
+        text: "cannot read leaves.txt\n",
+    },
+    Run {
+        name: "a manifest cut off",
+        leaves: LEAVES,
+        plan: PLAN,
+        reads: &[1],
+        writes: &[],
+        status: UNREAD,
+        text: "cannot read leaves.txt\n",
+    },
+    Run {
+        name: "no scripts",
+        leaves: LEAVES,
+        plan: PLAN,
+        reads: &[2],
+        writes: &[],
+        status: UNREAD,
+        text: "cannot read scripts.txt\n",
+    },
+    Run {
+        name: "no plan",
+        leaves: LEAVES,
+        plan: PLAN,
+        reads: &[3],
+        writes: &[],
+        status: UNREAD,
+        text: "cannot read plan.txt\n",
+    },
+    Run {
+        name: "a plan cut off",
+        leaves: LEAVES,
+        plan: PLAN,
+        reads: &[4],
+        writes: &[],
+        status: UNREAD,
+        text: "cannot read plan.txt\n",
+    },
+    Run {
+        name: "a read that is not made",
+        leaves: LEAVES,
+        plan: PLAN,
+        reads: &[5],
+        writes: &[],
+        status: DONE,
+        text: TEXT,
+    },
 ];
 
 /// Runs of which one write fails, and a front part is written.
 static WRITES: [Run; 5] = [
-    (LEAVES, PLAN, &[], &[0], 7, ""),
-    (LEAVES, PLAN, &[], &[1], 0, TEXT),
-    (LEAVES, "thread\nother\n", &[], &[0], 7, ""),
-    (LEAVES, "thread\nother\n", &[], &[1], 7, "refused "),
-    (
-        LEAVES,
-        "thread\nother\n",
-        &[],
-        &[4],
-        7,
-        "refused plan.txt line 2",
-    ),
+    Run {
+        name: "a report that is not written",
+        leaves: LEAVES,
+        plan: PLAN,
+        reads: &[],
+        writes: &[0],
+        status: WRITE_FAILED,
+        text: "",
+    },
+    Run {
+        name: "a second write that is not made",
+        leaves: LEAVES,
+        plan: PLAN,
+        reads: &[],
+        writes: &[1],
+        status: DONE,
+        text: TEXT,
+    },
+    Run {
+        name: "a line that is not begun",
+        leaves: LEAVES,
+        plan: "thread\nother\n",
+        reads: &[],
+        writes: &[0],
+        status: WRITE_FAILED,
+        text: "",
+    },
+    Run {
+        name: "a line broken off after one piece",
+        leaves: LEAVES,
+        plan: "thread\nother\n",
+        reads: &[],
+        writes: &[1],
+        status: WRITE_FAILED,
+        text: "refused ",
+    },
+    Run {
+        name: "a line broken off after four pieces",
+        leaves: LEAVES,
+        plan: "thread\nother\n",
+        reads: &[],
+        writes: &[4],
+        status: WRITE_FAILED,
+        text: "refused plan.txt line 2",
+    },
 ];
-
-fn all_hold<R: Threads + Wait + Sync>(
-    rt: &R,
-    alloc: Global,
-    rows: &[Run],
-) -> Result<bool, AllocError> {
-    for row in rows {
-        if !holds(rt, alloc, row)? {
-            return Ok(false);
-        }
-    }
-    Ok(true)
-}
 
 #[test]
 fn whole_runs(rt: HostRuntime) -> Result<(), Fail> {
-    for rows in [RUNS.as_slice(), READS.as_slice(), WRITES.as_slice()] {
-        assert!(rt; all_hold(&rt, rt.alloc(), rows)?);
+    for row in &RUNS {
+        assert!(rt; holds(&rt, rt.alloc(), row)?, "{}", row.name);
     }
     Ok(())
 }
 
-/// Whether a run is whole. Where an allocation fails, it ends with status 3 and nothing written, or
+#[test]
+fn runs_of_which_one_read_fails(rt: HostRuntime) -> Result<(), Fail> {
+    for row in &READS {
+        assert!(rt; holds(&rt, rt.alloc(), row)?, "{}", row.name);
+    }
+    Ok(())
+}
+
+#[test]
+fn runs_of_which_one_write_fails(rt: HostRuntime) -> Result<(), Fail> {
+    for row in &WRITES {
+        assert!(rt; holds(&rt, rt.alloc(), row)?, "{}", row.name);
+    }
+    Ok(())
+}
+
+/// Whether a run is whole. Where an allocation fails, it ends for want of memory and nothing written, or
 /// the sink, which keeps its bytes in memory, has failed.
 fn is_whole_or_nothing(status: u8, sink: &MemorySink) -> bool {
     match status {
-        0 => sink.bytes.as_slice() == TEXT.as_bytes(),
-        3 => sink.bytes.is_empty(),
-        7 => sink.faults != 0,
+        DONE => sink.bytes.as_slice() == TEXT.as_bytes(),
+        NO_MEMORY => sink.bytes.is_empty(),
+        WRITE_FAILED => sink.faults != 0,
         _ => false,
     }
 }
@@ -243,10 +355,10 @@ fn a_run_is_whole_or_writes_nothing(rt: HostRuntime) -> Result<(), Fail> {
 type Limit = (u32, u32, u8, &'static str);
 
 static LIMITS: [Limit; 4] = [
-    (64, 1, 0, ""),
-    (65, 1, 1, "refused plan.txt line 65 TooMany\n"),
-    (1, 10000, 0, ""),
-    (1, 10001, 1, "refused plan.txt line 10002 TooMany\n"),
+    (64, 1, DONE, ""),
+    (65, 1, REFUSED, "refused plan.txt line 65 TooMany\n"),
+    (1, 10000, DONE, ""),
+    (1, 10001, REFUSED, "refused plan.txt line 10002 TooMany\n"),
 ];
 
 fn push_lines(text: &mut String, line: &str, count: u32) -> Result<(), AllocError> {
@@ -271,13 +383,18 @@ fn is_limited<R: Threads + Wait + Sync>(
     let (threads, calls, status, text) = *limit;
     let plan = long_plan(alloc, threads, calls)?;
     let (found, sink) = run(rt, alloc, (NOTE, plan.as_str()), &[], &[])?;
-    Ok(found == status && (status == 0 || sink.bytes.as_slice() == text.as_bytes()))
+    Ok(found == status && (status == DONE || sink.bytes.as_slice() == text.as_bytes()))
 }
 
 #[test]
 fn plans_end_at_64_threads_and_10000_calls(rt: HostRuntime) -> Result<(), Fail> {
     for limit in &LIMITS {
-        assert!(rt; is_limited(&rt, rt.alloc(), limit)?);
+        assert!(rt;
+            is_limited(&rt, rt.alloc(), limit)?,
+            "{} threads, {} calls",
+            limit.0,
+            limit.1
+        );
     }
     Ok(())
 }
