@@ -27,7 +27,8 @@ instructions-preserved-in-Continue-branch-3 c =
     let lt : c.instructions.cursor.at < c.args.end = omega arith in
     let reads = rw (room, c.in-Some.is) at c.in_ok-site.ensures.reads in
     record {
-      finding = rw c.in_ok-push.ensures.ok (finding-next c.args.code.now.pool.now c.args.code.now.method c.args.sites.now.room c.args.code.now.start c.args.end c.args.cursor.now
+      finding = rw c.in_ok-push.ensures.ok
+          (finding-next c.args.code.now.pool.now c.args.code.now.method c.args.sites.now.room c.args.code.now.start c.args.end c.args.cursor.now
           c.instructions.cursor c.read_instruction.new.cursor c.args.sites.now.sites found (c.in-Some.site ∷ []) c.instructions.invariant.finding lt
           c.in_ok-site.ensures.onward c.in_ok-site.ensures.moves reads);
       room = c.in_ok-push.ensures.room ∙ c.instructions.invariant.room;
