@@ -90,7 +90,7 @@ fn run<R: Threads + Wait + Sync>(
 }
 
 /// A run, its status and its text.
-struct Run {
+struct WholeRun {
     name: &'static str,
     leaves: &'static str,
     plan: &'static str,
@@ -102,15 +102,19 @@ struct Run {
     text: &'static str,
 }
 
-fn holds<R: Threads + Wait + Sync>(rt: &R, alloc: Global, row: &Run) -> Result<bool, AllocError> {
+fn holds<R: Threads + Wait + Sync>(
+    rt: &R,
+    alloc: Global,
+    row: &WholeRun,
+) -> Result<bool, AllocError> {
     let files = (row.leaves, row.plan);
     let (status, sink) = run(rt, alloc, files, row.reads, row.writes)?;
     Ok(status == row.status && sink.bytes.as_slice() == row.text.as_bytes())
 }
 
 /// Runs in which nothing fails.
-static RUNS: [Run; 10] = [
-    Run {
+static RUNS: [WholeRun; 10] = [
+    WholeRun {
         name: "a call",
         leaves: LEAVES,
         plan: PLAN,
@@ -119,7 +123,7 @@ static RUNS: [Run; 10] = [
         status: DONE,
         text: TEXT,
     },
-    Run {
+    WholeRun {
         name: "a sum that wraps",
         leaves: LEAVES,
         plan: "thread\nexact leaf:demo/Host.add:(II)I (II)I i:2147483647 i:1\n",
@@ -128,7 +132,7 @@ static RUNS: [Run; 10] = [
         status: DONE,
         text: "thread 0\nreturns i:-2147483648 calls 0\nattempts 0 forms 1 types 0\n",
     },
-    Run {
+    WholeRun {
         name: "a plan without calls",
         leaves: LEAVES,
         plan: "",
@@ -137,7 +141,7 @@ static RUNS: [Run; 10] = [
         status: DONE,
         text: "attempts 0 forms 0 types 0\n",
     },
-    Run {
+    WholeRun {
         name: "references that are unboxed",
         leaves: HOST,
         plan: "thread\ngeneric leaf:demo/Host.wide:(JI)J (Ljava/lang/Object;I)J I:5 i:0\ngeneric leaf:demo/Host.wide:(JI)J (Ljava/lang/Object;I)J J:5 i:0\ngeneric leaf:demo/Host.wide:(JI)J (Ljava/lang/Object;I)J s:x i:0\ngeneric leaf:demo/Host.wide:(JI)J (Ljava/lang/Object;I)J null i:0\n",
@@ -146,7 +150,7 @@ static RUNS: [Run; 10] = [
         status: DONE,
         text: "thread 0\nreturns j:5 calls 3\nreturns j:5 calls 3\nthrows java/lang/ClassCastException s: calls -\nthrows java/lang/NullPointerException s: calls -\nattempts 0 forms 2 types 0\n",
     },
-    Run {
+    WholeRun {
         name: "a conversion that there is not",
         leaves: HOST,
         plan: "thread\ngeneric leaf:demo/Host.flag:(Z)V (Ljava/lang/Number;)V J:1\n",
@@ -155,7 +159,7 @@ static RUNS: [Run; 10] = [
         status: DONE,
         text: "thread 0\nthrows java/lang/invoke/WrongMethodTypeException s:have\\s(Z)V\\swant\\s(Ljava/lang/Number;)V calls -\nattempts 0 forms 1 types 0\n",
     },
-    Run {
+    WholeRun {
         name: "results that are dropped and widened",
         leaves: HOST,
         plan: "thread\ngeneric leaf:demo/Host.flag:(Z)V (Ljava/lang/Object;)V Z:true\nthread\ngeneric leaf:demo/Host.same:(I)I (I)J i:-7\ngeneric leaf:demo/Host.same:(I)I (I)I i:7\n",
@@ -164,7 +168,7 @@ static RUNS: [Run; 10] = [
         status: DONE,
         text: "thread 0\nreturns void calls 4\nthread 1\nreturns j:-7 calls 2\nreturns i:7 calls 2\nattempts 0 forms 4 types 0\n",
     },
-    Run {
+    WholeRun {
         name: "a division by zero",
         leaves: HOST,
         plan: "thread\nexact leaf:demo/Host.div:(II)I (II)I i:1 i:0\nexact leaf:demo/Host.div:(II)I (II)I i:-2147483648 i:-1\nexact leaf:demo/Host.add:(II)I (IJ)I i:1 j:2\n",
@@ -173,7 +177,7 @@ static RUNS: [Run; 10] = [
         status: DONE,
         text: "thread 0\nthrows java/lang/ArithmeticException s:/\\sby\\szero calls 1\nreturns i:-2147483648 calls 1\nthrows java/lang/invoke/WrongMethodTypeException s:have\\s(II)I\\swant\\s(IJ)I calls -\nattempts 0 forms 1 types 0\n",
     },
-    Run {
+    WholeRun {
         name: "arguments that are refused",
         leaves: HOST,
         plan: "thread\ngeneric leaf:demo/Host.add:(II)I (II)I i:1 s:x\n",
@@ -182,7 +186,7 @@ static RUNS: [Run; 10] = [
         status: REFUSED,
         text: "refused plan.txt line 2 BadArguments\n",
     },
-    Run {
+    WholeRun {
         name: "a class that is not there",
         leaves: "class a/A java/lang/Object\nclass a/B no/Such\n",
         plan: "",
@@ -191,7 +195,7 @@ static RUNS: [Run; 10] = [
         status: REFUSED,
         text: "refused leaves.txt line 2 UnknownClass\n",
     },
-    Run {
+    WholeRun {
         name: "a leaf that is there twice",
         leaves: "static java/lang/Object note ()V note\nstatic java/lang/Object note ()V note\n",
         plan: "",
@@ -203,8 +207,8 @@ static RUNS: [Run; 10] = [
 ];
 
 /// Runs of which one read fails.
-static READS: [Run; 6] = [
-    Run {
+static READS: [WholeRun; 6] = [
+    WholeRun {
         name: "no manifest",
         leaves: LEAVES,
         plan: PLAN,
@@ -213,7 +217,7 @@ static READS: [Run; 6] = [
         status: UNREAD,
         text: "cannot read leaves.txt\n",
     },
-    Run {
+    WholeRun {
         name: "a manifest cut off",
         leaves: LEAVES,
         plan: PLAN,
@@ -222,7 +226,7 @@ static READS: [Run; 6] = [
         status: UNREAD,
         text: "cannot read leaves.txt\n",
     },
-    Run {
+    WholeRun {
         name: "no scripts",
         leaves: LEAVES,
         plan: PLAN,
@@ -231,7 +235,7 @@ static READS: [Run; 6] = [
         status: UNREAD,
         text: "cannot read scripts.txt\n",
     },
-    Run {
+    WholeRun {
         name: "no plan",
         leaves: LEAVES,
         plan: PLAN,
@@ -240,7 +244,7 @@ static READS: [Run; 6] = [
         status: UNREAD,
         text: "cannot read plan.txt\n",
     },
-    Run {
+    WholeRun {
         name: "a plan cut off",
         leaves: LEAVES,
         plan: PLAN,
@@ -249,7 +253,7 @@ static READS: [Run; 6] = [
         status: UNREAD,
         text: "cannot read plan.txt\n",
     },
-    Run {
+    WholeRun {
         name: "a read that is not made",
         leaves: LEAVES,
         plan: PLAN,
@@ -261,8 +265,8 @@ static READS: [Run; 6] = [
 ];
 
 /// Runs of which one write fails, and a front part is written.
-static WRITES: [Run; 5] = [
-    Run {
+static WRITES: [WholeRun; 5] = [
+    WholeRun {
         name: "a report that is not written",
         leaves: LEAVES,
         plan: PLAN,
@@ -271,7 +275,7 @@ static WRITES: [Run; 5] = [
         status: WRITE_FAILED,
         text: "",
     },
-    Run {
+    WholeRun {
         name: "a second write that is not made",
         leaves: LEAVES,
         plan: PLAN,
@@ -280,7 +284,7 @@ static WRITES: [Run; 5] = [
         status: DONE,
         text: TEXT,
     },
-    Run {
+    WholeRun {
         name: "a line that is not begun",
         leaves: LEAVES,
         plan: "thread\nother\n",
@@ -289,7 +293,7 @@ static WRITES: [Run; 5] = [
         status: WRITE_FAILED,
         text: "",
     },
-    Run {
+    WholeRun {
         name: "a line broken off after one piece",
         leaves: LEAVES,
         plan: "thread\nother\n",
@@ -298,7 +302,7 @@ static WRITES: [Run; 5] = [
         status: WRITE_FAILED,
         text: "refused ",
     },
-    Run {
+    WholeRun {
         name: "a line broken off after four pieces",
         leaves: LEAVES,
         plan: "thread\nother\n",
