@@ -4,7 +4,7 @@
 
 mod rows;
 
-use rows::{Row, measured, row_named};
+use rows::{ROWS, Row, measured};
 use std::process::ExitCode;
 use std::{env, io};
 
@@ -21,6 +21,16 @@ fn words(rt: &HostRuntime) -> io::Result<Vec<String>> {
         words.push(word)?;
     }
     Ok(words)
+}
+
+/// The row of a name.
+fn row_named(name: &str) -> Option<Row> {
+    for (word, row) in &ROWS {
+        if *word == name {
+            return Some(*row);
+        }
+    }
+    None
 }
 
 /// The row's name, the row and the number of turns that the words name.

@@ -39,7 +39,7 @@ pub(crate) enum Row {
     ShortText,
 }
 
-static ROWS: [(&str, Row); 8] = [
+pub(crate) static ROWS: [(&str, Row); 8] = [
     ("run-three-names", Row::RunThreeNames),
     ("edit-seen", Row::EditSeen),
     ("bind-seen", Row::BindSeen),
@@ -94,16 +94,6 @@ struct Subject<'a> {
     leaf: LeafId,
     steps: &'a [Step],
     args: Args,
-}
-
-/// The row of a name.
-pub(crate) fn row_named(name: &str) -> Option<Row> {
-    for (word, row) in &ROWS {
-        if *word == name {
-            return Some(*row);
-        }
-    }
-    None
 }
 
 /// Ints as arguments.

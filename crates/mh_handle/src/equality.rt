@@ -1,9 +1,14 @@
 ghost use Rattle.std.specs.Prelude.{◌≡◌, IsTrue};
 ghost use mathlib.Core.Logic.{◌↔◌};
+ghost use Rattle.mh_edit.specs.declared.key.Key.TheVariants as key;
 
 use mh_base::Seq;
-use mh_edit::{Key, RetEntry};
-use mh_form::{Basic, BasicRet, Shape};
+use mh_edit::Key::{
+    Add, Bind, CatchRoot, Collect, ConstRoot, Convert, FilterReturn, Fold, Gather, GuardRoot,
+    IdentityRoot, LeafRoot, Permute, Spread, ThrowRoot,
+};
+use mh_edit::{Key, Places, RetEntry};
+use mh_form::{Basic, BasicRet, Basics, Shape};
 
 /// A value that can be held against another one.
 pub(crate) trait Same {
@@ -72,58 +77,80 @@ impl Same for Shape {
 impl Same for Key {
     fn is_same(&self, other: &Key) -> bool {
         match (self, other) {
-            (Key::LeafRoot { shape }, Key::LeafRoot { shape: s }) => shape.is_same(s),
-            (Key::ConstRoot { basic }, Key::ConstRoot { basic: b }) => *basic == *b,
-            (Key::IdentityRoot { basic }, Key::IdentityRoot { basic: b }) => *basic == *b,
-            (Key::ThrowRoot { ret }, Key::ThrowRoot { ret: r }) => *ret == *r,
-            (Key::GuardRoot { shape, test }, Key::GuardRoot { shape: s, test: t }) => {
+            (LeafRoot { shape }, LeafRoot { shape: s }) => shape.is_same(s),
+            (ConstRoot { basic }, ConstRoot { basic: b }) => *basic == *b,
+            (IdentityRoot { basic }, IdentityRoot { basic: b }) => *basic == *b,
+            (ThrowRoot { ret }, ThrowRoot { ret: r }) => *ret == *r,
+            (GuardRoot { shape, test }, GuardRoot { shape: s, test: t }) => {
                 *test == *t && shape.is_same(s)
             }
-            (
-                Key::CatchRoot { shape, handler },
-                Key::CatchRoot {
-                    shape: s,
-                    handler: h,
-                },
-            ) => { *handler == *h && shape.is_same(s) }
-            (Key::Bind { pos }, Key::Bind { pos: p }) => *pos == *p,
-            (Key::Add { pos, basics }, Key::Add { pos: p, basics: b }) => {
-                *pos == *p && basics.is_same(b)
-            }
-            (
-                Key::Permute { basics, reorder },
-                Key::Permute {
-                    basics: b,
-                    reorder: r,
-                },
-            ) => { basics.is_same(b) && reorder.is_same(r) }
-            (
-                Key::Collect { pos, basics, ret },
-                Key::Collect {
-                    pos: p,
-                    basics: b,
-                    ret: r,
-                },
-            ) => *pos == *p && *ret == *r && basics.is_same(b),
-            (
-                Key::Fold { pos, count, ret },
-                Key::Fold {
-                    pos: p,
-                    count: c,
-                    ret: r,
-                },
-            ) => *pos == *p && *count == *c && *ret == *r,
-            (Key::FilterReturn { ret }, Key::FilterReturn { ret: r }) => *ret == *r,
-            (Key::Convert { params, ret }, Key::Convert { params: p, ret: r }) => {
+            (CatchRoot { shape, handler }, _) => is_catch_root(shape, *handler, other),
+            (Bind { pos }, Bind { pos: p }) => *pos == *p,
+            (Add { pos, basics }, Add { pos: p, basics: b }) => *pos == *p && basics.is_same(b),
+            (Permute { basics, reorder }, _) => is_permute(basics, reorder, other),
+            (Collect { pos, basics, ret }, _) => is_collect(*pos, basics, *ret, other),
+            (Fold { pos, count, ret }, _) => is_fold(*pos, *count, *ret, other),
+            (FilterReturn { ret }, FilterReturn { ret: r }) => *ret == *r,
+            (Convert { params, ret }, Convert { params: p, ret: r }) => {
                 *ret == *r && params.is_same(p)
             }
-            (Key::Spread { count, basic }, Key::Spread { count: c, basic: b }) => {
+            (Spread { count, basic }, Spread { count: c, basic: b }) => {
                 *count == *c && *basic == *b
             }
-            (Key::Gather { count, basic }, Key::Gather { count: c, basic: b }) => {
+            (Gather { count, basic }, Gather { count: c, basic: b }) => {
                 *count == *c && *basic == *b
             }
             _ => false,
         }
+    }
+}
+
+fn is_catch_root(shape: &Shape, handler: u8, other: &Key) -> bool
+    ensures { IsTrue result ↔ (key.CatchRoot shape.now handler ≡ other.now) }
+{
+    match other {
+        CatchRoot {
+            shape: s,
+            handler: h,
+        } => { handler == *h && shape.is_same(s) }
+        _ => false,
+    }
+}
+
+fn is_permute(basics: &Basics, reorder: &Places, other: &Key) -> bool
+    ensures { IsTrue result ↔ (key.Permute basics.now reorder.now ≡ other.now) }
+{
+    match other {
+        Permute {
+            basics: b,
+            reorder: r,
+        } => { basics.is_same(b) && reorder.is_same(r) }
+        _ => false,
+    }
+}
+
+fn is_collect(pos: u8, basics: &Basics, ret: BasicRet, other: &Key) -> bool
+    ensures { IsTrue result ↔ (key.Collect pos basics.now ret ≡ other.now) }
+{
+    match other {
+        Collect {
+            pos: p,
+            basics: b,
+            ret: r,
+        } => { pos == *p && ret == *r && basics.is_same(b) }
+        _ => false,
+    }
+}
+
+fn is_fold(pos: u8, count: u8, ret: BasicRet, other: &Key) -> bool
+    ensures { IsTrue result ↔ (key.Fold pos count ret ≡ other.now) }
+{
+    match other {
+        Fold {
+            pos: p,
+            count: c,
+            ret: r,
+        } => { pos == *p && count == *c && ret == *r }
+        _ => false,
     }
 }

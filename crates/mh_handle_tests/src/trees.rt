@@ -7,8 +7,8 @@ ghost use Rattle.mh_steps.specs.Spending.{Spends};
 
 use mh_base::NoMemory;
 use mh_handle::{Answer, FormTable, HandleError, Work};
-use mh_leaves::{Leaves, read_manifest};
-use mh_steps::{MANIFEST, Root, Start, Step, call_typed, items_of, made};
+use mh_leaves::Leaves;
+use mh_steps::{Root, Start, Step, call_typed, items_of, made};
 use std::alloc::Global;
 use std::sync::Wait;
 
@@ -17,11 +17,6 @@ use std::sync::Wait;
 pub(crate) struct Making {
     pub(crate) root: Root,
     pub(crate) steps: &'static [Step],
-}
-
-/// The leaves of the tests.
-pub(crate) fn tree_leaves(alloc: Global) -> Result<Leaves, NoMemory> {
-    read_manifest(alloc, MANIFEST).map_err(|_| NoMemory)
 }
 
 fn has_few_steps(making: &Making) -> bool

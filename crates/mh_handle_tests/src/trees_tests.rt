@@ -1,15 +1,21 @@
-use crate::trees::{Making, answer_of, form_numbers, tree_leaves};
+use crate::trees::{Making, answer_of, form_numbers};
 use mh_base::NoMemory;
 use mh_handle::{Answer, HandleError};
-use mh_leaves::Leaves;
+use mh_leaves::{Leaves, read_manifest};
 use mh_steps::{
-    ADD, ARR, DIV, FAIL, Joined, LESS, NOTHING, Root, SAME, SAW, SUB, Step, TEXT, TICK, Typed, ZIN,
+    ADD, ARR, DIV, FAIL, Joined, LESS, MANIFEST, NOTHING, Root, SAME, SAW, SUB, Step, TEXT, TICK,
+    Typed, ZIN,
 };
 use mh_texts::{show_exc, show_value};
 use mh_values::{ClassId, Classes, Exc, Outcome};
 use std::alloc::Global;
 use std::sync::Wait;
 use std::test::Fail;
+
+/// The leaves of the tests.
+fn tree_leaves(alloc: Global) -> Result<Leaves, NoMemory> {
+    read_manifest(alloc, MANIFEST).map_err(|_| NoMemory)
+}
 
 /// A handle, the arguments of a call, and what is wanted: how it ends with the numbers of the
 /// leaves that it calls, or why the handle is refused.

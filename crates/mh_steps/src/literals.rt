@@ -1,23 +1,32 @@
 //! Types and values, which are given as texts.
 
-ghost use Rattle.std.specs.Prelude.{◌≡◌, length, IfOk};
+ghost use Rattle.std.specs.Prelude.{◌≡◌, length, IfOk, Ok, Some};
+ghost use Rattle.mh_values.specs.Descriptor.{desc};
+ghost use Rattle.mh_texts.specs.Literal.{literal_of};
 
 use mh_base::{NoMemory, Seq};
 use mh_texts::read_literal;
-use mh_values::{Classes, Items, MethodTy, Ty, Value, read_descriptor};
+use mh_values::{Classes, Items, MethodTy, Value, read_descriptor};
 use std::alloc::Global;
 
-pub(crate) fn type_of(alloc: Global, text: &str, classes: &Classes) -> Result<MethodTy, NoMemory> {
-    read_descriptor(alloc, text.as_bytes(), classes).map_err(|_| NoMemory)
+/// The type of a descriptor. A text that is none is told as want of memory.
+pub(crate) fn type_of(alloc: Global, text: &str, classes: &Classes) -> Result<MethodTy, NoMemory>
+    ensures { IfOk result (λ ty. desc classes.now text.now ≡ Ok ty) }
+{
+    match read_descriptor(alloc, text.as_bytes(), classes) {
+        Ok(ty) => Ok(ty),
+        Err(_) => Err(NoMemory),
+    }
 }
 
-pub(crate) fn value_of(alloc: Global, text: &str, classes: &Classes) -> Result<Value, NoMemory> {
-    read_literal(alloc, text.as_bytes(), classes).map_err(|_| NoMemory)
-}
-
-pub(crate) fn ret_of(alloc: Global, text: &str, classes: &Classes) -> Result<Option<Ty>, NoMemory> {
-    let ty = type_of(alloc, text, classes)?;
-    Ok(ty.ret)
+/// The value of a literal. A text that is none is told as want of memory.
+pub(crate) fn value_of(alloc: Global, text: &str, classes: &Classes) -> Result<Value, NoMemory>
+    ensures { IfOk result (λ value. literal_of classes.now text.now ≡ Some value) }
+{
+    match read_literal(alloc, text.as_bytes(), classes) {
+        Ok(value) => Ok(value),
+        Err(_) => Err(NoMemory),
+    }
 }
 
 /// The values of literals, in order. A text that is no literal is told as want of memory.

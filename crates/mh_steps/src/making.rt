@@ -5,7 +5,7 @@ ghost use Rattle.mh_handle.specs.Stands.{StandsForSome};
 ghost use Rattle.mh_handle.specs.Works.{IsReady, leaves_of};
 ghost use Rattle.mh_steps.specs.Spending.{Spends};
 
-use crate::literals::{ret_of, type_of, value_of};
+use crate::literals::{type_of, value_of};
 use crate::step::{Joined, Root, Step, Typed};
 use mh_adapt::{bind, collect, drop_args, filter, filterret, fold, permute};
 use mh_astype::as_type;
@@ -69,7 +69,7 @@ fn constant_of<'t, R: Wait>(
     ensures stands { IfOk result (StandsForSome (leaves_of w.old)) }
 {
     let classes = w.leaves.classes();
-    let ret = ret_of(w.alloc, text, classes)?;
+    let ret = type_of(w.alloc, text, classes)?.ret;
     let value = value_of(w.alloc, value, classes)?;
     constant(w, rt, ret, value)
 }
@@ -84,11 +84,11 @@ fn rooted<'t, R: Wait>(w: &mut Work<'_, 't>, rt: &R, root: Root) -> Result<Handl
         Root::Leaf(id) => leaf_at(w, rt, id),
         Root::Constant(text, value) => constant_of(w, rt, text, value),
         Root::Identity(text) => {
-            let ty = ret_of(w.alloc, text, classes)?;
+            let ty = type_of(w.alloc, text, classes)?.ret;
             identity(w, rt, ty)
         }
         Root::Throw(text, class) => {
-            let ret = ret_of(w.alloc, text, classes)?;
+            let ret = type_of(w.alloc, text, classes)?.ret;
             throw(w, rt, ret, class)
         }
         Root::Guard(test, target, fallback) => guarded(w, rt, test, target, fallback),
