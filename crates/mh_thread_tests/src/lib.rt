@@ -1,0 +1,8 @@
+//! Tests: values, fields, forms, handles and answers go from thread to thread, and threads share a
+//! table of forms.
+#![tactic(auto)]
+
+#[cfg(test)]
+mod handles;
+#[cfg(test)]
+mod values;
