@@ -1,0 +1,4 @@
+use Rattle.mh_intern.proofs.serve.serve_listed.Given as goal
+
+abbrev pub ghosts-raise_listed : goal.ghosts-raise_listed
+ghosts-raise_listed a = record { hold = a.hold.now; entries = a.entries.now }

@@ -1,0 +1,12 @@
+pub mod Buckets
+pub mod Held
+pub mod Lists
+pub mod Kinds
+pub mod Plays
+pub mod Keep
+pub mod Claims
+pub mod Steps
+pub mod Interning
+pub mod Views
+pub mod Seats
+pub mod Trades
