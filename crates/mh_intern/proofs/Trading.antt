@@ -30,6 +30,12 @@ still_held e old gone came mid t all =
     let o : bit (is_entry e e) ≡ 1 = ap bit (entry-itself e) in
     omega (arith, t.counts e.slot e.ty, all.counts e.slot e.ty, count_cons (λ (x : Entry). is_entry x e) e gone)
 
+-- the first part is there
+pub part_held : (e : Entry) (old rest : List Entry) → HoldsAll old (e ∷ rest) → In old e
+part_held e old rest all =
+    let o : bit (is_entry e e) ≡ 1 = ap bit (entry-itself e) in
+    omega (arith, all.counts e.slot e.ty, count_cons (λ (x : Entry). is_entry x e) e rest)
+
 -- what was held before a request is still held
 pub still_in : (e : Entry) (old came new : List Entry) → Trades old [] came new → In old e → In new e
 still_in e old came new t held = omega (arith, t.counts e.slot e.ty)

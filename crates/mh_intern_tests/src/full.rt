@@ -62,8 +62,7 @@ fn a_bucket_has_32_slots_and_the_one_let_go_is_given_again(rt: HostRuntime) -> R
     Ok(())
 }
 
-/// Holds types of bucket 7, one after the other, and after them the first one again. The number of
-/// the last type, and its slot.
+/// Holds 50 types of bucket 7 one after the other, twice: more than the slots that it has.
 fn one_after_another<R: Wait>(
     rt: &R,
     alloc: Global,
@@ -110,7 +109,10 @@ fn errors_say_what_is_the_matter(rt: HostRuntime) -> Result<(), Fail> {
     let alloc = rt.alloc();
     let full = InternError::TypesFull { bucket: 7 };
     let text = format!(in alloc; "{full}")?;
-    assert_eq!(rt; text.as_str(), "the slots of bucket 7 are in use by other types");
+    assert_eq!(rt;
+        text.as_str(),
+        "the slots of bucket 7 are in use by other types"
+    );
     let text = format!(in alloc; "{}", InternError::from(NoMemory))?;
     assert_eq!(rt; text.as_str(), "no memory is left");
     Ok(())

@@ -13,11 +13,7 @@ use std::test::Fail;
 use std::thread::{Threads, join};
 
 /// A thread's seat, with the one type that it holds.
-#[derive(Drop)]
-struct Player {
-    seat: TypeSeat,
-    held: HeldType,
-}
+type Hand = (TypeSeat, HeldType);
 
 /// One of 40 types of bucket 7 and 40 of bucket 5: more than the slots that a bucket has.
 fn any_type(alloc: Global, random: &mut Random) -> Result<MethodTy, NoMemory> {
@@ -44,30 +40,30 @@ fn turn<R: Wait>(
     rt: &R,
     alloc: Global,
     table: &TypeTable,
-    player: Player,
+    hand: Hand,
     random: &mut Random,
-) -> Result<Player, InternError>
-    requires hand { HasInHand table.now player.seat player.held }
-    requires room { 1 ≤ player.seat.room }
-    ensures hand { IfOk result (λ p. HasInHand table.now p.seat p.held) }
-    ensures room { IfOk result (λ p. p.seat.room ≡ player.seat.room) }
+) -> Result<Hand, InternError>
+    requires hand { HasInHand table.now hand.0 hand.1 }
+    requires room { 1 ≤ hand.0.room }
+    ensures hand { IfOk result (λ h. HasInHand table.now h.0 h.1) }
+    ensures room { IfOk result (λ h. h.0.room ≡ hand.0.room) }
 {
-    let Player { mut seat, held } = player;
+    let (mut seat, held) = hand;
     match random.below(3) {
         0 => {
             let newer = table.dup(alloc, &mut seat, &held)?;
             release_older(table, &mut seat, &newer, held);
-            Ok(Player { seat, held: newer })
+            Ok((seat, newer))
         }
         1 => {
             let newer = table.intern(rt, alloc, &mut seat, any_type(alloc, random)?)?;
             release_older(table, &mut seat, &newer, held);
-            Ok(Player { seat, held: newer })
+            Ok((seat, newer))
         }
         _ => {
             table.release(&mut seat, held);
             let held = table.intern(rt, alloc, &mut seat, any_type(alloc, random)?)?;
-            Ok(Player { seat, held })
+            Ok((seat, held))
         }
     }
 }
@@ -79,43 +75,19 @@ fn play<R: Wait>(
     table: &TypeTable,
     mut seat: TypeSeat,
     seed: u64,
-) -> Result<Player, InternError>
+) -> Result<Hand, InternError>
     requires seat { (seat.table ≡ table.now) × (seat.holds ≡ []) }
     requires room { 2 ≤ seat.room }
-    ensures hand { IfOk result (λ p. HasInHand table.now p.seat p.held) }
-    ensures room { IfOk result (λ p. p.seat.room + 1 ≡ seat.room) }
+    ensures hand { IfOk result (λ h. HasInHand table.now h.0 h.1) }
+    ensures room { IfOk result (λ h. h.0.room + 1 ≡ seat.room) }
 {
     let mut random = Random::new(seed);
     let held = table.intern(rt, alloc, &mut seat, any_type(alloc, &mut random)?)?;
-    let mut player = Player { seat, held };
+    let mut hand = (seat, held);
     for _ in 0..1000 {
-        player = turn(rt, alloc, table, player, &mut random)?;
+        hand = turn(rt, alloc, table, hand, &mut random)?;
     }
-    Ok(player)
-}
-
-/// Two threads beside each other.
-fn play_two<R: Threads + Wait + Sync>(
-    rt: &R,
-    alloc: Global,
-    table: &TypeTable,
-    seats: (TypeSeat, TypeSeat),
-    seed: u64,
-) -> Result<(Player, Player), InternError>
-    requires one { (seats.0.table ≡ table.now) × (seats.0.holds ≡ []) × (2 ≤ seats.0.room) }
-    requires two { (seats.1.table ≡ table.now) × (seats.1.holds ≡ []) × (2 ≤ seats.1.room) }
-    ensures hands { IfOk result (λ p. HasInHand table.now p.0.seat p.0.held
-        × HasInHand table.now p.1.seat p.1.held) }
-    ensures room { IfOk result (λ p. (p.0.seat.room + 1 ≡ seats.0.room)
-        × (p.1.seat.room + 1 ≡ seats.1.room)) }
-{
-    let (one, two) = seats;
-    let (one, two) = join(
-        rt,
-        || play(rt, alloc, table, one, seed),
-        || play(rt, alloc, table, two, seed ^ 1),
-    );
-    Ok((one?, two?))
+    Ok(hand)
 }
 
 /// Two seats made one.
@@ -127,6 +99,29 @@ fn joined(table: &TypeTable, mut seat: TypeSeat, other: TypeSeat) -> TypeSeat
 {
     table.join(&mut seat, other);
     seat
+}
+
+/// Two threads beside each other: their seats made one, and what each holds.
+fn play_two<R: Threads + Wait + Sync>(
+    rt: &R,
+    alloc: Global,
+    table: &TypeTable,
+    one: TypeSeat,
+    two: TypeSeat,
+) -> Result<(TypeSeat, HeldType, HeldType), InternError>
+    requires one { (one.table ≡ table.now) × (one.holds ≡ []) × (2 ≤ one.room) }
+    requires two { (two.table ≡ table.now) × (two.holds ≡ []) × (2 ≤ two.room) }
+    ensures table { IfOk result (λ r. r.0.table ≡ table.now) }
+    ensures whole { IfOk result (λ r. r.0.room + length r.0.holds ≡ one.room + two.room) }
+{
+    let (first, second) = join(
+        rt,
+        || play(rt, alloc, table, one, 1),
+        || play(rt, alloc, table, two, 2),
+    );
+    let (one, a) = first?;
+    let (two, b) = second?;
+    Ok((joined(table, one, two), a, b))
 }
 
 /// Whether none of the earlier holds is of this one's type.
@@ -148,24 +143,31 @@ fn played_by_four<R: Threads + Wait + Sync>(
     let shared = &table;
     let (front, back) = join(
         rt,
-        || play_two(rt, alloc, shared, (first, second), 1),
-        || play_two(rt, alloc, shared, (third, fourth), 11),
+        ||
+            requires one { (first.table ≡ shared.now) × (first.holds ≡ []) × (2 ≤ first.room) }
+            requires two { (second.table ≡ shared.now) × (second.holds ≡ []) × (2 ≤ second.room) }
+        { play_two(rt, alloc, shared, first, second) },
+        ||
+            requires one { (third.table ≡ shared.now) × (third.holds ≡ []) × (2 ≤ third.room) }
+            requires two { (fourth.table ≡ shared.now) × (fourth.holds ≡ []) × (2 ≤ fourth.room) }
+        { play_two(rt, alloc, shared, third, fourth) },
     );
-    let (a, b) = front?;
-    let (c, d) = back?;
+    let (seat, a, b) = front?;
+    let (other, c, d) = back?;
     let types = 1
-        + u32::from(is_new(&b.held, &[&a.held]))
-        + u32::from(is_new(&c.held, &[&a.held, &b.held]))
-        + u32::from(is_new(&d.held, &[&a.held, &b.held, &c.held]));
-    let front = joined(&table, a.seat, b.seat);
-    let back = joined(&table, c.seat, d.seat);
-    let seat = joined(&table, front, back);
+        + u32::from(is_new(&b, &[&a]))
+        + u32::from(is_new(&c, &[&a, &b]))
+        + u32::from(is_new(&d, &[&a, &b, &c]));
+    let seat = joined(&table, seat, other);
     Ok((types, table.close(seat)))
 }
 
 #[test]
 fn four_threads_hold_as_many_types_as_close_counts(rt: HostRuntime) -> Result<(), Fail> {
     let (types, closed) = played_by_four(&rt, rt.alloc())?;
-    assert_eq!(rt; ("types of four threads", closed), ("types of four threads", types));
+    assert_eq!(rt;
+        ("types of four threads", closed),
+        ("types of four threads", types)
+    );
     Ok(())
 }

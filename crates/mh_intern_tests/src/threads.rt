@@ -70,7 +70,13 @@ fn held_by_two<R: Threads + Wait + Sync>(
 #[test]
 fn two_threads_hold_one_slot_of_one_type(rt: HostRuntime) -> Result<(), Fail> {
     let alloc = rt.alloc();
-    assert_eq!(rt; ("one type", held_by_two(&rt, alloc, 1, 1)?), ("one type", (true, 1)));
-    assert_eq!(rt; ("two types", held_by_two(&rt, alloc, 1, 2)?), ("two types", (false, 2)));
+    assert_eq!(rt;
+        ("one type", held_by_two(&rt, alloc, 1, 1)?),
+        ("one type", (true, 1))
+    );
+    assert_eq!(rt;
+        ("two types", held_by_two(&rt, alloc, 1, 2)?),
+        ("two types", (false, 2))
+    );
     Ok(())
 }
