@@ -13,6 +13,7 @@ pub(crate) const BUCKET_SLOTS: u32 = 32;
 /// How many slots a table has.
 pub(crate) const SLOTS: usize = 2048;
 
+/// The code of a primitive type.
 fn primitive_code(primitive: Primitive) -> u64
     ensures code { result ≡ primitive_code primitive }
     ensures small { result < 7 }
@@ -24,6 +25,7 @@ fn primitive_code(primitive: Primitive) -> u64
     }
 }
 
+/// The code of a component type: a class has an even one from 8 on.
 fn component_code(component: Comp) -> u64
     ensures code { result ≡ component_code component }
     ensures small { result < 8589934600 }
@@ -34,6 +36,7 @@ fn component_code(component: Comp) -> u64
     }
 }
 
+/// The code of a type: an array has an odd one from 11 on, by the code of its component.
 fn type_code(ty: Ty) -> u64
     ensures code { result ≡ type_code ty }
     ensures small { result < 17179869300 }
@@ -45,6 +48,7 @@ fn type_code(ty: Ty) -> u64
     }
 }
 
+/// The code of a return type: void has 7.
 fn return_code(ret: Option<Ty>) -> u64
     ensures { result ≡ return_code ret }
 {

@@ -73,7 +73,8 @@ impl TypeTable {
     }
 
     /// A hold of a type, which takes one room. Where the seat holds the type already, it is of the
-    /// slot that the seat holds.
+    /// slot that the seat holds. The seat has room, and room and holds of 2 or more together, since
+    /// the request takes one room along.
     ///
     /// It waits while another thread asks for a type of the same bucket. `TypesFull` comes where
     /// each of the 32 slots of the bucket has another type and was read as held in this call. A
