@@ -81,7 +81,7 @@ fn play<R: Wait>(
     ensures hand { IfOk result (λ h. HasInHand table.now h.0 h.1) }
     ensures room { IfOk result (λ h. h.0.room + 1 ≡ seat.room) }
 {
-    let mut random = Random::new(seed);
+    let mut random = Random { state: seed };
     let held = table.intern(rt, alloc, &mut seat, any_type(alloc, &mut random)?)?;
     let mut hand = (seat, held);
     for _ in 0..1000 {

@@ -3,14 +3,11 @@ ghost use Rattle.std.specs.Prelude.{◌<◌};
 /// A linear congruential generator of numbers, so that a test runs the same each time.
 #[derive(Drop)]
 pub struct Random {
-    state: u64,
+    /// The number that the next one is made of; at first the seed.
+    pub state: u64,
 }
 
 impl Random {
-    pub fn new(seed: u64) -> Random {
-        Random { state: seed }
-    }
-
     /// The next number, which is below `end`.
     pub fn below(&mut self, end: u32) -> u32
         requires { 0 < end }

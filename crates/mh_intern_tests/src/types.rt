@@ -1,4 +1,4 @@
-ghost use Rattle.std.specs.Prelude.{◌<◌};
+ghost use Rattle.std.specs.Prelude.{◌≡◌, ◌<◌, IfOk};
 
 use mh_base::{NoMemory, Seq};
 use mh_values::{MethodTy, Primitive, Ty};
@@ -7,7 +7,9 @@ use std::alloc::Global;
 pub const INT: Ty = Ty::Prim(Primitive::I);
 
 /// A method type of these types.
-pub fn method(alloc: Global, params: &[Ty], ret: Option<Ty>) -> Result<MethodTy, NoMemory> {
+pub fn method(alloc: Global, params: &[Ty], ret: Option<Ty>) -> Result<MethodTy, NoMemory>
+    ensures { IfOk result (λ ty. ty.ret ≡ ret) }
+{
     let mut list = Seq::new(alloc);
     for param in params {
         list.push(*param)?;
@@ -16,7 +18,9 @@ pub fn method(alloc: Global, params: &[Ty], ret: Option<Ty>) -> Result<MethodTy,
 }
 
 /// A method type with so many `int` parameters.
-pub fn ints(alloc: Global, count: usize, ret: Option<Ty>) -> Result<MethodTy, NoMemory> {
+pub fn ints(alloc: Global, count: usize, ret: Option<Ty>) -> Result<MethodTy, NoMemory>
+    ensures { IfOk result (λ ty. ty.ret ≡ ret) }
+{
     let mut params = Seq::new(alloc);
     for _ in 0..count {
         params.push(INT)?;
