@@ -1,21 +1,21 @@
 -- Counts of entries in a list.
 use Rattle.std.proofs.Common.{◌≡◌, ℕ, ◌+◌, ◌<◌, ◌≤◌, ◌==◌, ◌&&◌, Bool, true, false, cond, List, [], ◌∷◌, length, sum_by, count_by, sym, refl, ap, ◌∙◌, arith, ◌⊎◌, inl, inr, subst}
 use Rattle.std.proofs.lemmas.List.Sums.{sum_by-cons}
-use Rattle.std.proofs.lemmas.Bool.{eqb-true, eq-eqb}
+use Rattle.std.proofs.lemmas.Bool.{and_from, and_parts, eq-eqb, eqb-true}
 use Rattle.mh_values.specs.declared.types.MethodTy.{MethodTy}
 use Rattle.mh_values.specs.Same.{is_same_method_type}
-use Rattle.mh_values.proofs.SameTypes.{both, both-true, same_method_type-is, same_method_type-itself}
+use Rattle.mh_values.proofs.SameTypes.{same_method_type-is, same_method_type-itself}
 use Rattle.mh_intern.specs.declared.holding.Entry.{Entry}
 use Rattle.mh_intern.specs.Held.{on_slot, on_type, has}
 use Rattle.mh_intern.specs.Lists.{is_entry, removed, entry}
 use Rattle.mh_intern.proofs.Measures.{count_cons}
 
 pub entry-is : (x e : Entry) → is_entry x e ≡ true → x ≡ e
-entry-is x e h = let p = both (x.slot == e.slot) (is_same_method_type x.ty e.ty) h in
+entry-is x e h = let p = and_parts (x.slot == e.slot) (is_same_method_type x.ty e.ty) h in
     λ i. record { slot = eqb-true x.slot e.slot p.0 i; ty = same_method_type-is x.ty e.ty p.1 i }
 
 pub entry-itself : (e : Entry) → is_entry e e ≡ true
-entry-itself e = both-true _ _ (eq-eqb e.slot e.slot refl) (same_method_type-itself e.ty)
+entry-itself e = and_from _ _ (eq-eqb e.slot e.slot refl) (same_method_type-itself e.ty)
 
 abbrev pub bit : Bool → ℕ
 bit b = cond b 1 0
