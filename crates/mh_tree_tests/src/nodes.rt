@@ -72,7 +72,10 @@ pub(crate) fn method_type(
 ) -> Result<MethodTy, NoMemory>
     ensures { IfOk result (λ ty. desc classes.now text.now ≡ Ok ty) }
 {
-    read_descriptor(alloc, text.as_bytes(), classes).map_err(|_| NoMemory)
+    match read_descriptor(alloc, text.as_bytes(), classes) {
+        Ok(ty) => Ok(ty),
+        Err(_) => Err(NoMemory),
+    }
 }
 
 fn types(alloc: Global, text: &str, classes: &Classes) -> Result<Tys, NoMemory> {
