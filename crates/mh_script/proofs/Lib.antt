@@ -1,0 +1,5 @@
+mod Examples
+pub mod Nested
+pub mod OtherCounts
+pub mod Places
+pub mod Written

@@ -1,0 +1,44 @@
+-- The places of scripts in a list, when one more is put at its end.
+use Rattle.std.proofs.Common.{◌≡◌, refl, sym, ap, ap₂, ◌∙◌, suc, ℕ, ◌+◌, ◌<◌, Bool, true, false, cond, List, [], ◌∷◌, ◌++◌, length, Option, None, Some, position, option_map, IfSome, arith}
+use Rattle.std.proofs.lemmas.Iterator.Adapters.{position_from-zero}
+use Rattle.std.specs.List.{position_from}
+use Rattle.std.specs.Option.{option_or}
+use Rattle.mh_leaves.proofs.Once.{position-within}
+use Rattle.mh_script.specs.declared.script.Script.{Script}
+use Rattle.mh_script.specs.declared.scripts.ScriptId.{ScriptId}
+use Rattle.mh_script.specs.Index.{ByOwner, FindsFirst}
+use Rattle.mh_script.specs.Find.{has_texts, ArePlaces, script_named}
+
+position_from-push : {A : Type 0} (f : A → Bool) (n : ℕ) (xs : List A) (y : A) → position_from f n (xs ++ y ∷ []) ≡ option_or (position_from f n xs)
+    (cond (f y) (Some (n + length xs)) None)
+position_from-push f n [] y = ap (λ k. cond (f y) (Some k) None) (omega arith)
+position_from-push f n (x ∷ xs) y =
+    let later : position_from f (n + 1) (xs ++ y ∷ []) ≡ option_or (position_from f (n + 1) xs) (cond (f y) (Some (n + suc (length xs))) None) =
+    position_from-push f (n + 1) xs y ∙ ap (λ k. option_or (position_from f (n + 1) xs) (cond (f y) (Some k) None)) (omega arith) in
+    elim (f x) as (λ b. cond b (Some n) (position_from f (n + 1) (xs ++ y ∷ [])) ≡ option_or (cond b (Some n) (position_from f (n + 1) xs))
+    (cond (f y) (Some (n + suc (length xs))) None)) [
+      | true ↦ refl
+      | false ↦ later
+    ]
+
+position-push : {A : Type 0} (f : A → Bool) (xs : List A) (y : A) → position f (xs ++ y ∷ []) ≡ option_or (position f xs) (cond (f y) (Some (length xs)) None)
+position-push f xs y =
+    position_from-zero f (xs ++ y ∷ []) ∙ position_from-push f 0 xs y
+    ∙ ap (λ o. option_or o (cond (f y) (Some (0 + length xs)) None)) (sym (position_from-zero f xs))
+    ∙ ap (λ k. option_or (position f xs) (cond (f y) (Some k) None)) (omega arith)
+
+-- an index that finds one more script, after the others
+pub places-more : (old new : ByOwner) (scripts more : List Script) (script : Script) (number : ℕ) → ArePlaces old scripts → number ≡ length scripts →
+    FindsFirst old new script.method.owner script.method.name script.method.descriptor number → more ≡ scripts ++ script ∷ [] → ArePlaces new more
+places-more old new scripts more script number are here first pushed = rw pushed (λ o n d.
+    first o n d ∙ ap₂ (λ x k. option_or x (cond (has_texts o n d script) (Some k) None)) (are o n d) here
+    ∙ sym (position-push (has_texts o n d) scripts script))
+
+-- a script that is found is one of the list
+pub script_named-within : (scripts : List Script) (o n d : List ℕ) (r : Option ScriptId) → r ≡ script_named scripts o n d →
+    IfSome r (λ id. id.0 < length scripts)
+script_named-within scripts o n d r is = rw is (within (position (has_texts o n d) scripts) (position-within (has_texts o n d) scripts _ refl))
+  where
+    within : (p : Option ℕ) → IfSome p (λ i. i < length scripts) → IfSome (option_map (λ at. record { 0 = at }) p) (λ (id : ScriptId). id.0 < length scripts)
+    within None h = tt
+    within (Some i) h = h

@@ -1,0 +1,17 @@
+use Rattle.std.proofs.Common.{◌≡◌, subst, ℕ, List, length, arith}
+use Rattle.mh_script.specs.Index.{FindsFirst}
+use Rattle.mh_script.proofs.Places.{places-more}
+use Rattle.mh_script.proofs.scripts.Scripts.with.Goals as goal
+
+pub invariant_of-result : goal.invariant_of-result
+invariant_of-result c =
+    let method = c.args.script.method in
+    let old = c.self.inside.places in
+    let new = c.in_ok-places.places in
+    let number = c.in_ok-number.number in
+    let here : number ≡ length c.self.inside.scripts.items = omega (arith, c.in_ok-number.ensures, c.len.ensures) in
+    let first : FindsFirst old new method.owner method.name method.descriptor number =
+    subst (λ (o : List ℕ). FindsFirst old new o method.name method.descriptor number) c.as_slice.ensures
+    (subst (λ (m : List ℕ). FindsFirst old new c.as_slice.result.now m method.descriptor number) c.as_slice-2.ensures
+    (subst (λ (d : List ℕ). FindsFirst old new c.as_slice.result.now c.as_slice-2.result.now d number) c.as_slice-3.ensures c.in_ok-places.ensures)) in
+    places-more old new c.self.inside.scripts.items c.push.new.self.items c.args.script number c.self.invariant here first c.in_ok-push.ensures.items

@@ -1,0 +1,10 @@
+pub mod Faults
+pub mod Find
+pub mod Forms
+pub mod Index
+pub mod Kinds
+pub mod Lines
+pub mod Numbers
+pub mod Scripts
+pub mod Told
+pub mod Tokens
