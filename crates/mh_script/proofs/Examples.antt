@@ -1,12 +1,10 @@
--- Worked lines and files of scripts, by computation.
-use Rattle.std.specs.Prelude.{◌≡◌, refl, ℕ, List, [], ◌∷◌, codes, negsuc, Result, Ok, Err}
+-- What lines of scripts say, by computation.
+use Rattle.std.specs.Prelude.{◌≡◌, refl, ℕ, List, [], ◌∷◌, codes, negsuc, Result, Ok}
 use Rattle.std.specs.Fmt.{digits}
 use Rattle.mh_base.specs.Lines.{tokens_of}
-use Rattle.mh_base.specs.declared.lines.LineFault.{LineFault}
 use Rattle.mh_values.specs.declared.value.Num.TheVariants as num
 use Rattle.mh_values.specs.declared.value.Value.TheVariants as value
 use Rattle.mh_script.specs.declared.kinds.ScriptKind.{ScriptKind}
-use Rattle.mh_script.specs.declared.kinds.ScriptKind.TheVariants as kind
 use Rattle.mh_script.specs.declared.line.Line.{Line}
 use Rattle.mh_script.specs.declared.line.Line.TheVariants as line
 use Rattle.mh_script.specs.declared.operand.MethodTypeOperand.TheVariants as of_method_type
@@ -17,10 +15,8 @@ use Rattle.mh_script.specs.declared.operand.ValueOperand.TheVariants as of_value
 use Rattle.mh_script.specs.declared.script.End.TheVariants as end
 use Rattle.mh_script.specs.declared.script.Operation.{Operation}
 use Rattle.mh_script.specs.declared.script.Operation.TheVariants as operation
-use Rattle.mh_script.specs.declared.script.Script.{Script}
 use Rattle.mh_script.specs.declared.script.Step.TheVariants as step
 use Rattle.mh_script.specs.Lines.{line_of}
-use Rattle.mh_script.specs.Scripts.{scripts}
 
 -- what a line says, among no classes
 abbrev said : List ℕ → Result Line ScriptKind
@@ -125,52 +121,3 @@ a_raise = refl
 a_return : said (codes "return a00") ≡ Ok (line.End (end.Return (register.Assigned (codes "a00"))))
 unfolding digits
 a_return = refl
-
--- ---- files
-
--- a script that returns the first static argument, with this name
-abbrev returning : List ℕ → Script
-returning name = record { method = record { owner = codes "a"; name = name; descriptor = codes "()V" }; steps = []; end = end.Return first }
-
--- a fault at a line
-abbrev at : ℕ → ScriptKind → Result (List Script) (LineFault ScriptKind)
-at n k = Err (record { line = n; kind = k })
-
-no_script : scripts (codes "# none\n\n") ≡ Ok []
-no_script = refl
-
-two_scripts : scripts (codes "script a f ()V\nreturn a0\nend\n\nscript a g ()V\nreturn a0\nend") ≡ Ok (returning (codes "f") ∷ returning (codes "g") ∷ [])
-unfolding digits
-two_scripts = refl
-
-an_end_after_a_header : scripts (codes "script a f ()V\nend\n") ≡ at 2 kind.BadLine
-unfolding digits
-an_end_after_a_header = refl
-
-no_end : scripts (codes "script a f ()V\nreturn a0\n\n") ≡ at 2 kind.BadLine
-unfolding digits
-no_end = refl
-
-a_header_twice : scripts (codes "script a f ()V\nreturn a0\nend\nscript a f ()V\nreturn a0\nend\n") ≡ at 4 kind.Twice
-unfolding digits
-a_header_twice = refl
-
-an_undefined_register : scripts (codes "script a f ()V\nreturn x\nend\n") ≡ at 2 kind.Undefined
-unfolding digits
-an_undefined_register = refl
-
-a_wrong_sort : scripts (codes "script a f ()V\nlet x serial\nreturn x\nend\n") ≡ at 3 kind.WrongSort
-unfolding digits
-a_wrong_sort = refl
-
-a_bad_descriptor : scripts (codes "script a f ()\nreturn a0\nend\n") ≡ at 1 kind.BadDescriptor
-unfolding digits
-a_bad_descriptor = refl
-
-a_bad_literal : scripts (codes "script a f ()V\nraise a b\nend\n") ≡ at 2 kind.BadLiteral
-unfolding digits
-a_bad_literal = refl
-
-no_return : scripts (codes "script a f ()V\nlet x serial\nend\n") ≡ at 2 kind.NoReturn
-unfolding digits
-no_return = refl

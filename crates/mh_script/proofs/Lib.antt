@@ -1,4 +1,7 @@
+mod ExampleFiles
 mod Examples
+pub mod Faultless
+pub mod FaultlessOperations
 pub mod Nested
 pub mod OtherCounts
 pub mod Places

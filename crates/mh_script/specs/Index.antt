@@ -1,5 +1,5 @@
 -- Numbers that are found by an owner, a name and a descriptor.
-use Rattle.std.specs.Prelude.{◌≡◌, ℕ, Bool, ◌&&◌, List, Option, None, Some, option_and_then, if◌then◌else◌}
+use Rattle.std.specs.Prelude.{◌≡◌, ℕ, Bool, ◌&&◌, ◌||◌, List, Option, None, Some, is_some, option_and_then, if◌then◌else◌}
 use Rattle.std.specs.Option.{option_or}
 use Rattle.std.specs.BTreeMap.{BTreeMap, UpdatesBy, get_by}
 use Rattle.std.specs.Cmp.Lexicographic.{slice_cmp}
@@ -48,3 +48,7 @@ FindsOneMore old new owner name descriptor number =
 abbrev pub FindsFirst : ByOwner → ByOwner → List ℕ → List ℕ → List ℕ → ℕ → Type 0
 FindsFirst old new owner name descriptor number =
     (o n d : List ℕ) → owned_at new o n d ≡ option_or (owned_at old o n d) (if are_texts owner name descriptor o n d then Some number else None)
+
+-- something stands under one more owner, or again under it
+abbrev pub KnowsOneMore : ByOwner → ByOwner → List ℕ → Type 0
+KnowsOneMore old new owner = (o : List ℕ) → is_some (at_text new o) ≡ (bytes_eq owner o || is_some (at_text old o))

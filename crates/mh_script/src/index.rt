@@ -1,6 +1,6 @@
 ghost use Rattle.std.specs.Prelude.{◌≡◌, ◌&&◌, if◌then◌else◌, ℕ, List, IfOk, Some, None};
 ghost use Rattle.std.specs.Str.{bytes_eq};
-ghost use Rattle.mh_script.specs.Index.{at_text, named_at, owned_at, Writes, FindsOneMore, FindsFirst};
+ghost use Rattle.mh_script.specs.Index.{at_text, named_at, owned_at, Writes, FindsOneMore, FindsFirst, KnowsOneMore};
 
 use mh_base::NoMemory;
 use mh_leaves::Reference;
@@ -92,8 +92,9 @@ fn with_owner(
     texts: Reference<'_>,
     number: u32,
 ) -> Result<ByOwner, NoMemory>
-    ensures { IfOk result (λ new. FindsOneMore owners new texts.entry.owner.now
+    ensures found { IfOk result (λ new. FindsOneMore owners new texts.entry.owner.now
         texts.entry.name.now texts.entry.descriptor.now number) }
+    ensures owners { IfOk result (λ new. KnowsOneMore owners new texts.entry.owner.now) }
 {
     let names = take_owner(alloc, &mut owners, texts.owner);
     let names = with_name(alloc, names, texts.name, texts.descriptor, number)?;
@@ -108,8 +109,9 @@ pub(crate) fn with_number(
     texts: Reference<'_>,
     number: u32,
 ) -> Result<ByOwner, NoMemory>
-    ensures { IfOk result (λ new. FindsFirst owners new texts.entry.owner.now
+    ensures found { IfOk result (λ new. FindsFirst owners new texts.entry.owner.now
         texts.entry.name.now texts.entry.descriptor.now number) }
+    ensures owners { IfOk result (λ new. KnowsOneMore owners new texts.entry.owner.now) }
 {
     if owned(&owners, texts).is_some() {
         return Ok(owners);

@@ -1,5 +1,5 @@
 ghost use Rattle.std.specs.Prelude.{◌≡◌, ◌<◌, [], ◌∷◌, ◌++◌, length, slice_get, Some, IfOk, IfSome};
-ghost use Rattle.mh_script.specs.Find.{script_named};
+ghost use Rattle.mh_script.specs.Find.{script_named, has_owner};
 
 use crate::Script;
 use crate::index::{ByOwner, owned, with_number};
@@ -97,5 +97,12 @@ impl Scripts {
         };
         let at = owned(&self.places, texts)?;
         Some(ScriptId(at))
+    }
+
+    /// Whether some script has this owner. It takes no memory.
+    pub fn has_owner(&self, owner: &[u8]) -> bool
+        ensures { result ≡ has_owner self.now owner.now }
+    {
+        self.places.get(owner).is_some()
     }
 }

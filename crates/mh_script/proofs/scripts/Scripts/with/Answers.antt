@@ -1,5 +1,5 @@
 use Rattle.std.proofs.Common.{◌≡◌, subst, ℕ, List, length, arith}
-use Rattle.mh_script.specs.Index.{FindsFirst}
+use Rattle.mh_script.specs.Index.{FindsFirst, KnowsOneMore}
 use Rattle.mh_script.proofs.Places.{places-more}
 use Rattle.mh_script.proofs.scripts.Scripts.with.Goals as goal
 
@@ -13,5 +13,6 @@ invariant_of-result c =
     let first : FindsFirst old new method.owner method.name method.descriptor number =
     subst (λ (o : List ℕ). FindsFirst old new o method.name method.descriptor number) c.as_slice.ensures
     (subst (λ (m : List ℕ). FindsFirst old new c.as_slice.result.now m method.descriptor number) c.as_slice-2.ensures
-    (subst (λ (d : List ℕ). FindsFirst old new c.as_slice.result.now c.as_slice-2.result.now d number) c.as_slice-3.ensures c.in_ok-places.ensures)) in
-    places-more old new c.self.inside.scripts.items c.push.new.self.items c.args.script number c.self.invariant here first c.in_ok-push.ensures.items
+    (subst (λ (d : List ℕ). FindsFirst old new c.as_slice.result.now c.as_slice-2.result.now d number) c.as_slice-3.ensures c.in_ok-places.ensures.found)) in
+    let knows : KnowsOneMore old new method.owner = subst (λ (o : List ℕ). KnowsOneMore old new o) c.as_slice.ensures c.in_ok-places.ensures.owners in
+    places-more old new c.self.inside.scripts.items c.push.new.self.items c.args.script number c.self.invariant here first knows c.in_ok-push.ensures.items
