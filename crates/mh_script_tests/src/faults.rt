@@ -8,14 +8,15 @@ use std::test::Fail;
 
 /// How a file of scripts is read.
 #[derive(Clone, Copy, PartialEq)]
-pub enum Told {
+enum Told {
     /// It has so many scripts.
     Scripts(usize),
     /// Its first faulty line, and what is wrong with it.
     Fault(u32, ScriptKind),
 }
 
-pub fn read(alloc: Global, bytes: &[u8]) -> Result<Told, NoMemory> {
+/// How a text is read.
+fn read(alloc: Global, bytes: &[u8]) -> Result<Told, NoMemory> {
     match read_scripts(alloc, bytes) {
         Ok(scripts) => Ok(Told::Scripts(scripts.len())),
         Err(ScriptError::Fault(fault)) => Ok(Told::Fault(fault.line, fault.kind)),
