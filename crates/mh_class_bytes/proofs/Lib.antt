@@ -7,6 +7,7 @@ pub mod FormatParts
 pub mod FormatSound
 pub mod FormatComplete
 pub mod Repeated
+pub mod Moves
 pub mod Units
 pub mod FirstChar
 pub mod CharSteps

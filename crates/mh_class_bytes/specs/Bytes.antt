@@ -20,12 +20,17 @@ bytes_at n p = if nat_lt (length p.bytes) (p.at + n) then Err (record { at = p.a
 abbrev pub number_at : ℕ → Position → Found ℕ
 number_at n p = if nat_lt (length p.bytes) (p.at + n) then Err (record { at = p.at }) else Ok (big_number n (drop p.at p.bytes), skip n p)
 
--- a call on a cursor answered what stands at its old position; after a refusal the cursor is where it was
-abbrev pub Takes : {X Y : Type 0} → (X → Y) → Position → Result X Short → Position → Found Y → Type 0
-Takes view old (Ok x) new found = found ≡ Ok (view x, new)
-Takes view old (Err e) new found = (found ≡ Err e) × (new ≡ old)
-
 -- a cursor never goes back, nor over other bytes
 pub record Moves (old new : Position) : Type 0 where
   pub bytes : new.bytes ≡ old.bytes
   pub onward : old.at ≤ new.at
+
+-- what was found at the old position was answered, seen by a view; after a refusal the cursor is where it was
+abbrev pub Taken : {X Y : Type 0} → (X → Y) → Position → Result X Short → Position → Found Y → Type 0
+Taken view old (Ok x) new found = found ≡ Ok (view x, new)
+Taken view old (Err e) new found = (found ≡ Err e) × (new ≡ old)
+
+-- a call on a cursor answered what stands at its old position, and only moved the cursor on
+pub record Takes {X Y : Type 0} (view : X → Y) (old : Position) (result : Result X Short) (new : Position) (found : Found Y) : Type 0 where
+  pub taken : Taken view old result new found
+  pub moves : Moves old new

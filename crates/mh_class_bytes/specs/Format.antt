@@ -3,7 +3,7 @@ use Rattle.std.specs.Prelude.{◌≡◌, ℕ, zero, suc, ◌+◌, List, [], ◌�
 use Rattle.std.specs.Bool.{MatchBool}
 use Rattle.byteorder.specs.Endian.{big_number}
 use Rattle.mh_class_bytes.specs.Position.{Position}
-use Rattle.mh_class_bytes.specs.Bytes.{number_at, bytes_at, Found}
+use Rattle.mh_class_bytes.specs.Bytes.{number_at, bytes_at, Found, Moves}
 use Rattle.mh_class_bytes.specs.declared.fault.Fault.{Fault}
 
 infixl 10 ◌>>=◌
@@ -96,15 +96,15 @@ reads (blame place kind f) p = blamed place kind (reads f p)
 reads (part short n left f) p = and_then (or_fault short (bytes_at n p)) (λ c. and_then (reads f (cut c.1.at p)) (filled left c.1))
 reads (f >>= g) p = and_then (reads f p) (λ x. reads (g x.0) x.1)
 
--- a function that reads at a cursor answered, seen by a view, what is to be read there
-abbrev pub Reads : {K X Y : Type 0} → (X → Y) → Result X (Fault K) → Position → Reading K Y → Type 0
-Reads view (Ok x) after reading = reading ≡ Ok (view x, after)
-Reads view (Err f) after reading = reading ≡ Err f
-
--- the same of a check that reads nothing
+-- a function answered, seen by a view, what is to be found
 abbrev pub Judges : {K X Y : Type 0} → (X → Y) → Result X (Fault K) → Checked K Y → Type 0
 Judges view (Ok x) checked = checked ≡ Ok (view x)
 Judges view (Err f) checked = checked ≡ Err f
+
+-- a function that reads at a cursor answered, seen by a view, what is to be read of the format there, and only moved the cursor on
+pub record Reads {K X Y : Type 0} (view : X → Y) (result : Result X (Fault K)) (old new : Position) (format : Format K Y) : Type 0 where
+  pub found : Judges (λ x. (view x, new)) result (reads format old)
+  pub moves : Moves old new
 
 -- so many steps, each from what the ones before it left
 unfoldable pub repeated : {K S : Type 0} → (S → Format K S) → ℕ → S → Format K S

@@ -1,5 +1,5 @@
 ghost use Rattle.std.specs.Prelude.{◌≡◌, ◌≤◌, ◌<◌, ◌^◌, length, OnOk};
-ghost use Rattle.mh_class_bytes.specs.Bytes.{Takes, Moves, bytes_at, number_at};
+ghost use Rattle.mh_class_bytes.specs.Bytes.{Takes, bytes_at, number_at};
 
 use byteorder::{BigEndian, ByteOrder};
 use std::marker::Model;
@@ -65,7 +65,6 @@ impl<'b> Cursor<'b> {
     /// The next run of `n` bytes, borrowed from the input.
     pub fn take(&mut self, n: usize) -> Result<&'b [u8], Short>
         ensures gives { Takes (λ run. run.now) self.old result self.new (bytes_at n self.old) }
-        ensures moves { Moves self.old self.new }
     {
         if self.bytes.len() - self.at < n {
             return Err(Short { at: self.at });
@@ -80,7 +79,6 @@ impl<'b> Cursor<'b> {
     /// The next byte.
     pub fn u1(&mut self) -> Result<u8, Short>
         ensures gives { Takes (λ x. x) self.old result self.new (number_at 1 self.old) }
-        ensures moves { Moves self.old self.new }
         ensures onward { OnOk result (self.old.at < self.new.at) }
     {
         let run = self.take(1)?;
@@ -90,7 +88,6 @@ impl<'b> Cursor<'b> {
     /// The next two bytes as a number.
     pub fn u2(&mut self) -> Result<u16, Short>
         ensures gives { Takes (λ x. x) self.old result self.new (number_at 2 self.old) }
-        ensures moves { Moves self.old self.new }
         ensures onward { OnOk result (self.old.at < self.new.at) }
     {
         let run = self.take(2)?;
@@ -100,7 +97,6 @@ impl<'b> Cursor<'b> {
     /// The next four bytes as a number.
     pub fn u4(&mut self) -> Result<u32, Short>
         ensures gives { Takes (λ x. x) self.old result self.new (number_at 4 self.old) }
-        ensures moves { Moves self.old self.new }
         ensures onward { OnOk result (self.old.at < self.new.at) }
     {
         let run = self.take(4)?;

@@ -5,6 +5,7 @@ use Rattle.mh_class_bytes.specs.Bytes.{Moves}
 use Rattle.mh_class_bytes.specs.Position.{Position}
 use Rattle.mh_class_bytes.specs.declared.fault.Fault.{Fault}
 use Rattle.mh_class_bytes.specs.Format.{reads, repeated}
+use Rattle.mh_class_bytes.proofs.Moves.{moves_again}
 use Rattle.mh_class_bytes.proofs.Repeated.{repeated-step, repeated-err, repeated_idle}
 use Rattle.mh_class_pool.specs.declared.entry.Entry.{Entry}
 use Rattle.mh_class_pool.specs.declared.fault.ClassKind.{ClassKind}
@@ -38,9 +39,6 @@ next start p q places count n e k lt h =
     let len : length (map (slot_at start.bytes) places) ≡ n = length-map places (slot_at start.bytes) ∙ sym k in
     step count (map (slot_at start.bytes) places) p q e (omega (arith, len)) (subst (λ (m : ℕ). reads (entry (eqb (m + 1) count)) p ≡ Ok (e, q)) (sym len) h)
 
-onward : (start p q : Position) → Moves start p → Moves p q → Moves start q
-onward start p q m k = record { bytes = k.bytes ∙ m.bytes; onward = omega (arith, m.onward, k.onward) }
-
 pub next_narrow : (start p q : Position) (places : List ℕ) (count n : ℕ) (e : Entry) → IsReading start p places count → n ≡ length places →
     length places < count → reads (entry (eqb (n + 1) count)) p ≡ Ok (e, q) → is_wide e ≡ false → Moves p q
     → IsReading start q (places ++ p.at ∷ []) count
@@ -58,7 +56,7 @@ next_narrow start p q places count n e r k lt h w m =
     let all : f ++ indexes_of p.at e ≡ map (slot_at start.bytes) (places ++ p.at ∷ []) = ap (λ (x : List Slot). f ++ x) indexes ∙ sym pushed in
     let stepped = sym (repeated-step (next_slots count) more f (f ++ indexes_of p.at e) p q (next start p q places count n e k lt h)) ∙ so_far in
     record {
-      moves = onward start p q r.moves m;
+      moves = moves_again r.moves m;
       inside = omega (arith, m.onward, r.inside);
       most = more;
       enough = omega (arith, r.enough, length-append places (p.at ∷ []));
@@ -86,7 +84,7 @@ next_wide start p q places count n e r k lt h w m =
     sym (append_assoc f (Some (p.at, e) ∷ []) (None ∷ [])) ∙ sym both in
     let stepped = sym (repeated-step (next_slots count) more f (f ++ indexes_of p.at e) p q (next start p q places count n e k lt h)) ∙ so_far in
     record {
-      moves = onward start p q r.moves m;
+      moves = moves_again r.moves m;
       inside = omega (arith, m.onward, r.inside);
       most = more;
       enough = omega (arith, r.enough, length-append places (p.at ∷ []), length-append (places ++ p.at ∷ []) (0 ∷ []));

@@ -1,6 +1,5 @@
 ghost use Rattle.std.specs.Prelude.{◌≡◌};
-ghost use Rattle.mh_class_bytes.specs.Bytes.{Moves};
-ghost use Rattle.mh_class_bytes.specs.Format.{Reads, reads};
+ghost use Rattle.mh_class_bytes.specs.Format.{Reads};
 ghost use Rattle.mh_class_pool.specs.Entries.{utf8_bytes, utf8, numeric, named, paired, handle, contents, entry, is_wide_tag, is_wide, is_argument, is_kind};
 
 use crate::fault::{ClassFault, ClassKind};
@@ -101,8 +100,7 @@ impl<'b> Entry<'b> {
 /// The bytes of a Utf8 entry after its tag.
 #[tactic(auto, unfolding(crate::specs::Entries::utf8_bytes))]
 pub fn read_utf8_bytes<'b>(cursor: &mut Cursor<'b>) -> Result<&'b [u8], ClassFault>
-    ensures reads { Reads (λ x. x.now) result cursor.new (reads utf8_bytes cursor.old) }
-    ensures moves { Moves cursor.old cursor.new }
+    ensures reads { Reads (λ x. x.now) result cursor.old cursor.new utf8_bytes }
 {
     let len = u2(cursor, ClassKind::Truncated)?;
     run(cursor, len as usize, ClassKind::Truncated)
@@ -110,8 +108,7 @@ pub fn read_utf8_bytes<'b>(cursor: &mut Cursor<'b>) -> Result<&'b [u8], ClassFau
 
 #[tactic(auto, unfolding(crate::specs::Entries::utf8))]
 fn read_utf8<'b>(cursor: &mut Cursor<'b>) -> Result<Entry<'b>, ClassFault>
-    ensures reads { Reads (λ x. x) result cursor.new (reads utf8 cursor.old) }
-    ensures moves { Moves cursor.old cursor.new }
+    ensures reads { Reads (λ x. x) result cursor.old cursor.new utf8 }
 {
     let start = cursor.at();
     let bytes = read_utf8_bytes(cursor)?;
@@ -127,8 +124,7 @@ fn read_utf8<'b>(cursor: &mut Cursor<'b>) -> Result<Entry<'b>, ClassFault>
 /// A number, a Long or a Double, after its tag.
 #[tactic(auto, unfolding(crate::specs::Entries::numeric))]
 fn read_numeric<'b>(tag: u8, cursor: &mut Cursor<'b>) -> Result<Entry<'b>, ClassFault>
-    ensures reads { Reads (λ x. x) result cursor.new (reads (numeric tag) cursor.old) }
-    ensures moves { Moves cursor.old cursor.new }
+    ensures reads { Reads (λ x. x) result cursor.old cursor.new (numeric tag) }
 {
     let first = u4(cursor, ClassKind::Truncated)?;
     match tag {
@@ -148,8 +144,7 @@ fn read_numeric<'b>(tag: u8, cursor: &mut Cursor<'b>) -> Result<Entry<'b>, Class
 /// An entry of one index, after its tag.
 #[tactic(auto, unfolding(crate::specs::Entries::named))]
 fn read_named<'b>(tag: u8, cursor: &mut Cursor<'b>) -> Result<Entry<'b>, ClassFault>
-    ensures reads { Reads (λ x. x) result cursor.new (reads (named tag) cursor.old) }
-    ensures moves { Moves cursor.old cursor.new }
+    ensures reads { Reads (λ x. x) result cursor.old cursor.new (named tag) }
 {
     let name = u2(cursor, ClassKind::Truncated)?;
     match tag {
@@ -164,8 +159,7 @@ fn read_named<'b>(tag: u8, cursor: &mut Cursor<'b>) -> Result<Entry<'b>, ClassFa
 /// An entry of two indexes, after its tag.
 #[tactic(auto, unfolding(crate::specs::Entries::paired))]
 fn read_paired<'b>(tag: u8, cursor: &mut Cursor<'b>) -> Result<Entry<'b>, ClassFault>
-    ensures reads { Reads (λ x. x) result cursor.new (reads (paired tag) cursor.old) }
-    ensures moves { Moves cursor.old cursor.new }
+    ensures reads { Reads (λ x. x) result cursor.old cursor.new (paired tag) }
 {
     let first = u2(cursor, ClassKind::Truncated)?;
     let second = u2(cursor, ClassKind::Truncated)?;
@@ -182,8 +176,7 @@ fn read_paired<'b>(tag: u8, cursor: &mut Cursor<'b>) -> Result<Entry<'b>, ClassF
 /// A MethodHandle, after its tag.
 #[tactic(auto, unfolding(crate::specs::Entries::handle))]
 fn read_handle<'b>(cursor: &mut Cursor<'b>) -> Result<Entry<'b>, ClassFault>
-    ensures reads { Reads (λ x. x) result cursor.new (reads handle cursor.old) }
-    ensures moves { Moves cursor.old cursor.new }
+    ensures reads { Reads (λ x. x) result cursor.old cursor.new handle }
 {
     let kind = u1(cursor, ClassKind::Truncated)?;
     let reference = u2(cursor, ClassKind::Truncated)?;
@@ -197,8 +190,7 @@ pub fn read_contents<'b>(
     at: usize,
     cursor: &mut Cursor<'b>,
 ) -> Result<Entry<'b>, ClassFault>
-    ensures reads { Reads (λ x. x) result cursor.new (reads (contents tag at) cursor.old) }
-    ensures moves { Moves cursor.old cursor.new }
+    ensures reads { Reads (λ x. x) result cursor.old cursor.new (contents tag at) }
 {
     match tag {
         tags::INTEGER..=tags::DOUBLE => read_numeric(tag, cursor),
@@ -219,8 +211,7 @@ pub fn read_contents<'b>(
 /// The next entry; at the last index of the pool it must not take two.
 #[tactic(auto, unfolding(crate::specs::Entries::entry))]
 pub fn read_entry<'b>(is_last: bool, cursor: &mut Cursor<'b>) -> Result<Entry<'b>, ClassFault>
-    ensures reads { Reads (λ x. x) result cursor.new (reads (entry is_last) cursor.old) }
-    ensures moves { Moves cursor.old cursor.new }
+    ensures reads { Reads (λ x. x) result cursor.old cursor.new (entry is_last) }
 {
     let at = cursor.at();
     let tag = u1(cursor, ClassKind::Truncated)?;

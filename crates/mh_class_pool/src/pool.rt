@@ -1,5 +1,4 @@
 ghost use Rattle.std.specs.Prelude.{◌≡◌, ◌<◌, true, false, is_ok, length, Some};
-ghost use Rattle.mh_class_bytes.specs.Bytes.{Moves};
 ghost use Rattle.mh_class_bytes.specs.Format.{reads};
 ghost use Rattle.mh_class_pool.specs.Answers.{Gives};
 ghost use Rattle.mh_class_pool.specs.Entries.{entry, slot, slot_at, text, pool_of};
@@ -111,8 +110,7 @@ pub fn read_pool<'b>(
     cursor: &mut Cursor<'b>,
 ) -> Result<Pool<'b>, ClassError>
     requires { 0 < cursor.old.at }
-    ensures gives { Gives (λ p. p) result cursor.new (reads (pool_of count) cursor.old) }
-    ensures moves { Moves cursor.old cursor.new }
+    ensures gives { Gives (λ p. p) result cursor.old cursor.new (pool_of count) }
 {
     let bytes = cursor.whole();
     let mut places = Vec::new(alloc);

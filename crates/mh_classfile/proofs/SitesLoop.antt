@@ -5,6 +5,7 @@ use Rattle.mh_class_bytes.specs.Position.{Position}
 use Rattle.mh_class_bytes.specs.Bytes.{Moves}
 use Rattle.mh_class_bytes.specs.declared.fault.Fault.{Fault}
 use Rattle.mh_class_bytes.specs.Format.{reads, repeated}
+use Rattle.mh_class_bytes.proofs.Moves.{moves_again}
 use Rattle.mh_class_bytes.proofs.Repeated.{repeated-step, repeated-err, repeated_idle}
 use Rattle.mh_classfile.specs.declared.site.Method.{Method}
 use Rattle.mh_classfile.specs.declared.site.Site.{Site}
@@ -66,7 +67,7 @@ finding-next pool method room start end from p q before found here s lt on m h =
       most = s.most - 1;
       enough = omega (arith, s.enough);
       begun = omega (arith, s.begun);
-      moves = record { bytes = m.bytes ∙ s.moves.bytes; onward = omega (arith, m.onward, s.moves.onward) };
+      moves = moves_again s.moves m;
       so_far = sym (repeated-step (next_site pool method room start end) (s.most - 1) found (found ++ here) p q one) ∙ one_left pool method room start end from
           p before found s lt;
     }

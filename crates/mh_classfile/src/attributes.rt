@@ -1,6 +1,5 @@
 ghost use Rattle.std.specs.Prelude.{◌≡◌, ◌==◌, if◌then◌else◌, Ok, Err};
-ghost use Rattle.mh_class_bytes.specs.Bytes.{Moves};
-ghost use Rattle.mh_class_bytes.specs.Format.{Judges, Reads, reads};
+ghost use Rattle.mh_class_bytes.specs.Format.{Judges, Reads};
 ghost use Rattle.mh_classfile.specs.Members.{named_index, passed_contents, attribute, attributes, counted_attributes};
 
 use mh_class_bytes::Cursor;
@@ -14,9 +13,7 @@ pub fn read_index(
     kind: Kind,
     cursor: &mut Cursor<'_>,
 ) -> Result<u16, ClassFault>
-    ensures reads { Reads (λ x. x) result cursor.new
-        (reads (named_index short pool.now kind) cursor.old) }
-    ensures moves { Moves cursor.old cursor.new }
+    ensures reads { Reads (λ x. x) result cursor.old cursor.new (named_index short pool.now kind) }
 {
     let at = cursor.at();
     let index = u2(cursor, short)?;
@@ -27,8 +24,7 @@ pub fn read_index(
 /// Passes the contents of an attribute, by their length.
 #[tactic(auto, unfolding(crate::specs::Members::passed_contents))]
 pub fn pass_contents(short: ClassKind, cursor: &mut Cursor<'_>) -> Result<(), ClassFault>
-    ensures reads { Reads (λ x. x) result cursor.new (reads (passed_contents short) cursor.old) }
-    ensures moves { Moves cursor.old cursor.new }
+    ensures reads { Reads (λ x. x) result cursor.old cursor.new (passed_contents short) }
 {
     let len = u4(cursor, short)?;
     let _contents = run(cursor, len as usize, short)?;
@@ -41,8 +37,7 @@ fn pass_attribute(
     pool: &Pool<'_>,
     cursor: &mut Cursor<'_>,
 ) -> Result<(), ClassFault>
-    ensures reads { Reads (λ x. x) result cursor.new (reads (attribute short pool.now) cursor.old) }
-    ensures moves { Moves cursor.old cursor.new }
+    ensures reads { Reads (λ x. x) result cursor.old cursor.new (attribute short pool.now) }
 {
     let _name = read_index(short, pool, Kind::Utf8, cursor)?;
     pass_contents(short, cursor)
@@ -55,9 +50,7 @@ fn pass_attributes(
     count: u16,
     cursor: &mut Cursor<'_>,
 ) -> Result<(), ClassFault>
-    ensures reads { Reads (λ x. x) result cursor.new
-        (reads (attributes short pool.now count) cursor.old) }
-    ensures moves { Moves cursor.old cursor.new }
+    ensures reads { Reads (λ x. x) result cursor.old cursor.new (attributes short pool.now count) }
 {
     for _ in 0..count {
         pass_attribute(short, pool, cursor)?;
@@ -71,9 +64,8 @@ pub fn pass_counted_attributes(
     pool: &Pool<'_>,
     cursor: &mut Cursor<'_>,
 ) -> Result<(), ClassFault>
-    ensures reads { Reads (λ x. x) result cursor.new
-        (reads (counted_attributes short pool.now) cursor.old) }
-    ensures moves { Moves cursor.old cursor.new }
+    ensures reads { Reads (λ x. x) result cursor.old cursor.new
+        (counted_attributes short pool.now) }
 {
     let count = u2(cursor, short)?;
     pass_attributes(short, pool, count, cursor)

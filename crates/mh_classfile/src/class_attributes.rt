@@ -1,6 +1,5 @@
 ghost use Rattle.std.specs.Prelude.{◌≡◌, [], ◌+◌, ◌<◌, ◌^◌, length, OnOk, None};
-ghost use Rattle.mh_class_bytes.specs.Bytes.{Moves};
-ghost use Rattle.mh_class_bytes.specs.Format.{reads, listed, times, repeated};
+ghost use Rattle.mh_class_bytes.specs.Format.{listed, times, repeated};
 ghost use Rattle.mh_class_pool.specs.Answers.{Gives};
 ghost use Rattle.mh_class_pool.specs.declared.entry.Kind.TheVariants.{Argument};
 ghost use Rattle.mh_class_pool.specs.declared.fault.ClassKind.TheVariants.{BadBootstraps};
@@ -23,11 +22,10 @@ fn read_arguments(
     cursor: &mut Cursor<'_>,
 ) -> Result<(), ClassError>
     requires { methods.old.begun ≡ [] }
-    ensures gives { Gives (λ _. methods.new.begun) result cursor.new
-        (reads (times (named_index BadBootstraps pool.now Argument) count) cursor.old) }
+    ensures gives { Gives (λ _. methods.new.begun) result cursor.old cursor.new
+        (times (named_index BadBootstraps pool.now Argument) count) }
     ensures closed { methods.new.closed ≡ methods.old.closed }
     ensures count { OnOk result (length methods.new.begun ≡ count) }
-    ensures moves { Moves cursor.old cursor.new }
 {
     for _ in 0..count {
         let argument = read_index(ClassKind::BadBootstraps, pool, Kind::Argument, cursor)?;
@@ -45,11 +43,10 @@ fn read_bootstrap(
 ) -> Result<(), ClassError>
     requires begun { methods.old.begun ≡ [] }
     requires few { length methods.old.closed + 1 < 2 ^ 16 }
-    ensures gives { Gives (λ _. methods.new.closed) result cursor.new
-        (reads (listed (bootstrap pool.now) methods.old.closed) cursor.old) }
+    ensures gives { Gives (λ _. methods.new.closed) result cursor.old cursor.new
+        (listed (bootstrap pool.now) methods.old.closed) }
     ensures begun { OnOk result (methods.new.begun ≡ []) }
     ensures count { OnOk result (length methods.new.closed ≡ length methods.old.closed + 1) }
-    ensures moves { Moves cursor.old cursor.new }
 {
     let handle = read_index(ClassKind::BadBootstraps, pool, Kind::MethodHandle, cursor)?;
     let count = u2(cursor, ClassKind::BadBootstraps)?;
@@ -64,9 +61,8 @@ fn read_methods(
     count: u16,
     cursor: &mut Cursor<'_>,
 ) -> Result<Bootstraps, ClassError>
-    ensures gives { Gives (λ b. b.closed) result cursor.new
-        (reads (times (bootstrap pool.now) count) cursor.old) }
-    ensures moves { Moves cursor.old cursor.new }
+    ensures gives { Gives (λ b. b.closed) result cursor.old cursor.new
+        (times (bootstrap pool.now) count) }
 {
     let mut methods = Bootstraps::new(alloc);
     for _ in 0..count {
@@ -81,9 +77,7 @@ fn read_bootstraps(
     pool: &Pool<'_>,
     cursor: &mut Cursor<'_>,
 ) -> Result<Bootstraps, ClassError>
-    ensures gives { Gives (λ b. b.closed) result cursor.new
-        (reads (bootstraps pool.now) cursor.old) }
-    ensures moves { Moves cursor.old cursor.new }
+    ensures gives { Gives (λ b. b.closed) result cursor.old cursor.new (bootstraps pool.now) }
 {
     let count = u2(cursor, ClassKind::BadBootstraps)?;
     read_methods(alloc, pool, count, cursor)
@@ -96,9 +90,8 @@ fn read_bootstraps_attribute(
     pool: &Pool<'_>,
     cursor: &mut Cursor<'_>,
 ) -> Result<Bootstraps, ClassError>
-    ensures gives { Gives (λ b. b.closed) result cursor.new
-        (reads (bootstraps_attribute pool.now) cursor.old) }
-    ensures moves { Moves cursor.old cursor.new }
+    ensures gives { Gives (λ b. b.closed) result cursor.old cursor.new
+        (bootstraps_attribute pool.now) }
 {
     let len = u4(cursor, ClassKind::Truncated)?;
     let begin = cursor.at();
@@ -118,9 +111,8 @@ fn read_class_attribute(
     so_far: Option<Bootstraps>,
     cursor: &mut Cursor<'_>,
 ) -> Result<Option<Bootstraps>, ClassError>
-    ensures gives { Gives closed_of result cursor.new
-        (reads (class_attribute pool.now (closed_of so_far)) cursor.old) }
-    ensures moves { Moves cursor.old cursor.new }
+    ensures gives { Gives closed_of result cursor.old cursor.new
+        (class_attribute pool.now (closed_of so_far)) }
 {
     let at = cursor.at();
     let name = read_index(ClassKind::Truncated, pool, Kind::Utf8, cursor)?;
@@ -141,9 +133,8 @@ fn read_attributes(
     count: u16,
     cursor: &mut Cursor<'_>,
 ) -> Result<Option<Bootstraps>, ClassError>
-    ensures gives { Gives closed_of result cursor.new
-        (reads (repeated (class_attribute pool.now) count None) cursor.old) }
-    ensures moves { Moves cursor.old cursor.new }
+    ensures gives { Gives closed_of result cursor.old cursor.new
+        (repeated (class_attribute pool.now) count None) }
 {
     let mut found = None;
     for _ in 0..count {
@@ -159,9 +150,7 @@ pub fn read_class_attributes(
     pool: &Pool<'_>,
     cursor: &mut Cursor<'_>,
 ) -> Result<Option<Bootstraps>, ClassError>
-    ensures gives { Gives closed_of result cursor.new
-        (reads (class_attributes pool.now) cursor.old) }
-    ensures moves { Moves cursor.old cursor.new }
+    ensures gives { Gives closed_of result cursor.old cursor.new (class_attributes pool.now) }
 {
     let count = u2(cursor, ClassKind::Truncated)?;
     read_attributes(alloc, pool, count, cursor)

@@ -1,7 +1,6 @@
 ghost use Rattle.std.specs.Prelude.{◌≡◌, ◌≤◌, ◌<◌, ◌+◌, ◌-◌, ◌*◌, ◌^◌, length, nat_lt, [], ◌∷◌, ◌++◌, OnOk, IfOk, IsTrue, IsSome};
 ghost use Rattle.std.specs.Option.{option_to_list};
-ghost use Rattle.mh_class_bytes.specs.Bytes.{Moves};
-ghost use Rattle.mh_class_bytes.specs.Format.{Reads, reads};
+ghost use Rattle.mh_class_bytes.specs.Format.{Reads};
 ghost use Rattle.mh_class_pool.specs.Answers.{Gives};
 ghost use Rattle.mh_classfile.specs.Code.{is_local, fixed_len, raised, padding, table, table_switch, lookup_switch, wide, passed, ordinary, operands, call_site, instruction, code_sites};
 
@@ -76,17 +75,14 @@ fn raised(number: u32) -> u32
 #[tactic(auto, unfolding(crate::specs::Code::passed))]
 fn pass_entries(low: u32, high: u32, cursor: &mut Cursor<'_>) -> Result<(), ClassFault>
     requires { low ≤ high }
-    ensures reads { Reads (λ x. x) result cursor.new
-        (reads (passed (4 * (high - low + 1))) cursor.old) }
-    ensures moves { Moves cursor.old cursor.new }
+    ensures reads { Reads (λ x. x) result cursor.old cursor.new (passed (4 * (high - low + 1))) }
 {
     pass(4 * ((high - low) as usize + 1), cursor)
 }
 
 /// Passes the lowest and the highest number of a `tableswitch`, and its entries.
 fn pass_table(at: usize, cursor: &mut Cursor<'_>) -> Result<(), ClassFault>
-    ensures reads { Reads (λ x. x) result cursor.new (reads (table at) cursor.old) }
-    ensures moves { Moves cursor.old cursor.new }
+    ensures reads { Reads (λ x. x) result cursor.old cursor.new (table at) }
 {
     let kind = ClassKind::BadCode;
     let low = raised(u4(cursor, kind)?);
@@ -100,8 +96,7 @@ fn pass_table(at: usize, cursor: &mut Cursor<'_>) -> Result<(), ClassFault>
 #[tactic(auto, unfolding(crate::specs::Code::table_switch))]
 fn pass_table_switch(start: usize, at: usize, cursor: &mut Cursor<'_>) -> Result<(), ClassFault>
     requires { start ≤ at }
-    ensures reads { Reads (λ x. x) result cursor.new (reads (table_switch start at) cursor.old) }
-    ensures moves { Moves cursor.old cursor.new }
+    ensures reads { Reads (λ x. x) result cursor.old cursor.new (table_switch start at) }
 {
     let kind = ClassKind::BadCode;
     let _padding = run(cursor, padding(start, at), kind)?;
@@ -112,8 +107,7 @@ fn pass_table_switch(start: usize, at: usize, cursor: &mut Cursor<'_>) -> Result
 #[tactic(auto, unfolding(crate::specs::Code::lookup_switch))]
 fn pass_lookup_switch(start: usize, at: usize, cursor: &mut Cursor<'_>) -> Result<(), ClassFault>
     requires { start ≤ at }
-    ensures reads { Reads (λ x. x) result cursor.new (reads (lookup_switch start at) cursor.old) }
-    ensures moves { Moves cursor.old cursor.new }
+    ensures reads { Reads (λ x. x) result cursor.old cursor.new (lookup_switch start at) }
 {
     let kind = ClassKind::BadCode;
     let _padding = run(cursor, padding(start, at), kind)?;
@@ -129,8 +123,7 @@ fn pass_lookup_switch(start: usize, at: usize, cursor: &mut Cursor<'_>) -> Resul
 /// Passes so many bytes of code.
 #[tactic(auto, unfolding(crate::specs::Code::passed))]
 pub fn pass(len: usize, cursor: &mut Cursor<'_>) -> Result<(), ClassFault>
-    ensures reads { Reads (λ x. x) result cursor.new (reads (passed len) cursor.old) }
-    ensures moves { Moves cursor.old cursor.new }
+    ensures reads { Reads (λ x. x) result cursor.old cursor.new (passed len) }
 {
     let _bytes = run(cursor, len, ClassKind::BadCode)?;
     Ok(())
@@ -138,8 +131,7 @@ pub fn pass(len: usize, cursor: &mut Cursor<'_>) -> Result<(), ClassFault>
 
 #[tactic(auto, unfolding(crate::specs::Code::wide))]
 fn pass_wide(at: usize, cursor: &mut Cursor<'_>) -> Result<(), ClassFault>
-    ensures reads { Reads (λ x. x) result cursor.new (reads (wide at) cursor.old) }
-    ensures moves { Moves cursor.old cursor.new }
+    ensures reads { Reads (λ x. x) result cursor.old cursor.new (wide at) }
 {
     let kind = ClassKind::BadCode;
     let opcode = u1(cursor, kind)?;
@@ -161,8 +153,7 @@ fn pass_ordinary(
     cursor: &mut Cursor<'_>,
 ) -> Result<(), ClassFault>
     requires { start ≤ at }
-    ensures reads { Reads (λ x. x) result cursor.new (reads (ordinary opcode start at) cursor.old) }
-    ensures moves { Moves cursor.old cursor.new }
+    ensures reads { Reads (λ x. x) result cursor.old cursor.new (ordinary opcode start at) }
 {
     let kind = ClassKind::BadCode;
     let passed = match opcode {
@@ -185,8 +176,7 @@ fn pass_ordinary(
 
 #[tactic(auto, unfolding(crate::specs::Code::operands))]
 fn read_operands(cursor: &mut Cursor<'_>) -> Result<(u16, u16), ClassFault>
-    ensures reads { Reads (λ x. x) result cursor.new (reads operands cursor.old) }
-    ensures moves { Moves cursor.old cursor.new }
+    ensures reads { Reads (λ x. x) result cursor.old cursor.new operands }
 {
     let index = u2(cursor, ClassKind::BadCode)?;
     let zeros = u2(cursor, ClassKind::BadCode)?;
@@ -203,10 +193,8 @@ fn read_call_site(
 ) -> Result<Site, ClassFault>
     requires begun { code.now.start ≤ at }
     requires near { at < code.now.start + 2 ^ 16 }
-    ensures reads { Reads (λ x. x) result cursor.new
-        (reads (call_site code.now.pool.now code.now.method has_room code.now.start at)
-        cursor.old) }
-    ensures moves { Moves cursor.old cursor.new }
+    ensures reads { Reads (λ x. x) result cursor.old cursor.new
+        (call_site code.now.pool.now code.now.method has_room code.now.start at) }
     ensures room { OnOk result (IsTrue has_room) }
 {
     let kind = ClassKind::BadCode;
@@ -238,10 +226,8 @@ fn read_instruction(
 ) -> Result<Option<Site>, ClassFault>
     requires begun { code.now.start ≤ cursor.old.at }
     requires near { cursor.old.at < code.now.start + 2 ^ 16 }
-    ensures reads { Reads option_to_list result cursor.new
-        (reads (instruction code.now.pool.now code.now.method has_room code.now.start)
-        cursor.old) }
-    ensures moves { Moves cursor.old cursor.new }
+    ensures reads { Reads option_to_list result cursor.old cursor.new
+        (instruction code.now.pool.now code.now.method has_room code.now.start) }
     ensures onward { OnOk result (cursor.old.at < cursor.new.at) }
     ensures room { IfOk result (λ found. IsSome found → IsTrue has_room) }
 {
@@ -264,11 +250,10 @@ pub fn read_sites(
 ) -> Result<(), ClassError>
     requires begun { code.now.start ≤ cursor.old.at }
     requires near { end ≤ code.now.start + 2 ^ 16 }
-    ensures gives { Gives (λ _. sites.new.sites) result cursor.new
-        (reads (code_sites code.now.pool.now code.now.method sites.old.room code.now.start end
-        sites.old.sites) cursor.old) }
+    ensures gives { Gives (λ _. sites.new.sites) result cursor.old cursor.new
+        (code_sites code.now.pool.now code.now.method sites.old.room code.now.start end
+        sites.old.sites) }
     ensures room { sites.new.room ≡ sites.old.room }
-    ensures moves { Moves cursor.old cursor.new }
 {
     'instructions: while cursor.at() < end {
         let has_room = sites.has_room();

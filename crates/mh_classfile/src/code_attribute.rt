@@ -1,7 +1,6 @@
 ghost use Rattle.std.specs.Prelude.{◌≡◌, ◌≤◌, ◌+◌, ◌^◌};
-ghost use Rattle.mh_class_bytes.specs.Bytes.{Moves};
-ghost use Rattle.mh_class_bytes.specs.Format.{Reads, reads};
-ghost use Rattle.mh_class_pool.specs.Answers.{Gives};
+ghost use Rattle.mh_class_bytes.specs.Format.{Reads};
+ghost use Rattle.mh_class_pool.specs.Answers.{Gives, Yields};
 ghost use Rattle.mh_class_pool.specs.declared.fault.ClassKind.TheVariants.{BadCode};
 ghost use Rattle.mh_classfile.specs.Code.{passed, code_sites};
 ghost use Rattle.mh_classfile.specs.Members.{between, rows, code_bytes, code_tail, code_contents, code_attribute};
@@ -20,8 +19,7 @@ const HANDLER_LEN: usize = 8;
 
 /// Passes so many exception entries.
 fn pass_handlers(count: u16, cursor: &mut Cursor<'_>) -> Result<(), ClassFault>
-    ensures reads { Reads (λ x. x) result cursor.new (reads (rows (passed 8) count) cursor.old) }
-    ensures moves { Moves cursor.old cursor.new }
+    ensures reads { Reads (λ x. x) result cursor.old cursor.new (rows (passed 8) count) }
 {
     for _ in 0..count {
         pass(HANDLER_LEN, cursor)?;
@@ -37,7 +35,7 @@ fn read_code_between(
 ) -> Result<(), ClassError>
     requires begun { code.now.start ≤ end.now.at }
     requires near { end.now.at ≤ code.now.start + 2 ^ 16 }
-    ensures gives { Gives (λ _. sites.new.sites) result end.now
+    ensures gives { Yields (λ _. (sites.new.sites, end.now)) result
         (between code.now.start BadCode
         (code_sites code.now.pool.now code.now.method sites.old.room code.now.start end.now.at
         sites.old.sites) end.now) }
@@ -57,10 +55,9 @@ fn read_code_bytes(
     sites: &mut Sites,
     cursor: &mut Cursor<'_>,
 ) -> Result<(), ClassError>
-    ensures gives { Gives (λ _. sites.new.sites) result cursor.new
-        (reads (code_bytes pool.now method sites.old.room sites.old.sites) cursor.old) }
+    ensures gives { Gives (λ _. sites.new.sites) result cursor.old cursor.new
+        (code_bytes pool.now method sites.old.room sites.old.sites) }
     ensures room { sites.new.room ≡ sites.old.room }
-    ensures moves { Moves cursor.old cursor.new }
 {
     let kind = ClassKind::BadCode;
     let at = cursor.at();
@@ -80,8 +77,7 @@ fn read_code_bytes(
 
 #[tactic(auto, unfolding(crate::specs::Members::code_tail))]
 fn pass_code_tail(pool: &Pool<'_>, cursor: &mut Cursor<'_>) -> Result<(), ClassFault>
-    ensures reads { Reads (λ x. x) result cursor.new (reads (code_tail pool.now) cursor.old) }
-    ensures moves { Moves cursor.old cursor.new }
+    ensures reads { Reads (λ x. x) result cursor.old cursor.new (code_tail pool.now) }
 {
     let kind = ClassKind::BadCode;
     let handlers = u2(cursor, kind)?;
@@ -96,10 +92,9 @@ fn read_code_contents(
     sites: &mut Sites,
     cursor: &mut Cursor<'_>,
 ) -> Result<(), ClassError>
-    ensures gives { Gives (λ _. sites.new.sites) result cursor.new
-        (reads (code_contents pool.now method sites.old.room sites.old.sites) cursor.old) }
+    ensures gives { Gives (λ _. sites.new.sites) result cursor.old cursor.new
+        (code_contents pool.now method sites.old.room sites.old.sites) }
     ensures room { sites.new.room ≡ sites.old.room }
-    ensures moves { Moves cursor.old cursor.new }
 {
     let kind = ClassKind::BadCode;
     let _max_stack = u2(cursor, kind)?;
@@ -118,7 +113,7 @@ fn read_contents_between(
     end: &Cursor<'_>,
 ) -> Result<(), ClassError>
     requires { begin ≤ end.now.at }
-    ensures gives { Gives (λ _. sites.new.sites) result end.now
+    ensures gives { Yields (λ _. (sites.new.sites, end.now)) result
         (between begin BadCode
         (code_contents pool.now method sites.old.room sites.old.sites) end.now) }
     ensures room { sites.new.room ≡ sites.old.room }
@@ -138,10 +133,9 @@ pub fn read_code(
     sites: &mut Sites,
     cursor: &mut Cursor<'_>,
 ) -> Result<(), ClassError>
-    ensures gives { Gives (λ _. sites.new.sites) result cursor.new
-        (reads (code_attribute pool.now method sites.old.room sites.old.sites) cursor.old) }
+    ensures gives { Gives (λ _. sites.new.sites) result cursor.old cursor.new
+        (code_attribute pool.now method sites.old.room sites.old.sites) }
     ensures room { sites.new.room ≡ sites.old.room }
-    ensures moves { Moves cursor.old cursor.new }
 {
     let len = u4(cursor, ClassKind::Truncated)?;
     let begin = cursor.at();

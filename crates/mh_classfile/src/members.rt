@@ -1,6 +1,5 @@
 ghost use Rattle.std.specs.Prelude.{◌≡◌, [], false};
-ghost use Rattle.mh_class_bytes.specs.Bytes.{Moves};
-ghost use Rattle.mh_class_bytes.specs.Format.{Reads, reads, repeated};
+ghost use Rattle.mh_class_bytes.specs.Format.{Reads, repeated};
 ghost use Rattle.mh_class_pool.specs.Answers.{Gives};
 ghost use Rattle.mh_classfile.specs.Members.{rows, method_attribute, member, field, method, members, interface, supertypes, class_names};
 
@@ -21,11 +20,9 @@ fn read_attribute(
     sites: &mut Sites,
     cursor: &mut Cursor<'_>,
 ) -> Result<bool, ClassError>
-    ensures gives { Gives (λ code. (code, sites.new.sites)) result cursor.new
-        (reads (method_attribute pool.now method sites.old.room
-        (seen, sites.old.sites)) cursor.old) }
+    ensures gives { Gives (λ code. (code, sites.new.sites)) result cursor.old cursor.new
+        (method_attribute pool.now method sites.old.room (seen, sites.old.sites)) }
     ensures room { sites.new.room ≡ sites.old.room }
-    ensures moves { Moves cursor.old cursor.new }
 {
     let at = cursor.at();
     let name = read_index(ClassKind::Truncated, pool, Kind::Utf8, cursor)?;
@@ -49,11 +46,10 @@ fn read_attributes(
     sites: &mut Sites,
     cursor: &mut Cursor<'_>,
 ) -> Result<bool, ClassError>
-    ensures gives { Gives (λ code. (code, sites.new.sites)) result cursor.new
-        (reads (repeated (method_attribute pool.now method sites.old.room) count
-        (false, sites.old.sites)) cursor.old) }
+    ensures gives { Gives (λ code. (code, sites.new.sites)) result cursor.old cursor.new
+        (repeated (method_attribute pool.now method sites.old.room) count
+        (false, sites.old.sites)) }
     ensures room { sites.new.room ≡ sites.old.room }
-    ensures moves { Moves cursor.old cursor.new }
 {
     let mut seen = false;
     for _ in 0..count {
@@ -64,8 +60,7 @@ fn read_attributes(
 
 #[tactic(auto, unfolding(crate::specs::Members::member))]
 fn read_member(pool: &Pool<'_>, cursor: &mut Cursor<'_>) -> Result<Method, ClassFault>
-    ensures reads { Reads (λ x. x) result cursor.new (reads (member pool.now) cursor.old) }
-    ensures moves { Moves cursor.old cursor.new }
+    ensures reads { Reads (λ x. x) result cursor.old cursor.new (member pool.now) }
 {
     let short = ClassKind::Truncated;
     let _flags = u2(cursor, short)?;
@@ -76,17 +71,14 @@ fn read_member(pool: &Pool<'_>, cursor: &mut Cursor<'_>) -> Result<Method, Class
 
 #[tactic(auto, unfolding(crate::specs::Members::field))]
 fn pass_field(pool: &Pool<'_>, cursor: &mut Cursor<'_>) -> Result<(), ClassFault>
-    ensures reads { Reads (λ x. x) result cursor.new (reads (field pool.now) cursor.old) }
-    ensures moves { Moves cursor.old cursor.new }
+    ensures reads { Reads (λ x. x) result cursor.old cursor.new (field pool.now) }
 {
     let _names = read_member(pool, cursor)?;
     pass_counted_attributes(ClassKind::Truncated, pool, cursor)
 }
 
 fn pass_fields(pool: &Pool<'_>, count: u16, cursor: &mut Cursor<'_>) -> Result<(), ClassFault>
-    ensures reads { Reads (λ x. x) result cursor.new
-        (reads (rows (field pool.now) count) cursor.old) }
-    ensures moves { Moves cursor.old cursor.new }
+    ensures reads { Reads (λ x. x) result cursor.old cursor.new (rows (field pool.now) count) }
 {
     for _ in 0..count {
         pass_field(pool, cursor)?;
@@ -101,10 +93,9 @@ fn read_method(
     sites: &mut Sites,
     cursor: &mut Cursor<'_>,
 ) -> Result<(), ClassError>
-    ensures gives { Gives (λ _. sites.new.sites) result cursor.new
-        (reads (method pool.now sites.old.room sites.old.sites) cursor.old) }
+    ensures gives { Gives (λ _. sites.new.sites) result cursor.old cursor.new
+        (method pool.now sites.old.room sites.old.sites) }
     ensures room { sites.new.room ≡ sites.old.room }
-    ensures moves { Moves cursor.old cursor.new }
 {
     let method = read_member(pool, cursor)?;
     let count = u2(cursor, ClassKind::Truncated)?;
@@ -118,10 +109,9 @@ fn read_methods(
     sites: &mut Sites,
     cursor: &mut Cursor<'_>,
 ) -> Result<(), ClassError>
-    ensures gives { Gives (λ _. sites.new.sites) result cursor.new
-        (reads (repeated (method pool.now sites.old.room) count sites.old.sites) cursor.old) }
+    ensures gives { Gives (λ _. sites.new.sites) result cursor.old cursor.new
+        (repeated (method pool.now sites.old.room) count sites.old.sites) }
     ensures room { sites.new.room ≡ sites.old.room }
-    ensures moves { Moves cursor.old cursor.new }
 {
     for _ in 0..count {
         read_method(pool, sites, cursor)?;
@@ -137,10 +127,9 @@ pub fn read_members(
     cursor: &mut Cursor<'_>,
 ) -> Result<(), ClassError>
     requires { sites.old.sites ≡ [] }
-    ensures gives { Gives (λ _. sites.new.sites) result cursor.new
-        (reads (members pool.now sites.old.room) cursor.old) }
+    ensures gives { Gives (λ _. sites.new.sites) result cursor.old cursor.new
+        (members pool.now sites.old.room) }
     ensures room { sites.new.room ≡ sites.old.room }
-    ensures moves { Moves cursor.old cursor.new }
 {
     let fields = u2(cursor, ClassKind::Truncated)?;
     pass_fields(pool, fields, cursor)?;
@@ -150,17 +139,14 @@ pub fn read_members(
 
 #[tactic(auto, unfolding(crate::specs::Members::interface))]
 fn pass_interface(pool: &Pool<'_>, cursor: &mut Cursor<'_>) -> Result<(), ClassFault>
-    ensures reads { Reads (λ x. x) result cursor.new (reads (interface pool.now) cursor.old) }
-    ensures moves { Moves cursor.old cursor.new }
+    ensures reads { Reads (λ x. x) result cursor.old cursor.new (interface pool.now) }
 {
     let _index = read_index(ClassKind::Truncated, pool, Kind::Class, cursor)?;
     Ok(())
 }
 
 fn pass_interfaces(pool: &Pool<'_>, count: u16, cursor: &mut Cursor<'_>) -> Result<(), ClassFault>
-    ensures reads { Reads (λ x. x) result cursor.new
-        (reads (rows (interface pool.now) count) cursor.old) }
-    ensures moves { Moves cursor.old cursor.new }
+    ensures reads { Reads (λ x. x) result cursor.old cursor.new (rows (interface pool.now) count) }
 {
     for _ in 0..count {
         pass_interface(pool, cursor)?;
@@ -170,8 +156,7 @@ fn pass_interfaces(pool: &Pool<'_>, count: u16, cursor: &mut Cursor<'_>) -> Resu
 
 /// Passes the superclass of a class and its interfaces.
 fn pass_supertypes(pool: &Pool<'_>, cursor: &mut Cursor<'_>) -> Result<(), ClassFault>
-    ensures reads { Reads (λ x. x) result cursor.new (reads (supertypes pool.now) cursor.old) }
-    ensures moves { Moves cursor.old cursor.new }
+    ensures reads { Reads (λ x. x) result cursor.old cursor.new (supertypes pool.now) }
 {
     let at = cursor.at();
     let superclass = u2(cursor, ClassKind::Truncated)?;
@@ -183,8 +168,7 @@ fn pass_supertypes(pool: &Pool<'_>, cursor: &mut Cursor<'_>) -> Result<(), Class
 /// Passes the flags of a class, its name, its superclass and its interfaces.
 #[tactic(auto, unfolding(crate::specs::Members::class_names))]
 pub fn pass_class_names(pool: &Pool<'_>, cursor: &mut Cursor<'_>) -> Result<(), ClassFault>
-    ensures reads { Reads (λ x. x) result cursor.new (reads (class_names pool.now) cursor.old) }
-    ensures moves { Moves cursor.old cursor.new }
+    ensures reads { Reads (λ x. x) result cursor.old cursor.new (class_names pool.now) }
 {
     let short = ClassKind::Truncated;
     let _flags = u2(cursor, short)?;

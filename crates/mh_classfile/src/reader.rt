@@ -1,6 +1,5 @@
 ghost use Rattle.std.specs.Prelude.{◌≡◌, ◌<◌, OnOk, IfOk, Ok};
-ghost use Rattle.mh_class_bytes.specs.Bytes.{Moves};
-ghost use Rattle.mh_class_bytes.specs.Format.{Judges, Reads, reads};
+ghost use Rattle.mh_class_bytes.specs.Format.{Judges, Reads};
 ghost use Rattle.mh_class_pool.specs.Answers.{Yields};
 ghost use Rattle.mh_class_pool.specs.Entries.{slot};
 ghost use Rattle.mh_class_pool.specs.References.{each};
@@ -32,8 +31,7 @@ const NEWEST_MAJOR: u16 = 61;
 /// Magic and versions, and the count of the pool.
 #[tactic(auto, unfolding(crate::specs::File::header))]
 fn read_header(cursor: &mut Cursor<'_>) -> Result<u16, ClassFault>
-    ensures reads { Reads (λ x. x) result cursor.new (reads header cursor.old) }
-    ensures moves { Moves cursor.old cursor.new }
+    ensures reads { Reads (λ x. x) result cursor.old cursor.new header }
     ensures inside { OnOk result (0 < cursor.new.at) }
 {
     let short = ClassKind::Truncated;

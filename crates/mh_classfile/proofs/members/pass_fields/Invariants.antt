@@ -8,6 +8,5 @@ use Rattle.mh_classfile.proofs.members.pass_fields.Given as goal
 abbrev pub invariant-loop : goal.invariant-loop
 invariant-loop l = record {
   so_far : reads (rows (field l.pool) (l.count - l.counter)) l.cursor ≡ reads (rows (field l.pool) l.count) l.fn.cursor;
-  moves : Moves
-      l.fn.cursor l.cursor;
+  moves : Moves l.fn.cursor l.cursor;
 }
