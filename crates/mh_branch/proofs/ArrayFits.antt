@@ -18,6 +18,8 @@ use Rattle.mh_values.proofs.SameTypes.{same_type-is}
 use Rattle.mh_tree.specs.Rows.{component_of, gather_row, spread_row}
 use Rattle.mh_tree.proofs.RowParts.{gather_row-parts, spread_row-parts}
 use Rattle.mh_tree.proofs.SoundGather.{last-there}
+use Rattle.mh_form.specs.declared.basic.Basic.{Basic}
+use Rattle.mh_form.specs.declared.basic.Basic.TheVariants as basic
 use Rattle.mh_form.specs.declared.body.FormBody.{FormBody}
 use Rattle.mh_form.specs.Erasure.{basic_of}
 use Rattle.mh_edit.specs.declared.key.Key.TheVariants as key

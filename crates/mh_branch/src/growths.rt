@@ -69,8 +69,8 @@ fn catch_parts<'t>(
         fields: Vec::new(alloc),
         sides: Seq::new(alloc),
     };
-    let run = with_part(alloc, none, target)?;
-    let caught = with_class(run, class)?;
+    let one_part = with_part(alloc, none, target)?;
+    let caught = with_class(one_part, class)?;
     with_part(alloc, caught, handler)
 }
 
