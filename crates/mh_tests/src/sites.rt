@@ -54,13 +54,10 @@ fn add_made(alloc: Global, files: &mut BTreeMap<String, Vec<u8>>) -> Result<(), 
 
 /// The class of javac, and two files that are refused.
 fn add_others(alloc: Global, files: &mut BTreeMap<String, Vec<u8>>) -> Result<(), AllocError> {
+    let mut short = Vec::from_slice(alloc, demo())?;
+    short.truncate(100);
+    add_file(alloc, files, "short.class", short)?;
     add_file(alloc, files, "demo.class", Vec::from_slice(alloc, demo())?)?;
-    add_file(
-        alloc,
-        files,
-        "short.class",
-        Vec::from_slice(alloc, &demo()[..100])?,
-    )?;
     add_file(alloc, files, "long.class", vec![in alloc; 0; 1_048_577]?)
 }
 
