@@ -4,6 +4,9 @@ use Rattle.mh_steps.proofs.Rooms.{some-over, spends-then, stands-over}
 use Rattle.mh_steps.proofs.Spending.{spends-made}
 use Rattle.mh_steps.proofs.making.caught.Goals as goal
 
+pub catch-requires : goal.catch-requires
+catch-requires g c = record { ready = c.in_ok-handler.ensures.spends.ready 1 (c.in_ok-target.ensures.spends.ready 2 c.requires.ready) }
+
 pub returns-clause-spends : goal.returns-clause-spends
 returns-clause-spends g c =
     spends-then 1 2 _ _ _ c.in_ok-target.ensures.spends

@@ -1,8 +1,12 @@
 use Rattle.std.proofs.Common.{ap, ◌∙◌, arith}
 use Rattle.mh_tree.specs.Tree as tree
 use Rattle.mh_steps.proofs.Rooms.{some-over, spends-more, spends-then, stands-over}
-use Rattle.mh_steps.proofs.Spending.{spends-made}
+use Rattle.mh_steps.proofs.Spending.{ready-less, spends-made}
 use Rattle.mh_steps.proofs.making.guarded.Goals as goal
+
+pub leaf_at-requires-3 : goal.leaf_at-requires-3
+leaf_at-requires-3 g c =
+    record { ready = c.in_ok-target.ensures.spends.ready 1 (c.in_ok-test.ensures.spends.ready 2 (ready-less _ 4 3 (omega arith) c.requires.ready)) }
 
 pub returns-in_err-fallback-clause-spends : goal.returns-in_err-fallback-clause-spends
 returns-in_err-fallback-clause-spends g c =
