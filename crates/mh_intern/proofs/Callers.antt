@@ -7,11 +7,12 @@ use Rattle.atomic_table.specs.Table.{State, Allows, keeps}
 use Rattle.mh_values.specs.Same.{is_same_method_type}
 use Rattle.mh_intern.specs.declared.holding.Entry.{Entry}
 use Rattle.mh_intern.specs.declared.holding.Holding.{Holding}
-use Rattle.mh_intern.specs.Held.{times, on_slot, has, limit, Fits, Held}
+use Rattle.mh_intern.specs.Held.{on_slot, has, Fits, Held}
+use Rattle.mh_seats.specs.Room.{times, limit}
 use Rattle.mh_intern.specs.Lists.{removed}
 use Rattle.mh_intern.specs.Kinds.{held_more, held_less}
 use Rattle.mh_intern.specs.Plays.{HMe}
-use Rattle.mh_intern.proofs.Totals.{total_set, at_most}
+use Rattle.mh_seats.proofs.Totals.{total_set, at_most}
 use Rattle.mh_intern.proofs.Measures.{count_cons}
 use Rattle.mh_intern.proofs.Entries.{bit, not_hit, removed_count, removed_length, has-on_slot}
 use Rattle.mh_intern.proofs.Turning.{either_word, word_fits, Turns, Tallies, turned, same_entries}

@@ -7,9 +7,9 @@ use lib.ListN.{get_elem?}
 use Rattle.atomic_table.specs.Seated.{TableId}
 use Rattle.atomic_table.specs.Table.{Splits, Joins, opening}
 use Rattle.mh_intern.specs.declared.keeper.Claimer.{Claimer}
-use Rattle.mh_intern.specs.Held.{times}
+use Rattle.mh_seats.specs.Room.{times}
 use Rattle.mh_intern.specs.Claims.{Slot, HasKeeper, Claimed, unclaimed, claims_joined, spent_claimer}
-use Rattle.mh_intern.proofs.Totals.{total_set, total_cut, each_set, each_more}
+use Rattle.mh_seats.proofs.Totals.{total_set, total_cut, each_set, each_more}
 use Rattle.mh_intern.proofs.Measures.{count_append}
 use Rattle.mh_intern.proofs.Claiming.{Names}
 

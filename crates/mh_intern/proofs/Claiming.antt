@@ -11,10 +11,10 @@ use Rattle.atomic_table.specs.Table.{State, Act, Allows, Valid, carried_after, s
 use Rattle.atomic_table.proofs.Lists.{at_set, set_again}
 use Rattle.mh_intern.specs.declared.keeper.Keeper.{Keeper}
 use Rattle.mh_intern.specs.declared.keeper.Claimer.{Claimer}
-use Rattle.mh_intern.specs.Held.{times}
+use Rattle.mh_seats.specs.Room.{times}
 use Rattle.mh_intern.specs.Keep.{IsKeeper}
 use Rattle.mh_intern.specs.Claims.{Slot, Stands, HasKeeper, Claimed, CMe, named, claiming, takes_bucket, gives_bucket}
-use Rattle.mh_intern.proofs.Totals.{total_set, at_most, each_set}
+use Rattle.mh_seats.proofs.Totals.{total_set, at_most, each_set}
 use Rattle.mh_intern.proofs.Measures.{count_cons}
 use Rattle.mh_intern.proofs.Entries.{bit}
 use Rattle.mh_intern.proofs.Turning.{either_word}

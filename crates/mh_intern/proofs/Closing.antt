@@ -14,11 +14,12 @@ use Rattle.atomic_table.specs.Table.{State}
 use Rattle.mh_values.specs.Same.{is_same_method_type}
 use Rattle.mh_intern.specs.declared.holding.Entry.{Entry}
 use Rattle.mh_intern.specs.declared.holding.Holding.{Holding}
-use Rattle.mh_intern.specs.Held.{limit, on_slot, on_type, weight, Held}
+use Rattle.mh_intern.specs.Held.{on_slot, on_type, weight, Held}
+use Rattle.mh_seats.specs.Room.{limit}
 use Rattle.mh_intern.specs.Lists.{Agrees, is_entry}
 use Rattle.mh_intern.specs.Kinds.{up_from}
 use Rattle.mh_intern.specs.Seats.{distinct_slots, distinct_types}
-use Rattle.mh_intern.proofs.Totals.{alone}
+use Rattle.mh_seats.proofs.Totals.{alone}
 use Rattle.mh_intern.proofs.Measures.{count_cons, count_append}
 use Rattle.mh_intern.proofs.Entries.{bit, In, entry-itself}
 use Rattle.mh_intern.proofs.Filling.{once, sum_two, sum_none}

@@ -7,7 +7,8 @@ use mathlib.Core.Logic.{dite}
 use Rattle.mh_intern.specs.declared.holding.Entry.{Entry}
 use Rattle.mh_intern.specs.declared.holding.Holding.{Holding}
 use Rattle.mh_intern.specs.Buckets.{bucket_of, bucket_at}
-use Rattle.mh_intern.specs.Held.{times, on_slot, IsFull}
+use Rattle.mh_intern.specs.Held.{on_slot, IsFull}
+use Rattle.mh_seats.specs.Room.{times}
 use Rattle.mh_intern.specs.Lists.{Listed}
 use Rattle.mh_intern.specs.Kinds.{full_bucket, up_from, with_notes}
 use Rattle.mh_intern.specs.Plays.{Found}

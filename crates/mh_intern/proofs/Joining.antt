@@ -7,9 +7,10 @@ use Rattle.atomic_table.specs.Table.{Joins}
 use Rattle.atomic_table.proofs.Lists.{set_else}
 use Rattle.mh_intern.specs.declared.holding.Holding.{Holding}
 use Rattle.mh_intern.specs.Buckets.{bucket_of, bucket_at}
-use Rattle.mh_intern.specs.Held.{times, on_slot, on_type, has, weight, asks, uses, IsFull, Fits, Held}
+use Rattle.mh_intern.specs.Held.{on_slot, on_type, has, weight, asks, uses, IsFull, Fits, Held}
+use Rattle.mh_seats.specs.Room.{times}
 use Rattle.mh_intern.specs.Kinds.{joined, nothing}
-use Rattle.mh_intern.proofs.Totals.{total_set, each_set}
+use Rattle.mh_seats.proofs.Totals.{total_set, each_set}
 use Rattle.mh_intern.proofs.Measures.{weight_joined, keeps_joined, zeros_joined, on_slot-holds_joined, on_slot_joined, on_type_joined, has-holds_joined, has_joined, asks_joined, uses_joined}
 
 fits_joined : (v w : Holding) → Fits v → Fits w → Fits (joined v w)

@@ -13,10 +13,11 @@ use Rattle.mh_values.proofs.SameTypes.{same_method_type-itself}
 use Rattle.mh_intern.specs.declared.holding.Entry.{Entry}
 use Rattle.mh_intern.specs.declared.holding.Holding.{Holding}
 use Rattle.mh_intern.specs.Buckets.{bucket_at}
-use Rattle.mh_intern.specs.Held.{times, on_slot, has, Fits, Held}
+use Rattle.mh_intern.specs.Held.{on_slot, has, Fits, Held}
+use Rattle.mh_seats.specs.Room.{times}
 use Rattle.mh_intern.specs.Kinds.{after_read}
 use Rattle.mh_intern.specs.Plays.{HMe, Found}
-use Rattle.mh_intern.proofs.Totals.{total_set, at_most, alone}
+use Rattle.mh_seats.proofs.Totals.{total_set, at_most, alone}
 use Rattle.mh_intern.proofs.Measures.{count_cons}
 use Rattle.mh_intern.proofs.Entries.{bit, has-on_slot, one_le}
 use Rattle.mh_intern.proofs.Turning.{either_word, Turns, Tallies, turned, same_entries}

@@ -1,4 +1,3 @@
-pub mod Totals
 pub mod Measures
 pub mod Entries
 pub mod Joining

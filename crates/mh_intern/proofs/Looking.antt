@@ -12,10 +12,11 @@ use Rattle.mh_values.specs.Same.{is_same_method_type}
 use Rattle.mh_values.proofs.SameTypes.{same_method_type-is, same_method_type-itself}
 use Rattle.mh_intern.specs.declared.holding.Entry.{Entry}
 use Rattle.mh_intern.specs.declared.holding.Holding.{Holding}
-use Rattle.mh_intern.specs.Held.{on_slot, on_type, has, weight, asks, uses, limit, Held}
+use Rattle.mh_intern.specs.Held.{on_slot, on_type, has, weight, asks, uses, Held}
+use Rattle.mh_seats.specs.Room.{limit}
 use Rattle.mh_intern.specs.Lists.{Agrees}
 use Rattle.mh_intern.specs.Plays.{HMe, Looked}
-use Rattle.mh_intern.proofs.Totals.{at_most, alone}
+use Rattle.mh_seats.proofs.Totals.{at_most, alone}
 use Rattle.mh_intern.proofs.Entries.{bit, not_hit, removed_count, removed_length, has-on_slot, two_of_slot, two_of_type}
 
 -- the holds of one view agree

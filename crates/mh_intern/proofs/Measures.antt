@@ -6,7 +6,8 @@ use Rattle.mh_values.specs.Same.{is_same_method_type}
 use Rattle.mh_intern.specs.declared.holding.Entry.{Entry}
 use Rattle.mh_intern.specs.declared.holding.FullBucket.{FullBucket}
 use Rattle.mh_intern.specs.declared.holding.Holding.{Holding}
-use Rattle.mh_intern.specs.Held.{times, on_slot, on_type, has, weight, asks, uses}
+use Rattle.mh_intern.specs.Held.{on_slot, on_type, has, weight, asks, uses}
+use Rattle.mh_seats.specs.Room.{times}
 use Rattle.mh_intern.specs.Kinds.{joined}
 
 module _ {A : Type 0} (p : A → Bool) where

@@ -8,7 +8,8 @@ use mathlib.Core.Option.{some, some-injective, some-ne-none}
 use lib.ListN.{get_elem?}
 use Rattle.atomic_table.specs.Table.{opening}
 use Rattle.mh_intern.specs.declared.holding.Holding.{Holding}
-use Rattle.mh_intern.specs.Held.{times, limit, IsFull, Fits, Held}
+use Rattle.mh_intern.specs.Held.{IsFull, Fits, Held}
+use Rattle.mh_seats.specs.Room.{times, limit}
 use Rattle.mh_intern.specs.Kinds.{up_from, first, without_first, first_keeper, dealt, at_rest}
 use Rattle.mh_intern.proofs.Measures.{count_cons}
 use Rattle.mh_intern.proofs.Entries.{bit}

@@ -3,8 +3,9 @@ use Rattle.std.proofs.Common.{◌≡◌, ℕ, ◌+◌, ◌≤◌, [], ◌∷◌,
 use Rattle.atomic_table.specs.Table.{Splits}
 use Rattle.mh_values.specs.declared.types.MethodTy.{MethodTy}
 use Rattle.mh_intern.specs.declared.holding.Holding.{Holding}
-use Rattle.mh_intern.specs.Held.{times, on_slot, on_type, has, weight, asks, uses, Fits, Held}
-use Rattle.mh_intern.proofs.Totals.{total_cut, each_set, each_more}
+use Rattle.mh_intern.specs.Held.{on_slot, on_type, has, weight, asks, uses, Fits, Held}
+use Rattle.mh_seats.specs.Room.{times}
+use Rattle.mh_seats.proofs.Totals.{total_cut, each_set, each_more}
 
 -- the two parts of a view: what was after_read may be lost, and more may be asked for
 pub record Parts (v l r : Holding) : Type 0 where
@@ -39,9 +40,9 @@ parts_allowed id v l r made s h at =
           let a = total_cut (asks t) s.views id v l r at in
           let b = total_cut (uses t) s.views id v l r at in
           let more = p.asked t in
-          let m = Rattle.mh_intern.proofs.Totals.at_most (asks t) s.views id v at in
+          let m = Rattle.mh_seats.proofs.Totals.at_most (asks t) s.views id v at in
           let old : sum_by (uses t) s.views ≡ 0 = h.asked t (omega arith) in
-          let m' = Rattle.mh_intern.proofs.Totals.at_most (uses t) s.views id v at in
+          let m' = Rattle.mh_seats.proofs.Totals.at_most (uses t) s.views id v at in
           let none : uses t l + uses t r ≡ 0 = p.used t (omega arith) (omega arith) in
           omega arith;
       each = each_more Fits (set s.views id l) r (each_set Fits s.views id l h.each p.left) p.right;

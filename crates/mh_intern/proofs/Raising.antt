@@ -8,11 +8,12 @@ use Rattle.mh_values.specs.Same.{is_same_method_type}
 use Rattle.mh_intern.specs.declared.holding.Entry.{Entry}
 use Rattle.mh_intern.specs.declared.holding.Holding.{Holding}
 use Rattle.mh_intern.specs.Buckets.{bucket_of, bucket_at}
-use Rattle.mh_intern.specs.Held.{times, times_type, on_slot, on_type, has, limit, Fits, Held}
+use Rattle.mh_intern.specs.Held.{times_type, on_slot, on_type, has, Fits, Held}
+use Rattle.mh_seats.specs.Room.{times, limit}
 use Rattle.mh_intern.specs.Lists.{Places}
 use Rattle.mh_intern.specs.Kinds.{after_raise}
 use Rattle.mh_intern.specs.Plays.{HMe}
-use Rattle.mh_intern.proofs.Totals.{total_set, at_most}
+use Rattle.mh_seats.proofs.Totals.{total_set, at_most}
 use Rattle.mh_intern.proofs.Measures.{count_cons}
 use Rattle.mh_intern.proofs.Entries.{type_missed, type_hit, either_type, bit, not_hit, has-on_slot, one_le}
 use Rattle.mh_intern.proofs.Turning.{word_fits, Turns, Tallies, turned, same_entries}

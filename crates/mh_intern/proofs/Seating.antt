@@ -10,7 +10,8 @@ use Rattle.mh_values.proofs.SameTypes.{same_method_type-is, same_method_type-its
 use Rattle.mh_intern.specs.declared.holding.Entry.{Entry}
 use Rattle.mh_intern.specs.declared.holding.FullBucket.{FullBucket}
 use Rattle.mh_intern.specs.declared.holding.Holding.{Holding}
-use Rattle.mh_intern.specs.Held.{limit, on_slot, has, weight, asks, uses, IsFull}
+use Rattle.mh_intern.specs.Held.{on_slot, has, weight, asks, uses, IsFull}
+use Rattle.mh_seats.specs.Room.{limit}
 use Rattle.mh_intern.specs.declared.error.InternError.{InternError}
 use Rattle.mh_intern.specs.declared.error.InternError.TheVariants.{NoMemory, TypesFull}
 use Rattle.mh_intern.specs.Lists.{Agrees, removed}

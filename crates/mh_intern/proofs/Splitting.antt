@@ -8,7 +8,8 @@ use Rattle.mh_values.specs.Same.{is_same_method_type}
 use Rattle.mh_intern.specs.declared.holding.Entry.{Entry}
 use Rattle.mh_intern.specs.declared.holding.FullBucket.{FullBucket}
 use Rattle.mh_intern.specs.declared.holding.Holding.{Holding}
-use Rattle.mh_intern.specs.Held.{times, times_type, on_slot, on_type, IsFull, Fits, Held}
+use Rattle.mh_intern.specs.Held.{times_type, on_slot, on_type, IsFull, Fits, Held}
+use Rattle.mh_seats.specs.Room.{times}
 use Rattle.mh_intern.specs.Kinds.{caller, less_room, after_request, request, after_reply, reply, full_bucket, refusal, without_first, first_keeper}
 use Rattle.mh_intern.proofs.Measures.{count_cons}
 use Rattle.mh_intern.proofs.Parting.{parts_allowed}

@@ -10,8 +10,9 @@ use Rattle.atomic_table.specs.Table.{State}
 use Rattle.mh_values.specs.declared.types.MethodTy.{MethodTy}
 use Rattle.mh_intern.specs.declared.holding.Entry.{Entry}
 use Rattle.mh_intern.specs.declared.holding.Holding.{Holding}
-use Rattle.mh_intern.specs.Held.{times, on_slot, on_type, has, weight, asks, uses, limit, Fits, Held}
-use Rattle.mh_intern.proofs.Totals.{total_set, at_most, smaller, each_set}
+use Rattle.mh_intern.specs.Held.{on_slot, on_type, has, weight, asks, uses, Fits, Held}
+use Rattle.mh_seats.specs.Room.{times, limit}
+use Rattle.mh_seats.proofs.Totals.{total_set, at_most, smaller, each_set}
 
 -- another word stays, the word k becomes n
 pub either_word : (ws : List ℕ) (k n j : ℕ) → k < length ws → ((j ≡ k) × (slice_index (set ws k n) j ≡ n))

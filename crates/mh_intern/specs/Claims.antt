@@ -8,7 +8,7 @@ use Rattle.atomic_table.specs.declared.shared.Seat.{Seat}
 use Rattle.atomic_table.specs.Table.{State, Me, Step, rest}
 use Rattle.mh_intern.specs.declared.keeper.Keeper.{Keeper}
 use Rattle.mh_intern.specs.declared.keeper.Claimer.{Claimer}
-use Rattle.mh_intern.specs.Held.{times}
+use Rattle.mh_seats.specs.Room.{times}
 use Rattle.mh_intern.specs.Buckets.{buckets}
 use Rattle.mh_intern.specs.Keep.{IsKeeper}
 

@@ -1,5 +1,5 @@
 -- The table of holders between any two steps.
-use Rattle.std.specs.Prelude.{◌≡◌, ℕ, ◌+◌, ◌^◌, ◌<◌, ◌≤◌, ◌==◌, ◌&&◌, List, length, sum_by, count_by, slice_index, All}
+use Rattle.std.specs.Prelude.{◌≡◌, ℕ, ◌+◌, ◌<◌, ◌≤◌, ◌==◌, ◌&&◌, List, length, sum_by, count_by, slice_index, All}
 use mathlib.Core.Option.{some}
 use lib.ListN.{get_elem?}
 use Rattle.atomic_table.specs.Table.{State}
@@ -8,15 +8,8 @@ use Rattle.mh_values.specs.Same.{is_same_method_type}
 use Rattle.mh_intern.specs.declared.holding.Entry.{Entry}
 use Rattle.mh_intern.specs.declared.holding.FullBucket.{FullBucket}
 use Rattle.mh_intern.specs.declared.holding.Holding.{Holding}
+use Rattle.mh_seats.specs.Room.{limit, times}
 use Rattle.mh_intern.specs.Buckets.{bucket_of, bucket_at, buckets, bucket_slots, slots}
-
--- the room that there is in all
-abbrev pub limit : ℕ
-limit = 2 ^ 62
-
--- how often a number stands in a list
-abbrev pub times : ℕ → List ℕ → ℕ
-times x xs = count_by (λ y. y == x) xs
 
 -- how often a type stands in a list
 abbrev pub times_type : MethodTy → List MethodTy → ℕ

@@ -5,7 +5,7 @@ use Rattle.mh_intern.specs.declared.holding.Entry.{Entry}
 use Rattle.mh_intern.specs.declared.holding.FullBucket.{FullBucket}
 use Rattle.mh_intern.specs.declared.holding.Holding.{Holding}
 use Rattle.mh_intern.specs.Buckets.{buckets}
-use Rattle.mh_intern.specs.Held.{limit}
+use Rattle.mh_seats.specs.Room.{limit}
 use Rattle.mh_intern.specs.Lists.{removed}
 
 -- the view of a caller

@@ -4,7 +4,8 @@ use Rattle.atomic_table.specs.Table.{Me, Step}
 use Rattle.mh_values.specs.declared.types.MethodTy.{MethodTy}
 use Rattle.mh_intern.specs.declared.holding.Entry.{Entry}
 use Rattle.mh_intern.specs.declared.holding.Holding.{Holding}
-use Rattle.mh_intern.specs.Held.{on_slot, weight, asks, uses, limit, IsFull}
+use Rattle.mh_intern.specs.Held.{on_slot, weight, asks, uses, IsFull}
+use Rattle.mh_seats.specs.Room.{limit}
 use Rattle.mh_intern.specs.Lists.{Agrees}
 use Rattle.mh_intern.specs.Kinds.{held_more, held_less, after_read, after_raise}
 

@@ -7,7 +7,8 @@ use Rattle.mh_intern.specs.declared.holding.FullBucket.{FullBucket}
 use Rattle.mh_intern.specs.declared.error.InternError.{InternError}
 use Rattle.mh_intern.specs.declared.error.InternError.TheVariants.{NoMemory, TypesFull}
 use Rattle.mh_intern.specs.Buckets.{bucket_of, slots}
-use Rattle.mh_intern.specs.Held.{limit, times_type, on_slot, on_type, has, IsFull}
+use Rattle.mh_intern.specs.Held.{times_type, on_slot, on_type, has, IsFull}
+use Rattle.mh_seats.specs.Room.{limit}
 use Rattle.mh_intern.specs.Lists.{Agrees}
 use Rattle.mh_intern.specs.Interning.{IsFullFor}
 use Rattle.mh_intern.specs.Views.{SeatView, HoldView, with_hold, with_asked, with_full}

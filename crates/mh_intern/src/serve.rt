@@ -1,7 +1,8 @@
 // What a keeper does for a request.
 ghost use Rattle.std.specs.Prelude.{◌≡◌, ◌+◌, ◌*◌, ◌<◌, ◌≤◌, [], ◌∷◌, length, vec_len, vec_capacity, MatchOption, IfOk};
 ghost use Rattle.mh_intern.specs.Buckets.{bucket_of, bucket_at, buckets, slots};
-ghost use Rattle.mh_intern.specs.Held.{times, on_type, has, IsFull};
+ghost use Rattle.mh_intern.specs.Held.{on_type, has, IsFull};
+ghost use Rattle.mh_seats.specs.Room.{times};
 ghost use Rattle.mh_intern.specs.Lists.{Listed};
 ghost use Rattle.mh_intern.specs.Kinds.{with_notes, full_bucket, joined, after_request, request, after_reply, reply, refusal};
 ghost use Rattle.mh_intern.specs.Keep.{IsKeeper};

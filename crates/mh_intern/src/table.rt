@@ -1,6 +1,6 @@
 ghost use Rattle.std.specs.Prelude.{◌≡◌, ◌+◌, ◌<◌, ◌≤◌, [], ◌∷◌, length, IfOk, OnErr};
 ghost use Rattle.mh_values.specs.Same.{is_same_method_type};
-ghost use Rattle.mh_intern.specs.Held.{limit};
+ghost use Rattle.mh_seats.specs.Room.{limit};
 ghost use Rattle.mh_intern.specs.Steps.{MayAsk};
 ghost use Rattle.mh_intern.specs.Trades.{Trades, hold_of};
 ghost use Rattle.mh_intern.specs.Views.{new_seat, with_hold, without_hold, with_less_room, joined_seats};

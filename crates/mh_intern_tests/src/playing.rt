@@ -1,5 +1,5 @@
 ghost use Rattle.std.specs.Prelude.{◌≡◌, ◌+◌, ◌≤◌, [], ◌∷◌, length, IfOk};
-ghost use Rattle.mh_intern.specs.Held.{limit};
+ghost use Rattle.mh_seats.specs.Room.{limit};
 ghost use Rattle.mh_intern_tests.specs.Hands.{HasInHand, HasNewer};
 
 use crate::random::Random;

@@ -1,6 +1,6 @@
 ghost use Rattle.std.specs.Prelude.{◌≡◌, ◌+◌, ◌≤◌, ◌<◌, [], IfOk};
 ghost use Rattle.mh_values.specs.Same.{is_same_method_type};
-ghost use Rattle.mh_intern.specs.Held.{limit};
+ghost use Rattle.mh_seats.specs.Room.{limit};
 ghost use Rattle.mh_intern_tests.specs.Hands.{HasInHand};
 
 use crate::types::of_bucket_7;

@@ -1,5 +1,6 @@
 use Rattle.std.proofs.Common.{◌≡◌, ℕ, ◌+◌, ◌*◌, ◌<◌, ◌≤◌}
-use Rattle.mh_intern.specs.Held.{times, on_slot}
+use Rattle.mh_intern.specs.Held.{on_slot}
+use Rattle.mh_seats.specs.Room.{times}
 use Rattle.mh_intern.specs.Kinds.{with_notes}
 use Rattle.mh_intern.proofs.serve.find_zero.Given as goal
 

@@ -1,5 +1,5 @@
 use Rattle.std.proofs.Common.{◌≡◌, ◌∙◌, ◌+◌, length, count_by, nat_lt, sym, subst, ap}
-use Rattle.mh_intern.specs.Held.{limit}
+use Rattle.mh_seats.specs.Room.{limit}
 use Rattle.mh_intern.specs.Views.{SeatView}
 use Rattle.mh_intern.specs.Seats.{distinct_slots, distinct_types}
 use Rattle.mh_intern.proofs.Closing.{closes, as_many}
