@@ -2,9 +2,12 @@
 //! prints the row, the number and a sum over all answers.
 #![tactic(auto)]
 
+mod measures;
 mod rows;
+mod scripts;
+mod types;
 
-use rows::{ROWS, Row, measured};
+use measures::{MEASURES, Measure, measured};
 use std::process::ExitCode;
 use std::{env, io};
 
@@ -24,33 +27,33 @@ fn words(rt: &HostRuntime) -> io::Result<Vec<String>> {
 }
 
 /// The row of a name.
-fn row_named(name: &str) -> Option<Row> {
-    for (word, row) in &ROWS {
+fn measure_named(name: &str) -> Option<Measure> {
+    for (word, measure) in &MEASURES {
         if *word == name {
-            return Some(*row);
+            return Some(*measure);
         }
     }
     None
 }
 
 /// The row's name, the row and the number of turns that the words name.
-fn request(words: &[String]) -> Option<(&str, Row, u32)> {
+fn request(words: &[String]) -> Option<(&str, Measure, u32)> {
     let [name, turns] = words else {
         return None;
     };
-    let row = row_named(name.as_str())?;
+    let measure = measure_named(name.as_str())?;
     let turns = turns.as_str().parse::<u32>().ok()?;
-    Some((name.as_str(), row, turns))
+    Some((name.as_str(), measure, turns))
 }
 
 fn main(rt: HostRuntime) -> ExitCode {
     let Ok(words) = words(&rt) else {
         return ExitCode::from(FAILED);
     };
-    let Some((name, row, turns)) = request(words.as_slice()) else {
+    let Some((name, measure, turns)) = request(words.as_slice()) else {
         return ExitCode::from(USAGE);
     };
-    let Ok(sum) = measured(&rt, rt.alloc(), row, turns) else {
+    let Ok(sum) = measured(&rt, rt.alloc(), measure, turns) else {
         return ExitCode::from(FAILED);
     };
     match println!(rt; "{name} {turns} {sum}") {

@@ -1,4 +1,4 @@
-//! The work that is measured.
+//! Handles and forms, which are made and called.
 
 ghost use Rattle.std.specs.Prelude.{◌≡◌, ◌≤◌, ◌+◌, length, IfOk};
 ghost use Rattle.mh_values.specs.HasType.{HaveTypes};
@@ -38,17 +38,6 @@ pub(crate) enum Row {
     /// A call on a text of one character, which goes through 60 filters.
     ShortText,
 }
-
-pub(crate) static ROWS: [(&str, Row); 8] = [
-    ("run-three-names", Row::RunThreeNames),
-    ("edit-seen", Row::EditSeen),
-    ("bind-seen", Row::BindSeen),
-    ("drops-60", Row::Drops60),
-    ("tree-256", Row::Tree256),
-    ("new-form", Row::NewForm),
-    ("text-4096", Row::LongText),
-    ("text-1", Row::ShortText),
-];
 
 /// The first argument goes through the leaf `same`.
 const FILTERED: Step = Step::Joined(SAME, Joined::Filter(0));
