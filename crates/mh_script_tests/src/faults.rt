@@ -170,7 +170,11 @@ fn script_of(alloc: Global, count: u32, place: u32, line: &str) -> Result<String
     let mut file = String::new(alloc);
     file.push_str("script a f ()V\n")?;
     for at in 1..=count {
-        let other = if at == count { "return a0" } else { "let a serial" };
+        let other = if at == count {
+            "return a0"
+        } else {
+            "let a serial"
+        };
         file.push_str(if at == place { line } else { other })?;
         file.push_str("\n")?;
     }
@@ -178,61 +182,42 @@ fn script_of(alloc: Global, count: u32, place: u32, line: &str) -> Result<String
     Ok(file)
 }
 
-/// A line of a script of so many lines, at a place, and what is wrong with it there.
-struct Placed {
-    line: &'static str,
-    count: u32,
-    place: u32,
-    kind: ScriptKind,
-}
-
-/// The kinds that a line within a script may have, each at its first, a middle and its last place.
-static PLACED: [Placed; 21] = [
-    placed("let", 64, 1, BadLine),
-    placed("let", 64, 32, BadLine),
-    placed("return", 64, 64, BadLine),
-    placed("return a0", 65, 65, TooLong),
-    placed("let a serial", 66, 65, TooLong),
-    placed("return x", 64, 1, Undefined),
-    placed("let a bind x 0 null", 64, 32, Undefined),
-    placed("return x", 64, 64, Undefined),
-    placed("return name", 64, 1, WrongSort),
-    placed("let b bind a 0 null", 64, 32, WrongSort),
-    placed("return a", 64, 64, WrongSort),
-    placed("let a identity ()", 64, 1, BadDescriptor),
-    placed("let a identity ()", 64, 32, BadDescriptor),
-    placed("let a identity ()", 64, 63, BadDescriptor),
-    placed("raise b c", 64, 1, BadLiteral),
-    placed("let b bind a0 0 i:1", 64, 32, BadLiteral),
-    placed("raise b c", 64, 64, BadLiteral),
-    placed("return a0", 64, 1, NoReturn),
-    placed("return a0", 64, 32, NoReturn),
-    placed("return a0", 64, 63, NoReturn),
-    placed("let a serial", 64, 64, NoReturn),
+/// Lines of a script of so many lines, each at a place, and what is wrong with it there: the kinds
+/// that a line within a script may have, each at its first, a middle and its last place.
+static PLACED: [(&str, u32, u32, ScriptKind); 21] = [
+    ("let", 64, 1, BadLine),
+    ("let", 64, 32, BadLine),
+    ("return", 64, 64, BadLine),
+    ("return a0", 65, 65, TooLong),
+    ("let a serial", 66, 65, TooLong),
+    ("return x", 64, 1, Undefined),
+    ("let a bind x 0 null", 64, 32, Undefined),
+    ("return x", 64, 64, Undefined),
+    ("return name", 64, 1, WrongSort),
+    ("let b bind a 0 null", 64, 32, WrongSort),
+    ("return a", 64, 64, WrongSort),
+    ("let a identity ()", 64, 1, BadDescriptor),
+    ("let a identity ()", 64, 32, BadDescriptor),
+    ("let a identity ()", 64, 63, BadDescriptor),
+    ("raise b c", 64, 1, BadLiteral),
+    ("let b bind a0 0 i:1", 64, 32, BadLiteral),
+    ("raise b c", 64, 64, BadLiteral),
+    ("return a0", 64, 1, NoReturn),
+    ("return a0", 64, 32, NoReturn),
+    ("return a0", 64, 63, NoReturn),
+    ("let a serial", 64, 64, NoReturn),
 ];
-
-const fn placed(line: &'static str, count: u32, place: u32, kind: ScriptKind) -> Placed {
-    Placed {
-        line,
-        count,
-        place,
-        kind,
-    }
-}
 
 #[test]
 fn each_kind_is_found_wherever_a_line_may_have_it(rt: HostRuntime) -> Result<(), Fail> {
     let alloc = rt.alloc();
-    for Placed {
-        line,
-        count,
-        place,
-        kind,
-    } in &PLACED
-    {
-        let file = script_of(alloc, *count, *place, *line)?;
+    for (line, count, place, kind) in PLACED.iter().copied() {
+        let file = script_of(alloc, count, place, line)?;
         let told = read(alloc, file.as_bytes())?;
-        assert!(rt; told == Told::Fault(*place + 1, *kind), "{line} at {place} of {count}");
+        assert!(rt;
+            told == Told::Fault(place.saturating_add(1), kind),
+            "{line} at {place} of {count}"
+        );
     }
     Ok(())
 }
