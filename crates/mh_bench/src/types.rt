@@ -129,6 +129,8 @@ fn turn_each<R: Wait>(
 ) -> Result<u64, InternError>
     requires seat { seat.old.table ≡ table.now }
     requires room { 2 ≤ seat.old.room }
+    ensures seat { IfOk result (λ _. seat.new.table ≡ seat.old.table) }
+    ensures room { IfOk result (λ _. seat.new.room ≡ seat.old.room) }
 {
     let mut sum: u64 = 0;
     for _ in 0..asked.turns {
@@ -188,6 +190,24 @@ fn dup_turn(
     Ok(())
 }
 
+/// Copies a hold so many times, and releases each copy.
+fn dup_each(
+    alloc: Global,
+    table: &TypeTable,
+    seat: &mut TypeSeat,
+    held: &HeldType,
+    turns: u32,
+) -> Result<(), NoMemory>
+    requires seat { seat.old.table ≡ table.now }
+    requires held { Holds seat.old held.now }
+    requires room { 1 ≤ seat.old.room }
+{
+    for _ in 0..turns {
+        dup_turn(alloc, table, seat, held)?;
+    }
+    Ok(())
+}
+
 /// A hold that is copied so many times.
 fn duplicated<R: Wait>(
     rt: &R,
@@ -201,9 +221,7 @@ fn duplicated<R: Wait>(
 {
     let ty = type_of(alloc, asked.ret, 1)?;
     let held = table.intern(rt, alloc, seat, ty)?;
-    for _ in 0..asked.turns {
-        dup_turn(alloc, table, seat, &held)?;
-    }
+    dup_each(alloc, table, seat, &held, asked.turns)?;
     Ok(u64::from(held.slot()))
 }
 
