@@ -1,17 +1,15 @@
 -- A handle with the key of a conversion, or with none where nothing changes, stands for the AsType of its tree.
-use Rattle.std.proofs.Common.{◌≡◌, refl, sym, ap, ap₂, ◌∙◌, subst, ℕ, ◌+◌, Bool, true, false, cond, ◌&&◌, List, [], ◌∷◌, ◌++◌, length, map, Ok, length-append, arith}
-use Rattle.std.proofs.lemmas.Bool.{and_parts}
-use Rattle.std.specs.Prelude.{option_to_list}
+use Rattle.std.proofs.Common.{◌≡◌, sym, ap, ap₂, ◌∙◌, subst, ℕ, ◌+◌, true, List, [], ◌∷◌, ◌++◌, length, map, Ok, length-append, arith}
 use Rattle.std.proofs.lemmas.List.{append-nil, length-map}
 use Rattle.mh_values.specs.declared.types.MethodTy.{MethodTy}
 use Rattle.mh_values.specs.Classes.{AreClasses}
-use Rattle.mh_convert.specs.Conversion.{is_trivial_ret, ret_conversion_of}
+use Rattle.mh_convert.specs.Conversion.{is_trivial_ret}
 use Rattle.mh_leaf.specs.LeafTable.{LeafTable}
 use Rattle.mh_tree.specs.Tree.{Tree, AsType}
 use Rattle.mh_tree.specs.Rows.{astype_row}
 use Rattle.mh_form.specs.declared.field.Field.{Field}
 use Rattle.mh_form.specs.declared.field.Field.TheVariants as field
-use Rattle.mh_form.specs.Erasure.{basic_ret_of, erased}
+use Rattle.mh_form.specs.Erasure.{erased}
 use Rattle.mh_form.specs.Run.{run_on}
 use Rattle.mh_edit.specs.declared.key.Key.{Key}
 use Rattle.mh_edit.specs.declared.key.Key.TheVariants.{Convert}
@@ -20,11 +18,10 @@ use Rattle.mh_edit.specs.Law.{ret_fields}
 use Rattle.mh_handle.specs.Form.{body_of}
 use Rattle.mh_handle.specs.Recipe.{are_trivial, convert_keys, entries_of, recipe, ret_entry_of, at_type}
 use Rattle.mh_handle.specs.Stands.{HandleView, IsMade, Stands, handle_body}
-use Rattle.mh_handle.specs.Converting.{IsUsedAs, convert_fields, convs_of, ret_fields_of}
+use Rattle.mh_handle.specs.Converting.{convs_of}
 use Rattle.mh_handle.proofs.Recipes.{body_of-snoc}
-use Rattle.mh_handle.proofs.TrivialConversions.{none-converted}
 use Rattle.mh_handle.proofs.Standing.{made-reframed}
-use Rattle.mh_handle.proofs.ConvertedParameters.{params-converted, params-kept, ret-one, returning-fields, returning-made, returning-params, count-convs}
+use Rattle.mh_handle.proofs.ConvertedParameters.{params-converted, params-kept, returning-fields, returning-made, returning-params, count-convs}
 use Rattle.mh_handle.proofs.AsTypeRuns.{allowed, back, type, sound, ends, made-runs, kept-runs}
 
 module _

@@ -1,5 +1,5 @@
 -- What a form does that converts, by the tree that is used as another type.
-use Rattle.std.proofs.Common.{◌≡◌, ◌≢◌, refl, sym, ap, ◌∙◌, subst, ℕ, ◌<◌, ◌^◌, true, List, ◌++◌, length, map, Option, Some, Result, Ok, Err}
+use Rattle.std.proofs.Common.{◌≡◌, ◌≢◌, sym, ap, ◌∙◌, subst, ℕ, ◌<◌, ◌^◌, true, List, ◌++◌, length, map, Option, Some, Ok}
 use Rattle.std.proofs.lemmas.List.{length-map}
 use Rattle.mh_values.specs.declared.types.MethodTy.{MethodTy}
 use Rattle.mh_values.specs.declared.value.Value.{Value}
@@ -13,7 +13,7 @@ use Rattle.mh_leaf.specs.LeafTable.{LeafTable}
 use Rattle.mh_tree.specs.Tree.{Tree, AsType, weight}
 use Rattle.mh_tree.specs.Rows.{can_all, astype_row}
 use Rattle.mh_tree.specs.Typing.{with_type, type_of}
-use Rattle.mh_tree.specs.Meaning.{Done, known, mean, or_throw, conv_all, conv_result}
+use Rattle.mh_tree.specs.Meaning.{known, mean, or_throw, conv_all, conv_result}
 use Rattle.mh_tree.proofs.RowParts.{astype_row-parts}
 use Rattle.mh_tree.proofs.SoundConversions.{ConvertAll, conv_all-converts}
 use Rattle.mh_tree.proofs.TypedLists.{types-length}

@@ -1,59 +1,131 @@
--- What an edit leaves of a pass, where a form had to be made.
-use Rattle.std.proofs.Common.{◌≡◌, ℕ, List, [], ◌∷◌, ◌++◌, ap, ◌∙◌, subst, sym, refl, inl, inr, ⊎_elim, Result, Ok, Err, IfOk}
-use Rattle.std.specs.Prelude.{slice_get}
+-- What an edit leaves of a pass.
+use Rattle.std.proofs.Common.{◌≡◌, ℕ, ◌+◌, ◌≤◌, List, [], ◌∷◌, ◌++◌, ap, ◌∙◌, subst, sym, refl, inl, inr, ⊎_elim, Result, Ok, Err, IfOk, arith}
+use Rattle.std.specs.Prelude.{IsErrAnd}
 use denote.Ref.{Bor}
+use Rattle.mh_setonce.specs.declared.put.Put.{Put}
 use Rattle.mh_edit.specs.declared.key.Key.{Key}
-use Rattle.mh_edit.proofs.Renaming.{slice_get-append_left}
-use Rattle.mh_setonce.specs.Walks.{StartsWith, Lacks, Has}
+use Rattle.mh_setonce.specs.Walks.{Lacks, Has}
 use Rattle.mh_handle.specs.declared.error.EditError.{EditError}
 use Rattle.mh_handle.specs.declared.error.EditError.TheVariants.{NoMemory, FormsFull}
 use Rattle.mh_handle.specs.Form.{FormView}
 use Rattle.mh_handle.specs.Index.{recipe_of}
-use Rattle.mh_handle.specs.Passes.{PassView, Learns, Draws, Edits, IsFormOf, MakesForm}
+use Rattle.mh_handle.specs.Passes.{PassView, Learns, Draws, DrawsAtMostOne, Edits, IsFormOf, IsKept, IsPut, IsUnlearnt, MakesForm, PutsAtMost, PutsAtMostOne, PutsForm, SeatView}
 use Rattle.mh_handle.proofs.Passing.{lacks-same}
-
-lacks-before : (nodes nodes' : List FormView) (recipe : List Key) → StartsWith nodes' nodes → Lacks recipe_of nodes' recipe → Lacks recipe_of nodes recipe
-lacks-before nodes nodes' recipe more new i f at = new i f (ap (λ v. slice_get v i) more.1 ∙ slice_get-append_left nodes more.0 i f at)
+use Rattle.mh_handle.proofs.Learning.{unlearnt-before}
 
 -- the form was asked for before
-pub edits-seen : (recipe : List Key) (pass : PassView) (form : Bor FormView) → Has recipe_of pass.asked recipe form.now → IsFormOf recipe pass.nodes form.now →
+pub edits-seen : (recipe : List Key) (pass : PassView) (form : Bor FormView) → Has recipe_of pass.asked recipe form.now → IsFormOf recipe pass form.now →
     Edits recipe pass pass (Ok form)
-edits-seen recipe pass form has is = (has.2, inl ((has.0, has.1, refl), refl), inl refl, is)
+edits-seen recipe pass form has is = (has.2, inl ((has.0, has.1, refl), refl), inl refl, is, inl refl)
 
 -- the chain shows it
 pub edits-found :
     (recipe : List Key) (old mid new : PassView) (form : Bor FormView) → Learns old mid → Lacks recipe_of old.asked recipe →
-    new ≡ record mid { asked = mid.asked ++ form.now ∷ [] } → IsFormOf recipe mid.nodes form.now → Edits recipe old new (Ok form)
-edits-found recipe old mid new form learns unseen asks is = (
-  is.0.2,
+    new ≡ record mid { asked = mid.asked ++ form.now ∷ [] } → form.now.recipe ≡ recipe → IsFormOf recipe mid form.now → Edits recipe old new (Ok form)
+edits-found recipe old mid new form learns unseen asks made is = (
+  made,
   inr (
-    lacks-same old.asked old.asked recipe form.now.recipe unseen refl is.0.2,
+    lacks-same old.asked old.asked recipe form.now.recipe unseen refl made,
     ap (λ (p : PassView). p.asked) asks ∙
         ap (λ v. v ++ form.now ∷ []) learns.asked,
   ),
   inl (ap (λ (p : PassView). p.seat) asks ∙ learns.seat),
-  subst (λ (p : PassView). IsFormOf recipe p.nodes form.now) (sym asks) is,
+  subst (λ (p : PassView). IsFormOf recipe p form.now) (sym asks) is,
+  inl (ap (λ (p : PassView). p.made) asks ∙ learns.made),
 )
 
 module _ (recipe : List Key) (old mid new : PassView) (learns : Learns old mid) (unseen : Lacks recipe_of old.asked recipe)
-    (unlearnt : Lacks recipe_of mid.nodes recipe) where
+    (unlearnt : IsUnlearnt recipe mid) where
   drawn : (number : ℕ) → Draws number mid.seat new.seat → Draws number old.seat new.seat
   drawn number d = subst (λ s. Draws number s new.seat) learns.seat d
 
-  lacks : Lacks recipe_of old.nodes recipe
-  lacks = lacks-before old.nodes mid.nodes recipe learns.nodes unlearnt
+  put : (form : FormView) → PutsForm form mid new → PutsForm form old new
+  put form p = (p.0 ∙ ap (λ v. v ++ form ∷ []) learns.made, drawn form.number p.1)
 
-  pub edits-made : (r : Result (Bor FormView) EditError) → MakesForm recipe mid new r → IfOk r (λ form. IsFormOf recipe new.nodes form.now) →
+  put-most : (form : FormView) → PutsAtMost form mid new → PutsAtMost form old new
+  put-most form p = ⊎_elim (λ (none : new.made ≡ mid.made). inl (none ∙ learns.made)) (λ (one : PutsForm form mid new). inr (put form one)) p
+
+  put-one : PutsAtMostOne recipe mid new → PutsAtMostOne recipe old new
+  put-one p = ⊎_elim
+      (λ (none : new.made ≡ mid.made). inl (none ∙ learns.made))
+      (λ (one : (form : FormView) × (form.recipe ≡ recipe) × PutsForm form mid new). inr (one.0, one.1, put one.0 one.2))
+      p
+
+  lacks : IsUnlearnt recipe old
+  lacks = unlearnt-before recipe old mid learns.learnt unlearnt
+
+  pub edits-made : (r : Result (Bor FormView) EditError) → MakesForm recipe mid new r → IfOk r (λ form. IsFormOf recipe new form.now) →
       Edits recipe old new r
   edits-made (Ok form) m is = (
     m.0,
-    inr (lacks-same old.asked old.asked recipe form.now.recipe unseen (λ i. old.asked) m.0, m.1 ∙ ap (λ v. v ++ form.now ∷ []) learns.asked),
+    inr (lacks-same old.asked old.asked recipe form.now.recipe unseen refl m.0, m.1 ∙ ap (λ v. v ++ form.now ∷ []) learns.asked),
     inr (m.2.0, drawn m.2.0 m.2.1, lacks),
     is,
+    put-most form.now m.3,
   )
   edits-made (Err NoMemory) m is = (
     (unseen, m.0 ∙ learns.asked),
     ⊎_elim (λ (same : new.seat ≡ mid.seat). inl (same ∙ learns.seat)) (λ (d : (number : ℕ) × Draws number mid.seat new.seat). inr (d.0, drawn d.0 d.1, lacks))
         m.1,
+    put-one m.2,
   )
-  edits-made (Err (FormsFull n)) m is = ((unseen, m.0 ∙ learns.asked), drawn n m.1, m.2, subst (λ v. Lacks recipe_of v recipe) (sym m.3) unlearnt)
+  edits-made (Err (FormsFull n)) m is = (
+    (unseen, m.0 ∙ learns.asked),
+    drawn n m.1,
+    m.2,
+    subst (λ v. IsUnlearnt recipe (record new { learnt = v })) (sym m.3) unlearnt,
+    m.4 ∙ learns.made,
+  )
+
+-- ---- a form that was put into the table
+
+-- ours, or the one that stands there with its recipe
+module _ (learnt made made' : List FormView) (number : ℕ) (recipe : List Key) (ours form : FormView) (put : Put FormView)
+    (is : ours ≡ record { number = number; recipe = recipe }) (was : IsPut learnt ours put) where
+  pub put-has : ((fs : List FormView) (o : FormView) → IsPut fs o put → Has recipe_of fs o.recipe form) → Has recipe_of learnt recipe form
+  put-has has = subst (λ (o : FormView). Has recipe_of learnt o.recipe form) is (has learnt ours was)
+
+  pub put-kept : ((fs : List FormView) (o : FormView) → IsPut fs o put → IsKept o made made' form) →
+      IsKept (record { number = number; recipe = recipe }) made made' form
+  put-kept kept = subst (λ o. IsKept o made made' form) is (kept learnt ours was)
+
+module _ (number : ℕ) (recipe : List Key) (form : Bor FormView) (old mid : PassView) (draws : Draws number old.seat mid.seat)
+    (kept : IsKept (record { number = number; recipe = recipe }) old.made mid.made form.now) (same : mid.asked ≡ old.asked) where
+  puts : PutsAtMost form.now old mid
+  puts = ⊎_elim
+      (λ (none : mid.made ≡ old.made). inl none)
+      (λ (one : (mid.made ≡ old.made ++ form.now ∷ []) × (form.now ≡ record { number = number; recipe = recipe })).
+      inr (one.0, subst (λ (f : FormView). Draws f.number old.seat mid.seat) (sym one.1) draws))
+      kept
+
+  pub made-asked : (new : PassView) → new ≡ record mid { asked = mid.asked ++ form.now ∷ [] } → form.now.recipe ≡ recipe → MakesForm recipe old new (Ok form)
+  made-asked new asks made = subst (λ (p : PassView). MakesForm recipe old p (Ok form)) (sym asks)
+      (made, ap (λ fs. fs ++ form.now ∷ []) same, (number, draws), puts)
+
+  most : PutsAtMost form.now old mid → form.now.recipe ≡ recipe → PutsAtMostOne recipe old mid
+  most p made = ⊎_elim
+      (λ (none : mid.made ≡ old.made). inl none)
+      (λ (one : PutsForm form.now old mid). inr (form.now, made, one))
+      p
+
+  pub made-refused : (new : PassView) (r : Result (Bor FormView) EditError) → new ≡ mid → form.now.recipe ≡ recipe → IsErrAnd r (λ e. e ≡ NoMemory) →
+      MakesForm recipe old new r
+  made-refused new (Ok f) unasked made is = absurd is
+  made-refused new (Err e) unasked made is =
+      subst (λ (p : PassView). MakesForm recipe old p (Err e)) (sym unasked)
+      (subst (λ x. MakesForm recipe old mid (Err x)) (sym is) (same, inr (number, draws), most puts made))
+
+-- at most one number was drawn
+drawn-room : (number : ℕ) (old new : PassView) → Draws number old.seat new.seat → old.seat.room ≤ new.seat.room + 1
+drawn-room number old new draws = let one = draws.room in omega (arith, one)
+
+most-room : (recipe : List Key) (old new : PassView) → DrawsAtMostOne recipe old new → old.seat.room ≤ new.seat.room + 1
+most-room recipe old new draws = ⊎_elim
+    (λ (same : new.seat ≡ old.seat). let room : new.seat.room ≡ old.seat.room = ap (λ (s : SeatView). s.room) same in omega (arith, room))
+    (λ (one : (number : ℕ) × Draws number old.seat new.seat × IsUnlearnt recipe old). drawn-room one.0 old new one.1)
+    draws
+
+pub edits-room : (recipe : List Key) (old new : PassView) (r : Result (Bor FormView) EditError) → Edits recipe old new r → old.seat.room ≤ new.seat.room + 1
+edits-room recipe old new (Ok form) e = most-room recipe old new e.2
+edits-room recipe old new (Err NoMemory) e = most-room recipe old new e.1
+edits-room recipe old new (Err (FormsFull drawn)) e = drawn-room drawn old new e.1

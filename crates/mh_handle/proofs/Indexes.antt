@@ -5,7 +5,7 @@ use native.Mathlib.Decide.{ℕ_discrete, dec_lt}
 use Rattle.std.proofs.lemmas.List.{get_or_append_left, get_or-append-add, get_or-set_same, get_or-set_other, length-set}
 use Rattle.mh_handle.specs.Index.{IsIndex}
 
--- one item put behind
+-- one item put after the others
 pub at-old : (xs : List ℕ) (y i : ℕ) → i < length xs → slice_index (xs ++ y ∷ []) i ≡ slice_index xs i
 at-old xs y i low = get_or_append_left xs (y ∷ []) 0 i low
 

@@ -1,23 +1,17 @@
 -- A handle of a leaf stands for the leaf.
-use Rattle.std.proofs.Common.{◌≡◌, refl, sym, subst, ap, ◌∙◌, ℕ, Bool, true, ◌&&◌, List, [], ◌∷◌, Option, Some, None, Result, Ok, Err, IfOk, map, length}
+use Rattle.std.proofs.Common.{◌≡◌, refl, sym, subst, ap, ◌∙◌, ℕ, List, [], ◌∷◌, Option, Some, None, Result, Ok, Err, IfOk, map, length}
 use Rattle.std.specs.Prelude.{slice_get, option_map}
 use Rattle.std.proofs.lemmas.List.{length-map}
-use Rattle.std.proofs.lemmas.Option.{slice_get_within, get_or_from_slice_get}
-use Rattle.mh_values.specs.declared.class.Class.{Class}
 use Rattle.mh_values.specs.declared.types.MethodTy.{MethodTy}
 use Rattle.mh_values.specs.declared.value.LeafId.{LeafId}
 use Rattle.mh_values.specs.declared.value.Value.{Value}
-use Rattle.mh_values.specs.Classes.{AreClasses}
 use Rattle.mh_values.specs.Computation.{found}
 use Rattle.mh_values.specs.HasType.{HaveTypes}
-use Rattle.mh_values.proofs.Subclasses.{is_subclass-complete}
-use Rattle.mh_leaf.specs.declared.leaf.Kind.{Kind}
-use Rattle.mh_leaf.specs.declared.leaf.Kind.TheVariants as kind
 use Rattle.mh_leaf.specs.declared.leaf.Leaf.{Leaf}
 use Rattle.mh_leaf.specs.LeafTable.{LeafTable}
-use Rattle.mh_leaf.specs.Outcome.{leaf_mean, is_kind_type, throws_exceptions}
+use Rattle.mh_leaf.specs.Outcome.{leaf_mean}
 use Rattle.mh_leaf.specs.WellTyped.{IsWellTyped}
-use Rattle.mh_leaves.specs.Registered.{AreRegistered, IsLeafOf, ThrowsException, type_of_leaf}
+use Rattle.mh_leaves.specs.Registered.{type_of_leaf}
 use Rattle.mh_tree.specs.Tree as tree
 use Rattle.mh_tree.specs.Rows.{leaf_row}
 use Rattle.mh_tree.specs.Typing.{type_of}

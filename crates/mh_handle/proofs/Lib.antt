@@ -11,12 +11,16 @@ pub mod Copying
 pub mod Edits
 pub mod Erasing
 pub mod Gaining
+pub mod Going
 pub mod Indexes
+pub mod KeyNumbers
 pub mod LeafStands
+pub mod Learning
 pub mod Limits
 pub mod Making
 pub mod Obeying
 pub mod Passing
 pub mod Recipes
+pub mod SameRecipes
 pub mod Standing
 pub mod TrivialConversions

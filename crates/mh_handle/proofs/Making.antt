@@ -13,7 +13,7 @@ use Rattle.mh_handle.specs.Works.{Makes}
 
 pub makes-refused : (recipe : List Key) (old new : Work) (e : EditError) → Edits recipe old.pass.now new.pass.now (Err e) →
     Makes recipe old new (Err (of_edit e))
-makes-refused recipe old new edit.NoMemory h = (h.0.1, h.1)
+makes-refused recipe old new edit.NoMemory h = (h.0.1, h.1, h.2)
 makes-refused recipe old new (edit.FormsFull drawn) h = h
 
 pub makes-error : (recipe : List Key) (old new : Work) (e : EditError) (r : Result Handle HandleError) → Edits recipe old.pass.now new.pass.now (Err e) →

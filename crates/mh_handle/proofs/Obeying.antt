@@ -29,7 +29,7 @@ refused-obeys row e (Ok h) tells is = absurd is
 refused-obeys row e (Err x) tells is = subst (λ v. Obeys row (Err v)) (sym is) (refusal-obeys row e tells)
 
 refusal-makes : (recipe : List Key) (w : Work) (e : CheckError) → Makes recipe w w (Err (of_check e))
-refusal-makes recipe w check.NoMemory = (refl, inl refl)
+refusal-makes recipe w check.NoMemory = (refl, inl refl, inl refl)
 refusal-makes recipe w (check.Refused e) = refl
 
 pub refused-makes : (recipe : List Key) (w : Work) (e : CheckError) (r : Result Handle HandleError) → IsErrAnd r (λ x. x ≡ of_check e) → Makes recipe w w r
@@ -58,4 +58,4 @@ memory-obeys row (Err x) is = subst (λ v. Obeys row (Err v)) (sym is) tt
 
 pub memory-makes : (recipe : List Key) (w : Work) (r : Result Handle HandleError) → IsErrAnd r (λ x. x ≡ handle.NoMemory) → Makes recipe w w r
 memory-makes recipe w (Ok h) is = absurd is
-memory-makes recipe w (Err x) is = subst (λ v. Makes recipe w w (Err v)) (sym is) (refl, inl refl)
+memory-makes recipe w (Err x) is = subst (λ v. Makes recipe w w (Err v)) (sym is) (refl, inl refl, inl refl)

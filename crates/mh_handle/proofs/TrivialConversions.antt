@@ -1,19 +1,17 @@
 -- Conversions of which each changes nothing.
-use Rattle.std.proofs.Common.{◌≡◌, refl, ap, ◌∙◌, subst, ℕ, Bool, true, false, cond, List, [], ◌∷◌, Option, Some, None, Result, Ok}
+use Rattle.std.proofs.Common.{◌≡◌, refl, ap, ◌∙◌, subst, ℕ, true, cond, List, [], ◌∷◌, Option, Result, Ok}
 use Rattle.std.proofs.lemmas.Bool.{and_parts}
-use Rattle.std.specs.Prelude.{option_to_list}
-use Rattle.std.specs.Result.{result_map_both}
 use Rattle.std.proofs.lemmas.List.{append-nil}
 use Rattle.mh_values.specs.declared.class.Class.{Class}
 use Rattle.mh_values.specs.declared.types.Ty.{Ty}
 use Rattle.mh_values.specs.declared.value.Exc.{Exc}
 use Rattle.mh_values.specs.declared.value.Value.{Value}
 use Rattle.mh_values.specs.Classes.{AreClasses}
-use Rattle.mh_values.specs.Computation.{Gave, Threw, Stuck, and_then, found, after}
-use Rattle.mh_values.specs.HasType.{has_type, HaveTypes}
+use Rattle.mh_values.specs.Computation.{Gave, Threw, Stuck, and_then, after}
+use Rattle.mh_values.specs.HasType.{HaveTypes}
 use Rattle.mh_values.specs.Returns.{Returns}
-use Rattle.mh_convert.specs.Conversion.{can, is_trivial, is_trivial_ret, ret_conv, value_conversion}
-use Rattle.mh_convert.proofs.Typed.{trivial-keeps, trivial-allowed}
+use Rattle.mh_convert.specs.Conversion.{can, is_trivial, is_trivial_ret}
+use Rattle.mh_convert.proofs.Typed.{trivial-keeps}
 use Rattle.mh_tree.specs.Rows.{can_all}
 use Rattle.mh_tree.specs.Meaning.{Done, or_throw, then_others, conv_all, conv_result}
 use Rattle.mh_tree.proofs.Returning.{returned-typed}

@@ -13,7 +13,7 @@ use Rattle.mh_handle.specs.declared.handle.Handle.{Handle}
 use Rattle.mh_handle.specs.Form.{FormView, base_form}
 use Rattle.mh_handle.specs.Stands.{HandleView, handle_body}
 
--- the new handle has this type and this weight, and side types, a key and fields behind those that the old one has
+-- the new handle has this type and this weight, and side types, a key and fields after those that the old one has
 pub record Grows (old new : HandleView) (ty : MethodTy) (weight : ℕ) (sides : List MethodTy) (key : Key) (fields : List Field) : Type 0 where
   pub typed : new.ty ≡ ty
   pub weighed : new.weight ≡ weight

@@ -8,5 +8,6 @@ pub mod Hashes
 pub mod Obeys
 pub mod Passes
 pub mod Recipe
+pub mod SameRecipes
 pub mod Stands
 pub mod Works

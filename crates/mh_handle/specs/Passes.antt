@@ -1,41 +1,63 @@
--- What contracts see of the seats and passes of a table of forms, and what an edit leaves of a pass.
+-- What contracts see of a table of forms, of its seat and of a pass over it, and what an edit leaves of a pass.
 use Rattle.std.specs.Prelude.{◌≡◌, ℕ, zero, suc, ◌+◌, ◌-◌, ◌^◌, ◌<◌, ◌⊎◌, List, [], ◌∷◌, ◌++◌, length, slice_get, Result, Ok, Err, Option, None, Some}
-use Rattle.std.specs.List.{All}
+use Rattle.std.specs.List.{All, find}
 use denote.Ref.{Bor}
-use Rattle.mh_setonce.specs.Walks.{StartsWith, Lacks, Has}
+use Rattle.mh_setonce.specs.Walks.{Lacks, Has}
 use Rattle.mh_edit.specs.declared.key.Key.{Key}
+use Rattle.mh_setonce.specs.declared.put.Put.{Put}
+use Rattle.mh_setonce.specs.declared.put.Put.TheVariants.{Mine, Theirs}
 use Rattle.mh_handle.specs.declared.error.EditError.{EditError}
 use Rattle.mh_handle.specs.declared.error.EditError.TheVariants.{NoMemory, FormsFull}
 use Rattle.mh_handle.specs.Form.{FormView}
 use Rattle.mh_handle.specs.Index.{recipe_of}
+use Rattle.mh_handle.specs.SameRecipes.{same_recipe}
 
--- the numbers that a seat has drawn, and how many it may still draw
+-- a table of forms, by the names of the cells of its chain: no two tables have one name
+pub record TableView : Type 0 where
+  pub cells : List ℕ
+
+-- the table whose numbers a seat draws, the numbers that it has drawn, and how many it may still draw
 pub record SeatView : Type 0 where
+  pub table : TableView
   pub numbers : List ℕ
   pub room : ℕ
 
--- the cells of the table's chain, the forms that the pass has learnt of it, those that it has asked for, and its seat
+-- the table of a pass, the forms that it has learnt of it, those that it has put there itself, those that it has asked for, and its seat
 pub record PassView : Type 0 where
-  pub cells : List ℕ
-  pub nodes : List FormView
+  pub table : TableView
+  pub learnt : List FormView
+  pub made : List FormView
   pub asked : List FormView
   pub seat : SeatView
+
+-- the pass is one over the table
+abbrev pub IsPassOf : TableView → PassView → Type 0
+IsPassOf table pass = pass.table ≡ table
+
+-- the form of a recipe that a pass has learnt, if it has learnt one
+abbrev pub learnt_of : PassView → List Key → Option FormView
+learnt_of pass recipe = find (λ form. same_recipe recipe form.recipe) pass.learnt
+
+-- what the old pass has learnt the new one has learnt too
+abbrev pub StaysLearnt : PassView → PassView → Type 0
+StaysLearnt old new = (recipe : List Key) (form : FormView) → learnt_of old recipe ≡ Some form → learnt_of new recipe ≡ Some form
 
 -- the numbers from 1 to this one
 abbrev pub numbers_to : ℕ → List ℕ
 numbers_to zero = []
 numbers_to (suc n) = numbers_to n ++ suc n ∷ []
 
--- a seat that has drawn this number last
-abbrev pub seat_at : ℕ → SeatView
-seat_at last = record { numbers = numbers_to last; room = 2 ^ 62 - last }
+-- a seat of the table that has drawn this number last
+abbrev pub seat_at : TableView → ℕ → SeatView
+seat_at table last = record { table = table; numbers = numbers_to last; room = 2 ^ 62 - last }
 
--- a pass that has learnt nothing and asked for nothing
-abbrev pub pass_at : List ℕ → SeatView → PassView
-pass_at cells seat = record { cells = cells; nodes = []; asked = []; seat = seat }
+-- a pass that has learnt nothing, made nothing and asked for nothing
+abbrev pub pass_at : TableView → SeatView → PassView
+pass_at table seat = record { table = table; learnt = []; made = []; asked = []; seat = seat }
 
 -- this number was drawn, which is greater than all that the seat had; where those and the room are 2^62 together, it is the next one
 pub record Draws (number : ℕ) (old new : SeatView) : Type 0 where
+  pub table : new.table ≡ old.table
   pub numbers : new.numbers ≡ old.numbers ++ number ∷ []
   pub room : new.room + 1 ≡ old.room
   pub greater : All (λ n. n < number) old.numbers
@@ -43,23 +65,53 @@ pub record Draws (number : ℕ) (old new : SeatView) : Type 0 where
 
 -- each form that was asked for is one that the pass has learnt
 abbrev pub AreLearnt : List FormView → List FormView → Type 0
-AreLearnt nodes asked = (i : ℕ) (f : FormView) → slice_get asked i ≡ Some f → (j : ℕ) × (slice_get nodes j ≡ Some f)
+AreLearnt learnt asked = (i : ℕ) (f : FormView) → slice_get asked i ≡ Some f → (j : ℕ) × (slice_get learnt j ≡ Some f)
 
--- this is the form of the recipe among those that were learnt: it is one of them, and no other one has the recipe
-abbrev pub IsFormOf : List Key → List FormView → FormView → Type 0
-IsFormOf recipe nodes form = Has recipe_of nodes recipe form × ((other : FormView) → Has recipe_of nodes recipe other → other ≡ form)
+-- the forms that a pass has put into its table have numbers of its seat, a later form a greater one
+pub record AreNumbered (made : List FormView) (numbers : List ℕ) : Type 0 where
+  pub drawn : (i : ℕ) (f : FormView) → slice_get made i ≡ Some f → (j : ℕ) × (slice_get numbers j ≡ Some f.number)
+  pub in_order : (i j : ℕ) (f g : FormView) → i < j → slice_get made i ≡ Some f → slice_get made j ≡ Some g → f.number < g.number
+
+-- this is the form of the recipe that the pass has learnt
+abbrev pub IsFormOf : List Key → PassView → FormView → Type 0
+IsFormOf recipe pass form = learnt_of pass recipe ≡ Some form
+
+-- the pass has learnt no form of the recipe
+abbrev pub IsUnlearnt : List Key → PassView → Type 0
+IsUnlearnt recipe pass = learnt_of pass recipe ≡ None
 
 -- more was learnt of the chain, and nothing else changed
 pub record Learns (old new : PassView) : Type 0 where
-  pub cells : new.cells ≡ old.cells
-  pub nodes : StartsWith new.nodes old.nodes
+  pub table : new.table ≡ old.table
+  pub learnt : StaysLearnt old new
+  pub made : new.made ≡ old.made
   pub asked : new.asked ≡ old.asked
   pub seat : new.seat ≡ old.seat
 
--- no number was drawn, or one, where no form that the pass had learnt has the recipe
+-- no number was drawn, or one, where the pass had learnt no form of the recipe
 abbrev pub DrawsAtMostOne : List Key → PassView → PassView → Type 0
-DrawsAtMostOne recipe old new =
-    (new.seat ≡ old.seat) ⊎ ((number : ℕ) × Draws number old.seat new.seat × Lacks recipe_of old.nodes recipe)
+DrawsAtMostOne recipe old new = (new.seat ≡ old.seat) ⊎ ((number : ℕ) × Draws number old.seat new.seat × IsUnlearnt recipe old)
+
+-- the form was put into the table, with the number that was drawn now
+abbrev pub PutsForm : FormView → PassView → PassView → Type 0
+PutsForm form old new = (new.made ≡ old.made ++ form ∷ []) × Draws form.number old.seat new.seat
+
+-- the pass has put no form into the table, or this one
+abbrev pub PutsAtMost : FormView → PassView → PassView → Type 0
+PutsAtMost form old new = (new.made ≡ old.made) ⊎ PutsForm form old new
+
+-- the pass has put no form into the table, or one of this recipe
+abbrev pub PutsAtMostOne : List Key → PassView → PassView → Type 0
+PutsAtMostOne recipe old new = (new.made ≡ old.made) ⊎ ((form : FormView) × (form.recipe ≡ recipe) × PutsForm form old new)
+
+-- the form that a chain has for the recipe of ours, after ours was put: ours, or another one
+abbrev pub IsPut : List FormView → FormView → Put FormView → Type 0
+IsPut learnt ours (Mine form) = Has recipe_of learnt ours.recipe form.now × (form.now ≡ ours)
+IsPut learnt ours (Theirs form back) = Has recipe_of learnt ours.recipe form.now
+
+-- where the chain has ours, it was kept with the forms that the pass has put into the table
+abbrev pub IsKept : FormView → List FormView → List FormView → FormView → Type 0
+IsKept ours before after form = (after ≡ before) ⊎ ((after ≡ before ++ form ∷ []) × (form ≡ ours))
 
 -- a form that the pass had asked for before is answered as it was, and the pass stays as it is; any other is asked for now
 abbrev pub AsksFor : FormView → PassView → PassView → Type 0
@@ -71,21 +123,27 @@ AsksFor form old new =
 abbrev pub NotAsked : List Key → PassView → PassView → Type 0
 NotAsked recipe old new = Lacks recipe_of old.asked recipe × (new.asked ≡ old.asked)
 
--- what an edit answers that asks for the form of a recipe: the one that the pass has learnt by then; where no number is left, it has learnt none
+-- what an edit answers that asks for the form of a recipe: the one that the pass has learnt by then, with the number drawn now where the pass has put it into the
+-- table; where no number is left, it has learnt none
 abbrev pub Edits : List Key → PassView → PassView → Result (Bor FormView) EditError → Type 0
-Edits recipe old new (Ok form) = (form.now.recipe ≡ recipe) × AsksFor form.now old new × DrawsAtMostOne recipe old new × IsFormOf recipe new.nodes form.now
-Edits recipe old new (Err NoMemory) = NotAsked recipe old new × DrawsAtMostOne recipe old new
-Edits recipe old new (Err (FormsFull drawn)) = NotAsked recipe old new × Draws drawn old.seat new.seat × (16384 < drawn) × Lacks recipe_of new.nodes recipe
+Edits recipe old new (Ok form) =
+    (form.now.recipe ≡ recipe) × AsksFor form.now old new × DrawsAtMostOne recipe old new × IsFormOf recipe new form.now × PutsAtMost form.now old new
+Edits recipe old new (Err NoMemory) = NotAsked recipe old new × DrawsAtMostOne recipe old new × PutsAtMostOne recipe old new
+Edits recipe old new (Err (FormsFull drawn)) =
+    NotAsked recipe old new × Draws drawn old.seat new.seat × (16384 < drawn) × IsUnlearnt recipe new × (new.made ≡ old.made)
 
 -- what asking for a form answers that was not asked for before: what the edit does where the chain shows it, or memory is short; else the pass has not learnt
 -- it
 abbrev pub AsksShown : {E : Type 0} → List Key → PassView → PassView → Result (Option (Bor FormView)) E → Type 0
 AsksShown recipe old new (Ok (Some form)) = Edits recipe old new (Ok form)
-AsksShown recipe old new (Ok None) = Learns old new × Lacks recipe_of new.nodes recipe
+AsksShown recipe old new (Ok None) = Learns old new × IsUnlearnt recipe new
 AsksShown recipe old new (Err e) = Edits recipe old new (Err NoMemory)
 
 -- what the making of a form answers that was neither asked for nor learnt
 abbrev pub MakesForm : List Key → PassView → PassView → Result (Bor FormView) EditError → Type 0
-MakesForm recipe old new (Ok form) = (form.now.recipe ≡ recipe) × (new.asked ≡ old.asked ++ form.now ∷ []) × ((number : ℕ) × Draws number old.seat new.seat)
-MakesForm recipe old new (Err NoMemory) = (new.asked ≡ old.asked) × ((new.seat ≡ old.seat) ⊎ ((number : ℕ) × Draws number old.seat new.seat))
-MakesForm recipe old new (Err (FormsFull drawn)) = (new.asked ≡ old.asked) × Draws drawn old.seat new.seat × (16384 < drawn) × (new.nodes ≡ old.nodes)
+MakesForm recipe old new (Ok form) =
+    (form.now.recipe ≡ recipe) × (new.asked ≡ old.asked ++ form.now ∷ []) × ((number : ℕ) × Draws number old.seat new.seat) × PutsAtMost form.now old new
+MakesForm recipe old new (Err NoMemory) =
+    (new.asked ≡ old.asked) × ((new.seat ≡ old.seat) ⊎ ((number : ℕ) × Draws number old.seat new.seat)) × PutsAtMostOne recipe old new
+MakesForm recipe old new (Err (FormsFull drawn)) =
+    (new.asked ≡ old.asked) × Draws drawn old.seat new.seat × (16384 < drawn) × (new.learnt ≡ old.learnt) × (new.made ≡ old.made)

@@ -7,7 +7,7 @@ ghost use Rattle.mh_handle.specs.Stands.{Stands};
 use crate::handle::Handle;
 use crate::work::Work;
 use mh_base::NoMemory;
-use mh_form::{Bound, copy_fields};
+use mh_form::copy_fields;
 
 impl<'t> Handle<'t> {
     /// A copy of the handle, which stands for what the handle stands for. It asks for no edit.
@@ -22,16 +22,10 @@ impl<'t> Handle<'t> {
         ensures stands { (table : LeafTable) (t : Tree) → Stands table self.now t
             → IfOk result (λ h. Stands table h t) }
     {
-        Ok(Handle {
-            ty: self.ty.share()?,
-            weight: self.weight,
-            sides: self.sides.copy()?,
-            form: self.form,
-            bound: Bound {
-                body: self.bound.body,
-                fields: copy_fields(w.alloc, self.bound.fields.as_slice())?,
-            },
-        })
+        let ty = self.ty.share()?;
+        let sides = self.sides.copy()?;
+        let fields = copy_fields(w.alloc, self.bound.fields.as_slice())?;
+        Ok(Handle::of(ty, self.weight, sides, self.form, fields))
     }
 
     /// Gives up the handle, with the types that it holds. It takes no memory.

@@ -48,7 +48,7 @@ fn edited<'t, R: Wait>(
     requires shaped { HasShape (applied by.key (body_of from.form.now.recipe)) by.ty }
     requires light { by.weight ≤ 256 }
     requires ready { IsReady w.old 1 }
-    ensures goes_on { GoesOn w.old w.new }
+    ensures goes_on { GoesOn 1 w.old w.new }
     ensures makes { Makes (from.entry.form.now.recipe ++ by.entry.key ∷ []) w.old w.new result }
     ensures accepted { IsAccepted result }
     ensures grows { GrowsBy
@@ -69,16 +69,7 @@ fn edited<'t, R: Wait>(
     let (fields, sides) = joined(fields, more_fields, sides, more_sides)?;
     let ty = Shared::new(w.alloc, ty)?;
     let form = w.edit(rt, form, key)?;
-    Ok(Handle {
-        ty,
-        weight,
-        sides,
-        form,
-        bound: Bound {
-            body: form.body(),
-            fields,
-        },
-    })
+    Ok(Handle::of(ty, weight, sides, form, fields))
 }
 
 impl<'t> Handle<'t> {
@@ -93,7 +84,7 @@ impl<'t> Handle<'t> {
         requires shaped { HasShape (applied by.key (handle_body self)) by.ty }
         requires light { by.weight ≤ 256 }
         requires ready { IsReady w.old 1 }
-        ensures goes_on { GoesOn w.old w.new }
+        ensures goes_on { GoesOn 1 w.old w.new }
         ensures makes { Makes (self.entry.form.recipe ++ by.entry.key ∷ []) w.old w.new result }
         ensures accepted { IsAccepted result }
         ensures grows { GrowsBy self.entry by.entry result }
@@ -124,7 +115,7 @@ impl<'t> Handle<'t> {
         requires shaped { HasShape (applied by.key nothing) by.ty }
         requires light { by.weight ≤ 256 }
         requires ready { IsReady w.old 1 }
-        ensures goes_on { GoesOn w.old w.new }
+        ensures goes_on { GoesOn 1 w.old w.new }
         ensures makes { Makes (by.entry.key ∷ []) w.old w.new result }
         ensures accepted { IsAccepted result }
         ensures grows { GrowsBy base_handle by.entry result }

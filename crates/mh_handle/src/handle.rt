@@ -1,13 +1,12 @@
-ghost use Rattle.std.specs.Prelude.{◌≡◌, ◌≤◌, [], length};
-ghost use Rattle.mh_handle.specs.Form.{base_form, body_of};
-ghost use Rattle.mh_handle.specs.Stands.{IsShaped};
+ghost use Rattle.std.specs.Prelude.{◌≡◌, ◌≤◌, false};
+ghost use Rattle.mh_edit.specs.Fit.{is_nothing};
+ghost use Rattle.mh_handle.specs.Form.{body_of};
+ghost use Rattle.mh_handle.specs.Stands.{HasShape, IsShaped};
 
 use crate::form::Form;
-use crate::table::FormTable;
 use mh_base::{Seq, Shared};
 use mh_form::{Bound, Fields};
 use mh_values::MethodTy;
-use std::alloc::Global;
 use std::marker::Model;
 
 /// A list of method types.
@@ -51,6 +50,36 @@ impl<'t> Model for Handle<'t> {
 }
 
 impl<'t> Handle<'t> {
+    /// A handle of a type, from a form with its fields and the types of its side parts.
+    pub(crate) fn of(
+        ty: Shared<MethodTy>,
+        weight: u32,
+        sides: MethodTys,
+        form: &'t Form,
+        fields: Fields<'t>,
+    ) -> Handle<'t>
+        requires light { weight ≤ 256 }
+        requires made { is_nothing (body_of form.now.recipe) ≡ false }
+        requires shaped { HasShape (body_of form.now.recipe) ty }
+        ensures ty { result.ty ≡ ty }
+        ensures weight { result.weight ≡ weight }
+        ensures sides { result.sides ≡ sides }
+        ensures form { result.form ≡ form.entry.now }
+        ensures fields { result.fields ≡ fields.entry.items }
+    {
+        let bound = Bound {
+            body: form.body(),
+            fields,
+        };
+        Handle {
+            ty,
+            weight,
+            sides,
+            form,
+            bound,
+        }
+    }
+
     /// The handle's type. Its form takes what the type says, with types erased.
     pub fn ty(&self) -> &MethodTy
         ensures ty { result.now ≡ self.now.ty }

@@ -23,7 +23,7 @@ pub fn leaf<'t, R: Wait>(
 ) -> Result<Handle<'t>, HandleError>
     requires leaf { id.0 < length (leaves_of w.old).leaves }
     requires ready { IsReady w.old 1 }
-    ensures goes_on { GoesOn w.old w.new }
+    ensures goes_on { GoesOn 1 w.old w.new }
     ensures makes { Makes (recipe (leaves_of w.old) (tree.Leaf id)) w.old w.new result }
     ensures accepted { IsAccepted result }
     ensures stands { IfOk result (λ h. StandsIn w.old h (tree.Leaf id)) }

@@ -1,9 +1,9 @@
-ghost use Rattle.std.specs.Prelude.{◌≡◌, ◌≤◌, ◌++◌, ◌∷◌, [], length, OnOk, OnErr, IfOk, IfSome, List, ℕ};
-ghost use Rattle.mh_setonce.specs.Puts.{PutIn, Refused};
+ghost use Rattle.std.specs.Prelude.{◌≡◌, ◌≤◌, ◌<◌, ◌++◌, ◌∷◌, [], length, map, vec_len, vec_capacity, OnOk, OnErr, IfOk, IfSome, List, ℕ};
+ghost use Rattle.mh_setonce.specs.Puts.{Refused};
 ghost use Rattle.mh_setonce.specs.Walks.{Distinct, FindsNode, Has, Lacks, StartsWith};
 ghost use Rattle.mh_handle.specs.Form.{FormView, body_of};
 ghost use Rattle.mh_handle.specs.Index.{recipe_of};
-ghost use Rattle.mh_handle.specs.Passes.{AsksShown, IsFormOf, Learns, MakesForm, pass_at};
+ghost use Rattle.mh_handle.specs.Passes.{AsksShown, IsFormOf, IsKept, IsPut, Learns, MakesForm, StaysLearnt, pass_at};
 
 use crate::error::EditError;
 use crate::form::Form;
@@ -19,24 +19,28 @@ use std::marker::Model;
 use std::sync::Wait;
 
 /// What one thread of work knows of a table of forms: what it has learnt of the table's chain, the
-/// forms that it has asked for, each once, and the seat through which it draws their numbers.
+/// forms that it has put there itself, those that it has asked for, each once, and the seat through
+/// which it draws the numbers of the forms that it makes.
 #[derive(Drop)]
 pub struct FormPass<'t> {
     walk: Walk<'t, Form>,
+    made: Vec<&'t Form>,
     seen: SeenForms<'t>,
     seat: FormSeat,
 }
 
 impl<'t> Model for FormPass<'t> {
+    ghost use Rattle.std.specs.Prelude.{map};
     ghost use Rattle.mh_setonce.specs.Walks.{Distinct};
     ghost use Rattle.mh_handle.specs.Index.{recipe_of};
-    ghost use Rattle.mh_handle.specs.Passes.{PassView, AreLearnt};
+    ghost use Rattle.mh_handle.specs.Passes.{PassView, AreLearnt, AreNumbered};
 
     ghost Value = { PassView };
 
-    ghost view = { λ p. record { cells = p.walk.cells; nodes = p.walk.nodes; asked = p.seen; seat = p.seat } };
+    ghost view = { λ p. record { table = record { cells = p.walk.cells }; learnt = p.walk.nodes; made = map (λ f. f.now) p.made.items; asked = p.seen; seat = p.seat } };
 
-    ghost invariant = { λ p. AreLearnt p.walk.nodes p.seen × Distinct recipe_of p.walk.nodes };
+    ghost invariant = { λ p. AreLearnt p.walk.nodes p.seen × Distinct recipe_of p.walk.nodes
+        × AreNumbered (map (λ f. f.now) p.made.items) p.seat.numbers };
 }
 
 impl<'t> FormPass<'t> {
@@ -46,10 +50,11 @@ impl<'t> FormPass<'t> {
         seat: FormSeat,
     ) -> Result<FormPass<'t>, NoMemory>
         requires { walk.nodes ≡ [] }
-        ensures { IfOk result (λ pass. pass ≡ pass_at walk.entry.cells seat) }
+        ensures { IfOk result (λ pass. pass ≡ pass_at (record { cells = walk.entry.cells }) seat) }
     {
         Ok(FormPass {
             walk,
+            made: Vec::new(alloc),
             seen: SeenForms::new(alloc)?,
             seat,
         })
@@ -66,7 +71,7 @@ impl<'t> FormPass<'t> {
     pub(crate) fn seen(&self, recipe: &Recipe, key: &Key) -> Option<&'t Form>
         ensures seen { FindsNode recipe_of self.now.asked (recipe.now ++ key.now ∷ []) result }
         ensures form { IfSome result (λ form. IsFormOf (recipe.now ++ key.now ∷ [])
-            self.now.nodes form.now) }
+            self.now form.now) }
     {
         self.seen.find(recipe, key)
     }
@@ -77,11 +82,11 @@ impl<'t> FormPass<'t> {
         chain: &'t Chain<Form>,
         recipe: &Recipe,
     ) -> Result<Option<&'t Form>, NoMemory>
-        requires { self.old.cells ≡ chain.now }
+        requires { self.old.table.cells ≡ chain.now }
         ensures learns { Learns self.old self.new }
-        ensures found { IfOk result (FindsNode recipe_of self.new.nodes recipe.now) }
+        ensures found { IfOk result (FindsNode recipe_of self.new.learnt recipe.now) }
         ensures form { IfOk result (λ found. IfSome found
-            (λ form. IsFormOf recipe.now self.new.nodes form.now)) }
+            (λ form. IsFormOf recipe.now self.new form.now)) }
     {
         chain.find(&mut self.walk, recipe)
     }
@@ -89,7 +94,7 @@ impl<'t> FormPass<'t> {
     /// Asks for a form that was learnt, and was not asked for.
     pub(crate) fn ask(&mut self, form: &'t Form) -> Result<(), NoMemory>
         requires new { Lacks recipe_of self.old.asked form.now.recipe }
-        requires learnt { Has recipe_of self.old.nodes form.now.recipe form.now }
+        requires learnt { Has recipe_of self.old.learnt form.now.recipe form.now }
         ensures ok { OnOk result (self.new ≡ record self.old
             { asked = self.old.asked ++ form.entry.now ∷ [] }) }
         ensures err { OnErr result (self.new ≡ self.old) }
@@ -103,10 +108,10 @@ impl<'t> FormPass<'t> {
         chain: &'t Chain<Form>,
         recipe: &Recipe,
     ) -> Result<Option<&'t Form>, NoMemory>
-        requires pass { self.old.cells ≡ chain.now }
+        requires pass { self.old.table.cells ≡ chain.now }
         requires new { Lacks recipe_of self.old.asked recipe.now }
-        ensures cells { self.new.cells ≡ self.old.cells }
-        ensures learnt { StartsWith self.new.nodes self.old.nodes }
+        ensures table { self.new.table ≡ self.old.table }
+        ensures learnt { StaysLearnt self.old self.new }
         ensures asks { AsksShown recipe.now self.old self.new result }
     {
         let Some(found) = self.find(chain, recipe)? else {
@@ -127,24 +132,35 @@ impl<'t> FormPass<'t> {
         body: FormBody,
     ) -> Result<&'t Form, EditError>
         requires body { body ≡ body_of recipe }
-        requires pass { self.old.cells ≡ chain.now }
+        requires pass { self.old.table.cells ≡ chain.now }
         requires room { 1 ≤ self.old.seat.room }
         requires new { Lacks recipe_of self.old.asked recipe }
-        ensures cells { self.new.cells ≡ self.old.cells }
-        ensures learnt { StartsWith self.new.nodes self.old.nodes }
+        ensures table { self.new.table ≡ self.old.table }
+        ensures learnt { StaysLearnt self.old self.new }
         ensures makes { MakesForm recipe self.old self.new result }
-        ensures form { IfOk result (λ form. IsFormOf recipe self.new.nodes form.now) }
+        ensures form { IfOk result (λ form. IsFormOf recipe self.new form.now) }
     {
         self.seen.reserve()?;
+        reserve_one(&mut self.made)?;
         let number = self.seat.draw();
         if number > Form::LIMIT {
             return Err(EditError::FormsFull { drawn: number });
         }
         let form = Form::new(number, recipe, body);
-        let made = put_form(rt, alloc, chain, &mut self.walk, form)?;
-        self.ask(made)?;
-        Ok(made)
+        let put = put_form(rt, alloc, chain, &mut self.walk, form)?;
+        let form = kept(&mut self.made, put);
+        self.ask(form)?;
+        Ok(form)
     }
+}
+
+/// Takes memory for one form more.
+fn reserve_one<'t>(forms: &mut Vec<&'t Form>) -> Result<(), NoMemory>
+    ensures same { forms.new.items ≡ forms.old.items }
+    ensures room { IfOk result (λ _. vec_len forms.new < vec_capacity forms.new) }
+{
+    forms.reserve(1)?;
+    Ok(())
 }
 
 /// Puts a form into the chain, unless one with its recipe stands there.
@@ -157,29 +173,35 @@ fn put_form<'t, R: Wait>(
     chain: &'t Chain<Form>,
     walk: &mut Walk<'t, Form>,
     mut form: Form,
-) -> Result<&'t Form, NoMemory>
+) -> Result<Put<'t, Form>, NoMemory>
     requires { walk.old.cells ≡ chain.now }
     ensures cells { walk.new.cells ≡ walk.old.cells }
     ensures nodes { StartsWith walk.new.nodes walk.old.nodes }
     ensures once { Distinct recipe_of walk.new.nodes }
-    ensures put { IfOk result (λ r. Has recipe_of walk.new.nodes form.recipe r.now) }
+    ensures put { IfOk result (IsPut walk.new.nodes form) }
 {
     for _ in rt.forever() {
         match chain.find_or_put(rt, alloc, walk, form) {
-            Ok(put) => return Ok(node_of(put)),
+            Ok(put) => return Ok(put),
             Err(refused) => form = handed_back(refused)?,
         }
     }
     unreachable!()
 }
 
-/// The form of the chain, whoever put it there.
-fn node_of<'t>(put: Put<'t, Form>) -> &'t Form
-    ensures { (before after : List FormView) (form : FormView)
-        → PutIn recipe_of before after form put.entry → Has recipe_of after form.recipe result.now }
+/// The form that the chain has, whoever put it there. One that this pass has put is kept.
+fn kept<'t>(made: &mut Vec<&'t Form>, put: Put<'t, Form>) -> &'t Form
+    requires { vec_len made.old < vec_capacity made.old }
+    ensures has { (learnt : List FormView) (ours : FormView) → IsPut learnt ours put.entry
+        → Has recipe_of learnt ours.recipe result.now }
+    ensures kept { (learnt : List FormView) (ours : FormView) → IsPut learnt ours put.entry
+        → IsKept ours (map (λ f. f.now) made.old.items) (map (λ f. f.now) made.new.items) result.now }
 {
     match put {
-        Put::Mine(form) => form,
+        Put::Mine(form) => {
+            made.push_reserved(form);
+            form
+        }
         Put::Theirs(form, _) => form,
     }
 }

@@ -3,6 +3,7 @@ ghost use Rattle.mh_handle.specs.Stands.{HasShape, handle_body};
 
 use crate::handle::Handle;
 use mh_base::Shared;
+use mh_form::Bound;
 use mh_values::MethodTy;
 
 impl<'t> Handle<'t> {
@@ -11,7 +12,11 @@ impl<'t> Handle<'t> {
     pub fn retyped(self, ty: Shared<MethodTy>, weight: u32) -> Handle<'t>
         requires light { weight ≤ 256 }
         requires shaped { HasShape (handle_body self) ty }
-        ensures { result ≡ record self.entry { ty = ty; weight = weight } }
+        ensures ty { result.ty ≡ ty }
+        ensures weight { result.weight ≡ weight }
+        ensures sides { result.sides ≡ self.entry.sides }
+        ensures form { result.form ≡ self.entry.form }
+        ensures fields { result.fields ≡ self.entry.fields }
     {
         let Handle {
             ty: _,
@@ -20,12 +25,7 @@ impl<'t> Handle<'t> {
             form,
             bound,
         } = self;
-        Handle {
-            ty,
-            weight,
-            sides,
-            form,
-            bound,
-        }
+        let Bound { body: _, fields } = bound;
+        Handle::of(ty, weight, sides, form, fields)
     }
 }

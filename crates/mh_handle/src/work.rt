@@ -44,7 +44,7 @@ impl<'w, 't> Work<'w, 't> {
     pub fn edit<R: Wait>(&mut self, rt: &R, form: &'t Form, key: Key) -> Result<&'t Form, EditError>
         requires fits { IsTrue (fits key (body_of form.now.recipe)) }
         requires ready { IsReady self.old 1 }
-        ensures goes_on { GoesOn self.old self.new }
+        ensures goes_on { GoesOn 1 self.old self.new }
         ensures edits { Edits (form.entry.now.recipe ++ key ∷ []) self.old.pass.now
             self.new.pass.now result }
     {

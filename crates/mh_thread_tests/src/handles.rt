@@ -1,4 +1,5 @@
-ghost use Rattle.std.specs.Prelude.{◌≡◌, ◌≤◌};
+ghost use Rattle.std.specs.Prelude.{◌≤◌};
+ghost use Rattle.mh_handle.specs.Passes.{IsPassOf};
 
 use mh_base::NoMemory;
 use mh_handle::{Answer, Form, FormPass, FormTable, Handle, Work, leaf};
@@ -25,7 +26,7 @@ fn first_leaf<'t, R: Wait>(
     pass: &mut FormPass<'t>,
     leaves: &'t Leaves,
 ) -> Option<Handle<'t>>
-    requires pass { pass.old.cells ≡ table.now }
+    requires pass { IsPassOf table.now pass.old }
     requires room { 1 ≤ pass.old.seat.room }
 {
     if leaves.count() == 0 {
@@ -78,7 +79,7 @@ fn made_beside<'t, R: Threads + Wait + Sync>(
     mut pass: FormPass<'t>,
     leaves: &'t Leaves,
 ) -> (u64, Option<u64>)
-    requires pass { pass.cells ≡ table.now }
+    requires pass { IsPassOf table.now pass }
     requires room { 1 ≤ pass.seat.room }
 {
     thread::join(

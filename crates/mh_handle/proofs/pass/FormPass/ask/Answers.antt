@@ -10,4 +10,5 @@ invariant_of-self c =
       learnt-added c.self.inside.walk.nodes c.self.inside.seen c.add.new.self c.args.form.now here.0 c.add.result c.self.invariant.0 here.1 c.add.ensures.ok
           c.add.ensures.err,
       c.self.invariant.1,
+      c.self.invariant.2,
     )
