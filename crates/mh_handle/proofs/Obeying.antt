@@ -17,6 +17,7 @@ use Rattle.mh_handle.specs.Grows.{Grows}
 use Rattle.mh_handle.specs.Obeys.{Obeys}
 use Rattle.mh_handle.specs.Stands.{HandleView}
 use Rattle.mh_handle.specs.Works.{IsAccepted, Makes}
+use Rattle.mh_handle.proofs.Going.{unchanged-still}
 
 -- ---- a refusal by the rule
 
@@ -30,7 +31,7 @@ refused-obeys row e (Err x) tells is = subst (λ v. Obeys row (Err v)) (sym is) 
 
 refusal-makes : (recipe : List Key) (w : Work) (e : CheckError) → Makes recipe w w (Err (of_check e))
 refusal-makes recipe w check.NoMemory = (refl, inl refl, inl refl)
-refusal-makes recipe w (check.Refused e) = refl
+refusal-makes recipe w (check.Refused e) = unchanged-still w
 
 pub refused-makes : (recipe : List Key) (w : Work) (e : CheckError) (r : Result Handle HandleError) → IsErrAnd r (λ x. x ≡ of_check e) → Makes recipe w w r
 refused-makes recipe w e (Ok h) is = absurd is

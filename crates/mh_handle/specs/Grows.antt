@@ -1,17 +1,14 @@
--- How a handle grows by an edit of its form, and what it is as a part of another handle.
+-- How a handle grows by an edit of its form.
 use Rattle.std.specs.Prelude.{◌≡◌, ℕ, ◌+◌, List, [], ◌∷◌, ◌++◌, None, Result, IfOk}
-use Rattle.std.specs.declared.sync.Arc.{Arc}
-use Rattle.std.specs.declared.alloc.Global.{Global}
 use Rattle.mh_values.specs.declared.types.MethodTy.{MethodTy}
-use Rattle.mh_form.specs.declared.field.Bound.{Bound}
 use Rattle.mh_form.specs.declared.field.Field.{Field}
-use Rattle.mh_form.specs.declared.field.Field.TheVariants as field
 use Rattle.mh_edit.specs.declared.key.Key.{Key}
 use Rattle.mh_handle.specs.declared.error.HandleError.{HandleError}
 use Rattle.mh_handle.specs.declared.growth.Growth.{Growth}
 use Rattle.mh_handle.specs.declared.handle.Handle.{Handle}
 use Rattle.mh_handle.specs.Form.{FormView, base_form}
-use Rattle.mh_handle.specs.Stands.{HandleView, handle_body}
+use Rattle.mh_handle.specs.Parts.{IsPartOf, held_by}
+use Rattle.mh_handle.specs.Stands.{HandleView}
 
 -- the new handle has this type and this weight, and side types, a key and fields after those that the old one has
 pub record Grows (old new : HandleView) (ty : MethodTy) (weight : ℕ) (sides : List MethodTy) (key : Key) (fields : List Field) : Type 0 where
@@ -31,11 +28,7 @@ base_handle = untyped base_form [] []
 
 -- a handle that was made has grown by all that the combinator adds
 abbrev pub GrowsBy : HandleView → Growth → Result Handle HandleError → Type 0
-GrowsBy old by made = IfOk made (λ new. Grows old new by.ty by.weight by.sides by.key by.fields.items)
-
--- the field holds the handle's form, bound to the handle's fields
-abbrev pub IsPartOf : HandleView → Field → Type 0
-IsPartOf h f = (part : Arc Bound Global) × (f ≡ field.Part part) × (part.value.body.now ≡ handle_body h) × (part.value.fields.items ≡ h.fields)
+GrowsBy old by made = IfOk made (λ new. Grows old new by.ty by.weight by.parts.sides by.key by.parts.fields)
 
 -- the new handle weighs one more, and has no side part more
 pub record GainsNode (old new : HandleView) : Type 0 where
@@ -45,5 +38,5 @@ pub record GainsNode (old new : HandleView) : Type 0 where
 -- the new handle weighs one more and what the part weighs, holds the part's type and those that the part holds, and has one field more, which holds the part
 pub record GainsPart (part old new : HandleView) : Type 0 where
   pub weighed : new.weight ≡ 1 + old.weight + part.weight
-  pub holds : new.sides ≡ old.sides ++ part.ty ∷ part.sides
+  pub holds : new.sides ≡ old.sides ++ held_by part
   pub fielded : (f : Field) × (new.fields ≡ old.fields ++ f ∷ []) × IsPartOf part f

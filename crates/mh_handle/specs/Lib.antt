@@ -6,6 +6,7 @@ pub mod Grows
 pub mod Index
 pub mod Hashes
 pub mod Obeys
+pub mod Parts
 pub mod Passes
 pub mod Recipe
 pub mod SameRecipes

@@ -1,8 +1,9 @@
-ghost use Rattle.std.specs.Prelude.{◌≡◌, IfOk, map};
+ghost use Rattle.std.specs.Prelude.{◌≡◌, ◌-◌, IfOk, map};
 ghost use Rattle.mh_leaf.specs.LeafTable.{LeafTable};
 ghost use Rattle.mh_tree.specs.Tree.{Tree};
 ghost use Rattle.mh_form.specs.Run.{sense};
 ghost use Rattle.mh_handle.specs.Stands.{Stands};
+ghost use Rattle.mh_handle.specs.Works.{CountsHandles, IsUnchanged};
 
 use crate::handle::Handle;
 use crate::work::Work;
@@ -12,7 +13,8 @@ use mh_form::copy_fields;
 impl<'t> Handle<'t> {
     /// A copy of the handle, which stands for what the handle stands for. It asks for no edit.
     pub fn copy(&self, w: &mut Work<'_, 't>) -> Result<Handle<'t>, NoMemory>
-        ensures same { w.new ≡ w.old }
+        ensures unchanged { IsUnchanged w.old w.new }
+        ensures handles { CountsHandles 0 w.old w.new result }
         ensures form { IfOk result (λ h. h.form ≡ self.now.form) }
         ensures ty { IfOk result (λ h. h.ty ≡ self.now.ty) }
         ensures weight { IfOk result (λ h. h.weight ≡ self.now.weight) }
@@ -22,16 +24,21 @@ impl<'t> Handle<'t> {
         ensures stands { (table : LeafTable) (t : Tree) → Stands table self.now t
             → IfOk result (λ h. Stands table h t) }
     {
+        if !w.handles.has_room(0) {
+            return Err(NoMemory);
+        }
         let ty = self.ty.share()?;
         let sides = self.sides.copy()?;
         let fields = copy_fields(w.alloc, self.bound.fields.as_slice())?;
+        w.handles.replace(0);
         Ok(Handle::of(ty, self.weight, sides, self.form, fields))
     }
 
     /// Gives up the handle, with the types that it holds. It takes no memory.
     pub fn give_back(self, w: &mut Work<'_, 't>)
-        ensures { w.new ≡ w.old }
+        ensures unchanged { IsUnchanged w.old w.new }
+        ensures handles { w.new.handles.now ≡ w.old.handles.now - 1 }
     {
-        let _leaves = w.leaves;
+        w.handles.remove(1);
     }
 }

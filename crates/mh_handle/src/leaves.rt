@@ -2,13 +2,14 @@ ghost use Rattle.std.specs.Prelude.{◌≡◌, ◌<◌, length, IfOk};
 ghost use Rattle.mh_leaf.specs.WellTyped.{IsWellTyped};
 ghost use Rattle.mh_tree.specs.Tree as tree;
 ghost use Rattle.mh_handle.specs.Recipe.{recipe};
-ghost use Rattle.mh_handle.specs.Works.{IsReady, GoesOn, Makes, IsAccepted, StandsIn, leaves_of};
+ghost use Rattle.mh_handle.specs.Works.{CountsHandles, IsReady, GoesOn, Makes, IsAccepted, StandsIn, leaves_of};
 
 use crate::error::HandleError;
 use crate::growth::{Growth, one_field};
 use crate::handle::Handle;
+use crate::parts::Parts;
 use crate::work::Work;
-use mh_base::{Copied, Seq};
+use mh_base::Copied;
 use mh_edit::Key;
 use mh_form::{Field, shape};
 use mh_leaves::Leaves;
@@ -26,6 +27,7 @@ pub fn leaf<'t, R: Wait>(
     ensures goes_on { GoesOn 1 w.old w.new }
     ensures makes { Makes (recipe (leaves_of w.old) (tree.Leaf id)) w.old w.new result }
     ensures accepted { IsAccepted result }
+    ensures handles { CountsHandles 0 w.old w.new result }
     ensures stands { IfOk result (λ h. StandsIn w.old h (tree.Leaf id)) }
 {
     are_well_typed(w.leaves);
@@ -35,9 +37,8 @@ pub fn leaf<'t, R: Wait>(
     let by = Growth {
         ty,
         weight: 1,
-        sides: Seq::new(w.alloc),
         key: Key::LeafRoot { shape },
-        fields,
+        parts: Parts::of_fields(w.alloc, fields),
     };
     Handle::rooted(w, rt, by)
 }

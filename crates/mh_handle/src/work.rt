@@ -7,6 +7,7 @@ ghost use Rattle.mh_handle.specs.Works.{IsReady, GoesOn};
 
 use crate::error::EditError;
 use crate::form::Form;
+use crate::live_handles::LiveHandles;
 use crate::pass::FormPass;
 use crate::table::FormTable;
 use mh_edit::Key;
@@ -16,12 +17,13 @@ use std::alloc::Global;
 use std::sync::Wait;
 
 /// What a thread makes handles with: the allocator, the table of forms, the thread's own pass over
-/// it, and the leaves of the run.
+/// it, the leaves of the run, and the count of the thread's handles.
 pub struct Work<'w, 't> {
     pub alloc: Global,
     pub forms: &'t FormTable,
     pub pass: &'w mut FormPass<'t>,
     pub leaves: &'t Leaves,
+    pub handles: &'w mut LiveHandles,
 }
 
 impl<'w, 't> Work<'w, 't> {
@@ -47,6 +49,7 @@ impl<'w, 't> Work<'w, 't> {
         ensures goes_on { GoesOn 1 self.old self.new }
         ensures edits { Edits (form.entry.now.recipe ++ key ∷ []) self.old.pass.now
             self.new.pass.now result }
+        ensures handles { self.new.handles.now ≡ self.old.handles.now }
     {
         self.forms.edit(rt, self.alloc, self.pass, form, key)
     }

@@ -2,7 +2,7 @@ ghost use Rattle.std.specs.Prelude.{◌≤◌};
 ghost use Rattle.mh_handle.specs.Passes.{IsPassOf};
 
 use mh_base::NoMemory;
-use mh_handle::{Answer, Form, FormPass, FormTable, Handle, Work, leaf};
+use mh_handle::{Answer, Form, FormPass, FormTable, Handle, LiveHandles, Work, leaf};
 use mh_leaves::{Leaves, read_manifest};
 use mh_values::{ClassId, Exc, LeafId};
 use std::alloc::Global;
@@ -32,11 +32,13 @@ fn first_leaf<'t, R: Wait>(
     if leaves.count() == 0 {
         return None;
     }
+    let mut handles = LiveHandles::new();
     let mut work = Work {
         alloc,
         forms: table,
         pass,
         leaves,
+        handles: &mut handles,
     };
     let handle = leaf(&mut work, rt, LeafId(0)).ok();
     let Work {
@@ -44,6 +46,7 @@ fn first_leaf<'t, R: Wait>(
         forms: _,
         pass: _,
         leaves: _,
+        handles: _,
     } = work;
     handle
 }
