@@ -1,0 +1,141 @@
+-- The job of a call site: which script links it, and what the script is given (JVMS SE 17, 5.1 and 5.4.3.6).
+use Rattle.std.specs.Prelude.{ℕ, ◌==◌, nat_le, nat_eq, if◌then◌else◌, List, [], ◌∷◌, codes, length, Option, Some, None, option_map, slice_get, Result, Ok, Err, ok_or}
+use Rattle.std.specs.List.{starts_with}
+use Rattle.std.specs.Option.{option_map_or}
+use Rattle.std.specs.Result.{result_ok}
+use Rattle.mh_values.specs.declared.class.Class.{Class}
+use Rattle.mh_values.specs.declared.types.MethodTy.{MethodTy}
+use Rattle.mh_values.specs.declared.types.Ty.{Ty}
+use Rattle.mh_values.specs.declared.types.Ty.TheVariants as ty
+use Rattle.mh_values.specs.declared.value.Num.TheVariants as num
+use Rattle.mh_values.specs.declared.value.Value.TheVariants as value
+use Rattle.mh_leaf.specs.LeafTable.{LeafTable}
+use Rattle.mh_leaves.specs.declared.naming.How.{How}
+use Rattle.mh_leaves.specs.declared.naming.How.TheVariants.{Static, Virtual}
+use Rattle.mh_class_bytes.specs.Chars.{chars_of}
+use Rattle.mh_classfile.specs.declared.constant.Constant.{Constant}
+use Rattle.mh_classfile.specs.declared.constant.Constant.TheVariants as constant
+use Rattle.mh_classfile.specs.declared.constant.HandleRef.{HandleRef}
+use Rattle.mh_classfile.specs.declared.constant.SiteView.{SiteView}
+use Rattle.mh_classfile.specs.Class as class_file
+use Rattle.mh_script.specs.declared.script.MethodName.{MethodName}
+use Rattle.mh_script.specs.declared.script.Script.{Script}
+use Rattle.mh_script.specs.declared.scripts.ScriptId.{ScriptId}
+use Rattle.mh_jobs.specs.declared.job.Argument.{Argument}
+use Rattle.mh_jobs.specs.declared.job.Argument.TheVariants as argument
+use Rattle.mh_jobs.specs.declared.job.BootstrapCall.{BootstrapCall}
+use Rattle.mh_jobs.specs.declared.job.Job.{Job}
+use Rattle.mh_jobs.specs.Names.{class_of, type_of_text, method_type_of_text, leaf_named, script_of}
+use Rattle.mh_jobs.specs.Thrown.{OrThrown, ◌>>=◌, ◌>>◌, require, as_shown, unsupported}
+
+-- ---- texts
+
+-- the characters of a text, or that a half of a surrogate pair stands alone in it
+abbrev pub unless_lone : Result (List ℕ) ℕ → OrThrown (List ℕ)
+unless_lone (Ok cs) = Ok cs
+unless_lone (Err at) = Err (unsupported (codes "lone surrogate"))
+
+-- a text of a class file as a text of at most 4,096 characters
+abbrev pub text_of : List ℕ → OrThrown (List ℕ)
+text_of bytes = do
+  cs ← unless_lone (chars_of bytes)
+  require (nat_le (length cs) 4096) (unsupported (codes "string too long"))
+  Ok cs
+
+-- ---- method handles
+
+-- the method that a method handle refers to
+abbrev pub method_of : HandleRef → MethodName
+method_of h = record { owner = h.owner; name = h.name; descriptor = h.descriptor }
+
+-- how a method handle calls its method, by its kind: `invokevirtual` or `invokestatic` (JVMS SE 17, 5.4.3.5); other kinds are left out
+abbrev pub way_of : ℕ → Option How
+way_of kind = if kind == 5 then Some Virtual else (if kind == 6 then Some Static else None)
+
+-- the leaf of a method handle
+abbrev pub handle_leaf : LeafTable → HandleRef → OrThrown Argument
+handle_leaf leaves h = do
+  how ← ok_or (way_of h.kind) (unsupported (codes "constant"))
+  l ← leaf_named as_shown leaves how (method_of h)
+  Ok (argument.Leaf l)
+
+-- ---- static arguments
+
+-- a class by its constant: an array type by its descriptor, and any other class by its name (JVMS SE 17, 4.4.1)
+abbrev pub class_argument : List Class → List ℕ → OrThrown Ty
+class_argument classes text =
+    if starts_with nat_eq text (codes "[") then type_of_text as_shown classes text
+    else (do
+      c ← class_of as_shown classes text
+      Ok (ty.Class c))
+
+-- a static argument by its constant (JVMS SE 17, 5.1)
+abbrev pub argument_of : LeafTable → Constant → OrThrown Argument
+argument_of leaves (constant.Integer n) = Ok (argument.Value (value.Boxed (num.I n)))
+argument_of leaves (constant.Long n) = Ok (argument.Value (value.Boxed (num.J n)))
+argument_of leaves (constant.Str text) = do
+  cs ← text_of text
+  Ok (argument.Value (value.Text cs))
+argument_of leaves (constant.MethodType text) = do
+  t ← method_type_of_text as_shown leaves.classes text
+  Ok (argument.MethodType t)
+argument_of leaves (constant.Class text) = do
+  t ← class_argument leaves.classes text
+  Ok (argument.Class t)
+argument_of leaves (constant.Handle h) = handle_leaf leaves h
+argument_of leaves _ = Err (unsupported (codes "constant"))
+
+-- static arguments from left to right; the first that is none ends all
+abbrev pub arguments_of : LeafTable → List Constant → OrThrown (List Argument)
+arguments_of leaves [] = Ok []
+arguments_of leaves (c ∷ constants) = do
+  first ← argument_of leaves c
+  others ← arguments_of leaves constants
+  Ok (first ∷ others)
+
+-- ---- jobs
+
+-- the bootstrap method of a number; a class file names none that it lacks (JVMS SE 17, 4.7.23), so what stands for such a one is met nowhere
+abbrev pub bootstrap_at : class_file.Class → ℕ → OrThrown class_file.Bootstrap
+bootstrap_at class j = ok_or (slice_get class.bootstraps j) (unsupported (codes "constant"))
+
+-- the static arguments of a bootstrap method, by its number
+abbrev pub constants_at : class_file.Class → ℕ → List Constant
+constants_at class j = option_map_or (λ b. b.arguments) (slice_get class.bootstraps j) []
+
+-- the script that a bootstrap method's handle names: an `invokestatic` one
+abbrev pub bootstrap_script : List Class → List Script → HandleRef → OrThrown ScriptId
+bootstrap_script classes scripts h = do
+  require (h.kind == 6) (unsupported (codes "constant"))
+  script_of as_shown classes scripts (method_of h)
+
+-- the type of a call site
+abbrev pub site_type : List Class → SiteView → OrThrown MethodTy
+site_type classes site = method_type_of_text as_shown classes site.descriptor
+
+-- what a call site calls its bootstrap method with: the method first, then the site's type and name, then the static arguments
+abbrev pub call_of : LeafTable → List Script → SiteView → HandleRef → List Constant → OrThrown BootstrapCall
+call_of leaves scripts site handle constants = do
+  script ← bootstrap_script leaves.classes scripts handle
+  t ← site_type leaves.classes site
+  name ← text_of site.name
+  arguments ← arguments_of leaves constants
+  Ok (record { script = script; name = name; ty = t; arguments = arguments })
+
+-- the call of the bootstrap method that a call site names
+abbrev pub bootstrap_call : LeafTable → List Script → class_file.Class → SiteView → OrThrown BootstrapCall
+bootstrap_call leaves scripts class site = do
+  bootstrap ← bootstrap_at class site.bootstrap
+  call_of leaves scripts site bootstrap.handle bootstrap.arguments
+
+-- the job of a call site of a class, which has a number in the run
+abbrev pub site_job : LeafTable → List Script → class_file.Class → ℕ → SiteView → Job
+site_job leaves scripts class number site = record {
+  site = number;
+  ty = result_ok (site_type leaves.classes site);
+  call = bootstrap_call leaves scripts class site;
+}
+
+-- the job of a class's site k, which has a number in the run
+abbrev pub job_of : LeafTable → List Script → class_file.Class → ℕ → ℕ → Option Job
+job_of leaves scripts class k number = option_map (site_job leaves scripts class number) (slice_get class.sites k)

@@ -1,0 +1,25 @@
+-- The jobs of a run: a job for each call site of its classes, in order.
+use Rattle.std.specs.Prelude.{◌≡◌, ℕ, ◌+◌, List, [], ◌∷◌, ◌++◌, length, fold, Some, slice_get}
+use Rattle.mh_leaf.specs.LeafTable.{LeafTable}
+use Rattle.mh_classfile.specs.declared.constant.SiteView.{SiteView}
+use Rattle.mh_classfile.specs.Class as class_file
+use Rattle.mh_script.specs.declared.script.Script.{Script}
+use Rattle.mh_jobs.specs.declared.job.Job.{Job}
+use Rattle.mh_jobs.specs.Job.{site_job}
+
+-- the jobs of call sites of a class, numbered from a number on
+abbrev pub jobs_from : LeafTable → List Script → class_file.Class → ℕ → List SiteView → List Job
+jobs_from leaves scripts class number [] = []
+jobs_from leaves scripts class number (site ∷ sites) = site_job leaves scripts class number site ∷ jobs_from leaves scripts class (number + 1) sites
+
+-- these jobs and those of a class's call sites, numbered on
+abbrev pub with_class : LeafTable → List Script → List Job → class_file.Class → List Job
+with_class leaves scripts jobs class = jobs ++ jobs_from leaves scripts class (length jobs) class.sites
+
+-- the jobs of classes, in order
+abbrev pub jobs_of : LeafTable → List Script → List class_file.Class → List Job
+jobs_of leaves scripts classes = fold (with_class leaves scripts) [] classes
+
+-- the number of each call site is its place
+abbrev pub AreNumbered : List Job → Type 0
+AreNumbered jobs = (k : ℕ) (job : Job) → slice_get jobs k ≡ Some job → job.site ≡ k

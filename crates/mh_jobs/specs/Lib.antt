@@ -1,0 +1,5 @@
+pub mod Job
+pub mod Jobs
+pub mod Names
+pub mod Thrown
+pub mod Told

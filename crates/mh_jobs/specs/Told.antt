@@ -1,0 +1,23 @@
+-- What resolution answers.
+use Rattle.std.specs.Prelude.{◌≡◌, Result, Ok, Err}
+use Rattle.mh_base.specs.declared.memory.NoMemory.{NoMemory as OutOfMemory}
+use Rattle.mh_values.specs.declared.value.ExcParts.{ExcParts}
+use Rattle.mh_jobs.specs.declared.error.ResolutionError.{ResolutionError}
+use Rattle.mh_jobs.specs.declared.error.ResolutionError.TheVariants.{NoMemory, Thrown}
+use Rattle.mh_jobs.specs.Thrown.{OrThrown}
+
+-- an exception that was made, or the want of memory for it
+abbrev pub error_of : Result ExcParts OutOfMemory → ResolutionError
+error_of (Ok e) = Thrown e
+error_of (Err u) = NoMemory
+
+-- this exception; want of memory tells nothing
+abbrev pub Throws : ResolutionError → ExcParts → Type 0
+Throws NoMemory e = Unit {0}
+Throws (Thrown told) e = e ≡ told
+
+-- the value, or what is thrown; want of memory tells nothing
+abbrev pub Tells : {A : Type 0} → Result A ResolutionError → OrThrown A → Type 0
+Tells (Ok a) meaning = meaning ≡ Ok a
+Tells (Err NoMemory) meaning = Unit {0}
+Tells (Err (Thrown e)) meaning = meaning ≡ Err e

@@ -1,0 +1,131 @@
+ghost use Rattle.std.specs.Prelude.{◌≡◌, ◌<◌, length, slice_get, Some, IfSome};
+ghost use Rattle.mh_jobs.specs.Job.{arguments_of, bootstrap_call, bootstrap_script, call_of, constants_at, site_type};
+ghost use Rattle.mh_jobs.specs.Told.{Tells};
+
+use crate::argument::{argument_of, text_of};
+use crate::error::ResolutionError;
+use crate::names::script_of;
+use crate::thrown::unsupported;
+use crate::{Argument, BootstrapCall};
+use mh_base::{Copied, Seq, Shared};
+use mh_classfile::{ClassView, Constant, HandleRef, SiteView};
+use mh_leaves::Leaves;
+use mh_script::{ScriptId, Scripts};
+use mh_values::{Exc, MethodTy};
+use std::alloc::Global;
+
+/// What the call sites of a class are resolved with.
+#[derive(Clone, Copy)]
+pub(crate) struct Resolving<'a, 'b> {
+    pub view: &'a ClassView<'b>,
+    pub scripts: &'a Scripts,
+    pub leaves: &'a Leaves,
+}
+
+/// The type of a call site, or what is thrown in its place.
+pub(crate) type SiteType = Result<Shared<MethodTy>, Exc>;
+
+/// The number of static arguments of a bootstrap method.
+fn count(view: &ClassView<'_>, bootstrap: u16) -> u16
+    requires { bootstrap < length view.now.bootstraps }
+    ensures { result ≡ length (constants_at view.now bootstrap) }
+{
+    view.arguments(bootstrap)
+}
+
+/// A static argument of a bootstrap method.
+fn constant<'b>(view: &ClassView<'b>, bootstrap: u16, k: u16) -> Constant<'b>
+    requires bootstrap { bootstrap < length view.now.bootstraps }
+    requires argument { k < length (constants_at view.now bootstrap) }
+    ensures { slice_get (constants_at view.now bootstrap) k ≡ Some result }
+{
+    view.argument(bootstrap, k)
+}
+
+/// The static arguments of a bootstrap method.
+#[tactic(auto, using(crate::proofs::Arguments::next_read, crate::proofs::Arguments::read_stops, crate::proofs::Arguments::all_read))]
+fn arguments_of(
+    alloc: Global,
+    from: &Resolving<'_, '_>,
+    bootstrap: u16,
+) -> Result<Seq<Argument>, ResolutionError>
+    requires { bootstrap < length from.now.view.now.bootstraps }
+    ensures { Tells result (arguments_of from.now.leaves.now
+        (constants_at from.now.view.now bootstrap)) }
+{
+    let mut arguments = Seq::new(alloc);
+    for k in 0..count(from.view, bootstrap) {
+        let constant = constant(from.view, bootstrap, k);
+        let argument = argument_of(alloc, from.leaves, &constant)?;
+        arguments.push(argument)?;
+    }
+    Ok(arguments)
+}
+
+/// The script that a bootstrap method's handle names.
+fn bootstrap_script(
+    alloc: Global,
+    from: &Resolving<'_, '_>,
+    handle: &HandleRef<'_>,
+) -> Result<ScriptId, ResolutionError>
+    ensures { Tells result (bootstrap_script from.now.leaves.now.classes from.now.scripts.now
+        handle.now) }
+{
+    if handle.kind != 6 {
+        return Err(unsupported(alloc, b"constant"));
+    }
+    script_of(alloc, from.leaves.classes(), from.scripts, handle)
+}
+
+/// A type that was read, once more.
+fn shared(alloc: Global, ty: &SiteType) -> Result<Shared<MethodTy>, ResolutionError>
+    ensures { Tells result ty.now }
+{
+    match ty {
+        Ok(ty) => Ok(ty.share()?),
+        Err(exc) => Err(ResolutionError::Thrown(exc.copy(alloc)?)),
+    }
+}
+
+/// What a call site of a type calls the bootstrap method of a number with.
+fn call_of(
+    alloc: Global,
+    from: &Resolving<'_, '_>,
+    site: &SiteView<'_>,
+    ty: &SiteType,
+    handle: &HandleRef<'_>,
+) -> Result<BootstrapCall, ResolutionError>
+    requires ty { ty.now ≡ site_type from.now.leaves.now.classes site.now }
+    requires bootstrap { site.now.bootstrap < length from.now.view.now.bootstraps }
+    ensures { Tells result (call_of from.now.leaves.now from.now.scripts.now site.now handle.now
+        (constants_at from.now.view.now site.now.bootstrap)) }
+{
+    let script = bootstrap_script(alloc, from, handle)?;
+    let ty = shared(alloc, ty)?;
+    let name = text_of(alloc, &site.name)?;
+    let arguments = arguments_of(alloc, from, site.bootstrap)?;
+    Ok(BootstrapCall {
+        script,
+        name,
+        ty,
+        arguments,
+    })
+}
+
+/// What a call site of a type calls its bootstrap method with.
+pub(crate) fn bootstrap_call(
+    alloc: Global,
+    from: &Resolving<'_, '_>,
+    site: &SiteView<'_>,
+    ty: &SiteType,
+) -> Result<BootstrapCall, ResolutionError>
+    requires { ty.now ≡ site_type from.now.leaves.now.classes site.now }
+    ensures { Tells result (bootstrap_call from.now.leaves.now from.now.scripts.now
+        from.now.view.now site.now) }
+{
+    if site.bootstrap >= from.view.bootstraps() {
+        return Err(unsupported(alloc, b"constant"));
+    }
+    let handle = from.view.bootstrap(site.bootstrap);
+    call_of(alloc, from, site, ty, &handle)
+}

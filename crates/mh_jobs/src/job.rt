@@ -1,0 +1,140 @@
+ghost use Rattle.std.specs.Prelude.{◌≡◌, ◌<◌, length, Some, IfOk};
+ghost use Rattle.std.specs.Option.{option_copied};
+ghost use Rattle.mh_jobs.specs.Job.{bootstrap_call, job_of, site_job, site_type};
+
+use crate::call::{Resolving, SiteType, bootstrap_call};
+use crate::error::ResolutionError;
+use crate::names::method_type_of_text;
+use mh_base::{NoMemory, Seq, Shared};
+use mh_classfile::{ClassView, SiteView};
+use mh_leaves::Leaves;
+use mh_script::{ScriptId, Scripts};
+use mh_values::{Classes, Exc, LeafId, MethodTy, Str, Ty, Value};
+use std::alloc::Global;
+
+/// A static argument of a bootstrap method (JVMS SE 17, 5.4.3.6).
+#[derive(Debug, Drop)]
+pub enum Argument {
+    /// A boxed number or a text.
+    Value(Value),
+    MethodType(Shared<MethodTy>),
+    Class(Ty),
+    /// A method handle, which is that of a leaf.
+    Leaf(LeafId),
+}
+
+/// What a bootstrap method is called with: its script, the name and the type of the call site, and
+/// the static arguments.
+#[derive(Debug, Drop)]
+pub struct BootstrapCall {
+    pub script: ScriptId,
+    pub name: Str,
+    pub ty: Shared<MethodTy>,
+    pub arguments: Seq<Argument>,
+}
+
+/// A call site of a run, resolved as far as it can be.
+#[derive(Debug, Drop)]
+pub struct Job {
+    /// The number of the site in the run.
+    pub site: u32,
+    /// The site's type, where it can be read, also where the rest cannot be resolved.
+    pub ty: Option<Shared<MethodTy>>,
+    /// The call of the bootstrap method, or what is thrown in its place.
+    pub call: Result<BootstrapCall, Exc>,
+}
+
+impl Job {
+    /// The number of the site in the run.
+    pub fn site(&self) -> u32
+        ensures { result ≡ self.now.site }
+    {
+        self.site
+    }
+
+    /// The site's type. There is none exactly where the descriptor names an unknown class or a
+    /// type that is left out.
+    pub fn ty(&self) -> Option<&MethodTy>
+        ensures { option_copied result ≡ self.now.ty }
+    {
+        match &self.ty {
+            Some(ty) => Some(ty.get()),
+            None => None,
+        }
+    }
+}
+
+/// The type of a call site.
+fn site_type(alloc: Global, classes: &Classes, site: &SiteView<'_>) -> Result<SiteType, NoMemory>
+    ensures { IfOk result (λ ty. ty ≡ site_type classes.now site.now) }
+{
+    match method_type_of_text(alloc, classes, site.descriptor.bytes()) {
+        Ok(ty) => Ok(Ok(ty)),
+        Err(ResolutionError::Thrown(exc)) => Ok(Err(exc)),
+        Err(ResolutionError::NoMemory) => Err(NoMemory),
+    }
+}
+
+/// What a call site of a type calls, or what is thrown in its place.
+fn call_or_thrown(
+    alloc: Global,
+    from: &Resolving<'_, '_>,
+    site: &SiteView<'_>,
+    ty: &SiteType,
+) -> Result<Result<BootstrapCall, Exc>, NoMemory>
+    requires { ty.now ≡ site_type from.now.leaves.now.classes site.now }
+    ensures { IfOk result (λ call. call ≡ bootstrap_call from.now.leaves.now from.now.scripts.now
+        from.now.view.now site.now) }
+{
+    match bootstrap_call(alloc, from, site, ty) {
+        Ok(call) => Ok(Ok(call)),
+        Err(ResolutionError::Thrown(exc)) => Ok(Err(exc)),
+        Err(ResolutionError::NoMemory) => Err(NoMemory),
+    }
+}
+
+/// The job of a call site, which has a number in the run.
+pub(crate) fn site_job(
+    alloc: Global,
+    from: &Resolving<'_, '_>,
+    number: u32,
+    site: &SiteView<'_>,
+) -> Result<Job, NoMemory>
+    ensures { IfOk result (λ made. made ≡ site_job from.now.leaves.now from.now.scripts.now
+        from.now.view.now number site.now) }
+{
+    let ty = site_type(alloc, from.leaves.classes(), site)?;
+    let call = call_or_thrown(alloc, from, site, &ty)?;
+    Ok(Job {
+        site: number,
+        ty: ty.ok(),
+        call,
+    })
+}
+
+/// The job of a class's site `k`, whose number in the run is `site`: the script that links it with
+/// the name, the type and the static arguments, or the first of what is wrong, in that order (JVMS
+/// SE 17, 5.4.3.6). `NoClassDefFoundError` names a class that is not there, or an owner that is
+/// neither a class nor that of a script; `NoSuchMethodError` a script or a leaf;
+/// `UnsupportedOperationException` has the message `constant` for a bootstrap method that is not
+/// called by `invokestatic`, and for static arguments that are other constants or handles than
+/// those that [`Argument`] has, `type` for a type that is left out, and for texts `lone surrogate`
+/// or `string too long` (above 4,096 characters).
+pub fn job_of(
+    alloc: Global,
+    view: &ClassView<'_>,
+    k: u32,
+    site: u32,
+    scripts: &Scripts,
+    leaves: &Leaves,
+) -> Result<Job, NoMemory>
+    requires { k < length view.now.sites }
+    ensures { IfOk result (λ made. job_of leaves.now scripts.now view.now k site ≡ Some made) }
+{
+    let from = Resolving {
+        view,
+        scripts,
+        leaves,
+    };
+    site_job(alloc, &from, site, &view.site(k))
+}

@@ -1,0 +1,98 @@
+ghost use Rattle.std.specs.Prelude.{◌≡◌, ◌<◌, [], ◌∷◌, ◌++◌, length, slice_get, Some, IfOk, OnOk};
+ghost use Rattle.mh_jobs.specs.Jobs.{with_class};
+
+use crate::Job;
+use crate::call::Resolving;
+use crate::job::site_job;
+use mh_base::{NoMemory, Seq};
+use mh_classfile::ClassView;
+use mh_leaves::Leaves;
+use mh_script::Scripts;
+use std::alloc::Global;
+use std::marker::Model;
+
+/// The jobs of a run's call sites, by their numbers from 0. Contracts see the list of them.
+#[derive(Drop)]
+pub struct Jobs {
+    jobs: Seq<Job>,
+}
+
+impl Model for Jobs {
+    ghost use Rattle.std.specs.Prelude.{List};
+    ghost use Rattle.mh_jobs.specs.declared.job.Job.{Job as OneJob};
+    ghost use Rattle.mh_jobs.specs.Jobs.{AreNumbered};
+
+    ghost Value = { List OneJob };
+
+    ghost view = { λ j. j.jobs };
+
+    ghost invariant = { λ j. AreNumbered j.jobs };
+}
+
+/// The number of a call site after so many others.
+fn next_number(count: usize) -> Result<u32, NoMemory>
+    ensures { IfOk result (λ number. number ≡ count) }
+{
+    u32::try_from(count).or(Err(NoMemory))
+}
+
+impl Jobs {
+    /// No jobs.
+    pub fn new(alloc: Global) -> Jobs
+        ensures { result ≡ [] }
+    {
+        Jobs {
+            jobs: Seq::new(alloc),
+        }
+    }
+
+    /// The number of jobs.
+    pub fn len(&self) -> usize
+        ensures { result ≡ length self.now }
+    {
+        self.jobs.len()
+    }
+
+    /// The job of the call site of a number.
+    pub fn get(&self, site: u32) -> &Job
+        requires { site < length self.now }
+        ensures job { slice_get self.now site ≡ Some result.now }
+        ensures site { result.now.site ≡ site }
+    {
+        self.jobs.get(site as usize)
+    }
+
+    /// Puts the job of the next call site after the others.
+    fn push(&mut self, job: Job) -> Result<(), NoMemory>
+        requires { job.site ≡ length self.old }
+        ensures { OnOk result (self.new ≡ self.old ++ job ∷ []) }
+    {
+        self.jobs.push(job)
+    }
+}
+
+/// These jobs and those of the call sites of one more class, numbered on. A call site that no `u32`
+/// can number is want of memory.
+#[tactic(auto, using(crate::proofs::Numbering::next_made, crate::proofs::Numbering::all_made))]
+pub fn push_jobs(
+    alloc: Global,
+    jobs: Jobs,
+    view: &ClassView<'_>,
+    scripts: &Scripts,
+    leaves: &Leaves,
+) -> Result<Jobs, NoMemory>
+    ensures { IfOk result (λ all. all ≡ with_class leaves.now scripts.now jobs view.now) }
+{
+    let from = Resolving {
+        view,
+        scripts,
+        leaves,
+    };
+    let mut all = jobs;
+    for k in 0..view.sites() {
+        let number = next_number(all.len())?;
+        let job = site_job(alloc, &from, number, &view.site(k))?;
+        all.push(job)?;
+    }
+    Ok(all)
+}

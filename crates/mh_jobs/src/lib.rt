@@ -1,0 +1,13 @@
+//! Jobs of call sites: which script links a site, and what the script is given.
+#![tactic(auto)]
+
+mod argument;
+mod call;
+mod error;
+mod job;
+mod jobs;
+mod names;
+mod thrown;
+
+pub use job::{Argument, BootstrapCall, Job, job_of};
+pub use jobs::{Jobs, push_jobs};
