@@ -72,10 +72,10 @@ fold-stands table h h' g a b place f u row part grows st sp =
     let within = gives_at-within g.ty.ret place h.ty.params q.0 in
     let taken = gives_at-taken g.ty.ret place h.ty.params q.0 in
     let rest = begins_with-rest (drop place params) g.ty.params q.1 in
-    let behind : HaveTypes table.classes (drop place args) (g.ty.params ++ rest.0) =
+    let after : HaveTypes table.classes (drop place args) (g.ty.params ++ rest.0) =
     subst (HaveTypes table.classes (drop place args)) rest.1 (types-drop table.classes args params place have') in
     let first = first-runs table h g a b part.0 st sp part.2 part.3 args n place count 0 low (types-front table.classes (drop place args) g.ty.params rest.0
-    behind)
+    after)
     (λ o given. types-splice table.classes args (option_to_list o) h.ty.params [] place (count_of g.ty.ret) within have'
     (subst (HaveTypes table.classes (option_to_list o)) (sym taken) given)) ∙ ap erased_ran (sym (means args n)) in
     let well : erased_ran (mean table t args n) ≢ Stuck = returns-runs table.classes (mean table t args n) u.ret (sound args n have) in

@@ -59,9 +59,9 @@ fold-room t place c gives begins =
     let rest = begins_with-rest (drop place (folded t place c)) c.params begins in
     let room = gives-room c.ret place t.params gives in
     let all : length (folded t place c) + count_of c.ret ≡ length t.params + 0 = length-spliced place (count_of c.ret) [] t.params room in
-    let behind : length (folded t place c) - place ≡ length c.params + length rest.0 = sym (length-drop place (folded t place c)) ∙
+    let after : length (folded t place c) - place ≡ length c.params + length rest.0 = sym (length-drop place (folded t place c)) ∙
     (ap length rest.1 ∙ length-append c.params rest.0) in
-    omega (arith, room, all, behind)
+    omega (arith, room, all, after)
 
 pub fold-fits :
     (t : MethodTy) (place : ℕ) (c : MethodTy) (body : FormBody) →

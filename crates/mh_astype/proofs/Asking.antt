@@ -9,6 +9,7 @@ use Rattle.mh_values.specs.Same.{is_same_method_type}
 use Rattle.mh_leaf.specs.LeafTable.{LeafTable}
 use Rattle.mh_tree.specs.Tree.{Tree}
 use Rattle.mh_tree.specs.Rows.{TypeOrRefusal, astype_row}
+use Rattle.mh_tree.specs.Use.{use_row, used_as}
 use Rattle.mh_tree.specs.declared.error.CheckError.{CheckError}
 use Rattle.mh_tree.specs.declared.error.CheckError.TheVariants as check
 use Rattle.mh_tree.proofs.RowParts.{astype_row-parts}
@@ -23,7 +24,7 @@ use Rattle.mh_handle.specs.declared.work.Work.{Work}
 use Rattle.mh_handle.specs.Recipe.{convert_keys}
 use Rattle.mh_handle.specs.Stands.{HandleView, Stands}
 use Rattle.mh_handle.specs.Works.{IsAccepted}
-use Rattle.mh_astype.specs.Use.{IsUse, MakesBy, use_keys, use_row, used_as}
+use Rattle.mh_astype.specs.Use.{IsUse, MakesBy, use_keys}
 use Rattle.mh_astype.proofs.Using.{trivial, used-kept, used-stands}
 
 pub differs : (b : Bool) (own own' asked : MethodTy) → b ≡ false → b ≡ is_same_method_type own asked → own ≡ own' → is_same_method_type own' asked ≡ false

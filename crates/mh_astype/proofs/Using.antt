@@ -9,6 +9,7 @@ use Rattle.mh_values.specs.Same.{is_same_method_type}
 use Rattle.mh_leaf.specs.LeafTable.{LeafTable}
 use Rattle.mh_tree.specs.Tree.{Tree, AsType}
 use Rattle.mh_tree.specs.Rows.{astype_row}
+use Rattle.mh_tree.specs.Use.{used_as}
 use Rattle.mh_form.specs.declared.field.Field.{Field}
 use Rattle.mh_edit.specs.declared.key.Key.{Key}
 use Rattle.mh_handle.specs.declared.error.HandleError.{HandleError}
@@ -22,7 +23,7 @@ use Rattle.mh_handle.specs.Stands.{HandleView, Stands}
 use Rattle.mh_handle.specs.Works.{GoesOn, Makes}
 use Rattle.mh_handle.proofs.AsTypeStands.{astype-stands}
 use Rattle.mh_handle.proofs.Passing.{starts-refl}
-use Rattle.mh_astype.specs.Use.{MakesBy, used_as}
+use Rattle.mh_astype.specs.Use.{MakesBy}
 pub use Rattle.mh_astype.proofs.ConvertKeys.{convert-fits, convert-shaped, convert_key, fields-kept, kept-shaped, keys-changed, keys-kept, light, trivial}
 
 -- ---- the handle

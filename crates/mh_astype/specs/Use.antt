@@ -1,10 +1,9 @@
 -- What a handle becomes that is used as a type, and what that leaves of a thread's work.
-use Rattle.std.specs.Prelude.{◌+◌, ◌≡◌, ℕ, List, [], ◌∷◌, ◌++◌, if◌then◌else◌, Result, Ok, Err}
+use Rattle.std.specs.Prelude.{◌≡◌, List, [], ◌∷◌, ◌++◌, if◌then◌else◌, Result, Err}
 use Rattle.mh_values.specs.declared.class.Class.{Class}
 use Rattle.mh_values.specs.declared.types.MethodTy.{MethodTy}
 use Rattle.mh_values.specs.Same.{is_same_method_type}
-use Rattle.mh_tree.specs.Tree.{Tree, AsType}
-use Rattle.mh_tree.specs.Rows.{TypeOrRefusal, astype_row}
+use Rattle.mh_tree.specs.Use.{use_weight}
 use Rattle.mh_form.specs.declared.field.Field.{Field}
 use Rattle.mh_edit.specs.declared.key.Key.{Key}
 use Rattle.mh_handle.specs.declared.error.HandleError.{HandleError}
@@ -16,21 +15,9 @@ use Rattle.mh_handle.specs.Recipe.{convert_keys}
 use Rattle.mh_handle.specs.Stands.{HandleView}
 use Rattle.mh_handle.specs.Works.{Makes}
 
--- a tree that is used as a type: itself, where it has that type
-abbrev pub used_as : MethodTy → MethodTy → Tree → Tree
-used_as own asked t = if is_same_method_type own asked then t else AsType t asked
-
--- the type of a handle that is used as a type, or the exception with which that is refused
-abbrev pub use_row : List Class → MethodTy → ℕ → MethodTy → TypeOrRefusal
-use_row classes own weight asked = if is_same_method_type own asked then Ok own else astype_row classes own weight asked
-
 -- the key of the conversions, none where nothing changes
 abbrev pub use_keys : List Class → MethodTy → MethodTy → List Key
 use_keys classes own asked = if is_same_method_type own asked then [] else convert_keys classes asked own
-
--- the weight of a tree that is used as a type: one more, where it has another type
-abbrev pub use_weight : MethodTy → ℕ → MethodTy → ℕ
-use_weight own weight asked = if is_same_method_type own asked then weight else 1 + weight
 
 -- the fields of the conversions, none where the handle has that type
 abbrev pub use_fields : List Class → MethodTy → MethodTy → List Field

@@ -3,11 +3,12 @@ ghost use Rattle.mh_values.specs.Same.{is_same_method_type};
 ghost use Rattle.mh_convert.specs.Conversion.{is_trivial_ret};
 ghost use Rattle.mh_tree.specs.Rows.{astype_row};
 ghost use Rattle.mh_tree.specs.Tree.{Tree};
+ghost use Rattle.mh_tree.specs.Use.{used_as, use_row};
 ghost use Rattle.mh_handle.specs.Converting.{IsUsedAs};
 ghost use Rattle.mh_handle.specs.Recipe.{are_trivial, convert_keys};
 ghost use Rattle.mh_handle.specs.Obeys.{Obeys};
 ghost use Rattle.mh_handle.specs.Works.{IsReady, GoesOn, IsAccepted, StandsIn, classes_of};
-ghost use Rattle.mh_astype.specs.Use.{IsUse, MakesBy, used_as, use_row, use_keys};
+ghost use Rattle.mh_astype.specs.Use.{IsUse, MakesBy, use_keys};
 
 use crate::conversions::{convert_fields, convert_key, is_trivial};
 use mh_base::{Seq, Shared};

@@ -79,10 +79,10 @@ gather-stands table h h' t array count c u are st row some grows =
     run_on table new (h.fields ++ field.Comp c ∷ []) (map erased args) n ≡ erased_ran (mean table gather args n) =
     λ args n have low.
     let have' : HaveTypes table.classes args params = subst (λ (m : MethodTy). HaveTypes table.classes args m.params) made have in
-    let behind : place ≤ length h.ty.params = omega arith in
+    let place-within : place ≤ length h.ty.params = omega arith in
     let vs = part_of place count args in
     let mine : HaveTypes table.classes vs items = subst (λ m. HaveTypes table.classes (part_of place m args) items) many
-    (types-part table.classes args h.ty.params items place 1 behind have') in
+    (types-part table.classes args h.ty.params items place 1 place-within have') in
     let slots = map erased args in
     let run : Slot → ℕ → Ran (Option Slot) = λ s k. run_on table old h.fields (spliced place count (s ∷ []) slots) k in
     let next : Value → Done = λ v. mean table t (spliced place count (v ∷ []) args) n in
@@ -93,7 +93,7 @@ gather-stands table h h' t array count c u are st row some grows =
       value-below table.classes are (ty.Array c) last.0 below v given,
       tt,
     ) in
-    let put = types-splice table.classes args (v ∷ []) h.ty.params items place 1 behind have' one in
+    let put = types-splice table.classes args (v ∷ []) h.ty.params items place 1 place-within have' one in
     let whole : HaveTypes table.classes (spliced place count (v ∷ []) args) h.ty.params =
     subst (λ m. HaveTypes table.classes (spliced place m (v ∷ []) args) h.ty.params) many put in
     ap (λ xs. run_on table old h.fields xs n) (sym (spliced-map erased place count (v ∷ []) args)) ∙ st.runs (spliced place count (v ∷ []) args) n whole low in

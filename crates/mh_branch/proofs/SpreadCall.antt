@@ -14,6 +14,7 @@ use Rattle.mh_leaf.specs.LeafTable.{LeafTable}
 use Rattle.mh_tree.specs.Rows.{TypeOrRefusal, component_of, ends_with, illegal, limited, provided, spread_row, taking}
 use Rattle.mh_tree.specs.Tree.{Tree}
 use Rattle.mh_tree.specs.Tree as tree
+use Rattle.mh_tree.specs.Use.{items_used_as, spread_use_row, taking_items, use_row, used_as}
 use Rattle.mh_tree.proofs.Provided.{provided-parts, provided_some-parts}
 use Rattle.mh_form.specs.declared.basic.Basic.{Basic}
 use Rattle.mh_form.specs.declared.field.Field.{Field}
@@ -32,10 +33,10 @@ use Rattle.mh_handle.specs.Stands.{HandleView, HasShape, IsShaped, Stands, handl
 use Rattle.mh_handle.specs.Works.{IsAccepted, Makes}
 use Rattle.mh_handle.proofs.Limits.{limited-low}
 use Rattle.mh_handle.proofs.Obeying.{grown-obeys}
-use Rattle.mh_astype.specs.Use.{IsUse, MakesBy, use_keys, use_row, used_as}
+use Rattle.mh_astype.specs.Use.{IsUse, MakesBy, use_keys}
 use Rattle.mh_branch.specs.declared.spreading.Spreading.{Spreading}
 use Rattle.mh_branch.specs.Growths.{spread_keys}
-use Rattle.mh_branch.specs.Spreading.{IsSpreading, MakesBoth, item_keys, items_used_as, spread_use_row, taking_items}
+use Rattle.mh_branch.specs.Spreading.{IsSpreading, MakesBoth, item_keys}
 use Rattle.mh_branch.proofs.ArrayFits.{spread-fits}
 use Rattle.mh_branch.proofs.ArrayShapes.{spread-shaped}
 use Rattle.mh_branch.proofs.SpreadRules.{keys-are, makes-second, spreading-row}

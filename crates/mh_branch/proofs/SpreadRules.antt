@@ -11,6 +11,7 @@ use Rattle.mh_tree.specs.declared.error.CheckError.{CheckError}
 use Rattle.mh_tree.specs.declared.error.CheckError.TheVariants as check
 use Rattle.mh_tree.specs.Rows.{TypeOrRefusal, component_of, illegal, provided, provided_some, spread_row}
 use Rattle.mh_tree.specs.Typing.{with_type}
+use Rattle.mh_tree.specs.Use.{spread_use_row, taking_items, use_row, use_weight}
 use Rattle.mh_edit.specs.declared.key.Key.{Key}
 use Rattle.mh_handle.specs.declared.error.HandleError.{HandleError}
 use Rattle.mh_handle.specs.declared.error.HandleError.TheVariants.{NoMemory, FormsFull, Refused}
@@ -21,9 +22,9 @@ use Rattle.mh_handle.specs.Obeys.{Obeys}
 use Rattle.mh_handle.specs.Passes.{Draws, DrawsAtMostOne, PassView}
 use Rattle.mh_handle.specs.Works.{GoesOn, IsAccepted, Makes}
 use Rattle.mh_handle.proofs.Passing.{starts-trans}
-use Rattle.mh_astype.specs.Use.{MakesBy, use_keys, use_row, use_weight}
+use Rattle.mh_astype.specs.Use.{MakesBy, use_keys}
 use Rattle.mh_branch.specs.declared.spreading.Spreading.{Spreading}
-use Rattle.mh_branch.specs.Spreading.{IsSpreading, MakesBoth, TellsSpreading, item_keys, spread_use_row, taking_items}
+use Rattle.mh_branch.specs.Spreading.{IsSpreading, MakesBoth, TellsSpreading, item_keys}
 
 module _ (classes : List Class) (t : MethodTy) (weight : ℕ) (array : Option Ty) (count : ℕ) where
   refusal : Exc

@@ -79,8 +79,8 @@ spread-stands table h h' t array count c u are st row some grows =
     run_on table new (h.fields ++ []) (map erased args) n ≡ erased_ran (mean table spread args n) =
     λ args n have low.
     let have' : HaveTypes table.classes args params = subst (λ (m : MethodTy). HaveTypes table.classes args m.params) made have in
-    let behind : place ≤ length h.ty.params = omega arith in
-    let v = types-get table.classes args params place (ty.Array c) have' (spliced_at h.ty.params place count (ty.Array c) behind) in
+    let place-within : place ≤ length h.ty.params = omega arith in
+    let v = types-get table.classes args params place (ty.Array c) have' (spliced_at h.ty.params place count (ty.Array c) place-within) in
     let many : length (drop place h.ty.params) ≡ count = omega (arith, length-drop place h.ty.params) in
     let few : length (drop place h.ty.params) ≤ count = omega (arith, many) in
     let taken : take count (drop place h.ty.params) ≡ drop place h.ty.params = take_all count (drop place h.ty.params) few in
@@ -91,7 +91,7 @@ spread-stands table h h' t array count c u are st row some grows =
     run (map erased items) k ≡ erased_ran (next items k) =
     λ items k given small.
     let whole : HaveTypes table.classes (spliced place 1 items args) h.ty.params =
-    types-splice table.classes args items h.ty.params (ty.Array c ∷ []) place count behind have' (subst (HaveTypes table.classes items) (sym taken) given) in
+    types-splice table.classes args items h.ty.params (ty.Array c ∷ []) place count place-within have' (subst (HaveTypes table.classes items) (sym taken) given) in
     ap (λ xs. run_on table old h.fields xs k) (sym (spliced-map erased place 1 items args)) ∙ st.runs (spliced place 1 items args) k whole small in
     let spreading : and_then (spread_slots count (erased v.0)) n run ≡ erased_ran (and_then (spread_values count v.0) n next) =
     ap (λ r. and_then r n run) (spread-erased table.classes c count v.0 v.2)

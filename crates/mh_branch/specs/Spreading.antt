@@ -1,14 +1,12 @@
 -- What a spread asks of the handle that it adapts: its items are passed as by a use of the handle as another type.
-use Rattle.std.specs.Prelude.{◌≡◌, ℕ, ◌-◌, nat_le, ◌⊎◌, List, [], ◌++◌, take, length, replicate, codes, true, Option, Some, Result, Ok, Err}
+use Rattle.std.specs.Prelude.{◌≡◌, ℕ, nat_le, ◌⊎◌, List, [], ◌++◌, length, true, Option, Some, Result, Ok, Err}
 use Rattle.std.specs.Option.{option_map_or}
 use Rattle.mh_values.specs.declared.class.Class.{Class}
 use Rattle.mh_values.specs.declared.types.Comp.{Comp}
 use Rattle.mh_values.specs.declared.types.Ty.{Ty}
 use Rattle.mh_values.specs.declared.types.MethodTy.{MethodTy}
-use Rattle.mh_values.specs.Array.{item_type}
-use Rattle.mh_tree.specs.Rows.{TypeOrRefusal, component_of, illegal, provided, provided_some, spread_row}
-use Rattle.mh_tree.specs.Tree.{Tree}
-use Rattle.mh_tree.specs.Typing.{with_type}
+use Rattle.mh_tree.specs.Rows.{component_of, spread_row}
+use Rattle.mh_tree.specs.Use.{use_row, use_weight, taking_items, spread_use_row}
 use Rattle.mh_tree.specs.declared.error.CheckError.{CheckError}
 use Rattle.mh_tree.specs.declared.error.CheckError.TheVariants as check
 use Rattle.mh_edit.specs.declared.key.Key.{Key}
@@ -18,23 +16,11 @@ use Rattle.mh_handle.specs.declared.handle.Handle.{Handle}
 use Rattle.mh_handle.specs.declared.work.Work.{Work}
 use Rattle.mh_handle.specs.Works.{Makes}
 use Rattle.mh_branch.specs.declared.spreading.Spreading.{Spreading}
-use Rattle.mh_astype.specs.Use.{MakesBy, use_keys, use_row, use_weight, used_as}
-
--- a type with items of an array for its last parameters, so many
-abbrev pub taking_items : MethodTy → Comp → ℕ → MethodTy
-taking_items t c count = record { params = take (length t.params - count) t.params ++ replicate count (item_type c); ret = t.ret }
+use Rattle.mh_astype.specs.Use.{MakesBy, use_keys}
 
 -- the keys that depend on the component of an array type, none where the type is no array
 abbrev pub at_component : Option Ty → (Comp → List Key) → List Key
 at_component array keys = option_map_or keys (component_of array) []
-
--- the rule of a spread: the type is an array's, and there are so many parameters; then the use as the type that takes the items; then Spread
-abbrev pub spread_use_row : List Class → MethodTy → ℕ → Option Ty → ℕ → TypeOrRefusal
-spread_use_row classes t weight array count =
-    provided_some (component_of array) (illegal (codes "spread")) (λ c.
-    provided (nat_le count (length t.params)) (illegal (codes "spread"))
-    (with_type (use_row classes t weight (taking_items t c count))
-    (λ asked. spread_row asked (use_weight t weight (taking_items t c count)) array count)))
 
 -- what a spread is found to be: the array's component, the type as which the handle is used, and the type of the new handle
 pub record IsSpreading (classes : List Class) (t : MethodTy) (weight : ℕ) (array : Option Ty) (count : ℕ) (s : Spreading) : Type 0 where
@@ -59,10 +45,6 @@ TellsUse classes t weight asked (Err check.NoMemory) = Unit {0}
 -- the keys of a spread of a handle of this type: those of its use as the type that takes the items, and then its own
 abbrev pub item_keys : List Class → MethodTy → Option Ty → ℕ → List Key
 item_keys classes t array count = at_component array (λ c. use_keys classes t (taking_items t c count))
-
--- a tree that is used as the type that takes the items of an array
-abbrev pub items_used_as : MethodTy → Option Ty → ℕ → Tree → Tree
-items_used_as own array count t = option_map_or (λ c. used_as own (taking_items own c count) t) (component_of array) t
 
 -- what is left of the work by two edits, one after the other, of which the first may be none: the first, or both
 abbrev pub MakesBoth : List Key → List Key → List Key → Work → Work → Result Handle HandleError → Type 0

@@ -1,10 +1,11 @@
 ghost use Rattle.std.specs.Prelude.{◌≡◌, ◌≤◌, length, IfOk};
 ghost use Rattle.mh_tree.specs.Tree.{Tree};
 ghost use Rattle.mh_tree.specs.Tree as tree;
+ghost use Rattle.mh_tree.specs.Use.{items_used_as, spread_use_row, taking_items};
 ghost use Rattle.mh_handle.specs.Obeys.{Obeys};
 ghost use Rattle.mh_handle.specs.Works.{IsReady, GoesOn, StandsIn, classes_of};
 ghost use Rattle.mh_branch.specs.Growths.{spread_keys};
-ghost use Rattle.mh_branch.specs.Spreading.{TellsUse, TellsSpreading, MakesBoth, item_keys, items_used_as, spread_use_row, taking_items};
+ghost use Rattle.mh_branch.specs.Spreading.{TellsUse, TellsSpreading, MakesBoth, item_keys};
 
 use mh_astype::as_type;
 use mh_base::{NoMemory, Seq};

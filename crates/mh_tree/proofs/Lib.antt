@@ -17,6 +17,7 @@ pub mod SoundSpread
 pub mod Soundness
 pub mod Trivial
 pub mod TypedLists
+pub mod Uses
 mod WorkedAdapters
 mod WorkedBranches
 mod WorkedWeights

@@ -4,3 +4,4 @@ pub mod Rows
 pub mod Sound
 pub mod Tree
 pub mod Typing
+pub mod Use

@@ -1,9 +1,9 @@
 use Rattle.std.proofs.Common.{◌≡◌, sym, subst, ◌∙◌, false, Ok}
 use Rattle.mh_values.specs.Same.{is_same_method_type}
 use Rattle.mh_tree.specs.Rows.{astype_row}
+use Rattle.mh_tree.specs.Use.{use_row}
 use Rattle.mh_handle.specs.Obeys.{Obeys}
 use Rattle.mh_handle.proofs.Obeying.{refused-obeys}
-use Rattle.mh_astype.specs.Use.{use_row}
 use Rattle.mh_astype.proofs.Asking.{asked-stands, differs, found-row, refused-makes, row-at, row-of-other, use-other, use-same, used-makes, used-obeys}
 use Rattle.mh_astype.proofs.Calling.{types-are}
 use Rattle.mh_astype.proofs.use_as.as_type.Goals as goal

@@ -4,7 +4,8 @@ use Rattle.mh_values.specs.declared.types.MethodTy.{MethodTy}
 use Rattle.mh_values.specs.Array.{item_type}
 use Rattle.mh_form.specs.Erasure.{basic_of}
 use Rattle.mh_edit.specs.declared.key.Key.TheVariants as key
-use Rattle.mh_astype.specs.Use.{use_keys, use_row}
+use Rattle.mh_tree.specs.Use.{use_row}
+use Rattle.mh_astype.specs.Use.{use_keys}
 use Rattle.mh_branch.specs.Spreading.{IsSpreading, item_keys}
 use Rattle.mh_branch.proofs.SpreadCall.{call-fits, call-light, call-makes, call-obeys, call-shaped, call-sides, call-stands}
 use Rattle.mh_branch.proofs.SpreadRules.{keys-are, makes-first, room-left, spreading-row, used-error}
