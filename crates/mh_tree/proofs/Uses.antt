@@ -1,5 +1,5 @@
 -- A tree that is used as a type, and a spread of one, have the types and the weights that the rules of their uses say.
-use Rattle.std.proofs.Common.{◌≡◌, refl, sym, ap, ◌∙◌, Bool, true, false, cond, ℕ, ◌+◌, length, Option, Some, None, Ok, nat_le, codes}
+use Rattle.std.proofs.Common.{◌≡◌, refl, sym, ap, ◌∙◌, Bool, true, false, cond, ℕ, ◌+◌, length, Option, Some, Ok, nat_le, codes}
 use Rattle.std.specs.Option.{option_map_or}
 use Rattle.mh_values.specs.declared.types.Comp.{Comp}
 use Rattle.mh_values.specs.declared.types.Ty.{Ty}
