@@ -1,5 +1,5 @@
 -- Lists of different lengths do not agree place by place.
-use Rattle.std.proofs.Common.{◌≡◌, refl, ap, ◌∙◌, suc, Bool, true, false, ◌&&◌, ℕ, List, [], ◌∷◌, length, Some}
+use Rattle.std.proofs.Common.{◌≡◌, refl, ap, ◌∙◌, suc, false, ◌&&◌, ℕ, List, [], ◌∷◌, length, Some}
 use Rattle.std.specs.Prelude.{slice_get}
 use Rattle.std.proofs.lemmas.Bool.{and_right}
 use Rattle.mh_values.specs.declared.class.Class.{Class}

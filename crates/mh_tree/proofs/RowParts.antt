@@ -1,7 +1,7 @@
 -- What a row tells that gives a type: its conditions hold, and the type is the one that it makes.
-use Rattle.std.proofs.Common.{◌≡◌, Bool, true, ◌&&◌, ◌==◌, ℕ, ◌+◌, ◌-◌, List, [], ◌∷◌, length, drop, replicate, Option, Some, is_some, Ok, nat_le, nat_lt, codes}
-use Rattle.std.specs.Prelude.{slice_get, option_to_list}
-use Rattle.std.proofs.lemmas.Bool.{eqb-true, and_parts}
+use Rattle.std.proofs.Common.{◌≡◌, Bool, true, ◌&&◌, ℕ, ◌+◌, ◌-◌, List, [], ◌∷◌, length, replicate, Option, Some, is_some, Ok, nat_lt, codes}
+use Rattle.std.specs.Prelude.{slice_get}
+use Rattle.std.proofs.lemmas.Bool.{and_parts}
 use Rattle.mh_values.specs.declared.class.Class.{Class}
 use Rattle.mh_values.specs.declared.class.ClassId.{ClassId}
 use Rattle.mh_values.specs.declared.types.Comp.{Comp}
@@ -12,11 +12,11 @@ use Rattle.mh_values.specs.declared.value.Value.{Value}
 use Rattle.mh_values.specs.Array.{item_type}
 use Rattle.mh_values.specs.Class.{is_subclass, throwable_class}
 use Rattle.mh_values.specs.Computation.{spliced}
-use Rattle.mh_values.specs.Same.{is_same_return, are_same_types, begins_with_types, is_same_method_type}
+use Rattle.mh_values.specs.Same.{is_same_return, begins_with_types, is_same_method_type}
 use Rattle.mh_values.proofs.SameTypes.{method_type}
 use Rattle.mh_convert.specs.Conversion.{fit, ret_conversion_of}
 use Rattle.mh_leaf.specs.Outcome.{boolean_type}
-use Rattle.mh_tree.specs.Rows.{TypeOrRefusal, illegal, provided, provided_fit, limited, taking, count_of, gives_at, component_of, takes_array, names_types, folded, ends_with, can_all, can_be_used_as, mismatch, takes_exception, handles, constant_row, identity_row, throw_row, bind_row, drop_row, permute_row, filter_row, filterret_row, fold_row, collect_row, spread_row, gather_row, astype_row, guard_row, catch_row}
+use Rattle.mh_tree.specs.Rows.{TypeOrRefusal, illegal, provided, provided_fit, limited, taking, component_of, takes_array, ends_with, can_all, can_be_used_as, mismatch, takes_exception, handles, constant_row, identity_row, throw_row, spread_row, gather_row, astype_row, guard_row, catch_row}
 pub use Rattle.mh_tree.proofs.Provided.{with_type-parts, provided-parts, provided_some-parts, provided_fit-parts, limited-is}
 pub use Rattle.mh_tree.proofs.RowPartsAdapters.{
   bind_row-parts,

@@ -1,22 +1,16 @@
 -- What the rows of adapters tell that give a type: their conditions hold, and the type is the one that they make.
-use Rattle.std.proofs.Common.{◌≡◌, Bool, true, ◌&&◌, ◌==◌, ℕ, ◌+◌, ◌-◌, List, [], ◌∷◌, length, drop, replicate, Option, Some, is_some, Ok, nat_le, nat_lt, codes}
+use Rattle.std.proofs.Common.{◌≡◌, true, ◌&&◌, ◌==◌, ℕ, ◌+◌, List, [], length, drop, Some, is_some, Ok, nat_le, codes}
 use Rattle.std.specs.Prelude.{slice_get, option_to_list}
 use Rattle.std.proofs.lemmas.Bool.{eqb-true, and_parts}
 use Rattle.mh_values.specs.declared.class.Class.{Class}
-use Rattle.mh_values.specs.declared.class.ClassId.{ClassId}
-use Rattle.mh_values.specs.declared.types.Comp.{Comp}
 use Rattle.mh_values.specs.declared.types.Ty.{Ty}
-use Rattle.mh_values.specs.declared.types.Ty.TheVariants as ty
 use Rattle.mh_values.specs.declared.types.MethodTy.{MethodTy}
 use Rattle.mh_values.specs.declared.value.Value.{Value}
-use Rattle.mh_values.specs.Array.{item_type}
-use Rattle.mh_values.specs.Class.{is_subclass, throwable_class}
 use Rattle.mh_values.specs.Computation.{spliced}
-use Rattle.mh_values.specs.Same.{is_same_return, are_same_types, begins_with_types, is_same_method_type}
+use Rattle.mh_values.specs.Same.{is_same_return, are_same_types, begins_with_types}
 use Rattle.mh_values.proofs.SameTypes.{method_type}
-use Rattle.mh_convert.specs.Conversion.{fit, ret_conversion_of}
-use Rattle.mh_leaf.specs.Outcome.{boolean_type}
-use Rattle.mh_tree.specs.Rows.{TypeOrRefusal, illegal, provided, provided_fit, limited, taking, count_of, gives_at, component_of, takes_array, names_types, folded, ends_with, can_all, can_be_used_as, mismatch, takes_exception, handles, constant_row, identity_row, throw_row, bind_row, drop_row, permute_row, filter_row, filterret_row, fold_row, collect_row, spread_row, gather_row, astype_row, guard_row, catch_row}
+use Rattle.mh_convert.specs.Conversion.{fit}
+use Rattle.mh_tree.specs.Rows.{illegal, provided_fit, limited, taking, count_of, gives_at, names_types, folded, bind_row, drop_row, permute_row, filter_row, filterret_row, fold_row, collect_row}
 use Rattle.mh_tree.proofs.Provided.{provided-parts, provided_some-parts, provided_fit-parts, limited-is}
 
 pub bind_row-parts : (classes : List Class) (t : MethodTy) (weight place : ℕ) (v : Value) (u : MethodTy) → bind_row classes t weight place v ≡ Ok u →
