@@ -6,6 +6,7 @@ mod FilterReturnStands
 mod FilterStands
 mod FoldStands
 mod InsertingFits
+mod NodeRecipes
 mod PartAnswers
 mod PartFits
 mod PartRuns

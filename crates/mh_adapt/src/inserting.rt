@@ -1,13 +1,13 @@
-ghost use Rattle.std.specs.Prelude.{◌≡◌, ◌++◌, ◌∷◌, [], IfOk, Ok, map};
+ghost use Rattle.std.specs.Prelude.{◌≡◌, IfOk, Ok, map};
 ghost use Rattle.mh_convert.specs.Conversion.{fit};
 ghost use Rattle.mh_form.specs.Erasure.{basic_of};
 ghost use Rattle.mh_tree.specs.Rows.{bind_row, drop_row, permute_row};
 ghost use Rattle.mh_tree.specs.Tree.{Tree};
 ghost use Rattle.mh_tree.specs.Tree as tree;
-ghost use Rattle.mh_edit.specs.declared.key.Key.TheVariants as key;
 ghost use Rattle.mh_handle.specs.Grows.{GainsNode};
 ghost use Rattle.mh_handle.specs.Obeys.{Obeys};
-ghost use Rattle.mh_handle.specs.Works.{IsReady, GoesOn, Makes, StandsIn, classes_of};
+ghost use Rattle.mh_handle.specs.Recipe.{recipe};
+ghost use Rattle.mh_handle.specs.Works.{IsReady, GoesOn, Makes, StandsIn, classes_of, leaves_of};
 
 use crate::types::{bind_type, drop_type, permute_type};
 use mh_base::{Copied, NoMemory, Seq};
@@ -62,7 +62,8 @@ pub fn bind<'t, R: Wait>(
     ensures goes_on { GoesOn w.old w.new }
     ensures obeys { Obeys (bind_row (classes_of w.old)
         target.entry.ty target.entry.weight position value) result }
-    ensures makes { Makes (target.entry.form.recipe ++ key.Bind position ∷ []) w.old w.new result }
+    ensures makes { (a : Tree) → StandsIn w.old target.entry a
+        → Makes (recipe (leaves_of w.old) (tree.Bind a position value)) w.old w.new result }
     ensures gains { IfOk result (GainsNode target.entry) }
     ensures stands { (a : Tree) → StandsIn w.old target.entry a
         → IfOk result (λ h. StandsIn w.old h (tree.Bind a position value)) }
@@ -96,8 +97,9 @@ pub fn drop_args<'t, R: Wait>(
     ensures goes_on { GoesOn w.old w.new }
     ensures obeys { Obeys
         (drop_row target.entry.ty target.entry.weight position value_types.now) result }
-    ensures makes { Makes (target.entry.form.recipe
-        ++ key.Add position (map basic_of value_types.now) ∷ []) w.old w.new result }
+    ensures makes { (a : Tree) → StandsIn w.old target.entry a
+        → Makes (recipe (leaves_of w.old) (tree.Drop a position value_types.now)) w.old w.new
+        result }
     ensures gains { IfOk result (GainsNode target.entry) }
     ensures stands { (a : Tree) → StandsIn w.old target.entry a
         → IfOk result (λ h. StandsIn w.old h (tree.Drop a position value_types.now)) }
@@ -131,8 +133,8 @@ pub fn permute<'t, R: Wait>(
     ensures goes_on { GoesOn w.old w.new }
     ensures obeys { Obeys
         (permute_row target.entry.ty target.entry.weight ty.now reorder.now) result }
-    ensures makes { Makes (target.entry.form.recipe ++ key.Permute
-        (map basic_of ty.now.params) reorder.now ∷ []) w.old w.new result }
+    ensures makes { (a : Tree) → StandsIn w.old target.entry a
+        → Makes (recipe (leaves_of w.old) (tree.Permute a ty.now reorder.now)) w.old w.new result }
     ensures gains { IfOk result (GainsNode target.entry) }
     ensures stands { (a : Tree) → StandsIn w.old target.entry a
         → IfOk result (λ h. StandsIn w.old h (tree.Permute a ty.now reorder.now)) }

@@ -1,11 +1,11 @@
-ghost use Rattle.std.specs.Prelude.{◌++◌, ◌∷◌, [], IfOk};
+ghost use Rattle.std.specs.Prelude.{IfOk};
 ghost use Rattle.mh_tree.specs.Rows.{collect_row, filter_row, filterret_row, fold_row};
 ghost use Rattle.mh_tree.specs.Tree.{Tree};
 ghost use Rattle.mh_tree.specs.Tree as tree;
 ghost use Rattle.mh_handle.specs.Grows.{GainsPart};
 ghost use Rattle.mh_handle.specs.Obeys.{Obeys};
-ghost use Rattle.mh_handle.specs.Works.{IsReady, GoesOn, Makes, StandsIn};
-ghost use Rattle.mh_adapt.specs.Parts.{collect_key, fold_key, filterret_key};
+ghost use Rattle.mh_handle.specs.Recipe.{recipe};
+ghost use Rattle.mh_handle.specs.Works.{IsReady, GoesOn, Makes, StandsIn, leaves_of};
 
 use crate::growths::{collecting, filtering, folding};
 use crate::types::{collect_type, filter_type, filterret_type, fold_type};
@@ -26,8 +26,9 @@ pub fn filter<'t, R: Wait>(
     ensures goes_on { GoesOn w.old w.new }
     ensures obeys { Obeys (filter_row target.entry.ty target.entry.weight position
         filter.entry.ty filter.entry.weight) result }
-    ensures makes { Makes (target.entry.form.recipe ++ collect_key position filter.entry.ty ∷ [])
-        w.old w.new result }
+    ensures makes { (a b : Tree) → StandsIn w.old target.entry a
+        → StandsIn w.old filter.entry b
+        → Makes (recipe (leaves_of w.old) (tree.FilterArg a position b)) w.old w.new result }
     ensures gains { IfOk result (GainsPart filter.entry target.entry) }
     ensures stands { (a b : Tree) → StandsIn w.old target.entry a
         → StandsIn w.old filter.entry b
@@ -51,8 +52,9 @@ pub fn filterret<'t, R: Wait>(
     ensures goes_on { GoesOn w.old w.new }
     ensures obeys { Obeys (filterret_row target.entry.ty target.entry.weight
         filter.entry.ty filter.entry.weight) result }
-    ensures makes { Makes (target.entry.form.recipe ++ filterret_key filter.entry.ty ∷ [])
-        w.old w.new result }
+    ensures makes { (a b : Tree) → StandsIn w.old target.entry a
+        → StandsIn w.old filter.entry b
+        → Makes (recipe (leaves_of w.old) (tree.FilterRet a b)) w.old w.new result }
     ensures gains { IfOk result (GainsPart filter.entry target.entry) }
     ensures stands { (a b : Tree) → StandsIn w.old target.entry a
         → StandsIn w.old filter.entry b
@@ -78,8 +80,9 @@ pub fn fold<'t, R: Wait>(
     ensures goes_on { GoesOn w.old w.new }
     ensures obeys { Obeys (fold_row target.entry.ty target.entry.weight position
         combiner.entry.ty combiner.entry.weight) result }
-    ensures makes { Makes (target.entry.form.recipe ++ fold_key position combiner.entry.ty ∷ [])
-        w.old w.new result }
+    ensures makes { (a b : Tree) → StandsIn w.old target.entry a
+        → StandsIn w.old combiner.entry b
+        → Makes (recipe (leaves_of w.old) (tree.Fold a position b)) w.old w.new result }
     ensures gains { IfOk result (GainsPart combiner.entry target.entry) }
     ensures stands { (a b : Tree) → StandsIn w.old target.entry a
         → StandsIn w.old combiner.entry b
@@ -105,8 +108,9 @@ pub fn collect<'t, R: Wait>(
     ensures goes_on { GoesOn w.old w.new }
     ensures obeys { Obeys (collect_row target.entry.ty target.entry.weight position
         filter.entry.ty filter.entry.weight) result }
-    ensures makes { Makes (target.entry.form.recipe ++ collect_key position filter.entry.ty ∷ [])
-        w.old w.new result }
+    ensures makes { (a b : Tree) → StandsIn w.old target.entry a
+        → StandsIn w.old filter.entry b
+        → Makes (recipe (leaves_of w.old) (tree.Collect a position b)) w.old w.new result }
     ensures gains { IfOk result (GainsPart filter.entry target.entry) }
     ensures stands { (a b : Tree) → StandsIn w.old target.entry a
         → StandsIn w.old filter.entry b

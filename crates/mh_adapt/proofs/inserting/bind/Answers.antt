@@ -11,6 +11,7 @@ use Rattle.mh_handle.proofs.Gaining.{grown-gains}
 use Rattle.mh_adapt.proofs.Answered.{grows-as, if-ok}
 use Rattle.mh_adapt.proofs.BindStands.{bind-stands}
 use Rattle.mh_adapt.proofs.InsertingFits.{bind-fits, bind-fitting, bind-shaped}
+use Rattle.mh_adapt.proofs.NodeRecipes.{makes-node}
 use Rattle.mh_adapt.proofs.inserting.bind.Goals as goal
 
 pub fitted-requires : goal.fitted-requires
@@ -28,6 +29,11 @@ grown-requires-clause-fits g c =
 pub grown-requires-clause-shaped : goal.grown-requires-clause-shaped
 grown-requires-clause-shaped g c =
     bind-shaped c.args.w.now.leaves.now.classes c.args.target c.args.position c.args.value c.in_ok-own.own c.in_ok-own.ensures.tells c.in_ok-own.ensures.shaped
+
+pub returns-clause-makes : goal.returns-clause-makes
+returns-clause-makes g c a st =
+    let own = key.Bind c.args.position in
+    makes-node c.args.w.now.leaves.now c.args.target a st c.args.w.now c.grown.new.w c.grown.result own own refl c.grown.ensures.makes
 
 pub returns-clause-gains : goal.returns-clause-gains
 returns-clause-gains g c = grown-gains c.args.target c.in_ok-own.own c.weight.result c.new.result (key.Bind c.args.position) c.in_ok-fields.fields.items

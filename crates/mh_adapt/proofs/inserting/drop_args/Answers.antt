@@ -10,12 +10,18 @@ use Rattle.mh_handle.proofs.Gaining.{grown-gains}
 use Rattle.mh_adapt.proofs.Answered.{grows-as, if-ok}
 use Rattle.mh_adapt.proofs.DropStands.{drop-stands}
 use Rattle.mh_adapt.proofs.InsertingFits.{drop-fits, drop-shaped}
+use Rattle.mh_adapt.proofs.NodeRecipes.{makes-node}
 use Rattle.mh_adapt.proofs.inserting.drop_args.Goals as goal
 
 pub grown-requires-clause-shaped : goal.grown-requires-clause-shaped
 grown-requires-clause-shaped g c =
     subst (λ bs. HasShape (applied (key.Add c.args.position bs) (handle_body c.args.target)) c.in_ok-own.own) (sym c.in_ok-basics.ensures)
     (drop-shaped c.args.target c.args.position c.args.value_types.now c.in_ok-own.own c.in_ok-own.ensures.tells c.in_ok-own.ensures.shaped)
+
+pub returns-clause-makes : goal.returns-clause-makes
+returns-clause-makes g c a st =
+    makes-node c.args.w.now.leaves.now c.args.target a st c.args.w.now c.grown.new.w c.grown.result (key.Add c.args.position c.in_ok-basics.basics)
+    (key.Add c.args.position (map basic_of c.args.value_types.now)) (ap (key.Add c.args.position) c.in_ok-basics.ensures) c.grown.ensures.makes
 
 pub returns-clause-gains : goal.returns-clause-gains
 returns-clause-gains g c = grown-gains c.args.target c.in_ok-own.own c.weight.result c.new.result (key.Add c.args.position c.in_ok-basics.basics)

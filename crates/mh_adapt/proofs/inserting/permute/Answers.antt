@@ -11,6 +11,7 @@ use Rattle.mh_handle.proofs.Gaining.{grown-gains}
 use Rattle.mh_adapt.proofs.Answered.{grows-as, if-ok}
 use Rattle.mh_adapt.proofs.PermuteStands.{permute-stands}
 use Rattle.mh_adapt.proofs.InsertingFits.{permute-fits}
+use Rattle.mh_adapt.proofs.NodeRecipes.{makes-node}
 use Rattle.mh_adapt.proofs.inserting.permute.Goals as goal
 
 pub grown-requires-clause-fits : goal.grown-requires-clause-fits
@@ -19,6 +20,12 @@ grown-requires-clause-fits g c =
     ap₂ (λ (bs : List Basic) (r : List ℕ). key.Permute bs r) c.in_ok-basics.ensures c.in_ok-reorder.ensures in
     subst (λ k. IsTrue (fits k (handle_body c.args.target))) (sym is)
     (permute-fits c.args.target c.args.ty.now c.args.reorder.now c.in_ok-own.own c.in_ok-own.ensures.tells c.in_ok-own.ensures.shaped)
+
+pub returns-clause-makes : goal.returns-clause-makes
+returns-clause-makes g c a st =
+    makes-node c.args.w.now.leaves.now c.args.target a st c.args.w.now c.grown.new.w c.grown.result
+    (key.Permute c.in_ok-basics.basics c.in_ok-reorder.reorder) (key.Permute (map basic_of c.args.ty.now.params) c.args.reorder.now)
+    (ap₂ (λ (bs : List Basic) (r : List ℕ). key.Permute bs r) c.in_ok-basics.ensures c.in_ok-reorder.ensures) c.grown.ensures.makes
 
 pub returns-clause-gains : goal.returns-clause-gains
 returns-clause-gains g c = grown-gains c.args.target c.in_ok-own.own c.weight.result c.new.result (key.Permute c.in_ok-basics.basics c.in_ok-reorder.reorder)

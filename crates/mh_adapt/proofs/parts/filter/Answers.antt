@@ -1,6 +1,7 @@
 use Rattle.mh_tree.specs.Tree as tree
 use Rattle.mh_adapt.specs.Parts.{collect_key}
 use Rattle.mh_adapt.proofs.FilterStands.{filter-stands}
+use Rattle.mh_adapt.proofs.NodeRecipes.{makes-parted}
 use Rattle.mh_adapt.proofs.PartAnswers.{adds-fits, adds-gains, adds-shaped, adds-stands}
 use Rattle.mh_adapt.proofs.PartSuits.{filter-suited}
 use Rattle.mh_adapt.proofs.parts.filter.Goals as goal
@@ -14,6 +15,11 @@ pub grown-requires-clause-shaped : goal.grown-requires-clause-shaped
 grown-requires-clause-shaped g c =
     adds-shaped c.in_ok-own.own c.args.target (collect_key c.args.position c.args.filter.ty) c.args.filter c.in_ok-by.by c.in_ok-by.ensures
     (filter-suited c.args.target c.args.filter c.in_ok-own.ensures.shaped c.args.position c.in_ok-own.own c.in_ok-own.ensures.tells)
+
+pub returns-clause-makes : goal.returns-clause-makes
+returns-clause-makes g c a b st sp =
+    makes-parted c.args.w.now.leaves.now c.args.target a st c.args.w.now c.grown.new.w c.grown.result c.args.filter b (collect_key c.args.position) c.in_ok-by.by.key sp
+    c.in_ok-by.ensures.key c.grown.ensures.makes
 
 pub returns-clause-gains : goal.returns-clause-gains
 returns-clause-gains g c = adds-gains c.in_ok-own.own c.args.target (collect_key c.args.position c.args.filter.ty) c.args.filter c.in_ok-by.by
