@@ -1,31 +1,26 @@
 -- A call that uses a handle as a type: what its check tells, and what it leaves.
-use Rattle.std.proofs.Common.{◌≡◌, refl, sym, ap, ap₂, ◌∙◌, subst, ℕ, ◌+◌, Bool, true, false, cond, List, [], ◌∷◌, ◌++◌, Result, Ok, Err, IfOk, inl}
-use Rattle.std.specs.Prelude.{IsErrAnd}
+use Rattle.std.proofs.Common.{◌≡◌, refl, sym, ap, ap₂, ◌∙◌, subst, ℕ, ◌+◌, Bool, true, false, cond, List, [], ◌++◌, Result, Ok, Err, IfOk}
 use Rattle.std.proofs.lemmas.List.{append-nil}
 use Rattle.mh_values.specs.declared.class.Class.{Class}
 use Rattle.mh_values.specs.declared.types.MethodTy.{MethodTy}
 use Rattle.mh_values.specs.Classes.{AreClasses}
 use Rattle.mh_values.specs.Same.{is_same_method_type}
 use Rattle.mh_leaf.specs.LeafTable.{LeafTable}
-use Rattle.mh_tree.specs.Tree.{Tree}
+use Rattle.mh_tree.specs.Tree.{Tree, AsType}
 use Rattle.mh_tree.specs.Rows.{TypeOrRefusal, astype_row}
 use Rattle.mh_tree.specs.Use.{use_row, used_as}
-use Rattle.mh_tree.specs.declared.error.CheckError.{CheckError}
-use Rattle.mh_tree.specs.declared.error.CheckError.TheVariants as check
 use Rattle.mh_tree.proofs.RowParts.{astype_row-parts}
-use Rattle.mh_edit.specs.declared.key.Key.{Key}
 use Rattle.mh_handle.specs.declared.error.HandleError.{HandleError}
 use Rattle.mh_handle.specs.declared.error.HandleError.TheVariants.{NoMemory, FormsFull, Refused}
 use Rattle.mh_handle.specs.declared.handle.Handle.{Handle}
 use Rattle.mh_handle.specs.Converting.{IsUsedAs, convert_fields}
-use Rattle.mh_handle.specs.Errors.{of_check}
 use Rattle.mh_handle.specs.Obeys.{Obeys}
 use Rattle.mh_handle.specs.declared.work.Work.{Work}
-use Rattle.mh_handle.specs.Recipe.{convert_keys}
+use Rattle.mh_handle.specs.Recipe.{at_type, convert_keys, recipe}
 use Rattle.mh_handle.specs.Stands.{HandleView, Stands}
 use Rattle.mh_handle.specs.Works.{IsAccepted}
-use Rattle.mh_astype.specs.Use.{IsUse, MakesBy, use_keys}
-use Rattle.mh_astype.proofs.Using.{trivial, used-kept, used-stands}
+use Rattle.mh_astype.specs.Use.{IsUse, MakesFrom}
+use Rattle.mh_astype.proofs.Using.{used-stands}
 
 pub differs : (b : Bool) (own own' asked : MethodTy) → b ≡ false → b ≡ is_same_method_type own asked → own ≡ own' → is_same_method_type own' asked ≡ false
 differs b own own' asked unlike is e = sym (ap (λ o. is_same_method_type o asked) e) ∙ (sym is ∙ unlike)
@@ -74,22 +69,33 @@ use-other classes own asked u h (Ok new) other row used = record {
 }
 use-other classes own asked u h (Err e) other row used = used
 
-pub refused-makes : (recipe keys : List Key) (w : Work) (e : CheckError) (r : Result Handle HandleError) → IsErrAnd r (λ x. x ≡ of_check e) →
-    MakesBy recipe keys w w r
-refused-makes recipe keys w e (Ok h) is = absurd is
-refused-makes recipe [] w check.NoMemory (Err x) is = subst (λ v. MakesBy recipe [] w w (Err v)) (sym is) refl
-refused-makes recipe [] w (check.Refused e) (Err x) is = subst (λ v. MakesBy recipe [] w w (Err v)) (sym is) refl
-refused-makes recipe (k ∷ keys) w check.NoMemory (Err x) is = subst (λ v. MakesBy recipe (k ∷ keys) w w (Err v)) (sym is) (refl, inl refl)
-refused-makes recipe (k ∷ keys) w (check.Refused e) (Err x) is = subst (λ v. MakesBy recipe (k ∷ keys) w w (Err v)) (sym is) refl
+module _ (table : LeafTable) (asked : MethodTy) (h : HandleView) (t : Tree) (st : Stands table h t) where
+  -- the recipe of the handle's tree, used as the type that it has
+  pub same-recipe : is_same_method_type h.ty asked ≡ true → recipe table (used_as h.ty asked t) ≡ recipe table t
+  same-recipe same = ap (λ b. recipe table (cond b t (AsType t asked))) same
 
-pub used-makes :
-    (classes : List Class) (own : MethodTy) (w : ℕ) (asked u : MethodTy) (recipe : List Key) (old new : Work) (r : Result Handle HandleError) →
-    is_same_method_type own asked ≡ false → astype_row classes own w asked ≡ Ok u → MakesBy recipe (convert_keys classes u own) old new r →
-    MakesBy recipe (use_keys classes own asked) old new r
-used-makes classes own w asked u recipe old new r other row m =
-    let keys : convert_keys classes u own ≡ use_keys classes own asked =
-    ap (λ a. convert_keys classes a own) (astype_row-parts classes own w asked u row).2 ∙ sym (ap (λ b. cond b [] (convert_keys classes asked own)) other) in
-    let P : List Key → Type 0 = λ ks. MakesBy recipe ks old new r in subst P keys m
+  other-recipe : is_same_method_type h.ty asked ≡ false → recipe table (used_as h.ty asked t) ≡ h.form.recipe ++ convert_keys table.classes asked h.ty
+  other-recipe other =
+      ap (λ b. recipe table (cond b t (AsType t asked))) other
+      ∙ (λ i. sym st.made i ++ at_type (st.typed i) (convert_keys table.classes asked))
+
+  -- what is left of the work, said of the trees
+  pub trees-make :
+      (old new : Work) (r : Result Handle HandleError) → is_same_method_type h.ty asked ≡ false →
+      MakesFrom h.form.recipe (h.form.recipe ++ convert_keys table.classes asked h.ty) old new r →
+      MakesFrom (recipe table t) (recipe table (used_as h.ty asked t)) old new r
+  trees-make old new r other makes =
+      subst (λ ks. MakesFrom (recipe table t) ks old new r) (sym (other-recipe other))
+      (subst (λ ks. MakesFrom ks (h.form.recipe ++ convert_keys table.classes asked h.ty) old new r) st.made makes)
+
+  pub used-makes :
+      (u : MethodTy) (old new : Work) (r : Result Handle HandleError) → is_same_method_type h.ty asked ≡ false →
+      astype_row table.classes h.ty h.weight asked ≡ Ok u →
+      MakesFrom h.form.recipe (h.form.recipe ++ convert_keys table.classes u h.ty) old new r →
+      MakesFrom (recipe table t) (recipe table (used_as h.ty asked t)) old new r
+  used-makes u old new r other row makes =
+      let asks : MethodTy → Type 0 = λ a. MakesFrom h.form.recipe (h.form.recipe ++ convert_keys table.classes a h.ty) old new r in
+      trees-make old new r other (subst asks (astype_row-parts table.classes h.ty h.weight asked u row).2 makes)
 
 pub asked-stands :
     (table : LeafTable) (asked u : MethodTy) (old : HandleView) (t : Tree) (r : Result Handle HandleError) →
@@ -98,13 +104,3 @@ pub asked-stands :
 asked-stands table asked u old t r are other row st used =
     let P : MethodTy → Type 0 = λ a. IfOk r (IsUsedAs table.classes a old) in
     used-stands table asked u old t r are other row st (subst P (astype_row-parts table.classes old.ty old.weight asked u row).2 used)
-
-pub used-retyped :
-    (cs classes : List Class) (own : MethodTy) (w : ℕ) (asked : MethodTy) (old new : HandleView) (b : Bool) →
-    b ≡ true → b ≡ trivial cs asked own → cs ≡ classes → own ≡ old.ty → w ≡ old.weight → new ≡ record old { ty = asked; weight = 1 + w } →
-    IsUsedAs classes asked old new
-used-retyped cs classes own w asked old new b true-is is c o weight made =
-    let kept : trivial classes asked old.ty ≡ true = sym (ap₂ (λ (d : List Class) (t : MethodTy). trivial d asked t) c o) ∙ (sym is ∙ true-is) in
-    let P : HandleView → Type 0 = λ h. IsUsedAs classes asked old h in
-    let view : ℕ → HandleView = λ n. record old { ty = asked; weight = 1 + n } in
-    subst P (sym (made ∙ ap view weight)) (used-kept classes asked old kept)

@@ -1,5 +1,5 @@
 -- What a generic call leaves of the work, by what its edit leaves of the pass.
-use Rattle.std.proofs.Common.{◌≡◌, refl, sym, subst, ap, false, List, [], ◌∷◌, ◌++◌, Result, Ok, Err, inl, inr}
+use Rattle.std.proofs.Common.{◌≡◌, refl, sym, subst, ap, false, List, [], ◌∷◌, ◌++◌, Result, Ok, Err, inl, inr, ⊎_elim}
 use Rattle.std.specs.Prelude.{IsErrAnd}
 use denote.Ref.{Bor}
 use Rattle.mh_values.specs.declared.class.Class.{Class}
@@ -24,20 +24,21 @@ module _ (classes : List Class) (asked own : MethodTy) (recipe : List Key) (key 
 
   pub asks-edited : (f : Bor FormView) (a : Answer) → Edits (recipe ++ key ∷ []) old.pass.now new.pass.now (Ok f) →
       AsksBy recipe (convert_keys classes asked own) old new (Ok a)
-  asks-edited f a e = at-key (Ok a) ((f.now, e.0, e.1, e.3), e.2)
+  asks-edited f a e = at-key (Ok a) ((f.now, e.0, e.1, e.3, e.4), e.2)
 
   pub asks-without-memory : (f : Bor FormView) → Edits (recipe ++ key ∷ []) old.pass.now new.pass.now (Ok f) →
       AsksBy recipe (convert_keys classes asked own) old new (Err NoMemory)
-  asks-without-memory f e = at-key (Err NoMemory) (inr (f.now, e.0, e.1, e.3), e.2)
+  asks-without-memory f e =
+      at-key (Err NoMemory) (inr (f.now, e.0, e.1, e.3, e.4), e.2, ⊎_elim (λ same. inl same) (λ puts. inr (f.now, e.0, puts)) e.4)
 
   pub asks-refused : (e : EditError) → Edits (recipe ++ key ∷ []) old.pass.now new.pass.now (Err e) →
       AsksBy recipe (convert_keys classes asked own) old new (Err e)
-  asks-refused NoMemory h = at-key (Err NoMemory) (inl h.0.1, h.1)
+  asks-refused NoMemory h = at-key (Err NoMemory) (inl h.0.1, h.1, h.2)
   asks-refused (FormsFull drawn) h = at-key (Err (FormsFull drawn)) h
 
 pub asks-nothing : (recipe keys : List Key) (w : Work) → AsksBy recipe keys w w (Err NoMemory)
 asks-nothing recipe [] w = refl
-asks-nothing recipe (k ∷ keys) w = (inl refl, inl refl)
+asks-nothing recipe (k ∷ keys) w = (inl refl, inl refl, inl refl)
 
 -- the same where the refusal is handed on
 pub asks-error :

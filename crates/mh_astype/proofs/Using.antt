@@ -1,5 +1,5 @@
 -- What is known where a handle is used as another type.
-use Rattle.std.proofs.Common.{◌≡◌, refl, sym, ap, ◌∙◌, subst, ℕ, ◌+◌, Bool, true, false, cond, List, [], ◌∷◌, ◌++◌, Result, Ok, Err, IfOk, inl}
+use Rattle.std.proofs.Common.{◌≡◌, ◌≢◌, refl, sym, ap, ◌∙◌, subst, ℕ, ◌+◌, Bool, true, false, cond, List, [], ◌∷◌, ◌++◌, length, length-append, Result, Ok, Err, IfOk, inl, inr, arith}
 use Rattle.std.specs.Prelude.{IsErrAnd}
 use Rattle.std.proofs.lemmas.List.{append-nil}
 use Rattle.mh_values.specs.declared.class.Class.{Class}
@@ -9,6 +9,8 @@ use Rattle.mh_values.specs.Same.{is_same_method_type}
 use Rattle.mh_leaf.specs.LeafTable.{LeafTable}
 use Rattle.mh_tree.specs.Tree.{Tree, AsType}
 use Rattle.mh_tree.specs.Rows.{astype_row}
+use Rattle.mh_tree.specs.declared.error.CheckError.{CheckError}
+use Rattle.mh_tree.specs.declared.error.CheckError.TheVariants as check
 use Rattle.mh_tree.specs.Use.{used_as}
 use Rattle.mh_form.specs.declared.field.Field.{Field}
 use Rattle.mh_edit.specs.declared.key.Key.{Key}
@@ -17,25 +19,28 @@ use Rattle.mh_handle.specs.declared.error.HandleError.TheVariants.{NoMemory}
 use Rattle.mh_handle.specs.declared.handle.Handle.{Handle}
 use Rattle.mh_handle.specs.declared.work.Work.{Work}
 use Rattle.mh_handle.specs.Converting.{IsUsedAs, convert_fields}
+use Rattle.mh_handle.specs.Errors.{of_check}
 use Rattle.mh_handle.specs.Grows.{Grows}
 use Rattle.mh_handle.specs.Recipe.{convert_keys}
 use Rattle.mh_handle.specs.Stands.{HandleView, Stands}
 use Rattle.mh_handle.specs.Works.{GoesOn, Makes}
 use Rattle.mh_handle.proofs.AsTypeStands.{astype-stands}
-use Rattle.mh_handle.proofs.Passing.{starts-refl}
-use Rattle.mh_astype.specs.Use.{MakesBy}
+use Rattle.mh_handle.proofs.Going.{goes_on-more, goes_on-still}
+use Rattle.mh_astype.specs.Use.{MakesFrom}
 pub use Rattle.mh_astype.proofs.ConvertKeys.{convert-fits, convert-shaped, convert_key, fields-kept, kept-shaped, keys-changed, keys-kept, light, trivial}
 
 -- ---- the handle
 
-pub used-kept : (classes : List Class) (asked : MethodTy) (old : HandleView) → trivial classes asked old.ty ≡ true →
-    IsUsedAs classes asked old (record old { ty = asked; weight = 1 + old.weight })
-used-kept classes asked old is = record {
-  ty = refl;
-  weight = refl;
-  sides = refl;
-  recipe = sym (ap (λ ks. old.form.recipe ++ ks) (keys-kept classes asked old.ty is) ∙ append-nil old.form.recipe);
-  fields = sym (ap (λ fs. old.fields ++ fs) (fields-kept classes asked old.ty is) ∙ append-nil old.fields);
+pub used-kept :
+    (classes : List Class) (asked : MethodTy) (old new : HandleView) → trivial classes asked old.ty ≡ true →
+    new.ty ≡ asked → new.weight ≡ 1 + old.weight → new.sides ≡ old.sides → new.form ≡ old.form → new.fields ≡ old.fields →
+    IsUsedAs classes asked old new
+used-kept classes asked old new is t w s f fs = record {
+  ty = t;
+  weight = w;
+  sides = s;
+  recipe = ap (λ g. g.recipe) f ∙ sym (ap (λ ks. old.form.recipe ++ ks) (keys-kept classes asked old.ty is) ∙ append-nil old.form.recipe);
+  fields = fs ∙ sym (ap (λ xs. old.fields ++ xs) (fields-kept classes asked old.ty is) ∙ append-nil old.fields);
 }
 
 pub used-grown :
@@ -56,29 +61,44 @@ used-grown classes asked old weight sides key fields (Err e) is w s k f g = tt
 
 -- ---- the work
 
+-- a key more makes another recipe
+differs : (recipe keys : List Key) (k : Key) → recipe ++ k ∷ keys ≢ recipe
+differs recipe keys k same = omega (arith, ap length same, length-append recipe (k ∷ keys))
+
 pub makes-changed :
     (classes : List Class) (asked own : MethodTy) (recipe : List Key) (key : Key) (old new : Work) (r : Result Handle HandleError) →
     trivial classes asked own ≡ false → key ≡ convert_key classes asked own → Makes (recipe ++ key ∷ []) old new r →
-    MakesBy recipe (convert_keys classes asked own) old new r
-makes-changed classes asked own recipe key old new r is k m =
-    let P : List Key → Type 0 = λ ks. MakesBy recipe ks old new r in
-    let Q : Key → Type 0 = λ x. Makes (recipe ++ x ∷ []) old new r in
-    subst P (sym (keys-changed classes asked own is)) (subst Q k m)
+    MakesFrom recipe (recipe ++ convert_keys classes asked own) old new r
+makes-changed classes asked own recipe key old new r is k makes =
+    let keys : key ∷ [] ≡ convert_keys classes asked own = ap (λ v. v ∷ []) k ∙ sym (keys-changed classes asked own is) in
+    subst (λ ks. MakesFrom recipe (recipe ++ ks) old new r) keys (inr (differs recipe [] key, makes))
 
 -- want of memory before any edit
 pub makes-nothing : (recipe keys : List Key) (w : Work) (r : Result Handle HandleError) → IsErrAnd r (λ x. x ≡ NoMemory) →
-    MakesBy recipe keys w w r
+    MakesFrom recipe (recipe ++ keys) w w r
 makes-nothing recipe keys w (Ok h) is = absurd is
-makes-nothing recipe [] w (Err x) is = subst (λ v. MakesBy recipe [] w w (Err v)) (sym is) refl
-makes-nothing recipe (k ∷ keys) w (Err x) is = subst (λ v. MakesBy recipe (k ∷ keys) w w (Err v)) (sym is) (refl, inl refl)
+makes-nothing recipe [] w (Err x) is = subst (λ v. MakesFrom recipe (recipe ++ []) w w (Err v)) (sym is) (inl (append-nil recipe, refl))
+makes-nothing recipe (k ∷ keys) w (Err x) is =
+    subst (λ v. MakesFrom recipe (recipe ++ k ∷ keys) w w (Err v)) (sym is) (inr (differs recipe keys k, (refl, inl refl, inl refl)))
 
 pub makes-kept : (classes : List Class) (asked own : MethodTy) (recipe : List Key) (w : Work) (h : HandleView) → trivial classes asked own ≡ true →
-    MakesBy recipe (convert_keys classes asked own) w w (Ok h)
+    MakesFrom recipe (recipe ++ convert_keys classes asked own) w w (Ok h)
 makes-kept classes asked own recipe w h is =
-    let P : List Key → Type 0 = λ ks. MakesBy recipe ks w w (Ok h) in subst P (sym (keys-kept classes asked own is)) refl
+    inl (ap (λ ks. recipe ++ ks) (keys-kept classes asked own is) ∙ append-nil recipe, refl)
 
-pub goes_on-still : (w : Work) → GoesOn w w
-goes_on-still w = record { forms = refl; leaves = refl; cells = refl; learnt = starts-refl w.pass.now.nodes }
+-- a refusal by the check
+pub makes-refused : (recipe keys : List Key) (w : Work) (e : CheckError) (r : Result Handle HandleError) → IsErrAnd r (λ x. x ≡ of_check e) →
+    MakesFrom recipe (recipe ++ keys) w w r
+makes-refused recipe keys w e (Ok h) is = absurd is
+makes-refused recipe [] w check.NoMemory (Err x) is = subst (λ v. MakesFrom recipe (recipe ++ []) w w (Err v)) (sym is) (inl (append-nil recipe, refl))
+makes-refused recipe [] w (check.Refused e) (Err x) is = subst (λ v. MakesFrom recipe (recipe ++ []) w w (Err v)) (sym is) (inl (append-nil recipe, refl))
+makes-refused recipe (k ∷ keys) w check.NoMemory (Err x) is =
+    subst (λ v. MakesFrom recipe (recipe ++ k ∷ keys) w w (Err v)) (sym is) (inr (differs recipe keys k, (refl, inl refl, inl refl)))
+makes-refused recipe (k ∷ keys) w (check.Refused e) (Err x) is =
+    subst (λ v. MakesFrom recipe (recipe ++ k ∷ keys) w w (Err v)) (sym is) (inr (differs recipe keys k, refl))
+
+pub goes_on-same : (w : Work) → GoesOn 1 w w
+goes_on-same w = goes_on-more 0 1 w w (omega arith) (goes_on-still w)
 
 -- ---- the tree
 

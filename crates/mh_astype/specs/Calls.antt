@@ -8,15 +8,13 @@ use Rattle.mh_leaf.specs.LeafTable.{LeafTable}
 use Rattle.mh_tree.specs.Tree.{Tree, AsType}
 use Rattle.mh_tree.specs.Rows.{TypeOrRefusal, astype_row}
 use Rattle.mh_tree.specs.Typing.{type_of}
-use Rattle.mh_setonce.specs.Walks.{Lacks}
 use Rattle.mh_edit.specs.declared.key.Key.{Key}
 use Rattle.mh_handle.specs.declared.answer.Answer.{Answer}
 use Rattle.mh_handle.specs.declared.error.EditError.{EditError}
 use Rattle.mh_handle.specs.declared.error.EditError.TheVariants.{NoMemory, FormsFull}
 use Rattle.mh_handle.specs.declared.work.Work.{Work}
 use Rattle.mh_handle.specs.Form.{FormView}
-use Rattle.mh_handle.specs.Index.{recipe_of}
-use Rattle.mh_handle.specs.Passes.{AsksFor, NotAsked, Draws, DrawsAtMostOne, IsFormOf}
+use Rattle.mh_handle.specs.Passes.{AsksFor, NotAsked, Draws, DrawsAtMostOne, IsFormOf, IsUnlearnt, PutsAtMost, PutsAtMostOne}
 use Rattle.mh_handle.specs.Recipe.{convert_keys, recipe}
 
 -- a number that depends on a type, 0 where there is none
@@ -45,9 +43,10 @@ abbrev pub call_keys : List Class → MethodTy → ℕ → MethodTy → List Key
 call_keys classes own weight asked =
     if is_same_method_type own asked then [] else unless_refused (astype_row classes own weight asked) (convert_keys classes asked own)
 
--- the form of a recipe is asked for, the one that the pass has learnt by then
+-- the form of a recipe is asked for, the one that the pass has learnt by then, with the number drawn now where the pass has put it into the table
 abbrev pub AsksForRecipe : List Key → Work → Work → Type 0
-AsksForRecipe keys old new = (f : FormView) × (f.recipe ≡ keys) × AsksFor f old.pass.now new.pass.now × IsFormOf keys new.pass.now.nodes f
+AsksForRecipe keys old new =
+    (f : FormView) × (f.recipe ≡ keys) × AsksFor f old.pass.now new.pass.now × IsFormOf keys new.pass.now f × PutsAtMost f old.pass.now new.pass.now
 
 -- what a generic call leaves of the work that adds these keys to a recipe: nothing is asked for where there is none
 abbrev pub AsksBy : List Key → List Key → Work → Work → Result Answer EditError → Type 0
@@ -57,10 +56,10 @@ AsksBy recipe (k ∷ keys) old new (Ok a) =
     AsksForRecipe (recipe ++ k ∷ keys) old new × DrawsAtMostOne (recipe ++ k ∷ keys) old.pass.now new.pass.now
 AsksBy recipe (k ∷ keys) old new (Err NoMemory) =
     ((new.pass.now.asked ≡ old.pass.now.asked) ⊎ AsksForRecipe (recipe ++ k ∷ keys) old new)
-    × DrawsAtMostOne (recipe ++ k ∷ keys) old.pass.now new.pass.now
+    × DrawsAtMostOne (recipe ++ k ∷ keys) old.pass.now new.pass.now × PutsAtMostOne (recipe ++ k ∷ keys) old.pass.now new.pass.now
 AsksBy recipe (k ∷ keys) old new (Err (FormsFull drawn)) =
     NotAsked (recipe ++ k ∷ keys) old.pass.now new.pass.now × Draws drawn old.pass.now.seat new.pass.now.seat × (16384 < drawn)
-    × Lacks recipe_of new.pass.now.nodes (recipe ++ k ∷ keys)
+    × IsUnlearnt (recipe ++ k ∷ keys) new.pass.now × (new.pass.now.made ≡ old.pass.now.made)
 
 -- the refusal of a use as a type, if it is refused
 abbrev pub IsRefusal : TypeOrRefusal → MethodTy → Option Exc → Type 0

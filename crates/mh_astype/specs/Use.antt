@@ -1,5 +1,5 @@
 -- What a handle becomes that is used as a type, and what that leaves of a thread's work.
-use Rattle.std.specs.Prelude.{◌≡◌, List, [], ◌∷◌, ◌++◌, if◌then◌else◌, Result, Err}
+use Rattle.std.specs.Prelude.{◌≡◌, ◌≢◌, ◌⊎◌, List, [], ◌++◌, if◌then◌else◌, Result, Err}
 use Rattle.mh_values.specs.declared.class.Class.{Class}
 use Rattle.mh_values.specs.declared.types.MethodTy.{MethodTy}
 use Rattle.mh_values.specs.Same.{is_same_method_type}
@@ -30,8 +30,12 @@ pub record IsUse (classes : List Class) (asked : MethodTy) (old new : HandleView
   pub recipe : new.form.recipe ≡ old.form.recipe ++ use_keys classes old.ty asked
   pub fields : new.fields ≡ old.fields ++ use_fields classes old.ty asked
 
--- what a call leaves of the work that adds these keys to a recipe: nothing is asked for where there is none
-abbrev pub MakesBy : List Key → List Key → Work → Work → Result Handle HandleError → Type 0
-MakesBy recipe [] old new (Err (FormsFull drawn)) = ⊥
-MakesBy recipe [] old new result = new ≡ old
-MakesBy recipe (k ∷ keys) old new result = Makes (recipe ++ k ∷ keys) old new result
+-- what a call leaves of the work that asks for no form: all as it was
+abbrev pub AsksNothing : Work → Work → Result Handle HandleError → Type 0
+AsksNothing old new (Err (FormsFull drawn)) = ⊥
+AsksNothing old new result = new ≡ old
+
+-- what a call leaves of the work that makes a handle of one recipe into one of another: the form of that is asked for where they differ, and nothing where
+-- they are the same
+abbrev pub MakesFrom : List Key → List Key → Work → Work → Result Handle HandleError → Type 0
+MakesFrom before after old new result = ((after ≡ before) × AsksNothing old new result) ⊎ ((after ≢ before) × Makes after old new result)

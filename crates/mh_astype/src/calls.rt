@@ -60,7 +60,7 @@ fn invoke_converted<'t, R: Wait>(
     requires typed { HaveTypes (classes_of w.old) args.now call.now.params }
     requires stands { StandsForSome (leaves_of w.old) handle.now }
     requires ready { IsReady w.old 1 }
-    ensures goes_on { GoesOn w.old w.new }
+    ensures goes_on { GoesOn 1 w.old w.new }
     ensures asks { AsksBy handle.now.form.recipe
         (convert_keys (classes_of w.old) call.now handle.now.ty) w.old w.new result }
     ensures answer { (t : Tree) → StandsIn w.old handle.now t
@@ -89,7 +89,7 @@ fn invoke_used<'t, R: Wait>(
     requires typed { HaveTypes (classes_of w.old) args.now call.now.params }
     requires stands { StandsForSome (leaves_of w.old) handle.now }
     requires ready { IsReady w.old 1 }
-    ensures goes_on { GoesOn w.old w.new }
+    ensures goes_on { GoesOn 1 w.old w.new }
     ensures asks { AsksBy handle.now.form.recipe
         (convert_keys (classes_of w.old) call.now handle.now.ty) w.old w.new result }
     ensures answer { (t : Tree) → StandsIn w.old handle.now t
@@ -134,7 +134,7 @@ pub fn invoke_generic<'t, R: Wait>(
     requires typed { HaveTypes (classes_of w.old) args.now call.now.params }
     requires stands { StandsForSome (leaves_of w.old) handle.now }
     requires ready { IsReady w.old 1 }
-    ensures goes_on { GoesOn w.old w.new }
+    ensures goes_on { GoesOn 1 w.old w.new }
     ensures asks { AsksBy handle.now.form.recipe
         (call_keys (classes_of w.old) handle.now.ty handle.now.weight call.now) w.old w.new result }
     ensures answer { (t : Tree) → StandsIn w.old handle.now t → IfOk result

@@ -1,14 +1,14 @@
-ghost use Rattle.std.specs.Prelude.{◌≡◌, ◌&&◌, IfOk, IsTrue, Ok, false};
+ghost use Rattle.std.specs.Prelude.{◌≡◌, ◌++◌, ◌&&◌, IfOk, IsTrue, Ok, false};
 ghost use Rattle.mh_values.specs.Same.{is_same_method_type};
 ghost use Rattle.mh_convert.specs.Conversion.{is_trivial_ret};
 ghost use Rattle.mh_tree.specs.Rows.{astype_row};
 ghost use Rattle.mh_tree.specs.Tree.{Tree};
 ghost use Rattle.mh_tree.specs.Use.{used_as, use_row};
 ghost use Rattle.mh_handle.specs.Converting.{IsUsedAs};
-ghost use Rattle.mh_handle.specs.Recipe.{are_trivial, convert_keys};
+ghost use Rattle.mh_handle.specs.Recipe.{are_trivial, convert_keys, recipe};
 ghost use Rattle.mh_handle.specs.Obeys.{Obeys};
-ghost use Rattle.mh_handle.specs.Works.{IsReady, GoesOn, IsAccepted, StandsIn, classes_of};
-ghost use Rattle.mh_astype.specs.Use.{IsUse, MakesBy, use_keys};
+ghost use Rattle.mh_handle.specs.Works.{IsReady, GoesOn, IsAccepted, StandsIn, classes_of, leaves_of};
+ghost use Rattle.mh_astype.specs.Use.{IsUse, MakesFrom};
 
 use crate::conversions::{convert_fields, convert_key, is_trivial};
 use mh_base::{Seq, Shared};
@@ -28,9 +28,9 @@ fn converted<'t, R: Wait>(
     requires changes { (are_trivial (classes_of w.old) ty.params target.ty.params && is_trivial_ret
         (classes_of w.old) target.ty.ret ty.ret) ≡ false }
     requires ready { IsReady w.old 1 }
-    ensures goes_on { GoesOn w.old w.new }
-    ensures makes { MakesBy target.entry.form.recipe
-        (convert_keys (classes_of w.old) ty target.entry.ty) w.old w.new result }
+    ensures goes_on { GoesOn 1 w.old w.new }
+    ensures makes { MakesFrom target.entry.form.recipe (target.entry.form.recipe
+        ++ convert_keys (classes_of w.old) ty target.entry.ty) w.old w.new result }
     ensures accepted { IsAccepted result }
     ensures used { IfOk result (IsUsedAs (classes_of w.old) ty target.entry) }
 {
@@ -56,9 +56,9 @@ fn used<'t, R: Wait>(
 ) -> Result<Handle<'t>, HandleError>
     requires row { astype_row (classes_of w.old) target.ty target.weight ty ≡ Ok ty }
     requires ready { IsReady w.old 1 }
-    ensures goes_on { GoesOn w.old w.new }
-    ensures makes { MakesBy target.entry.form.recipe
-        (convert_keys (classes_of w.old) ty target.entry.ty) w.old w.new result }
+    ensures goes_on { GoesOn 1 w.old w.new }
+    ensures makes { MakesFrom target.entry.form.recipe (target.entry.form.recipe
+        ++ convert_keys (classes_of w.old) ty target.entry.ty) w.old w.new result }
     ensures accepted { IsAccepted result }
     ensures used { IfOk result (IsUsedAs (classes_of w.old) ty target.entry) }
 {
@@ -82,11 +82,12 @@ pub fn as_type<'t, R: Wait>(
     ty: &MethodTy,
 ) -> Result<Handle<'t>, HandleError>
     requires ready { IsReady w.old 1 }
-    ensures goes_on { GoesOn w.old w.new }
+    ensures goes_on { GoesOn 1 w.old w.new }
     ensures obeys { Obeys (use_row (classes_of w.old) target.entry.ty target.entry.weight ty.now)
         result }
-    ensures makes { MakesBy target.entry.form.recipe
-        (use_keys (classes_of w.old) target.entry.ty ty.now) w.old w.new result }
+    ensures makes { (t : Tree) → StandsIn w.old target.entry t
+        → MakesFrom (recipe (leaves_of w.old) t)
+        (recipe (leaves_of w.old) (used_as target.entry.ty ty.now t)) w.old w.new result }
     ensures same { IsTrue (is_same_method_type target.entry.ty ty.now) → result ≡ Ok target.entry }
     ensures used { IfOk result (IsUse (classes_of w.old) ty.now target.entry) }
     ensures stands { (t : Tree) → StandsIn w.old target.entry t

@@ -3,10 +3,9 @@ use Rattle.std.proofs.lemmas.Bool.{and_parts}
 use Rattle.mh_values.specs.declared.types.MethodTy.{MethodTy}
 use Rattle.mh_convert.specs.Conversion.{is_trivial_ret}
 use Rattle.mh_handle.specs.Recipe.{are_trivial}
-use Rattle.mh_handle.specs.Stands.{HandleView, HasShape, handle_body}
-use Rattle.mh_astype.proofs.Asking.{used-retyped}
+use Rattle.mh_handle.specs.Stands.{HasShape, handle_body}
 use Rattle.mh_astype.proofs.Calling.{kept-is}
-use Rattle.mh_astype.proofs.Using.{kept-shaped, light, trivial}
+use Rattle.mh_astype.proofs.Using.{kept-shaped, light, trivial, used-kept}
 use Rattle.mh_astype.proofs.use_as.used.Goals as goal
 
 pub retyped-requires-clause-light : goal.retyped-requires-clause-light
@@ -29,8 +28,8 @@ retyped-requires-clause-shaped g c =
 
 pub returns-in_ok-new-clause-used : goal.returns-in_ok-new-clause-used
 returns-in_ok-new-clause-used g c =
-    let view : MethodTy → HandleView = λ m. record c.args.target { ty = m; weight = 1 + c.weight-weight.result } in
-    used-retyped c.classes.result.now c.args.w.now.leaves.now.classes c.ty.result.now c.weight-weight.result c.args.ty c.args.target c.retyped.result
-    c.is_trivial.result
-    c.if-is_trivial.true c.is_trivial.ensures c.classes.ensures c.ty.ensures.ty c.weight-weight.ensures.weight
-    (c.retyped.ensures ∙ ap view c.in_ok-new.ensures)
+    let kept : trivial c.args.w.now.leaves.now.classes c.args.ty c.args.target.ty ≡ true =
+    kept-is c.is_trivial.result c.classes.result.now c.args.w.now.leaves.now.classes c.ty.result.now c.args.target.ty c.args.ty c.if-is_trivial.true
+    c.is_trivial.ensures c.classes.ensures c.ty.ensures.ty in
+    used-kept c.args.w.now.leaves.now.classes c.args.ty c.args.target c.retyped.result kept (c.retyped.ensures.ty ∙ c.in_ok-new.ensures)
+    (c.retyped.ensures.weight ∙ ap (λ n. 1 + n) c.weight-weight.ensures.weight) c.retyped.ensures.sides c.retyped.ensures.form c.retyped.ensures.fields
