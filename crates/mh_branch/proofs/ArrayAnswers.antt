@@ -22,7 +22,7 @@ use Rattle.mh_edit.specs.declared.key.Key.TheVariants as key
 use Rattle.mh_handle.specs.declared.error.HandleError.{HandleError}
 use Rattle.mh_handle.specs.Grows.{Grows}
 use Rattle.mh_handle.specs.declared.work.Work.{Work}
-use Rattle.mh_handle.specs.Recipe.{at_some}
+use Rattle.mh_handle.specs.Recipe.{at_some, recipe}
 use Rattle.mh_handle.specs.Stands.{HandleView, Stands}
 use Rattle.mh_handle.specs.Works.{Makes}
 use Rattle.mh_handle.proofs.Limits.{limited-low}
@@ -46,15 +46,17 @@ gather-light classes t weight array count u row =
     (limited-low (codes "gather") (1 + weight) (made q.0) u r.1).1
 
 pub gather-makes :
-    (array : Option Ty) (count : ℕ) (c : Comp) (k : Key) (recipe : List Key) (old new : Work) (r : Result HandleView HandleError) →
+    (table : LeafTable) (h : HandleView) (t : Tree) (array : Option Ty) (count : ℕ) (c : Comp) (k : Key) (old new : Work)
+    (r : Result HandleView HandleError) →
+    Stands table h t →
     component_of array ≡ Some c →
     k ≡ key.Gather count (basic_of (item_type c)) →
-    Makes (recipe ++ k ∷ []) old new r →
-    Makes (recipe ++ gather_keys array count) old new r
-gather-makes array count c k recipe old new r some is makes =
+    Makes (h.form.recipe ++ k ∷ []) old new r →
+    Makes (recipe table (tree.Gather t array count)) old new r
+gather-makes table h t array count c k old new r st some is makes =
     let keys : k ∷ [] ≡ gather_keys array count =
     ap (λ x. x ∷ []) is ∙ sym (ap (λ o. at_some o (λ d. key.Gather count (basic_of (item_type d)))) some) in
-    subst (λ ks. Makes (recipe ++ ks) old new r) keys makes
+    subst (λ ks. Makes ks old new r) (λ i. st.made i ++ keys i) makes
 
 pub gather-answers :
     (table : LeafTable) (h : HandleView) (array : Option Ty) (count : ℕ) (c : Comp) (u : MethodTy) (k : Key) (sides : List MethodTy) (fields : List Field)

@@ -23,6 +23,7 @@ use Rattle.mh_handle.specs.declared.error.HandleError.{HandleError}
 use Rattle.mh_handle.specs.declared.growth.Growth.{Growth}
 use Rattle.mh_handle.specs.Grows.{Grows, base_handle}
 use Rattle.mh_handle.specs.declared.work.Work.{Work}
+use Rattle.mh_handle.specs.Recipe.{at_type, recipe}
 use Rattle.mh_handle.specs.Stands.{HandleView, Stands}
 use Rattle.mh_handle.specs.Works.{Makes}
 use Rattle.mh_handle.proofs.Limits.{limited-low}
@@ -59,8 +60,16 @@ module _ (c t e : HandleView) (u : MethodTy) (row : guard_row c.ty c.weight t.ty
     pub guard-light : by.weight ≤ 256
     guard-light = let light = limits.1 in omega (arith, is.weight)
 
-    pub guard-makes : (old new : Work) (r : Result HandleView HandleError) → Makes (by.key ∷ []) old new r → Makes (guard_key t.ty c.ty ∷ []) old new r
-    guard-makes old new r makes = subst (λ k. Makes (k ∷ []) old new r) key makes
+    pub guard-makes :
+        (table : LeafTable) (old new : Work) (r : Result HandleView HandleError) (a b d : Tree) →
+        Stands table c a →
+        Stands table t b →
+        Makes (by.key ∷ []) old new r →
+        Makes (recipe table (tree.Guard a b d)) old new r
+    guard-makes table old new r a b d tests stands makes =
+        let keys : guard_key t.ty c.ty ∷ [] ≡ recipe table (tree.Guard a b d) =
+        λ i. at_type (sym stands.typed i) (λ ty. at_type (sym tests.typed i) (λ test. guard_key ty test ∷ [])) in
+        subst (λ ks. Makes ks old new r) (ap (λ k. k ∷ []) key ∙ keys) makes
 
     pub guard-answers :
         (table : LeafTable) (r : Result HandleView HandleError) (a b d : Tree) →
@@ -118,8 +127,16 @@ module _ (classes : List Class) (t : HandleView) (class : ClassId) (h : HandleVi
     pub catch-light : by.weight ≤ 256
     catch-light = let light = bounds.1 in omega (arith, is.weight)
 
-    pub catch-makes : (old new : Work) (r : Result HandleView HandleError) → Makes (by.key ∷ []) old new r → Makes (catch_key t.ty h.ty ∷ []) old new r
-    catch-makes old new r makes = subst (λ k. Makes (k ∷ []) old new r) key' makes
+    pub catch-makes :
+        (table : LeafTable) (old new : Work) (r : Result HandleView HandleError) (a b : Tree) →
+        Stands table t a →
+        Stands table h b →
+        Makes (by.key ∷ []) old new r →
+        Makes (recipe table (tree.Catch a class b)) old new r
+    catch-makes table old new r a b stands handles makes =
+        let keys : catch_key t.ty h.ty ∷ [] ≡ recipe table (tree.Catch a class b) =
+        λ i. at_type (sym stands.typed i) (λ ty. at_type (sym handles.typed i) (λ handler. catch_key ty handler ∷ [])) in
+        subst (λ ks. Makes ks old new r) (ap (λ k. k ∷ []) key' ∙ keys) makes
 
 pub catch-answers :
     (table : LeafTable) (t : HandleView) (class : ClassId) (h : HandleView) (u : MethodTy) (by : Growth) (r : Result HandleView HandleError) (a b : Tree) →

@@ -1,7 +1,6 @@
 -- What the call of a spread does, from what its check found and what its use of the handle made.
 use Rattle.std.proofs.Common.{◌≡◌, sym, subst, ap, ◌∙◌, ℕ, ◌+◌, ◌-◌, ◌≤◌, List, [], ◌∷◌, ◌++◌, append-nil, length, Option, Result, Ok, Err, IfOk, codes}
 use Rattle.std.specs.Prelude.{IsTrue}
-use Rattle.std.specs.Option.{option_map_or}
 use Rattle.mh_values.specs.declared.class.Class.{Class}
 use Rattle.mh_values.specs.declared.types.Comp.{Comp}
 use Rattle.mh_values.specs.declared.types.Ty.{Ty}
@@ -14,7 +13,7 @@ use Rattle.mh_leaf.specs.LeafTable.{LeafTable}
 use Rattle.mh_tree.specs.Rows.{TypeOrRefusal, component_of, ends_with, illegal, limited, provided, spread_row, taking}
 use Rattle.mh_tree.specs.Tree.{Tree}
 use Rattle.mh_tree.specs.Tree as tree
-use Rattle.mh_tree.specs.Use.{items_used_as, spread_use_row, taking_items, use_row, used_as}
+use Rattle.mh_tree.specs.Use.{items_used_as, spread_use_row, use_row, used_as}
 use Rattle.mh_tree.proofs.Provided.{provided-parts, provided_some-parts}
 use Rattle.mh_form.specs.declared.basic.Basic.{Basic}
 use Rattle.mh_form.specs.declared.field.Field.{Field}
@@ -28,18 +27,18 @@ use Rattle.mh_handle.specs.declared.handle.Handle.{Handle}
 use Rattle.mh_handle.specs.Grows.{Grows}
 use Rattle.mh_handle.specs.Obeys.{Obeys}
 use Rattle.mh_handle.specs.declared.work.Work.{Work}
-use Rattle.mh_handle.specs.Recipe.{at_some}
+use Rattle.mh_handle.specs.Recipe.{at_some, recipe}
 use Rattle.mh_handle.specs.Stands.{HandleView, HasShape, IsShaped, Stands, handle_body}
 use Rattle.mh_handle.specs.Works.{IsAccepted, Makes}
 use Rattle.mh_handle.proofs.Limits.{limited-low}
 use Rattle.mh_handle.proofs.Obeying.{grown-obeys}
-use Rattle.mh_astype.specs.Use.{IsUse, MakesBy, use_keys}
+use Rattle.mh_astype.specs.Use.{IsUse, MakesFrom}
 use Rattle.mh_branch.specs.declared.spreading.Spreading.{Spreading}
 use Rattle.mh_branch.specs.Growths.{spread_keys}
-use Rattle.mh_branch.specs.Spreading.{IsSpreading, MakesBoth, item_keys}
+use Rattle.mh_branch.specs.Spreading.{IsSpreading, MakesSpread}
 use Rattle.mh_branch.proofs.ArrayFits.{spread-fits}
 use Rattle.mh_branch.proofs.ArrayShapes.{spread-shaped}
-use Rattle.mh_branch.proofs.SpreadRules.{keys-are, makes-second, spreading-row}
+use Rattle.mh_branch.proofs.SpreadRules.{items-are, makes-second, spreading-row}
 use Rattle.mh_branch.proofs.SpreadStands.{spread-stands}
 
 spread-light : (t : MethodTy) (weight : ℕ) (array : Option Ty) (count : ℕ) (u : MethodTy) → spread_row t weight array count ≡ Ok u → 1 + weight ≤ 256
@@ -88,21 +87,24 @@ module _
     call-sides weight sides k fields (Err e) none g = g
 
     pub call-makes :
-        (b : Basic) (old mid new : Work) (r : Result Handle HandleError) →
+        (b : Basic) (a : Tree) (old mid new : Work) (r : Result Handle HandleError) →
         b ≡ basic_of (item_type s.component) →
-        MakesBy t.form.recipe (use_keys classes t.ty s.asked) old mid (Ok used) →
+        MakesFrom (recipe old.leaves.now a) (recipe old.leaves.now (used_as t.ty s.asked a)) old mid (Ok used) →
         Makes (used.form.recipe ++ key.Spread count b ∷ []) mid new r →
         IsAccepted r →
-        MakesBoth t.form.recipe (item_keys classes t.ty array count) (spread_keys array count) old new r
-    call-makes b old mid new r is first second accepted =
-        let keys : use_keys classes t.ty s.asked ≡ item_keys classes t.ty array count = keys-are classes t.ty t.weight array count s.component s.asked
-        found.component found.asked in
+        Stands old.leaves.now used (used_as t.ty s.asked a) →
+        MakesSpread t.ty array count a old new r
+    call-makes b a old mid new r is first second accepted st =
+        let table = old.leaves.now in
+        let items = items_used_as t.ty array count a in
+        let used-items : used_as t.ty s.asked a ≡ items = items-are classes t.ty t.weight array count s.component s.asked a found.component found.asked in
         let own : key.Spread count b ∷ [] ≡ spread_keys array count =
         ap (λ x. key.Spread count x ∷ []) is ∙ sym (ap (λ o. at_some o (λ c. key.Spread count (basic_of (item_type c)))) found.component) in
-        let whole : used.form.recipe ++ key.Spread count b ∷ [] ≡ (t.form.recipe ++ item_keys classes t.ty array count) ++ spread_keys array count =
-        (λ i. (made_by.recipe ∙ ap (λ ks. t.form.recipe ++ ks) keys) i ++ own i) in
-        makes-second t.form.recipe (item_keys classes t.ty array count) (spread_keys array count) old mid new used r
-        (subst (λ ks. MakesBy t.form.recipe ks old mid (Ok used)) keys first) (subst (λ ks. Makes ks mid new r) whole second) accepted
+        let whole : used.form.recipe ++ key.Spread count b ∷ [] ≡ recipe table (tree.Spread items array count) =
+        λ i. (st.made ∙ ap (recipe table) used-items) i ++ own i in
+        makes-second (recipe table a) (recipe table items) (recipe table (tree.Spread items array count)) old mid new used r
+        (subst (λ x. MakesFrom (recipe table a) (recipe table x) old mid (Ok used)) used-items first)
+        (subst (λ ks. Makes ks mid new r) whole second) accepted
 
     pub call-stands :
         (table : LeafTable) (b : Basic) (weight : ℕ) (sides : List MethodTy) (fields : List Field) (r : Result Handle HandleError) (a : Tree) →
@@ -116,9 +118,8 @@ module _
         Stands table used (used_as t.ty s.asked a) →
         IfOk r (λ h. Stands table h (tree.Spread (items_used_as t.ty array count a) array count))
     call-stands table b weight sides fields (Ok h) a same are is w none no_fields g st =
-        let whole : used_as t.ty s.asked a ≡ items_used_as t.ty array count a =
-        ap (λ m. used_as t.ty m a) found.asked ∙ sym (ap (λ o. option_map_or (λ c. used_as t.ty (taking_items t.ty c count) a) o a) found.component) in
-        spread-stands table used h (items_used_as t.ty array count a) array count s.component s.own are (subst (λ x. Stands table used x) whole st) row
+        spread-stands table used h (items_used_as t.ty array count a) array count s.component s.own are (subst (λ x. Stands table used x)
+        (items-are classes t.ty t.weight array count s.component s.asked a found.component found.asked) st) row
         found.component (record {
           typed = g.typed;
           weighed = g.weighed ∙ ap (λ n. 1 + n) w;

@@ -1,5 +1,5 @@
--- What the check of a spread tells of its rule, and what its two edits leave of a pass.
-use Rattle.std.proofs.Common.{◌≡◌, refl, sym, subst, ap, ◌∙◌, ℕ, ◌≤◌, true, List, [], ◌∷◌, ◌++◌, length, Option, Some, Result, Ok, Err, codes, nat_le, inl, inr, ⊎_elim, arith}
+-- What the check of a spread tells of its rule, and what its two edits leave of the work.
+use Rattle.std.proofs.Common.{◌≡◌, refl, sym, subst, ap, ◌∙◌, ℕ, ◌≤◌, Bool, true, false, cond, List, [], ◌++◌, append-nil, length, Option, Some, None, Result, Ok, Err, codes, nat_le, inl, inr, ⊎_elim, arith}
 use Rattle.std.specs.Prelude.{IsErrAnd}
 use Rattle.std.specs.Option.{option_map_or}
 use Rattle.mh_values.specs.declared.class.Class.{Class}
@@ -7,11 +7,15 @@ use Rattle.mh_values.specs.declared.types.Comp.{Comp}
 use Rattle.mh_values.specs.declared.types.Ty.{Ty}
 use Rattle.mh_values.specs.declared.types.MethodTy.{MethodTy}
 use Rattle.mh_values.specs.declared.value.Exc.{Exc}
+use Rattle.mh_values.specs.Same.{is_same_method_type}
+use Rattle.mh_leaf.specs.LeafTable.{LeafTable}
 use Rattle.mh_tree.specs.declared.error.CheckError.{CheckError}
 use Rattle.mh_tree.specs.declared.error.CheckError.TheVariants as check
 use Rattle.mh_tree.specs.Rows.{TypeOrRefusal, component_of, illegal, provided, provided_some, spread_row}
-use Rattle.mh_tree.specs.Typing.{with_type}
-use Rattle.mh_tree.specs.Use.{spread_use_row, taking_items, use_row, use_weight}
+use Rattle.mh_tree.specs.Tree.{Tree}
+use Rattle.mh_tree.specs.Tree as tree
+use Rattle.mh_tree.specs.Typing.{type_of, with_type}
+use Rattle.mh_tree.specs.Use.{items_used_as, spread_use_row, taking_items, use_row, use_weight, used_as}
 use Rattle.mh_edit.specs.declared.key.Key.{Key}
 use Rattle.mh_handle.specs.declared.error.HandleError.{HandleError}
 use Rattle.mh_handle.specs.declared.error.HandleError.TheVariants.{NoMemory, FormsFull, Refused}
@@ -19,12 +23,12 @@ use Rattle.mh_handle.specs.declared.handle.Handle.{Handle}
 use Rattle.mh_handle.specs.declared.work.Work.{Work}
 use Rattle.mh_handle.specs.Errors.{of_check}
 use Rattle.mh_handle.specs.Obeys.{Obeys}
-use Rattle.mh_handle.specs.Passes.{Draws, DrawsAtMostOne, PassView}
 use Rattle.mh_handle.specs.Works.{GoesOn, IsAccepted, Makes}
-use Rattle.mh_handle.proofs.Passing.{starts-trans}
-use Rattle.mh_astype.specs.Use.{MakesBy, use_keys}
+use Rattle.mh_handle.specs.Recipe.{at_type, convert_keys, recipe}
+use Rattle.mh_astype.specs.Use.{MakesFrom}
+use Rattle.mh_astype.proofs.Using.{makes-nothing}
 use Rattle.mh_branch.specs.declared.spreading.Spreading.{Spreading}
-use Rattle.mh_branch.specs.Spreading.{IsSpreading, MakesBoth, TellsSpreading, item_keys}
+use Rattle.mh_branch.specs.Spreading.{IsSpreading, MakesBoth, MakesSpread, TellsSpreading}
 
 module _ (classes : List Class) (t : MethodTy) (weight : ℕ) (array : Option Ty) (count : ℕ) where
   refusal : Exc
@@ -65,54 +69,59 @@ module _ (classes : List Class) (t : MethodTy) (weight : ℕ) (array : Option Ty
   used-error u asked (FormsFull drawn) (Err x) row used obeys is = subst (λ v. Obeys (spread_use_row classes t weight array count) (Err v)) (sym is) (u, row)
   used-error u asked (Refused e) (Err x) row used obeys is = let both : ◌≡◌ {A = TypeOrRefusal} (Ok asked) (Err e) = sym used ∙ obeys in absurd cc
 
-  pub keys-are : (c : Comp) (asked : MethodTy) → component_of array ≡ Some c → asked ≡ taking_items t c count →
-      use_keys classes t asked ≡ item_keys classes t array count
-  keys-are c asked some is = ap (use_keys classes t) is ∙ sym (ap (λ o. option_map_or (λ d. use_keys classes t (taking_items t d count)) o []) some)
-
-pub goes_on-both : (a b c : Work) → GoesOn a b → GoesOn b c → GoesOn a c
-goes_on-both a b c x y = record {
-  forms = y.forms ∙ x.forms;
-  leaves = y.leaves ∙ x.leaves;
-  cells = y.cells ∙ x.cells;
-  learnt = starts-trans a.pass.now.nodes b.pass.now.nodes c.pass.now.nodes x.learnt y.learnt;
-}
+  -- a tree that is used as the type that was asked for takes the items
+  pub items-are : (c : Comp) (asked : MethodTy) (a : Tree) → component_of array ≡ Some c → asked ≡ taking_items t c count →
+      used_as t asked a ≡ items_used_as t array count a
+  items-are c asked a some is = ap (λ m. used_as t m a) is ∙ sym (ap (λ o. option_map_or (λ d. used_as t (taking_items t d count) a) o a) some)
 
 -- one number is left of two
-left-after : (recipe : List Key) (old mid : PassView) → 2 ≤ old.seat.room → DrawsAtMostOne recipe old mid → 1 ≤ mid.seat.room
-left-after recipe old mid room drawn =
-    ⊎_elim (λ (same : mid.seat ≡ old.seat). subst (λ s. 1 ≤ s.room) (sym same) (omega (arith, room)))
-    (λ (d : (number : ℕ) × Draws number old.seat mid.seat × _). omega (arith, room, d.1.room)) drawn
+pub room-left : (old mid : Work) → 2 ≤ old.pass.now.seat.room → GoesOn 1 old mid → 1 ≤ mid.pass.now.seat.room
+room-left old mid room goes = omega (arith, room, goes.room)
 
-pub room-left : (recipe keys : List Key) (old mid : Work) (g : Handle) → 2 ≤ old.pass.now.seat.room → MakesBy recipe keys old mid (Ok g) →
-    1 ≤ mid.pass.now.seat.room
-room-left recipe [] old mid g room made = subst (λ (w : Work). 1 ≤ w.pass.now.seat.room) (sym made) (omega (arith, room))
-room-left recipe (k ∷ keys) old mid g room made = left-after (recipe ++ k ∷ keys) old.pass.now mid.pass.now room made.2
+-- ---- the two edits
 
--- an error before the first edit was made, or by it
-pub makes-first : (recipe keys keys' more : List Key) (old new : Work) (e : HandleError) (r : Result Handle HandleError) → keys ≡ keys' →
-    MakesBy recipe keys old new (Err e) → IsErrAnd r (λ x. x ≡ e) → (row : TypeOrRefusal) (u : MethodTy) → row ≡ Ok u → Obeys row (Err e) →
-    MakesBoth recipe keys' more old new r
-makes-first recipe keys keys' more old new e (Ok h) same made is row u typed obeys = absurd is
-makes-first recipe keys keys' more old new NoMemory (Err x) same made is row u typed obeys =
-    subst (λ v. MakesBoth recipe keys' more old new (Err v)) (sym is) (inl (subst (λ ks. MakesBy recipe ks old new (Err NoMemory)) same made))
-makes-first recipe keys keys' more old new (FormsFull drawn) (Err x) same made is row u typed obeys =
-    subst (λ v. MakesBoth recipe keys' more old new (Err v)) (sym is) (inl (subst (λ ks. MakesBy recipe ks old new (Err (FormsFull drawn))) same made))
-makes-first recipe keys keys' more old new (Refused e) (Err x) same made is row u typed obeys = let both : ◌≡◌ {A = TypeOrRefusal} (Ok u) (Err e) =
-    sym typed ∙ obeys in absurd cc
+-- the keys of a tree that is used as the type that takes the items come after those of the tree
+used-keyed : (table : LeafTable) (t : Tree) (asked : MethodTy) (b : Bool) →
+    (ks : List Key) × (recipe table (cond b t (tree.AsType t asked)) ≡ recipe table t ++ ks)
+used-keyed table t asked true = ([], sym (append-nil (recipe table t)))
+used-keyed table t asked false = (at_type (type_of table t) (convert_keys table.classes asked), refl)
 
-pub makes-second : (recipe keys more : List Key) (old mid new : Work) (g : Handle) (r : Result Handle HandleError) → MakesBy recipe keys old mid (Ok g) →
-    Makes ((recipe ++ keys) ++ more) mid new r
-    → IsAccepted r → MakesBoth recipe keys more old new r
-makes-second recipe keys more old mid new g (Ok h) first second accepted = (mid, g, first, second)
-makes-second recipe keys more old mid new g (Err NoMemory) first second accepted = inr (mid, g, first, second)
-makes-second recipe keys more old mid new g (Err (FormsFull drawn)) first second accepted = inr (mid, g, first, second)
-makes-second recipe keys more old mid new g (Err (Refused e)) first second accepted = absurd accepted
+items-keyed : (table : LeafTable) (own : MethodTy) (t : Tree) (count : ℕ) (o : Option Comp) →
+    (ks : List Key) × (recipe table (option_map_or (λ c. used_as own (taking_items own c count) t) o t) ≡ recipe table t ++ ks)
+items-keyed table own t count None = ([], sym (append-nil (recipe table t)))
+items-keyed table own t count (Some c) = used-keyed table t (taking_items own c count) (is_same_method_type own (taking_items own c count))
 
--- want of memory before any edit
-pub makes-none : (recipe keys more : List Key) (w : Work) (e : CheckError) (r : Result Handle HandleError) → IsErrAnd r (λ x. x ≡ of_check e) →
-    MakesBoth recipe keys more w w r
-makes-none recipe keys more w e (Ok h) is = absurd is
-makes-none recipe [] more w check.NoMemory (Err x) is = subst (λ v. MakesBoth recipe [] more w w (Err v)) (sym is) (inl refl)
-makes-none recipe (k ∷ keys) more w check.NoMemory (Err x) is = subst (λ v. MakesBoth recipe (k ∷ keys) more w w (Err v)) (sym is)
-    (inl (refl, inl refl))
-makes-none recipe keys more w (check.Refused e) (Err x) is = subst (λ v. MakesBoth recipe keys more w w (Err v)) (sym is) refl
+-- want of memory before any edit, or a refusal
+refused-both : (first keys third : List Key) (w : Work) (e : CheckError) → MakesBoth first (first ++ keys) third w w (Err (of_check e))
+refused-both first keys third w check.NoMemory = inl (makes-nothing first keys w (Err NoMemory) refl)
+refused-both first keys third w (check.Refused e) = refl
+
+pub makes-none : (own : MethodTy) (array : Option Ty) (count : ℕ) (t : Tree) (w : Work) (e : CheckError) (r : Result Handle HandleError) →
+    IsErrAnd r (λ x. x ≡ of_check e) → MakesSpread own array count t w w r
+makes-none own array count t w e (Ok h) is = absurd is
+makes-none own array count t w e (Err x) is =
+    let table = w.leaves.now in
+    let keyed = items-keyed table own t count (component_of array) in
+    let third = recipe table (tree.Spread (items_used_as own array count t) array count) in
+    subst (λ v. MakesSpread own array count t w w (Err v)) (sym is)
+    (subst (λ second. MakesBoth (recipe table t) second third w w (Err (of_check e))) (sym keyed.1) (refused-both (recipe table t) keyed.0 third w e))
+
+-- a refusal leaves all as it was
+from-refused : (first second : List Key) (old new : Work) (e : Exc) → MakesFrom first second old new (Err (Refused e)) → new ≡ old
+from-refused first second old new e makes = ⊎_elim (λ same. same.1) (λ other. other.1) makes
+
+-- an error of the first edit
+pub makes-first : (first second third : List Key) (old new : Work) (e : HandleError) (r : Result Handle HandleError) →
+    MakesFrom first second old new (Err e) → IsErrAnd r (λ x. x ≡ e) → MakesBoth first second third old new r
+makes-first first second third old new e (Ok h) makes is = absurd is
+makes-first first second third old new NoMemory (Err x) makes is = subst (λ v. MakesBoth first second third old new (Err v)) (sym is) (inl makes)
+makes-first first second third old new (FormsFull drawn) (Err x) makes is = subst (λ v. MakesBoth first second third old new (Err v)) (sym is) (inl makes)
+makes-first first second third old new (Refused e) (Err x) makes is =
+    subst (λ v. MakesBoth first second third old new (Err v)) (sym is) (from-refused first second old new e makes)
+
+pub makes-second : (first second third : List Key) (old mid new : Work) (g : Handle) (r : Result Handle HandleError) →
+    MakesFrom first second old mid (Ok g) → Makes third mid new r → IsAccepted r → MakesBoth first second third old new r
+makes-second first second third old mid new g (Ok h) from makes accepted = (mid, g, from, makes)
+makes-second first second third old mid new g (Err NoMemory) from makes accepted = inr (mid, g, from, makes)
+makes-second first second third old mid new g (Err (FormsFull drawn)) from makes accepted = inr (mid, g, from, makes)
+makes-second first second third old mid new g (Err (Refused e)) from makes accepted = absurd accepted

@@ -1,5 +1,4 @@
-ghost use Rattle.std.specs.Prelude.{◌≡◌, ◌+◌, ◌++◌, ◌∷◌, [], IfOk, Some};
-ghost use Rattle.mh_form.specs.declared.field.Field.TheVariants as field;
+ghost use Rattle.std.specs.Prelude.{◌≡◌, IfOk, Some};
 ghost use Rattle.mh_values.specs.Classes.{AreClasses};
 ghost use Rattle.mh_tree.specs.Check.{Tells};
 ghost use Rattle.mh_tree.specs.Rows.{component_of, gather_row};
@@ -8,8 +7,8 @@ ghost use Rattle.mh_tree.specs.Tree as tree;
 ghost use Rattle.mh_handle.specs.Grows.{GainsNode};
 ghost use Rattle.mh_handle.specs.Obeys.{Obeys};
 ghost use Rattle.mh_handle.specs.Stands.{IsShaped};
-ghost use Rattle.mh_handle.specs.Works.{IsReady, GoesOn, Makes, StandsIn, classes_of};
-ghost use Rattle.mh_branch.specs.Growths.{gather_keys};
+ghost use Rattle.mh_handle.specs.Recipe.{recipe};
+ghost use Rattle.mh_handle.specs.Works.{IsReady, GoesOn, Makes, StandsIn, classes_of, leaves_of};
 
 use mh_base::Seq;
 use mh_edit::Key;
@@ -63,11 +62,11 @@ pub fn gather<'t, R: Wait>(
     count: u8,
 ) -> Result<Handle<'t>, HandleError>
     requires ready { IsReady w.old 1 }
-    ensures goes_on { GoesOn w.old w.new }
+    ensures goes_on { GoesOn 1 w.old w.new }
     ensures obeys { Obeys (gather_row (classes_of w.old)
         target.entry.ty target.entry.weight array count) result }
-    ensures makes { Makes (target.entry.form.recipe ++ gather_keys array count)
-        w.old w.new result }
+    ensures makes { (a : Tree) → StandsIn w.old target.entry a
+        → Makes (recipe (leaves_of w.old) (tree.Gather a array count)) w.old w.new result }
     ensures gains { IfOk result (GainsNode target.entry) }
     ensures stands { (a : Tree) → StandsIn w.old target.entry a
         → IfOk result (λ h. StandsIn w.old h (tree.Gather a array count)) }

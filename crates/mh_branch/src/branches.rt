@@ -1,12 +1,13 @@
-ghost use Rattle.std.specs.Prelude.{◌∷◌, [], IfOk};
+ghost use Rattle.std.specs.Prelude.{IfOk};
 ghost use Rattle.mh_values.specs.Classes.{AreClasses};
 ghost use Rattle.mh_tree.specs.Check.{Tells};
 ghost use Rattle.mh_tree.specs.Rows.{guard_row, catch_row};
 ghost use Rattle.mh_tree.specs.Tree.{Tree};
 ghost use Rattle.mh_tree.specs.Tree as tree;
 ghost use Rattle.mh_handle.specs.Obeys.{Obeys};
-ghost use Rattle.mh_handle.specs.Works.{IsReady, GoesOn, Makes, StandsIn, classes_of};
-ghost use Rattle.mh_branch.specs.Growths.{HasBranches, HasHandler, guard_key, catch_key};
+ghost use Rattle.mh_handle.specs.Recipe.{recipe};
+ghost use Rattle.mh_handle.specs.Works.{IsReady, GoesOn, Makes, StandsIn, classes_of, leaves_of};
+ghost use Rattle.mh_branch.specs.Growths.{HasBranches, HasHandler};
 
 use crate::growths::{catching, guarding};
 use mh_handle::{Handle, HandleError, Work};
@@ -69,10 +70,12 @@ pub fn guard<'t, R: Wait>(
     fallback: Handle<'t>,
 ) -> Result<Handle<'t>, HandleError>
     requires ready { IsReady w.old 1 }
-    ensures goes_on { GoesOn w.old w.new }
+    ensures goes_on { GoesOn 1 w.old w.new }
     ensures obeys { Obeys (guard_row test.entry.ty test.entry.weight
         target.entry.ty target.entry.weight fallback.entry.ty fallback.entry.weight) result }
-    ensures makes { Makes (guard_key target.entry.ty test.entry.ty ∷ []) w.old w.new result }
+    ensures makes { (a b d : Tree) → StandsIn w.old test.entry a
+        → StandsIn w.old target.entry b → StandsIn w.old fallback.entry d
+        → Makes (recipe (leaves_of w.old) (tree.Guard a b d)) w.old w.new result }
     ensures gains { IfOk result (HasBranches test.entry target.entry fallback.entry) }
     ensures stands { (a b d : Tree) → StandsIn w.old test.entry a
         → StandsIn w.old target.entry b → StandsIn w.old fallback.entry d
@@ -95,10 +98,12 @@ pub fn catch<'t, R: Wait>(
     handler: Handle<'t>,
 ) -> Result<Handle<'t>, HandleError>
     requires ready { IsReady w.old 1 }
-    ensures goes_on { GoesOn w.old w.new }
+    ensures goes_on { GoesOn 1 w.old w.new }
     ensures obeys { Obeys (catch_row (classes_of w.old) target.entry.ty target.entry.weight class
         handler.entry.ty handler.entry.weight) result }
-    ensures makes { Makes (catch_key target.entry.ty handler.entry.ty ∷ []) w.old w.new result }
+    ensures makes { (a b : Tree) → StandsIn w.old target.entry a
+        → StandsIn w.old handler.entry b
+        → Makes (recipe (leaves_of w.old) (tree.Catch a class b)) w.old w.new result }
     ensures gains { IfOk result (HasHandler target.entry class handler.entry) }
     ensures stands { (a b : Tree) → StandsIn w.old target.entry a
         → StandsIn w.old handler.entry b → IfOk result

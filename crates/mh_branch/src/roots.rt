@@ -36,7 +36,7 @@ pub fn constant<'t, R: Wait>(
     value: Value,
 ) -> Result<Handle<'t>, HandleError>
     requires ready { IsReady w.old 1 }
-    ensures goes_on { GoesOn w.old w.new }
+    ensures goes_on { GoesOn 1 w.old w.new }
     ensures obeys { Obeys (constant_row (classes_of w.old) ty value) result }
     ensures makes { Makes (recipe (leaves_of w.old) (tree.Constant ty value)) w.old w.new result }
     ensures stands { IfOk result (λ h. StandsIn w.old h (tree.Constant ty value)) }
@@ -66,7 +66,7 @@ pub fn identity<'t, R: Wait>(
     ty: Option<Ty>,
 ) -> Result<Handle<'t>, HandleError>
     requires ready { IsReady w.old 1 }
-    ensures goes_on { GoesOn w.old w.new }
+    ensures goes_on { GoesOn 1 w.old w.new }
     ensures obeys { Obeys (identity_row ty) result }
     ensures makes { Makes (recipe (leaves_of w.old) (tree.Identity ty)) w.old w.new result }
     ensures stands { IfOk result (λ h. StandsIn w.old h (tree.Identity ty)) }
@@ -94,7 +94,7 @@ pub fn throw<'t, R: Wait>(
     class: ClassId,
 ) -> Result<Handle<'t>, HandleError>
     requires ready { IsReady w.old 1 }
-    ensures goes_on { GoesOn w.old w.new }
+    ensures goes_on { GoesOn 1 w.old w.new }
     ensures obeys { Obeys (throw_row (classes_of w.old) ret class) result }
     ensures makes { Makes (recipe (leaves_of w.old) (tree.Throw ret class)) w.old w.new result }
     ensures stands { IfOk result (λ h. StandsIn w.old h (tree.Throw ret class)) }

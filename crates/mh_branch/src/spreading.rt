@@ -1,11 +1,11 @@
 ghost use Rattle.std.specs.Prelude.{◌≡◌, ◌≤◌, length, IfOk};
+ghost use Rattle.mh_values.specs.Classes.{AreClasses};
 ghost use Rattle.mh_tree.specs.Tree.{Tree};
 ghost use Rattle.mh_tree.specs.Tree as tree;
 ghost use Rattle.mh_tree.specs.Use.{items_used_as, spread_use_row, taking_items};
 ghost use Rattle.mh_handle.specs.Obeys.{Obeys};
 ghost use Rattle.mh_handle.specs.Works.{IsReady, GoesOn, StandsIn, classes_of};
-ghost use Rattle.mh_branch.specs.Growths.{spread_keys};
-ghost use Rattle.mh_branch.specs.Spreading.{TellsUse, TellsSpreading, MakesBoth, item_keys};
+ghost use Rattle.mh_branch.specs.Spreading.{TellsUse, TellsSpreading, MakesSpread};
 
 use mh_astype::as_type;
 use mh_base::{NoMemory, Seq};
@@ -93,6 +93,27 @@ fn check_spreading(
     })
 }
 
+/// What a spread of a handle is, or why it is refused.
+fn spreading_of<'t>(
+    w: &Work<'_, 't>,
+    target: &Handle<'t>,
+    array: Option<Ty>,
+    count: u8,
+) -> Result<Spreading, CheckError>
+    ensures are { AreClasses (classes_of w.now) }
+    ensures tells { TellsSpreading (classes_of w.now) target.now.ty target.now.weight array count
+        result }
+{
+    check_spreading(
+        w.alloc,
+        target.ty(),
+        target.weight(),
+        array,
+        count,
+        w.classes(),
+    )
+}
+
 /// A handle that takes an array in the place of the last `count` arguments of `target`, to which
 /// its items are passed, converted as by `as_type` where `target` takes other types
 /// (`MethodHandle.asSpreader`, SE 17). A call throws where the array does not have so many items.
@@ -106,25 +127,17 @@ pub fn spread<'t, R: Wait>(
     count: u8,
 ) -> Result<Handle<'t>, HandleError>
     requires ready { IsReady w.old 2 }
-    ensures goes_on { GoesOn w.old w.new }
+    ensures goes_on { GoesOn 2 w.old w.new }
     ensures obeys { Obeys (spread_use_row (classes_of w.old)
         target.entry.ty target.entry.weight array count) result }
-    ensures makes { MakesBoth target.entry.form.recipe
-        (item_keys (classes_of w.old) target.entry.ty array count)
-        (spread_keys array count) w.old w.new result }
+    ensures makes { (a : Tree) → StandsIn w.old target.entry a
+        → MakesSpread target.entry.ty array count a w.old w.new result }
     ensures sides { IfOk result (λ h. h.sides ≡ target.entry.sides) }
     ensures stands { (a : Tree) → StandsIn w.old target.entry a
         → IfOk result (λ h. StandsIn w.old h
         (tree.Spread (items_used_as target.entry.ty array count a) array count)) }
 {
-    let spreading = check_spreading(
-        w.alloc,
-        target.ty(),
-        target.weight(),
-        array,
-        count,
-        w.classes(),
-    )?;
+    let spreading = spreading_of(w, &target, array, count)?;
     let Spreading {
         component,
         asked,

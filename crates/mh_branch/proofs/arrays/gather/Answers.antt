@@ -1,6 +1,5 @@
 use Rattle.std.proofs.Common.{◌≡◌, ◌+◌, sym, ap, subst, ◌∙◌, IfOk, ℕ}
 use Rattle.mh_values.specs.Array.{item_type}
-use Rattle.mh_tree.specs.Rows.{gather_row}
 use Rattle.mh_form.specs.Erasure.{basic_of}
 use Rattle.mh_edit.specs.declared.key.Key.TheVariants as key
 use Rattle.mh_edit.specs.Applied.{applied}
@@ -8,7 +7,7 @@ use Rattle.mh_handle.specs.Grows.{Grows}
 use Rattle.mh_handle.specs.Stands.{HasShape, handle_body}
 use Rattle.mh_handle.proofs.Gaining.{grown-gains}
 use Rattle.mh_branch.proofs.ArrayFits.{gather-fits}
-use Rattle.mh_branch.proofs.ArrayAnswers.{gather-answers}
+use Rattle.mh_branch.proofs.ArrayAnswers.{gather-answers, gather-makes}
 use Rattle.mh_branch.proofs.ArrayShapes.{gather-shaped}
 use Rattle.mh_branch.proofs.arrays.gather.Goals as goal
 
@@ -26,6 +25,14 @@ grown-requires-clause-fits g c =
     gather-fits c.args.w.now.leaves.now.classes c.args.target.ty c.args.target.weight c.args.array c.args.count c.in_ok-own.own c.basic_of.result
     (handle_body c.args.target)
     c.in_ok-own.ensures.tells c.in_ok-own.ensures.shaped.made c.in_ok-own.ensures.shaped.params
+
+pub returns-clause-makes : goal.returns-clause-makes
+returns-clause-makes g c a st =
+    let own = key.Gather c.args.count c.basic_of.result in
+    let is : own ≡ key.Gather c.args.count (basic_of (item_type c.component_of-component.result)) =
+    ap (key.Gather c.args.count) (c.basic_of.ensures ∙ ap basic_of c.item_type.ensures) in
+    gather-makes c.args.w.now.leaves.now c.args.target a c.args.array c.args.count c.component_of-component.result own c.args.w.now c.grown.new.w
+    c.grown.result st c.component_of-component.ensures is c.grown.ensures.makes
 
 pub returns-clause-gains : goal.returns-clause-gains
 returns-clause-gains g c =

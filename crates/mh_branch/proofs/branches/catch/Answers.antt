@@ -21,10 +21,10 @@ rooted-requires-clause-light g c =
     c.in_ok-by.ensures
 
 pub returns-clause-makes : goal.returns-clause-makes
-returns-clause-makes g c =
+returns-clause-makes g c a b stands handles =
     catch-makes c.args.w.now.leaves.now.classes c.args.target c.args.class c.args.handler c.in_ok-own.own c.in_ok-own.ensures.tells c.in_ok-by.by
     c.in_ok-by.ensures
-    c.args.w.now c.rooted.new.w c.rooted.result c.rooted.ensures.makes
+    c.args.w.now.leaves.now c.args.w.now c.rooted.new.w c.rooted.result a b stands handles c.rooted.ensures.makes
 
 pub returns-clause-gains : goal.returns-clause-gains
 returns-clause-gains g c = catch-gains c.in_ok-own.own c.args.target c.args.class c.args.handler c.in_ok-by.by c.rooted.result c.in_ok-by.ensures

@@ -15,9 +15,9 @@ rooted-requires-clause-light g c =
     guard-light c.args.test c.args.target c.args.fallback c.in_ok-own.own c.in_ok-own.ensures c.in_ok-by.by c.in_ok-by.ensures
 
 pub returns-clause-makes : goal.returns-clause-makes
-returns-clause-makes g c =
+returns-clause-makes g c a b d tests stands others =
     guard-makes c.args.test c.args.target c.args.fallback c.in_ok-own.own c.in_ok-own.ensures c.in_ok-by.by c.in_ok-by.ensures
-    c.args.w.now c.rooted.new.w c.rooted.result c.rooted.ensures.makes
+    c.args.w.now.leaves.now c.args.w.now c.rooted.new.w c.rooted.result a b d tests stands c.rooted.ensures.makes
 
 pub returns-clause-gains : goal.returns-clause-gains
 returns-clause-gains g c = guard-gains c.in_ok-own.own c.args.test c.args.target c.args.fallback c.in_ok-by.by c.rooted.result c.in_ok-by.ensures
