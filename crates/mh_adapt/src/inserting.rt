@@ -59,7 +59,7 @@ pub fn bind<'t, R: Wait>(
     value: Value,
 ) -> Result<Handle<'t>, HandleError>
     requires ready { IsReady w.old 1 }
-    ensures goes_on { GoesOn w.old w.new }
+    ensures goes_on { GoesOn 1 w.old w.new }
     ensures obeys { Obeys (bind_row (classes_of w.old)
         target.entry.ty target.entry.weight position value) result }
     ensures makes { (a : Tree) → StandsIn w.old target.entry a
@@ -94,7 +94,7 @@ pub fn drop_args<'t, R: Wait>(
     value_types: &Tys,
 ) -> Result<Handle<'t>, HandleError>
     requires ready { IsReady w.old 1 }
-    ensures goes_on { GoesOn w.old w.new }
+    ensures goes_on { GoesOn 1 w.old w.new }
     ensures obeys { Obeys
         (drop_row target.entry.ty target.entry.weight position value_types.now) result }
     ensures makes { (a : Tree) → StandsIn w.old target.entry a
@@ -130,7 +130,7 @@ pub fn permute<'t, R: Wait>(
     reorder: &[u8],
 ) -> Result<Handle<'t>, HandleError>
     requires ready { IsReady w.old 1 }
-    ensures goes_on { GoesOn w.old w.new }
+    ensures goes_on { GoesOn 1 w.old w.new }
     ensures obeys { Obeys
         (permute_row target.entry.ty target.entry.weight ty.now reorder.now) result }
     ensures makes { (a : Tree) → StandsIn w.old target.entry a

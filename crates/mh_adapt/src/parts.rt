@@ -23,7 +23,7 @@ pub fn filter<'t, R: Wait>(
     filter: Handle<'t>,
 ) -> Result<Handle<'t>, HandleError>
     requires ready { IsReady w.old 1 }
-    ensures goes_on { GoesOn w.old w.new }
+    ensures goes_on { GoesOn 1 w.old w.new }
     ensures obeys { Obeys (filter_row target.entry.ty target.entry.weight position
         filter.entry.ty filter.entry.weight) result }
     ensures makes { (a b : Tree) → StandsIn w.old target.entry a
@@ -49,7 +49,7 @@ pub fn filterret<'t, R: Wait>(
     filter: Handle<'t>,
 ) -> Result<Handle<'t>, HandleError>
     requires ready { IsReady w.old 1 }
-    ensures goes_on { GoesOn w.old w.new }
+    ensures goes_on { GoesOn 1 w.old w.new }
     ensures obeys { Obeys (filterret_row target.entry.ty target.entry.weight
         filter.entry.ty filter.entry.weight) result }
     ensures makes { (a b : Tree) → StandsIn w.old target.entry a
@@ -77,7 +77,7 @@ pub fn fold<'t, R: Wait>(
     combiner: Handle<'t>,
 ) -> Result<Handle<'t>, HandleError>
     requires ready { IsReady w.old 1 }
-    ensures goes_on { GoesOn w.old w.new }
+    ensures goes_on { GoesOn 1 w.old w.new }
     ensures obeys { Obeys (fold_row target.entry.ty target.entry.weight position
         combiner.entry.ty combiner.entry.weight) result }
     ensures makes { (a b : Tree) → StandsIn w.old target.entry a
@@ -105,7 +105,7 @@ pub fn collect<'t, R: Wait>(
     filter: Handle<'t>,
 ) -> Result<Handle<'t>, HandleError>
     requires ready { IsReady w.old 1 }
-    ensures goes_on { GoesOn w.old w.new }
+    ensures goes_on { GoesOn 1 w.old w.new }
     ensures obeys { Obeys (collect_row target.entry.ty target.entry.weight position
         filter.entry.ty filter.entry.weight) result }
     ensures makes { (a b : Tree) → StandsIn w.old target.entry a
