@@ -354,7 +354,7 @@ fn row_on<'t, R: Wait>(
 
 /// The work of a row, so many times, by the first pass over a table.
 fn first_on<R: Wait>(rt: &R, start: Start<'_>, row: Row, turns: u32) -> Result<u64, HandleError>
-    requires first { start.seat ≡ seat_at 0 }
+    requires first { start.seat ≡ seat_at start.table.now 0 }
 {
     let Start {
         alloc,

@@ -2,8 +2,7 @@
 
 ghost use Rattle.std.specs.Prelude.{◌≡◌, ◌≤◌, length, IfOk, IsTrue};
 ghost use Rattle.mh_handle.specs.Passes.{seat_at};
-ghost use Rattle.mh_handle.specs.Works.{IsReady};
-ghost use Rattle.mh_steps.specs.Spending.{Spends};
+ghost use Rattle.mh_handle.specs.Works.{IsReady, GoesOn};
 
 use mh_base::NoMemory;
 use mh_handle::{Answer, FormTable, HandleError, Work};
@@ -43,7 +42,7 @@ fn answer_on<'t, R: Wait>(
 fn number_on<'t, R: Wait>(w: &mut Work<'_, 't>, rt: &R, making: &Making) -> Result<u64, HandleError>
     requires ready { IsReady w.old 204 }
     requires few { length making.now.steps.now ≤ 100 }
-    ensures spends { Spends 204 w.old w.new }
+    ensures goes_on { GoesOn 204 w.old w.new }
 {
     let handle = made(w, rt, making.root, making.steps)?;
     Ok(handle.form().number())
@@ -70,7 +69,7 @@ fn answer_at<R: Wait>(
     making: &Making,
     arguments: &[&str],
 ) -> Result<Answer, HandleError>
-    requires first { start.seat ≡ seat_at 0 }
+    requires first { start.seat ≡ seat_at start.table.now 0 }
     requires few { length making.now.steps.now ≤ 100 }
 {
     let Start {
@@ -102,7 +101,7 @@ fn numbers_at<R: Wait>(
     first: &Making,
     second: &Making,
 ) -> Result<(u64, u64), HandleError>
-    requires seat { start.seat ≡ seat_at 0 }
+    requires seat { start.seat ≡ seat_at start.table.now 0 }
     requires first { length first.now.steps.now ≤ 100 }
     requires second { length second.now.steps.now ≤ 100 }
 {

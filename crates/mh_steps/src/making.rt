@@ -2,8 +2,7 @@
 
 ghost use Rattle.std.specs.Prelude.{◌≤◌, length, IfOk};
 ghost use Rattle.mh_handle.specs.Stands.{StandsForSome};
-ghost use Rattle.mh_handle.specs.Works.{IsReady, leaves_of};
-ghost use Rattle.mh_steps.specs.Spending.{Spends};
+ghost use Rattle.mh_handle.specs.Works.{IsReady, GoesOn, leaves_of};
 
 use crate::literals::{type_of, value_of};
 use crate::step::{Joined, Root, Step, Typed};
@@ -16,7 +15,7 @@ use std::sync::Wait;
 
 fn leaf_at<'t, R: Wait>(w: &mut Work<'_, 't>, rt: &R, id: LeafId) -> Result<Handle<'t>, HandleError>
     requires ready { IsReady w.old 1 }
-    ensures spends { Spends 1 w.old w.new }
+    ensures goes_on { GoesOn 1 w.old w.new }
     ensures stands { IfOk result (StandsForSome (leaves_of w.old)) }
 {
     if id.0 >= w.leaves.count() {
@@ -33,7 +32,7 @@ fn guarded<'t, R: Wait>(
     fallback: LeafId,
 ) -> Result<Handle<'t>, HandleError>
     requires ready { IsReady w.old 4 }
-    ensures spends { Spends 4 w.old w.new }
+    ensures goes_on { GoesOn 4 w.old w.new }
     ensures stands { IfOk result (StandsForSome (leaves_of w.old)) }
 {
     let test = leaf_at(w, rt, test)?;
@@ -50,7 +49,7 @@ fn caught<'t, R: Wait>(
     handler: LeafId,
 ) -> Result<Handle<'t>, HandleError>
     requires ready { IsReady w.old 3 }
-    ensures spends { Spends 3 w.old w.new }
+    ensures goes_on { GoesOn 3 w.old w.new }
     ensures stands { IfOk result (StandsForSome (leaves_of w.old)) }
 {
     let target = leaf_at(w, rt, target)?;
@@ -65,7 +64,7 @@ fn constant_of<'t, R: Wait>(
     value: &str,
 ) -> Result<Handle<'t>, HandleError>
     requires ready { IsReady w.old 1 }
-    ensures spends { Spends 1 w.old w.new }
+    ensures goes_on { GoesOn 1 w.old w.new }
     ensures stands { IfOk result (StandsForSome (leaves_of w.old)) }
 {
     let classes = w.leaves.classes();
@@ -76,7 +75,7 @@ fn constant_of<'t, R: Wait>(
 
 fn rooted<'t, R: Wait>(w: &mut Work<'_, 't>, rt: &R, root: Root) -> Result<Handle<'t>, HandleError>
     requires ready { IsReady w.old 4 }
-    ensures spends { Spends 4 w.old w.new }
+    ensures goes_on { GoesOn 4 w.old w.new }
     ensures stands { IfOk result (StandsForSome (leaves_of w.old)) }
 {
     let classes = w.leaves.classes();
@@ -105,7 +104,7 @@ fn bound<'t, R: Wait>(
 ) -> Result<Handle<'t>, HandleError>
     requires ready { IsReady w.old 1 }
     requires stands { StandsForSome (leaves_of w.old) target }
-    ensures spends { Spends 1 w.old w.new }
+    ensures goes_on { GoesOn 1 w.old w.new }
     ensures stands { IfOk result (StandsForSome (leaves_of w.old)) }
 {
     let value = value_of(w.alloc, text, w.leaves.classes())?;
@@ -121,7 +120,7 @@ fn by_type<'t, R: Wait>(
 ) -> Result<Handle<'t>, HandleError>
     requires ready { IsReady w.old 2 }
     requires stands { StandsForSome (leaves_of w.old) target }
-    ensures spends { Spends 2 w.old w.new }
+    ensures goes_on { GoesOn 2 w.old w.new }
     ensures stands { IfOk result (StandsForSome (leaves_of w.old)) }
 {
     match how {
@@ -142,7 +141,7 @@ fn with_type<'t, R: Wait>(
 ) -> Result<Handle<'t>, HandleError>
     requires ready { IsReady w.old 2 }
     requires stands { StandsForSome (leaves_of w.old) target }
-    ensures spends { Spends 2 w.old w.new }
+    ensures goes_on { GoesOn 2 w.old w.new }
     ensures stands { IfOk result (StandsForSome (leaves_of w.old)) }
 {
     let ty = type_of(w.alloc, text, w.leaves.classes())?;
@@ -159,7 +158,7 @@ fn by_part<'t, R: Wait>(
     requires ready { IsReady w.old 1 }
     requires stands { StandsForSome (leaves_of w.old) target }
     requires part { StandsForSome (leaves_of w.old) part }
-    ensures spends { Spends 1 w.old w.new }
+    ensures goes_on { GoesOn 1 w.old w.new }
     ensures stands { IfOk result (StandsForSome (leaves_of w.old)) }
 {
     match how {
@@ -178,7 +177,7 @@ fn with_part<'t, R: Wait>(
 ) -> Result<Handle<'t>, HandleError>
     requires ready { IsReady w.old 2 }
     requires stands { StandsForSome (leaves_of w.old) target }
-    ensures spends { Spends 2 w.old w.new }
+    ensures goes_on { GoesOn 2 w.old w.new }
     ensures stands { IfOk result (StandsForSome (leaves_of w.old)) }
 {
     let part = leaf_at(w, rt, id)?;
@@ -192,7 +191,7 @@ fn doubled<'t, R: Wait>(
 ) -> Result<Handle<'t>, HandleError>
     requires ready { IsReady w.old 1 }
     requires stands { StandsForSome (leaves_of w.old) target }
-    ensures spends { Spends 1 w.old w.new }
+    ensures goes_on { GoesOn 1 w.old w.new }
     ensures stands { IfOk result (StandsForSome (leaves_of w.old)) }
 {
     let part = target.copy(w)?;
@@ -207,7 +206,7 @@ fn adapted<'t, R: Wait>(
 ) -> Result<Handle<'t>, HandleError>
     requires ready { IsReady w.old 2 }
     requires stands { StandsForSome (leaves_of w.old) target }
-    ensures spends { Spends 2 w.old w.new }
+    ensures goes_on { GoesOn 2 w.old w.new }
     ensures stands { IfOk result (StandsForSome (leaves_of w.old)) }
 {
     match step {
@@ -227,7 +226,7 @@ pub fn made<'t, R: Wait>(
 ) -> Result<Handle<'t>, HandleError>
     requires ready { IsReady w.old 204 }
     requires few { length steps.now ≤ 100 }
-    ensures spends { Spends 204 w.old w.new }
+    ensures goes_on { GoesOn 204 w.old w.new }
     ensures stands { IfOk result (StandsForSome (leaves_of w.old)) }
 {
     let mut h = rooted(w, rt, root)?;

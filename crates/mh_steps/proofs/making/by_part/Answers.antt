@@ -1,5 +1,5 @@
 use Rattle.mh_tree.specs.Tree as tree
-use Rattle.mh_steps.proofs.Spending.{some-tree}
+use Rattle.mh_steps.proofs.Rooms.{some-tree}
 use Rattle.mh_steps.proofs.making.by_part.Goals as goal
 
 pub returns-in-Filter-clause-stands : goal.returns-in-Filter-clause-stands

@@ -1,6 +1,6 @@
 use Rattle.std.proofs.Common.{◌*◌, ◌≤◌}
 use Rattle.mh_handle.specs.Stands.{StandsForSome}
-use Rattle.mh_steps.specs.Spending.{Spends}
+use Rattle.mh_handle.specs.Works.{GoesOn}
 use Rattle.mh_steps.proofs.making.made.Given as goal
 
 -- for each step that was made two numbers may have been drawn
@@ -8,6 +8,6 @@ abbrev pub invariant-loop-step : goal.invariant-loop-step
 invariant-loop-step g l =
     record {
       few : l.step-index ≤ 100;
-      spends : Spends (2 * l.step-index) l.initial.w l.w;
+      goes_on : GoesOn (2 * l.step-index) l.initial.w l.w;
       stands : StandsForSome l.w.leaves.now l.h;
     }
