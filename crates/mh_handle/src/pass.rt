@@ -142,6 +142,7 @@ impl<'t> FormPass<'t> {
     {
         self.seen.reserve()?;
         reserve_one(&mut self.made)?;
+        self.walk.reserve()?;
         let number = self.seat.draw();
         if number > Form::LIMIT {
             return Err(EditError::FormsFull { drawn: number });

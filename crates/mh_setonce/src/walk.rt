@@ -79,6 +79,14 @@ impl<'t, V: Keyed> Walk<'t, V> {
         scan::with_key_of(self.learnt.as_slice(), value)
     }
 
+    /// Takes memory for one node more.
+    pub fn reserve(&mut self) -> Result<(), NoMemory>
+        ensures { self.new ≡ self.old }
+    {
+        self.learnt.reserve(1)?;
+        Ok(())
+    }
+
     // Learns the next cell, if it shows a node with a new key.
     fn step(&mut self) -> Result<bool, NoMemory>
         ensures cells { self.new.cells ≡ self.old.cells }

@@ -1,4 +1,8 @@
 use Rattle.std.proofs.Common.{subst, sym, refl, map}
+use Rattle.mh_setonce.specs.Views.{WalkView}
+use Rattle.mh_setonce.specs.Walks.{Distinct, StartsWith}
+use Rattle.mh_handle.specs.Form.{FormView}
+use Rattle.mh_handle.specs.Index.{recipe_of}
 use Rattle.mh_handle.specs.Passes.{AreLearnt, AreNumbered, IsFormOf, PassView, StaysLearnt}
 use Rattle.mh_handle.proofs.Edits.{made-asked, made-refused, put-has, put-kept}
 use Rattle.mh_handle.proofs.Learning.{has-found, starts-found}
@@ -7,8 +11,9 @@ use Rattle.mh_handle.proofs.pass.FormPass.make.Goals as goal
 
 pub invariant_of-self-then-number-gt-LIMIT : goal.invariant_of-self-then-number-gt-LIMIT
 invariant_of-self-then-number-gt-LIMIT g c = (
-  subst (AreLearnt c.self.inside.walk.nodes) (sym c.in_ok-reserve.ensures) c.self.invariant.0,
-  c.self.invariant.1,
+  subst (λ (w : WalkView FormView). AreLearnt w.nodes c.reserve.new.self) (sym c.in_ok-reserve-2.ensures)
+      (subst (AreLearnt c.self.inside.walk.nodes) (sym c.in_ok-reserve.ensures) c.self.invariant.0),
+  subst (λ (w : WalkView FormView). Distinct recipe_of w.nodes) (sym c.in_ok-reserve-2.ensures) c.self.invariant.1,
   numbered-later (map (λ f. f.now) c.reserve_one.new.forms.items) c.draw-number.result c.self.inside.seat c.draw-number.new.self c.draw-number.ensures
       (subst (λ fs. AreNumbered (map (λ f. f.now) fs) c.self.inside.seat.numbers) (sym c.in_ok-reserve_one.ensures.same) c.self.invariant.2),
 )
@@ -16,7 +21,7 @@ invariant_of-self-then-number-gt-LIMIT g c = (
 pub invariant_of-self-in_err-put : goal.invariant_of-self-in_err-put
 invariant_of-self-in_err-put g c = (
   subst (AreLearnt c.put_form.new.walk.nodes) (sym c.in_ok-reserve.ensures) (learnt-later c.self.inside.walk.nodes c.put_form.new.walk.nodes c.self.inside.seen
-      c.in_err-put.ensures.nodes c.self.invariant.0),
+      (subst (λ (w : WalkView FormView). StartsWith c.put_form.new.walk.nodes w.nodes) c.in_ok-reserve-2.ensures c.in_err-put.ensures.nodes) c.self.invariant.0),
   c.in_err-put.ensures.once,
   numbered-later (map (λ f. f.now) c.reserve_one.new.forms.items) c.draw-number.result c.self.inside.seat c.draw-number.new.self c.draw-number.ensures
       (subst (λ fs. AreNumbered (map (λ f. f.now) fs) c.self.inside.seat.numbers) (sym c.in_ok-reserve_one.ensures.same) c.self.invariant.2),
@@ -25,7 +30,7 @@ invariant_of-self-in_err-put g c = (
 pub invariant_of-self-2 : goal.invariant_of-self-2
 invariant_of-self-2 g c = (
   subst (AreLearnt c.put_form.new.walk.nodes) (sym c.in_ok-reserve.ensures) (learnt-later c.self.inside.walk.nodes c.put_form.new.walk.nodes c.self.inside.seen
-      c.in_ok-put.ensures.nodes c.self.invariant.0),
+      (subst (λ (w : WalkView FormView). StartsWith c.put_form.new.walk.nodes w.nodes) c.in_ok-reserve-2.ensures c.in_ok-put.ensures.nodes) c.self.invariant.0),
   c.in_ok-put.ensures.once,
   numbered-kept _ c.kept-form.result.now (map (λ f. f.now) c.reserve_one.new.forms.items) (map (λ f. f.now) c.kept-form.new.made.items) c.draw-number.result
       c.self.inside.seat c.draw-number.new.self c.draw-number.ensures refl
@@ -36,7 +41,7 @@ invariant_of-self-2 g c = (
 
 pub returns-in_err-put-clause-learnt : goal.returns-in_err-put-clause-learnt
 returns-in_err-put-clause-learnt g c =
-    rw (← c.self.view_is) (starts-found c.self.inside.walk.nodes c.put_form.new.walk.nodes c.in_err-put.ensures.nodes)
+    rw (← c.self.view_is) (starts-found c.self.inside.walk.nodes c.put_form.new.walk.nodes (subst (λ (w : WalkView FormView). StartsWith c.put_form.new.walk.nodes w.nodes) c.in_ok-reserve-2.ensures c.in_err-put.ensures.nodes))
 
 pub ask-requires-clause-new : goal.ask-requires-clause-new
 ask-requires-clause-new g c =
@@ -53,7 +58,7 @@ ask-requires-clause-learnt g c =
 pub returns-in_err-ask-clause-learnt : goal.returns-in_err-ask-clause-learnt
 returns-in_err-ask-clause-learnt g c =
     subst (λ (p : PassView). StaysLearnt c.args.self.now p) (sym c.in_err-ask.ensures.err)
-    (rw (← c.self.view_is) (starts-found c.self.inside.walk.nodes c.put_form.new.walk.nodes c.in_ok-put.ensures.nodes))
+    (rw (← c.self.view_is) (starts-found c.self.inside.walk.nodes c.put_form.new.walk.nodes (subst (λ (w : WalkView FormView). StartsWith c.put_form.new.walk.nodes w.nodes) c.in_ok-reserve-2.ensures c.in_ok-put.ensures.nodes)))
 
 pub returns-in_err-ask-clause-makes : goal.returns-in_err-ask-clause-makes
 returns-in_err-ask-clause-makes g c =
@@ -88,7 +93,7 @@ returns-in_err-ask-clause-makes g c =
 pub returns-clause-learnt : goal.returns-clause-learnt
 returns-clause-learnt g c =
     subst (λ (p : PassView). StaysLearnt c.args.self.now p) (sym c.in_ok-ask.ensures.ok)
-    (rw (← c.self.view_is) (starts-found c.self.inside.walk.nodes c.put_form.new.walk.nodes c.in_ok-put.ensures.nodes))
+    (rw (← c.self.view_is) (starts-found c.self.inside.walk.nodes c.put_form.new.walk.nodes (subst (λ (w : WalkView FormView). StartsWith c.put_form.new.walk.nodes w.nodes) c.in_ok-reserve-2.ensures c.in_ok-put.ensures.nodes)))
 
 pub returns-clause-makes : goal.returns-clause-makes
 returns-clause-makes g c =
