@@ -26,7 +26,8 @@ use Rattle.mh_edit.specs.Applied.{applied}
 use Rattle.mh_edit.specs.Law.{FilterReturnLaw}
 use Rattle.mh_edit.specs.Rename.{ending_with}
 use Rattle.mh_edit.proofs.Results.{law-FilterReturn}
-use Rattle.mh_handle.specs.Grows.{Grows, IsPartOf}
+use Rattle.mh_handle.specs.Grows.{Grows}
+use Rattle.mh_handle.specs.Parts.{IsPartOf}
 use Rattle.mh_handle.specs.Stands.{HandleView, IsMade, Stands, handle_body}
 use Rattle.mh_handle.proofs.Erasing.{returns-runs}
 use Rattle.mh_handle.proofs.Standing.{suc-positive}

@@ -13,7 +13,8 @@ use Rattle.mh_tree.specs.Sound.{IsSound}
 use Rattle.mh_tree.proofs.RowParts.{filter_row-parts}
 use Rattle.mh_tree.proofs.SoundAdapters.{filter-sound}
 use Rattle.mh_form.specs.declared.field.Field.{Field}
-use Rattle.mh_handle.specs.Grows.{Grows, IsPartOf}
+use Rattle.mh_handle.specs.Grows.{Grows}
+use Rattle.mh_handle.specs.Parts.{IsPartOf}
 use Rattle.mh_handle.specs.Stands.{HandleView, Stands}
 use Rattle.mh_adapt.specs.Parts.{collect_key}
 use Rattle.mh_adapt.proofs.CollectStands.{collected, collect-does}

@@ -29,7 +29,8 @@ use Rattle.mh_edit.specs.Law.{FoldLaw}
 use Rattle.mh_edit.specs.Rename.{table as places}
 use Rattle.mh_edit.proofs.Laws.{law-applied}
 use Rattle.mh_edit.proofs.Places.{length-spliced}
-use Rattle.mh_handle.specs.Grows.{Grows, IsPartOf}
+use Rattle.mh_handle.specs.Grows.{Grows}
+use Rattle.mh_handle.specs.Parts.{IsPartOf}
 use Rattle.mh_handle.specs.Stands.{HandleView, Stands, handle_body}
 use Rattle.mh_handle.proofs.Erasing.{returns-runs}
 use Rattle.mh_handle.proofs.Standing.{made-fits, made-reframed}

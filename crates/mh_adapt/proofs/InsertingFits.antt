@@ -85,3 +85,6 @@ module _ (h : HandleView) (asked : MethodTy) (reorder : List ℕ) (u : MethodTy)
         let q = permute_row-parts h.ty h.weight asked reorder u row in
         and_from _ _ (ap not shaped.made)
         (ap (names_each (map basic_of asked.params) reorder) shaped.params ∙ each-named asked.params reorder h.ty.params q.0)
+
+    pub permute-shaped : HasShape (applied (key.Permute (map basic_of asked.params) reorder) (handle_body h)) u
+    permute-shaped = ap (λ (m : MethodTy). map basic_of m.params) (sym (permute_row-parts h.ty h.weight asked reorder u row).2)

@@ -1,4 +1,4 @@
-mod Answered
+mod Added
 mod BindStands
 mod CollectStands
 mod DropStands
@@ -6,6 +6,7 @@ mod FilterReturnStands
 mod FilterStands
 mod FoldStands
 mod InsertingFits
+mod NodeAnswers
 mod NodeRecipes
 mod PartAnswers
 mod PartFits

@@ -4,6 +4,8 @@
 
 mod growths;
 mod inserting;
+mod joining;
+mod nodes;
 mod parts;
 mod types;
 

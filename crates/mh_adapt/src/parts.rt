@@ -5,10 +5,10 @@ ghost use Rattle.mh_tree.specs.Tree as tree;
 ghost use Rattle.mh_handle.specs.Grows.{GainsPart};
 ghost use Rattle.mh_handle.specs.Obeys.{Obeys};
 ghost use Rattle.mh_handle.specs.Recipe.{recipe};
-ghost use Rattle.mh_handle.specs.Works.{IsReady, GoesOn, Makes, StandsIn, leaves_of};
+ghost use Rattle.mh_handle.specs.Works.{CountsHandles, IsReady, GoesOn, Makes, StandsIn, leaves_of};
 
-use crate::growths::{collecting, filtering, folding};
-use crate::types::{collect_type, filter_type, filterret_type, fold_type};
+use crate::growths::{collect_growth, filter_growth, filterret_growth, fold_growth};
+use crate::joining::{grown_with, refused_with};
 use mh_handle::{Handle, HandleError, Work};
 use std::sync::Wait;
 
@@ -29,14 +29,16 @@ pub fn filter<'t, R: Wait>(
     ensures makes { (a b : Tree) → StandsIn w.old target.entry a
         → StandsIn w.old filter.entry b
         → Makes (recipe (leaves_of w.old) (tree.FilterArg a position b)) w.old w.new result }
+    ensures handles { CountsHandles 2 w.old w.new result }
     ensures gains { IfOk result (GainsPart filter.entry target.entry) }
     ensures stands { (a b : Tree) → StandsIn w.old target.entry a
         → StandsIn w.old filter.entry b
         → IfOk result (λ h. StandsIn w.old h (tree.FilterArg a position b)) }
 {
-    let own = filter_type(w, &target, position, &filter)?;
-    let by = collecting(w.alloc, own, &target, position, filter)?;
-    target.grown(w, rt, by)
+    match filter_growth(w, &target, position, &filter) {
+        Ok(by) => grown_with(w, rt, target, by, filter),
+        Err(error) => refused_with(w, target, filter, error),
+    }
 }
 
 /// A handle that passes its result to `filter` and returns what that gives
@@ -55,14 +57,16 @@ pub fn filterret<'t, R: Wait>(
     ensures makes { (a b : Tree) → StandsIn w.old target.entry a
         → StandsIn w.old filter.entry b
         → Makes (recipe (leaves_of w.old) (tree.FilterRet a b)) w.old w.new result }
+    ensures handles { CountsHandles 2 w.old w.new result }
     ensures gains { IfOk result (GainsPart filter.entry target.entry) }
     ensures stands { (a b : Tree) → StandsIn w.old target.entry a
         → StandsIn w.old filter.entry b
         → IfOk result (λ h. StandsIn w.old h (tree.FilterRet a b)) }
 {
-    let own = filterret_type(w, &target, &filter)?;
-    let by = filtering(w.alloc, own, &target, filter)?;
-    target.grown(w, rt, by)
+    match filterret_growth(w, &target, &filter) {
+        Ok(by) => grown_with(w, rt, target, by, filter),
+        Err(error) => refused_with(w, target, filter, error),
+    }
 }
 
 /// A handle that runs `combiner` on the arguments from a position on, and then `target` with what
@@ -83,14 +87,16 @@ pub fn fold<'t, R: Wait>(
     ensures makes { (a b : Tree) → StandsIn w.old target.entry a
         → StandsIn w.old combiner.entry b
         → Makes (recipe (leaves_of w.old) (tree.Fold a position b)) w.old w.new result }
+    ensures handles { CountsHandles 2 w.old w.new result }
     ensures gains { IfOk result (GainsPart combiner.entry target.entry) }
     ensures stands { (a b : Tree) → StandsIn w.old target.entry a
         → StandsIn w.old combiner.entry b
         → IfOk result (λ h. StandsIn w.old h (tree.Fold a position b)) }
 {
-    let own = fold_type(w, &target, position, &combiner)?;
-    let by = folding(w.alloc, own, &target, position, combiner)?;
-    target.grown(w, rt, by)
+    match fold_growth(w, &target, position, &combiner) {
+        Ok(by) => grown_with(w, rt, target, by, combiner),
+        Err(error) => refused_with(w, target, combiner, error),
+    }
 }
 
 /// A handle that takes the arguments of `filter` from a position on, runs `filter` on them and
@@ -111,12 +117,14 @@ pub fn collect<'t, R: Wait>(
     ensures makes { (a b : Tree) → StandsIn w.old target.entry a
         → StandsIn w.old filter.entry b
         → Makes (recipe (leaves_of w.old) (tree.Collect a position b)) w.old w.new result }
+    ensures handles { CountsHandles 2 w.old w.new result }
     ensures gains { IfOk result (GainsPart filter.entry target.entry) }
     ensures stands { (a b : Tree) → StandsIn w.old target.entry a
         → StandsIn w.old filter.entry b
         → IfOk result (λ h. StandsIn w.old h (tree.Collect a position b)) }
 {
-    let own = collect_type(w, &target, position, &filter)?;
-    let by = collecting(w.alloc, own, &target, position, filter)?;
-    target.grown(w, rt, by)
+    match collect_growth(w, &target, position, &filter) {
+        Ok(by) => grown_with(w, rt, target, by, filter),
+        Err(error) => refused_with(w, target, filter, error),
+    }
 }

@@ -21,6 +21,7 @@ pub mod Making
 pub mod Obeying
 pub mod Passing
 pub mod Recipes
+pub mod Refusals
 pub mod SameRecipes
 pub mod Standing
 pub mod TrivialConversions

@@ -15,6 +15,7 @@ mod live_handles;
 mod parts;
 mod pass;
 mod recipe;
+mod refusal;
 mod retyped;
 mod seat;
 mod seen_forms;

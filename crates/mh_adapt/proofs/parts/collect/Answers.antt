@@ -1,35 +1,26 @@
 use Rattle.mh_tree.specs.Tree as tree
 use Rattle.mh_adapt.specs.Parts.{collect_key}
 use Rattle.mh_adapt.proofs.CollectStands.{collect-stands}
-use Rattle.mh_adapt.proofs.NodeRecipes.{makes-parted}
 use Rattle.mh_adapt.proofs.PartAnswers.{adds-fits, adds-gains, adds-shaped, adds-stands}
 use Rattle.mh_adapt.proofs.PartSuits.{collect-suited}
 use Rattle.mh_adapt.proofs.parts.collect.Goals as goal
 
-pub grown-requires-clause-fits : goal.grown-requires-clause-fits
-grown-requires-clause-fits g c =
-    adds-fits c.in_ok-own.own c.args.target (collect_key c.args.position c.args.filter.ty) c.args.filter c.in_ok-by.by c.in_ok-by.ensures
-    (collect-suited c.args.target c.args.filter c.in_ok-own.ensures.shaped c.args.position c.in_ok-own.own c.in_ok-own.ensures.tells)
+pub grown_with-requires-clause-fits : goal.grown_with-requires-clause-fits
+grown_with-requires-clause-fits g c =
+    adds-fits c.args.target (collect_key c.args.position c.args.filter.ty) c.args.filter c.in-Ok.by c.in-Ok.ensures.tells.1
+    (collect-suited c.args.target c.args.filter c.in-Ok.ensures.shaped c.args.position c.in-Ok.by.ty c.in-Ok.ensures.tells.0)
 
-pub grown-requires-clause-shaped : goal.grown-requires-clause-shaped
-grown-requires-clause-shaped g c =
-    adds-shaped c.in_ok-own.own c.args.target (collect_key c.args.position c.args.filter.ty) c.args.filter c.in_ok-by.by c.in_ok-by.ensures
-    (collect-suited c.args.target c.args.filter c.in_ok-own.ensures.shaped c.args.position c.in_ok-own.own c.in_ok-own.ensures.tells)
+pub grown_with-requires-clause-shaped : goal.grown_with-requires-clause-shaped
+grown_with-requires-clause-shaped g c =
+    adds-shaped c.args.target (collect_key c.args.position c.args.filter.ty) c.args.filter c.in-Ok.by c.in-Ok.ensures.tells.1
+    (collect-suited c.args.target c.args.filter c.in-Ok.ensures.shaped c.args.position c.in-Ok.by.ty c.in-Ok.ensures.tells.0)
 
-pub returns-clause-makes : goal.returns-clause-makes
-returns-clause-makes g c a b st sp =
-    makes-parted c.args.w.now.leaves.now c.args.target a st c.args.w.now c.grown.new.w c.grown.result c.args.filter b (collect_key c.args.position) c.in_ok-by.by.key sp
-    c.in_ok-by.ensures.key c.grown.ensures.makes
+pub returns-in-Ok-clause-gains : goal.returns-in-Ok-clause-gains
+returns-in-Ok-clause-gains g c = adds-gains c.args.target (collect_key c.args.position c.args.filter.ty) c.args.filter c.in-Ok.by c.in-Ok.ensures.tells.1
+    c.grown_with.result c.grown_with.ensures.grows
 
-pub returns-clause-gains : goal.returns-clause-gains
-returns-clause-gains g c = adds-gains c.in_ok-own.own c.args.target (collect_key c.args.position c.args.filter.ty) c.args.filter c.in_ok-by.by
-    c.in_ok-by.ensures c.grown.result
-    c.grown.ensures.grows
-
-pub returns-clause-stands : goal.returns-clause-stands
-returns-clause-stands g c a b st sp =
-    adds-stands c.in_ok-own.own c.args.target (collect_key c.args.position c.args.filter.ty) c.args.filter c.in_ok-by.by c.in_ok-by.ensures
-    c.args.w.now.leaves.now (tree.Collect a c.args.position b) c.grown.result c.grown.ensures.grows (λ h grows.
-    collect-stands c.args.w.now.leaves.now c.args.target h c.args.filter a b c.args.position c.in_ok-by.ensures.fields.0 c.in_ok-own.own
-    c.in_ok-own.ensures.tells
-    c.in_ok-by.ensures.fields.2 grows st sp)
+pub returns-in-Ok-clause-stands : goal.returns-in-Ok-clause-stands
+returns-in-Ok-clause-stands g c a b st sp =
+    adds-stands c.args.target (collect_key c.args.position c.args.filter.ty) c.args.filter c.in-Ok.by c.in-Ok.ensures.tells.1
+    c.args.w.now.leaves.now (tree.Collect a c.args.position b) c.grown_with.result c.grown_with.ensures.grows (λ h field part grows.
+    collect-stands c.args.w.now.leaves.now c.args.target h c.args.filter a b c.args.position field c.in-Ok.by.ty c.in-Ok.ensures.tells.0 part grows st sp)

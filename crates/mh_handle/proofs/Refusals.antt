@@ -1,0 +1,31 @@
+-- A call that answers with the error of a check, after which all but the number of handles is as it was.
+use Rattle.std.proofs.Common.{◌≡◌, refl, sym, subst, ℕ, List, Result, Err, IfOk, arith}
+use Rattle.std.specs.Prelude.{IsErrAnd}
+use Rattle.mh_tree.specs.declared.error.CheckError.{CheckError}
+use Rattle.mh_tree.specs.Check.{Tells}
+use Rattle.mh_tree.specs.Rows.{TypeOrRefusal}
+use Rattle.mh_edit.specs.declared.key.Key.{Key}
+use Rattle.mh_handle.specs.declared.error.HandleError.{HandleError}
+use Rattle.mh_handle.specs.declared.handle.Handle.{Handle}
+use Rattle.mh_handle.specs.declared.work.Work.{Work}
+use Rattle.mh_handle.specs.Errors.{of_check}
+use Rattle.mh_handle.specs.Obeys.{Obeys}
+use Rattle.mh_handle.specs.Works.{GoesOn, IsUnchanged, Makes}
+use Rattle.mh_handle.proofs.Going.{goes_on-more, makes-after, unchanged-goes_on}
+use Rattle.mh_handle.proofs.Obeying.{refused-makes, refused-obeys}
+
+pub unchanged-goes : (numbers : ℕ) (old new : Work) → IsUnchanged old new → GoesOn numbers old new
+unchanged-goes numbers old new same = goes_on-more 0 numbers old new (omega arith) (unchanged-goes_on old new same)
+
+module _ (old new : Work) (e : CheckError) (r : Result Handle HandleError) (is : r ≡ Err (of_check e)) where
+  error-is : IsErrAnd r (λ x. x ≡ of_check e)
+  error-is = subst (λ v. IsErrAnd v (λ x. x ≡ of_check e)) (sym is) refl
+
+  pub check-obeys : (row : TypeOrRefusal) → Tells (Err e) row → Obeys row r
+  check-obeys row tells = refused-obeys row e r tells error-is
+
+  pub check-makes : (recipe : List Key) → IsUnchanged old new → Makes recipe old new r
+  check-makes recipe same = makes-after recipe old new new r same (refused-makes recipe new e r error-is)
+
+  pub check-none : (P : Handle → Type 0) → IfOk r P
+  check-none P = subst (λ v. IfOk v P) (sym is) tt

@@ -1,0 +1,20 @@
+ghost use Rattle.std.specs.Prelude.{◌≡◌, Err};
+ghost use Rattle.mh_handle.specs.Errors.{of_check};
+ghost use Rattle.mh_handle.specs.Works.{CountsHandles, IsUnchanged};
+
+use crate::error::HandleError;
+use crate::handle::Handle;
+use crate::work::Work;
+use mh_tree::CheckError;
+
+impl<'t> Handle<'t> {
+    /// Gives back a handle of which a combinator makes nothing, and says why. It takes no memory.
+    pub fn refused(self, w: &mut Work<'_, 't>, error: CheckError) -> Result<Handle<'t>, HandleError>
+        ensures unchanged { IsUnchanged w.old w.new }
+        ensures error { result ≡ Err (of_check error) }
+        ensures handles { CountsHandles 1 w.old w.new result }
+    {
+        self.give_back(w);
+        Err(HandleError::from(error))
+    }
+}
