@@ -123,8 +123,8 @@ AsksFor form old new =
 abbrev pub NotAsked : List Key → PassView → PassView → Type 0
 NotAsked recipe old new = Lacks recipe_of old.asked recipe × (new.asked ≡ old.asked)
 
--- what an edit answers that asks for the form of a recipe: the one that the pass has learnt by then, with the number drawn now where the pass has put it into the
--- table; where no number is left, it has learnt none
+-- what an edit answers that asks for the form of a recipe: the one that the pass has learnt by then, with the number drawn now where the pass has put it into
+-- the table; where no number is left, it has learnt none
 abbrev pub Edits : List Key → PassView → PassView → Result (Bor FormView) EditError → Type 0
 Edits recipe old new (Ok form) =
     (form.now.recipe ≡ recipe) × AsksFor form.now old new × DrawsAtMostOne recipe old new × IsFormOf recipe new form.now × PutsAtMost form.now old new

@@ -50,7 +50,7 @@ pub record GoesOn (numbers : ℕ) (old new : Work) : Type 0 where
   pub room : old.pass.now.seat.room ≤ new.pass.now.seat.room + numbers
 
 -- what a call leaves of the work that makes a handle by one edit, whose form is the one that the pass has learnt for this recipe, with the number drawn now
--- where the pass has put it into the table; where no number is left it has learnt none, and a refusal by the rule leaves all but the number of handles as it was
+-- where the pass has put it into the table; where no number is left it has learnt none; a refusal by the rule leaves all but the number of handles as it was
 abbrev pub Makes : List Key → Work → Work → Result Handle HandleError → Type 0
 Makes recipe old new (Ok h) =
     (h.form.recipe ≡ recipe) × AsksFor h.form old.pass.now new.pass.now × DrawsAtMostOne recipe old.pass.now new.pass.now

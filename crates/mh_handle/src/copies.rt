@@ -11,7 +11,8 @@ use mh_base::NoMemory;
 use mh_form::copy_fields;
 
 impl<'t> Handle<'t> {
-    /// A copy of the handle, which stands for what the handle stands for. It asks for no edit.
+    /// A copy of the handle, which stands for what the handle stands for, and is counted. It asks for
+    /// no edit.
     pub fn copy(&self, w: &mut Work<'_, 't>) -> Result<Handle<'t>, NoMemory>
         ensures unchanged { IsUnchanged w.old w.new }
         ensures handles { CountsHandles 0 w.old w.new result }
@@ -34,7 +35,7 @@ impl<'t> Handle<'t> {
         Ok(Handle::of(ty, self.weight, sides, self.form, fields))
     }
 
-    /// Gives up the handle, with the types that it holds. It takes no memory.
+    /// Gives up the handle, with the types that it holds: it is counted no more. It takes no memory.
     pub fn give_back(self, w: &mut Work<'_, 't>)
         ensures unchanged { IsUnchanged w.old w.new }
         ensures handles { w.new.handles.now ≡ w.old.handles.now - 1 }

@@ -60,10 +60,8 @@ fn edited<'t, R: Wait>(
     ensures room { IfOk result (λ _.
         1 + w.old.handles.now - (from.entry.count + by.entry.parts.count) < 2 ^ 64) }
 {
-    if !w
-        .handles
-        .has_room(u64::from(from.count) + u64::from(by.parts.count()))
-    {
+    let handed = u64::from(from.count) + u64::from(by.parts.count());
+    if !w.handles.has_room(handed) {
         return Err(HandleError::NoMemory);
     }
     let Untyped {

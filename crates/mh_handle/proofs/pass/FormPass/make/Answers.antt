@@ -21,7 +21,8 @@ invariant_of-self-then-number-gt-LIMIT g c = (
 pub invariant_of-self-in_err-put : goal.invariant_of-self-in_err-put
 invariant_of-self-in_err-put g c = (
   subst (AreLearnt c.put_form.new.walk.nodes) (sym c.in_ok-reserve.ensures) (learnt-later c.self.inside.walk.nodes c.put_form.new.walk.nodes c.self.inside.seen
-      (subst (λ (w : WalkView FormView). StartsWith c.put_form.new.walk.nodes w.nodes) c.in_ok-reserve-2.ensures c.in_err-put.ensures.nodes) c.self.invariant.0),
+      (subst (λ (w : WalkView FormView). StartsWith c.put_form.new.walk.nodes w.nodes) c.in_ok-reserve-2.ensures c.in_err-put.ensures.nodes)
+      c.self.invariant.0),
   c.in_err-put.ensures.once,
   numbered-later (map (λ f. f.now) c.reserve_one.new.forms.items) c.draw-number.result c.self.inside.seat c.draw-number.new.self c.draw-number.ensures
       (subst (λ fs. AreNumbered (map (λ f. f.now) fs) c.self.inside.seat.numbers) (sym c.in_ok-reserve_one.ensures.same) c.self.invariant.2),
@@ -30,7 +31,8 @@ invariant_of-self-in_err-put g c = (
 pub invariant_of-self-2 : goal.invariant_of-self-2
 invariant_of-self-2 g c = (
   subst (AreLearnt c.put_form.new.walk.nodes) (sym c.in_ok-reserve.ensures) (learnt-later c.self.inside.walk.nodes c.put_form.new.walk.nodes c.self.inside.seen
-      (subst (λ (w : WalkView FormView). StartsWith c.put_form.new.walk.nodes w.nodes) c.in_ok-reserve-2.ensures c.in_ok-put.ensures.nodes) c.self.invariant.0),
+      (subst (λ (w : WalkView FormView). StartsWith c.put_form.new.walk.nodes w.nodes) c.in_ok-reserve-2.ensures c.in_ok-put.ensures.nodes)
+      c.self.invariant.0),
   c.in_ok-put.ensures.once,
   numbered-kept _ c.kept-form.result.now (map (λ f. f.now) c.reserve_one.new.forms.items) (map (λ f. f.now) c.kept-form.new.made.items) c.draw-number.result
       c.self.inside.seat c.draw-number.new.self c.draw-number.ensures refl
@@ -41,7 +43,8 @@ invariant_of-self-2 g c = (
 
 pub returns-in_err-put-clause-learnt : goal.returns-in_err-put-clause-learnt
 returns-in_err-put-clause-learnt g c =
-    rw (← c.self.view_is) (starts-found c.self.inside.walk.nodes c.put_form.new.walk.nodes (subst (λ (w : WalkView FormView). StartsWith c.put_form.new.walk.nodes w.nodes) c.in_ok-reserve-2.ensures c.in_err-put.ensures.nodes))
+    let more = subst (λ (w : WalkView FormView). StartsWith c.put_form.new.walk.nodes w.nodes) c.in_ok-reserve-2.ensures c.in_err-put.ensures.nodes in
+    rw (← c.self.view_is) (starts-found c.self.inside.walk.nodes c.put_form.new.walk.nodes more)
 
 pub ask-requires-clause-new : goal.ask-requires-clause-new
 ask-requires-clause-new g c =
@@ -57,8 +60,9 @@ ask-requires-clause-learnt g c =
 
 pub returns-in_err-ask-clause-learnt : goal.returns-in_err-ask-clause-learnt
 returns-in_err-ask-clause-learnt g c =
+    let more = subst (λ (w : WalkView FormView). StartsWith c.put_form.new.walk.nodes w.nodes) c.in_ok-reserve-2.ensures c.in_ok-put.ensures.nodes in
     subst (λ (p : PassView). StaysLearnt c.args.self.now p) (sym c.in_err-ask.ensures.err)
-    (rw (← c.self.view_is) (starts-found c.self.inside.walk.nodes c.put_form.new.walk.nodes (subst (λ (w : WalkView FormView). StartsWith c.put_form.new.walk.nodes w.nodes) c.in_ok-reserve-2.ensures c.in_ok-put.ensures.nodes)))
+    (rw (← c.self.view_is) (starts-found c.self.inside.walk.nodes c.put_form.new.walk.nodes more))
 
 pub returns-in_err-ask-clause-makes : goal.returns-in_err-ask-clause-makes
 returns-in_err-ask-clause-makes g c =
@@ -87,13 +91,15 @@ returns-in_err-ask-clause-makes g c =
       asked = c.reserve.new.self;
       seat = c.draw-number.new.self;
     } in
-    rw (← c.self.view_is) (made-refused c.draw-number.result c.args.recipe c.kept-form.result old mid c.draw-number.ensures (rw c.in_ok-reserve_one.ensures.same at kept)
+    rw (← c.self.view_is)
+    (made-refused c.draw-number.result c.args.recipe c.kept-form.result old mid c.draw-number.ensures (rw c.in_ok-reserve_one.ensures.same at kept)
     c.in_ok-reserve.ensures c.ask.new.self c.from_residual-in_err-ask.result c.in_err-ask.ensures.err has.2 c.from_residual-in_err-ask.ensures.1)
 
 pub returns-clause-learnt : goal.returns-clause-learnt
 returns-clause-learnt g c =
+    let more = subst (λ (w : WalkView FormView). StartsWith c.put_form.new.walk.nodes w.nodes) c.in_ok-reserve-2.ensures c.in_ok-put.ensures.nodes in
     subst (λ (p : PassView). StaysLearnt c.args.self.now p) (sym c.in_ok-ask.ensures.ok)
-    (rw (← c.self.view_is) (starts-found c.self.inside.walk.nodes c.put_form.new.walk.nodes (subst (λ (w : WalkView FormView). StartsWith c.put_form.new.walk.nodes w.nodes) c.in_ok-reserve-2.ensures c.in_ok-put.ensures.nodes)))
+    (rw (← c.self.view_is) (starts-found c.self.inside.walk.nodes c.put_form.new.walk.nodes more))
 
 pub returns-clause-makes : goal.returns-clause-makes
 returns-clause-makes g c =
@@ -122,7 +128,8 @@ returns-clause-makes g c =
       asked = c.reserve.new.self;
       seat = c.draw-number.new.self;
     } in
-    rw (← c.self.view_is) (made-asked c.draw-number.result c.args.recipe c.kept-form.result old mid c.draw-number.ensures (rw c.in_ok-reserve_one.ensures.same at kept)
+    rw (← c.self.view_is)
+    (made-asked c.draw-number.result c.args.recipe c.kept-form.result old mid c.draw-number.ensures (rw c.in_ok-reserve_one.ensures.same at kept)
     c.in_ok-reserve.ensures c.ask.new.self c.in_ok-ask.ensures.ok has.2)
 
 pub returns-clause-form : goal.returns-clause-form
