@@ -1,6 +1,5 @@
 -- What is known where a handle is used as another type.
-use Rattle.std.proofs.Common.{◌≡◌, ◌≢◌, refl, sym, ap, ◌∙◌, subst, ℕ, ◌+◌, Bool, true, false, cond, List, [], ◌∷◌, ◌++◌, length, length-append, Result, Ok, Err, IfOk, inl, inr, arith}
-use Rattle.std.specs.Prelude.{IsErrAnd}
+use Rattle.std.proofs.Common.{◌≡◌, ◌≢◌, sym, ap, ◌∙◌, subst, ◌+◌, Bool, true, false, cond, List, [], ◌∷◌, ◌++◌, length, length-append, Result, Ok, Err, IfOk, inl, inr, arith}
 use Rattle.std.proofs.lemmas.List.{append-nil}
 use Rattle.mh_values.specs.declared.class.Class.{Class}
 use Rattle.mh_values.specs.declared.types.MethodTy.{MethodTy}
@@ -12,21 +11,22 @@ use Rattle.mh_tree.specs.Rows.{astype_row}
 use Rattle.mh_tree.specs.declared.error.CheckError.{CheckError}
 use Rattle.mh_tree.specs.declared.error.CheckError.TheVariants as check
 use Rattle.mh_tree.specs.Use.{used_as}
-use Rattle.mh_form.specs.declared.field.Field.{Field}
 use Rattle.mh_edit.specs.declared.key.Key.{Key}
 use Rattle.mh_handle.specs.declared.error.HandleError.{HandleError}
-use Rattle.mh_handle.specs.declared.error.HandleError.TheVariants.{NoMemory}
 use Rattle.mh_handle.specs.declared.handle.Handle.{Handle}
 use Rattle.mh_handle.specs.declared.work.Work.{Work}
-use Rattle.mh_handle.specs.Converting.{IsUsedAs, convert_fields}
+use Rattle.mh_handle.specs.Converting.{IsUsedAs}
 use Rattle.mh_handle.specs.Errors.{of_check}
-use Rattle.mh_handle.specs.Grows.{Grows}
+use Rattle.mh_handle.specs.declared.growth.Growth.{Growth}
+use Rattle.mh_handle.specs.Grows.{GrowsBy}
+use Rattle.mh_handle.specs.Parts.{PartsView}
 use Rattle.mh_handle.specs.Recipe.{convert_keys}
 use Rattle.mh_handle.specs.Stands.{HandleView, Stands}
-use Rattle.mh_handle.specs.Works.{GoesOn, Makes}
+use Rattle.mh_handle.specs.Works.{CountsHandles, GoesOn, IsUnchanged, Makes}
 use Rattle.mh_handle.proofs.AsTypeStands.{astype-stands}
-use Rattle.mh_handle.proofs.Going.{goes_on-more, goes_on-still}
-use Rattle.mh_astype.specs.Use.{MakesFrom}
+use Rattle.mh_handle.proofs.Going.{goes_on-more, goes_on-still, unchanged-still}
+use Rattle.mh_handle.proofs.Refusals.{check-makes}
+use Rattle.mh_astype.specs.Use.{AddsConversions, AsksNothing, MakesFrom}
 pub use Rattle.mh_astype.proofs.ConvertKeys.{convert-fits, convert-shaped, convert_key, fields-kept, kept-shaped, keys-changed, keys-kept, light, trivial}
 
 -- ---- the handle
@@ -43,21 +43,19 @@ used-kept classes asked old new is t w s f fs = record {
   fields = fs ∙ sym (ap (λ xs. old.fields ++ xs) (fields-kept classes asked old.ty is) ∙ append-nil old.fields);
 }
 
-pub used-grown :
-    (classes : List Class) (asked : MethodTy) (old : HandleView) (weight : ℕ) (sides : List MethodTy) (key : Key) (fields : List Field)
-    (r : Result Handle HandleError) →
-    trivial classes asked old.ty ≡ false → weight ≡ 1 + old.weight → sides ≡ [] → key ≡ convert_key classes asked old.ty →
-    fields ≡ convert_fields classes asked old.ty →
-    IfOk r (λ new. Grows old new asked weight sides key fields) →
-    IfOk r (IsUsedAs classes asked old)
-used-grown classes asked old weight sides key fields (Ok new) is w s k f g = record {
-  ty = g.typed;
-  weight = g.weighed ∙ w;
-  sides = g.holds ∙ (ap (λ v. old.sides ++ v) s ∙ append-nil old.sides);
-  recipe = g.made ∙ ap (λ ks. old.form.recipe ++ ks) (ap (λ v. v ∷ []) k ∙ sym (keys-changed classes asked old.ty is));
-  fields = g.fielded ∙ ap (λ fs. old.fields ++ fs) f;
-}
-used-grown classes asked old weight sides key fields (Err e) is w s k f g = tt
+module _ (classes : List Class) (asked : MethodTy) (old : HandleView) (by : Growth) (adds : AddsConversions classes asked old by) where
+  pub used-grown : (r : Result Handle HandleError) → trivial classes asked old.ty ≡ false → GrowsBy old by r → IfOk r (IsUsedAs classes asked old)
+  used-grown (Ok new) is g = record {
+    ty = g.typed ∙ adds.ty;
+    weight = g.weighed ∙ adds.weight;
+    sides = g.holds ∙ (ap (λ (p : PartsView). old.sides ++ p.sides) adds.parts ∙ append-nil old.sides);
+    recipe = g.made ∙ ap (λ ks. old.form.recipe ++ ks) (ap (λ v. v ∷ []) adds.key ∙ sym (keys-changed classes asked old.ty is));
+    fields = g.fielded ∙ ap (λ (p : PartsView). old.fields ++ p.fields) adds.parts;
+  }
+  used-grown (Err e) is g = tt
+
+  pub used-counts : (w new : Work) (r : Result Handle HandleError) → CountsHandles (1 + by.parts.count) w new r → CountsHandles 1 w new r
+  used-counts w new r counts = subst (λ (p : PartsView). CountsHandles (1 + p.count) w new r) adds.parts counts
 
 -- ---- the work
 
@@ -73,29 +71,23 @@ makes-changed classes asked own recipe key old new r is k makes =
     let keys : key ∷ [] ≡ convert_keys classes asked own = ap (λ v. v ∷ []) k ∙ sym (keys-changed classes asked own is) in
     subst (λ ks. MakesFrom recipe (recipe ++ ks) old new r) keys (inr (differs recipe [] key, makes))
 
--- want of memory before any edit
-pub makes-nothing : (recipe keys : List Key) (w : Work) (r : Result Handle HandleError) → IsErrAnd r (λ x. x ≡ NoMemory) →
-    MakesFrom recipe (recipe ++ keys) w w r
-makes-nothing recipe keys w (Ok h) is = absurd is
-makes-nothing recipe [] w (Err x) is = subst (λ v. MakesFrom recipe (recipe ++ []) w w (Err v)) (sym is) (inl (append-nil recipe, refl))
-makes-nothing recipe (k ∷ keys) w (Err x) is =
-    subst (λ v. MakesFrom recipe (recipe ++ k ∷ keys) w w (Err v)) (sym is) (inr (differs recipe keys k, (refl, inl refl, inl refl)))
-
 pub makes-kept : (classes : List Class) (asked own : MethodTy) (recipe : List Key) (w : Work) (h : HandleView) → trivial classes asked own ≡ true →
     MakesFrom recipe (recipe ++ convert_keys classes asked own) w w (Ok h)
 makes-kept classes asked own recipe w h is =
-    inl (ap (λ ks. recipe ++ ks) (keys-kept classes asked own is) ∙ append-nil recipe, refl)
+    inl (ap (λ ks. recipe ++ ks) (keys-kept classes asked own is) ∙ append-nil recipe, unchanged-still w)
 
--- a refusal by the check
-pub makes-refused : (recipe keys : List Key) (w : Work) (e : CheckError) (r : Result Handle HandleError) → IsErrAnd r (λ x. x ≡ of_check e) →
-    MakesFrom recipe (recipe ++ keys) w w r
-makes-refused recipe keys w e (Ok h) is = absurd is
-makes-refused recipe [] w check.NoMemory (Err x) is = subst (λ v. MakesFrom recipe (recipe ++ []) w w (Err v)) (sym is) (inl (append-nil recipe, refl))
-makes-refused recipe [] w (check.Refused e) (Err x) is = subst (λ v. MakesFrom recipe (recipe ++ []) w w (Err v)) (sym is) (inl (append-nil recipe, refl))
-makes-refused recipe (k ∷ keys) w check.NoMemory (Err x) is =
-    subst (λ v. MakesFrom recipe (recipe ++ k ∷ keys) w w (Err v)) (sym is) (inr (differs recipe keys k, (refl, inl refl, inl refl)))
-makes-refused recipe (k ∷ keys) w (check.Refused e) (Err x) is =
-    subst (λ v. MakesFrom recipe (recipe ++ k ∷ keys) w w (Err v)) (sym is) (inr (differs recipe keys k, refl))
+-- what leaves all but the number of handles asks for nothing
+asks-nothing : (old new : Work) (e : CheckError) → IsUnchanged old new → AsksNothing old new (Err (of_check e))
+asks-nothing old new check.NoMemory same = same
+asks-nothing old new (check.Refused e) same = same
+
+-- a refusal, or want of memory before any edit
+pub makes-refused : (recipe keys : List Key) (old new : Work) (e : CheckError) (r : Result Handle HandleError) → r ≡ Err (of_check e) →
+    IsUnchanged old new → MakesFrom recipe (recipe ++ keys) old new r
+makes-refused recipe [] old new e r is same =
+    subst (λ v. MakesFrom recipe (recipe ++ []) old new v) (sym is) (inl (append-nil recipe, asks-nothing old new e same))
+makes-refused recipe (k ∷ keys) old new e r is same =
+    inr (differs recipe keys k, check-makes old new e r is (recipe ++ k ∷ keys) same)
 
 pub goes_on-same : (w : Work) → GoesOn 1 w w
 goes_on-same w = goes_on-more 0 1 w w (omega arith) (goes_on-still w)

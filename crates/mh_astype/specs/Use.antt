@@ -1,19 +1,22 @@
 -- What a handle becomes that is used as a type, and what that leaves of a thread's work.
-use Rattle.std.specs.Prelude.{◌≡◌, ◌≢◌, ◌⊎◌, List, [], ◌++◌, if◌then◌else◌, Result, Err}
+use Rattle.std.specs.Prelude.{◌≡◌, ◌≢◌, ◌+◌, ◌⊎◌, List, [], ◌++◌, if◌then◌else◌, Result, Err}
 use Rattle.mh_values.specs.declared.class.Class.{Class}
 use Rattle.mh_values.specs.declared.types.MethodTy.{MethodTy}
 use Rattle.mh_values.specs.Same.{is_same_method_type}
 use Rattle.mh_tree.specs.Use.{use_weight}
 use Rattle.mh_form.specs.declared.field.Field.{Field}
 use Rattle.mh_edit.specs.declared.key.Key.{Key}
+use Rattle.mh_edit.specs.declared.key.Key.TheVariants.{Convert}
 use Rattle.mh_handle.specs.declared.error.HandleError.{HandleError}
 use Rattle.mh_handle.specs.declared.error.HandleError.TheVariants.{FormsFull}
+use Rattle.mh_handle.specs.declared.growth.Growth.{Growth}
 use Rattle.mh_handle.specs.declared.handle.Handle.{Handle}
 use Rattle.mh_handle.specs.declared.work.Work.{Work}
 use Rattle.mh_handle.specs.Converting.{convert_fields}
-use Rattle.mh_handle.specs.Recipe.{convert_keys}
+use Rattle.mh_handle.specs.Parts.{no_parts}
+use Rattle.mh_handle.specs.Recipe.{convert_keys, entries_of, ret_entry_of}
 use Rattle.mh_handle.specs.Stands.{HandleView}
-use Rattle.mh_handle.specs.Works.{Makes}
+use Rattle.mh_handle.specs.Works.{IsUnchanged, Makes}
 
 -- the key of the conversions, none where nothing changes
 abbrev pub use_keys : List Class → MethodTy → MethodTy → List Key
@@ -30,10 +33,17 @@ pub record IsUse (classes : List Class) (asked : MethodTy) (old new : HandleView
   pub recipe : new.form.recipe ≡ old.form.recipe ++ use_keys classes old.ty asked
   pub fields : new.fields ≡ old.fields ++ use_fields classes old.ty asked
 
--- what a call leaves of the work that asks for no form: all as it was
+-- what the conversions to a type add to a handle: one to its weight, their key, and a field for each that changes something
+pub record AddsConversions (classes : List Class) (asked : MethodTy) (t : HandleView) (by : Growth) : Type 0 where
+  pub ty : by.ty ≡ asked
+  pub weight : by.weight ≡ 1 + t.weight
+  pub key : by.key ≡ Convert (entries_of classes asked.params t.ty.params) (ret_entry_of classes t.ty.ret asked.ret)
+  pub parts : by.parts ≡ record no_parts { fields = convert_fields classes asked t.ty }
+
+-- what a call leaves of the work that asks for no form: all but the number of handles as it was
 abbrev pub AsksNothing : Work → Work → Result Handle HandleError → Type 0
 AsksNothing old new (Err (FormsFull drawn)) = ⊥
-AsksNothing old new result = new ≡ old
+AsksNothing old new result = IsUnchanged old new
 
 -- what a call leaves of the work that makes a handle of one recipe into one of another: the form of that is asked for where they differ, and nothing where
 -- they are the same

@@ -1,21 +1,57 @@
-ghost use Rattle.std.specs.Prelude.{◌≡◌, ◌++◌, ◌&&◌, IfOk, IsTrue, Ok, false};
+ghost use Rattle.std.specs.Prelude.{◌≡◌, ◌++◌, ◌&&◌, IfOk, IsTrue, Ok, false, true};
 ghost use Rattle.mh_values.specs.Same.{is_same_method_type};
 ghost use Rattle.mh_convert.specs.Conversion.{is_trivial_ret};
+ghost use Rattle.mh_values.specs.Classes.{AreClasses};
+ghost use Rattle.mh_tree.specs.Check.{Tells};
 ghost use Rattle.mh_tree.specs.Rows.{astype_row};
 ghost use Rattle.mh_tree.specs.Tree.{Tree};
 ghost use Rattle.mh_tree.specs.Use.{used_as, use_row};
 ghost use Rattle.mh_handle.specs.Converting.{IsUsedAs};
 ghost use Rattle.mh_handle.specs.Recipe.{are_trivial, convert_keys, recipe};
 ghost use Rattle.mh_handle.specs.Obeys.{Obeys};
-ghost use Rattle.mh_handle.specs.Works.{IsReady, GoesOn, IsAccepted, StandsIn, classes_of, leaves_of};
-ghost use Rattle.mh_astype.specs.Use.{IsUse, MakesFrom};
+ghost use Rattle.mh_handle.specs.Stands.{IsShaped};
+ghost use Rattle.mh_handle.specs.Works.{CountsHandles, IsReady, GoesOn, IsAccepted, StandsIn, classes_of, leaves_of};
+ghost use Rattle.mh_astype.specs.Use.{AddsConversions, IsUse, MakesFrom};
 
 use crate::conversions::{convert_fields, convert_key, is_trivial};
-use mh_base::{Seq, Shared};
-use mh_handle::{Growth, Handle, HandleError, Work};
-use mh_tree::check_astype;
+use mh_base::{NoMemory, Shared};
+use mh_handle::{Growth, Handle, HandleError, Parts, Work};
+use mh_tree::{CheckError, check_astype};
 use mh_values::{MethodTy, is_same_method_type};
 use std::sync::Wait;
+
+/// What the conversions to the type add to a handle.
+fn conversions<'t>(
+    w: &Work<'_, 't>,
+    target: &Handle<'t>,
+    ty: MethodTy,
+) -> Result<Growth<'t>, NoMemory>
+    ensures shaped { IsShaped target.now }
+    ensures adds { IfOk result (AddsConversions (classes_of w.now) ty target.now) }
+{
+    let classes = w.classes();
+    let key = convert_key(w.alloc, &ty, target.ty(), classes)?;
+    let fields = convert_fields(w.alloc, &ty, target.ty(), classes)?;
+    Ok(Growth {
+        ty,
+        weight: 1 + target.weight(),
+        key,
+        parts: Parts::of_fields(w.alloc, fields),
+    })
+}
+
+/// The type as which a handle is used that has another type.
+fn use_type<'t>(
+    w: &Work<'_, 't>,
+    target: &Handle<'t>,
+    ty: &MethodTy,
+) -> Result<MethodTy, CheckError>
+    ensures are { AreClasses (classes_of w.now) }
+    ensures tells { Tells result (astype_row (classes_of w.now)
+        target.now.ty target.now.weight ty.now) }
+{
+    check_astype(w.alloc, target.ty(), target.weight(), ty, w.classes())
+}
 
 /// The handle with the conversions to the type, of which one changes something.
 fn converted<'t, R: Wait>(
@@ -33,18 +69,36 @@ fn converted<'t, R: Wait>(
         ++ convert_keys (classes_of w.old) ty target.entry.ty) w.old w.new result }
     ensures accepted { IsAccepted result }
     ensures used { IfOk result (IsUsedAs (classes_of w.old) ty target.entry) }
+    ensures handles { CountsHandles 1 w.old w.new result }
 {
-    let classes = w.leaves.classes();
-    let key = convert_key(w.alloc, &ty, target.ty(), classes)?;
-    let fields = convert_fields(w.alloc, &ty, target.ty(), classes)?;
-    let by = Growth {
-        ty,
-        weight: 1 + target.weight(),
-        sides: Seq::new(w.alloc),
-        key,
-        fields,
-    };
-    target.grown(w, rt, by)
+    match conversions(w, &target, ty) {
+        Ok(by) => target.grown(w, rt, by),
+        Err(NoMemory) => target.refused(w, CheckError::NoMemory),
+    }
+}
+
+/// The handle as one of the type, where no conversion to it changes anything.
+fn kept<'t>(
+    w: &mut Work<'_, 't>,
+    target: Handle<'t>,
+    ty: MethodTy,
+) -> Result<Handle<'t>, HandleError>
+    requires row { astype_row (classes_of w.old) target.ty target.weight ty ≡ Ok ty }
+    requires keeps { (are_trivial (classes_of w.old) ty.params target.ty.params && is_trivial_ret
+        (classes_of w.old) target.ty.ret ty.ret) ≡ true }
+    requires shaped { IsShaped target }
+    ensures goes_on { GoesOn 1 w.old w.new }
+    ensures makes { MakesFrom target.entry.form.recipe (target.entry.form.recipe
+        ++ convert_keys (classes_of w.old) ty target.entry.ty) w.old w.new result }
+    ensures accepted { IsAccepted result }
+    ensures used { IfOk result (IsUsedAs (classes_of w.old) ty target.entry) }
+    ensures handles { CountsHandles 1 w.old w.new result }
+{
+    let weight = 1 + target.weight();
+    match Shared::new(w.alloc, ty) {
+        Ok(ty) => Ok(target.retyped(ty, weight)),
+        Err(NoMemory) => target.refused(w, CheckError::NoMemory),
+    }
 }
 
 /// The handle with the conversions to the type, of which maybe none changes anything.
@@ -61,10 +115,10 @@ fn used<'t, R: Wait>(
         ++ convert_keys (classes_of w.old) ty target.entry.ty) w.old w.new result }
     ensures accepted { IsAccepted result }
     ensures used { IfOk result (IsUsedAs (classes_of w.old) ty target.entry) }
+    ensures handles { CountsHandles 1 w.old w.new result }
 {
     if is_trivial(&ty, target.ty(), w.leaves.classes()) {
-        let weight = 1 + target.weight();
-        Ok(target.retyped(Shared::new(w.alloc, ty)?, weight))
+        kept(w, target, ty)
     } else {
         converted(w, rt, target, ty)
     }
@@ -89,6 +143,7 @@ pub fn as_type<'t, R: Wait>(
         → MakesFrom (recipe (leaves_of w.old) t)
         (recipe (leaves_of w.old) (used_as target.entry.ty ty.now t)) w.old w.new result }
     ensures same { IsTrue (is_same_method_type target.entry.ty ty.now) → result ≡ Ok target.entry }
+    ensures handles { CountsHandles 1 w.old w.new result }
     ensures used { IfOk result (IsUse (classes_of w.old) ty.now target.entry) }
     ensures stands { (t : Tree) → StandsIn w.old target.entry t
         → IfOk result (λ r. StandsIn w.old r (used_as target.entry.ty ty.now t)) }
@@ -96,6 +151,8 @@ pub fn as_type<'t, R: Wait>(
     if is_same_method_type(target.ty(), ty) {
         return Ok(target);
     }
-    let asked = check_astype(w.alloc, target.ty(), target.weight(), ty, w.classes())?;
-    used(w, rt, target, asked)
+    match use_type(w, &target, ty) {
+        Ok(asked) => used(w, rt, target, asked),
+        Err(error) => target.refused(w, error),
+    }
 }
