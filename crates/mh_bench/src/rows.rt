@@ -11,7 +11,7 @@ use mh_astype::invoke_exact;
 use mh_base::{Frozen, NoMemory, Seq};
 use mh_edit::Key;
 use mh_form::{Basic, BasicRet, Basics, Shape};
-use mh_handle::{FormTable, Handle, HandleError, Work};
+use mh_handle::{FormTable, Handle, HandleError, LiveHandles, Work};
 use mh_leaves::{Leaves, read_manifest};
 use mh_steps::{ADD, Joined, MANIFEST, Root, SAME, Start, Step, TEXT, Typed, are_typed, made};
 use mh_values::{Items, LeafId, Num, Value};
@@ -198,6 +198,7 @@ fn bind_each<'t, R: Wait>(
         let copy = handle.copy(w)?;
         let bound = bind(w, rt, copy, 0, Value::Boxed(Num::I(1)))?;
         sum = sum.wrapping_add(bound.form().number());
+        bound.give_back(w);
     }
     Ok(sum)
 }
@@ -234,6 +235,20 @@ fn forms<'t, R: Wait>(w: &mut Work<'_, 't>, rt: &R, turns: u32) -> Result<u64, H
     Ok(sum)
 }
 
+/// Calls a handle so many times on arguments.
+fn called<'t>(
+    alloc: Global,
+    handle: &Handle<'t>,
+    leaves: &Leaves,
+    args: Args,
+    turns: u32,
+) -> Result<u64, NoMemory>
+    requires stands { StandsForSome leaves.now handle.now }
+{
+    let args = items_of(alloc, args)?;
+    run(alloc, handle, leaves, &args, turns)
+}
+
 /// Makes a handle, and calls it so many times.
 fn calls<'t, R: Wait>(
     w: &mut Work<'_, 't>,
@@ -246,8 +261,9 @@ fn calls<'t, R: Wait>(
 {
     let leaves = w.leaves;
     let handle = made(w, rt, Root::Leaf(subject.leaf), subject.steps)?;
-    let args = items_of(w.alloc, subject.args)?;
-    Ok(run(w.alloc, &handle, leaves, &args, turns)?)
+    let sum = called(w.alloc, &handle, leaves, subject.args, turns);
+    handle.give_back(w);
+    Ok(sum?)
 }
 
 /// Makes a handle, and asks so many times for its form with the first parameter bound.
@@ -255,7 +271,9 @@ fn edits<'t, R: Wait>(w: &mut Work<'_, 't>, rt: &R, turns: u32) -> Result<u64, H
     requires ready { IsReady w.old (204 + turns) }
 {
     let handle = made(w, rt, Root::Leaf(ADD), &[FILTERED])?;
-    edit_each(w, rt, &handle, turns)
+    let sum = edit_each(w, rt, &handle, turns);
+    handle.give_back(w);
+    sum
 }
 
 /// Makes a handle, and binds so many copies of it.
@@ -263,7 +281,9 @@ fn binds<'t, R: Wait>(w: &mut Work<'_, 't>, rt: &R, turns: u32) -> Result<u64, H
     requires ready { IsReady w.old (204 + turns) }
 {
     let handle = made(w, rt, Root::Leaf(ADD), &[FILTERED])?;
-    bind_each(w, rt, &handle, turns)
+    let sum = bind_each(w, rt, &handle, turns);
+    handle.give_back(w);
+    sum
 }
 
 /// A drop of 193 ints, and 60 drops of one.
@@ -280,7 +300,9 @@ fn many_drops<'t, R: Wait>(w: &mut Work<'_, 't>, rt: &R) -> Result<u64, HandleEr
     requires ready { IsReady w.old 204 }
 {
     let handle = made(w, rt, Root::Leaf(SAME), &drops())?;
-    Ok(handle.form().number())
+    let number = handle.form().number();
+    handle.give_back(w);
+    Ok(number)
 }
 
 /// Sixty filters of a text.
@@ -363,11 +385,13 @@ fn first_on<R: Wait>(rt: &R, start: Start<'_>, row: Row, turns: u32) -> Result<u
         leaves,
     } = start;
     let mut pass = table.first_pass(alloc, seat)?;
+    let mut handles = LiveHandles::new();
     let mut w = Work {
         alloc,
         forms: table,
         pass: &mut pass,
         leaves,
+        handles: &mut handles,
     };
     let done = row_on(&mut w, rt, row, turns);
     let Work {
@@ -375,6 +399,7 @@ fn first_on<R: Wait>(rt: &R, start: Start<'_>, row: Row, turns: u32) -> Result<u
         forms: _,
         pass: _,
         leaves: _,
+        handles: _,
     } = w;
     done
 }

@@ -2,10 +2,11 @@
 
 ghost use Rattle.std.specs.Prelude.{◌≡◌, ◌≤◌, length, IfOk, IsTrue};
 ghost use Rattle.mh_handle.specs.Passes.{seat_at};
+ghost use Rattle.mh_handle.specs.Stands.{StandsForSome};
 ghost use Rattle.mh_handle.specs.Works.{IsReady, GoesOn};
 
 use mh_base::NoMemory;
-use mh_handle::{Answer, FormTable, HandleError, Work};
+use mh_handle::{Answer, FormTable, Handle, HandleError, LiveHandles, Work};
 use mh_leaves::Leaves;
 use mh_steps::{Root, Start, Step, call_typed, items_of, made};
 use std::alloc::Global;
@@ -24,6 +25,18 @@ fn has_few_steps(making: &Making) -> bool
     making.steps.len() <= 100
 }
 
+fn answer_by<'t>(
+    alloc: Global,
+    handle: &Handle<'t>,
+    leaves: &Leaves,
+    arguments: &[&str],
+) -> Result<Answer, NoMemory>
+    requires stands { StandsForSome leaves.now handle.now }
+{
+    let args = items_of(alloc, arguments, leaves.classes())?;
+    call_typed(alloc, handle, leaves, &args)
+}
+
 fn answer_on<'t, R: Wait>(
     w: &mut Work<'_, 't>,
     rt: &R,
@@ -32,11 +45,13 @@ fn answer_on<'t, R: Wait>(
 ) -> Result<Answer, HandleError>
     requires ready { IsReady w.old 204 }
     requires few { length making.now.steps.now ≤ 100 }
+    ensures handles { w.new.handles.now ≡ w.old.handles.now }
 {
     let leaves = w.leaves;
     let handle = made(w, rt, making.root, making.steps)?;
-    let args = items_of(w.alloc, arguments, leaves.classes())?;
-    Ok(call_typed(w.alloc, &handle, leaves, &args)?)
+    let answer = answer_by(w.alloc, &handle, leaves, arguments);
+    handle.give_back(w);
+    Ok(answer?)
 }
 
 fn number_on<'t, R: Wait>(w: &mut Work<'_, 't>, rt: &R, making: &Making) -> Result<u64, HandleError>
@@ -45,7 +60,9 @@ fn number_on<'t, R: Wait>(w: &mut Work<'_, 't>, rt: &R, making: &Making) -> Resu
     ensures goes_on { GoesOn 204 w.old w.new }
 {
     let handle = made(w, rt, making.root, making.steps)?;
-    Ok(handle.form().number())
+    let number = handle.form().number();
+    handle.give_back(w);
+    Ok(number)
 }
 
 fn numbers_on<'t, R: Wait>(
@@ -57,6 +74,7 @@ fn numbers_on<'t, R: Wait>(
     requires ready { IsReady w.old 408 }
     requires first { length first.now.steps.now ≤ 100 }
     requires second { length second.now.steps.now ≤ 100 }
+    ensures handles { w.new.handles.now ≡ w.old.handles.now }
 {
     let one = number_on(w, rt, first)?;
     let other = number_on(w, rt, second)?;
@@ -79,11 +97,13 @@ fn answer_at<R: Wait>(
         leaves,
     } = start;
     let mut pass = table.first_pass(alloc, seat)?;
+    let mut handles = LiveHandles::new();
     let mut w = Work {
         alloc,
         forms: table,
         pass: &mut pass,
         leaves,
+        handles: &mut handles,
     };
     let answer = answer_on(&mut w, rt, making, arguments);
     let Work {
@@ -91,6 +111,7 @@ fn answer_at<R: Wait>(
         forms: _,
         pass: _,
         leaves: _,
+        handles: _,
     } = w;
     answer
 }
@@ -112,11 +133,13 @@ fn numbers_at<R: Wait>(
         leaves,
     } = start;
     let mut pass = table.first_pass(alloc, seat)?;
+    let mut handles = LiveHandles::new();
     let mut w = Work {
         alloc,
         forms: table,
         pass: &mut pass,
         leaves,
+        handles: &mut handles,
     };
     let numbers = numbers_on(&mut w, rt, first, second);
     let Work {
@@ -124,6 +147,7 @@ fn numbers_at<R: Wait>(
         forms: _,
         pass: _,
         leaves: _,
+        handles: _,
     } = w;
     numbers
 }

@@ -1,13 +1,15 @@
 //! Handles made by roots and adapters, which are given as texts.
 
-ghost use Rattle.std.specs.Prelude.{◌≤◌, length, IfOk};
+ghost use Rattle.std.specs.Prelude.{◌≡◌, ◌+◌, ◌-◌, ◌≤◌, length, IfOk, OnOk, OnErr};
+ghost use Rattle.mh_handle.specs.declared.error.HandleError.TheVariants.{NoMemory};
 ghost use Rattle.mh_handle.specs.Stands.{StandsForSome};
-ghost use Rattle.mh_handle.specs.Works.{IsReady, GoesOn, leaves_of};
+ghost use Rattle.mh_handle.specs.Works.{CountsHandles, IsReady, IsUnchanged, GoesOn, leaves_of};
 
 use crate::literals::{type_of, value_of};
 use crate::step::{Joined, Root, Step, Typed};
 use mh_adapt::{bind, collect, drop_args, filter, filterret, fold, permute};
 use mh_astype::as_type;
+use mh_base::NoMemory;
 use mh_branch::{catch, constant, gather, guard, identity, spread, throw};
 use mh_handle::{Handle, HandleError, Work, leaf};
 use mh_values::{ClassId, LeafId, MethodTy};
@@ -16,12 +18,37 @@ use std::sync::Wait;
 fn leaf_at<'t, R: Wait>(w: &mut Work<'_, 't>, rt: &R, id: LeafId) -> Result<Handle<'t>, HandleError>
     requires ready { IsReady w.old 1 }
     ensures goes_on { GoesOn 1 w.old w.new }
+    ensures handles { CountsHandles 0 w.old w.new result }
     ensures stands { IfOk result (StandsForSome (leaves_of w.old)) }
 {
     if id.0 >= w.leaves.count() {
         return Err(HandleError::NoMemory);
     }
     leaf(w, rt, id)
+}
+
+/// The handles of two leaves.
+fn two_leaves<'t, R: Wait>(
+    w: &mut Work<'_, 't>,
+    rt: &R,
+    one: LeafId,
+    other: LeafId,
+) -> Result<(Handle<'t>, Handle<'t>), HandleError>
+    requires ready { IsReady w.old 2 }
+    ensures goes_on { GoesOn 2 w.old w.new }
+    ensures one { IfOk result (λ both. StandsForSome (leaves_of w.old) both.0) }
+    ensures other { IfOk result (λ both. StandsForSome (leaves_of w.old) both.1) }
+    ensures made { OnOk result (w.new.handles.now ≡ 2 + w.old.handles.now) }
+    ensures none { OnErr result (w.new.handles.now ≡ w.old.handles.now) }
+{
+    let one = leaf_at(w, rt, one)?;
+    match leaf_at(w, rt, other) {
+        Ok(other) => Ok((one, other)),
+        Err(error) => {
+            one.give_back(w);
+            Err(error)
+        }
+    }
 }
 
 fn guarded<'t, R: Wait>(
@@ -33,12 +60,18 @@ fn guarded<'t, R: Wait>(
 ) -> Result<Handle<'t>, HandleError>
     requires ready { IsReady w.old 4 }
     ensures goes_on { GoesOn 4 w.old w.new }
+    ensures handles { CountsHandles 0 w.old w.new result }
     ensures stands { IfOk result (StandsForSome (leaves_of w.old)) }
 {
-    let test = leaf_at(w, rt, test)?;
-    let target = leaf_at(w, rt, target)?;
-    let fallback = leaf_at(w, rt, fallback)?;
-    guard(w, rt, test, target, fallback)
+    let (test, target) = two_leaves(w, rt, test, target)?;
+    match leaf_at(w, rt, fallback) {
+        Ok(fallback) => guard(w, rt, test, target, fallback),
+        Err(error) => {
+            test.give_back(w);
+            target.give_back(w);
+            Err(error)
+        }
+    }
 }
 
 fn caught<'t, R: Wait>(
@@ -50,10 +83,10 @@ fn caught<'t, R: Wait>(
 ) -> Result<Handle<'t>, HandleError>
     requires ready { IsReady w.old 3 }
     ensures goes_on { GoesOn 3 w.old w.new }
+    ensures handles { CountsHandles 0 w.old w.new result }
     ensures stands { IfOk result (StandsForSome (leaves_of w.old)) }
 {
-    let target = leaf_at(w, rt, target)?;
-    let handler = leaf_at(w, rt, handler)?;
+    let (target, handler) = two_leaves(w, rt, target, handler)?;
     catch(w, rt, target, class, handler)
 }
 
@@ -65,6 +98,7 @@ fn constant_of<'t, R: Wait>(
 ) -> Result<Handle<'t>, HandleError>
     requires ready { IsReady w.old 1 }
     ensures goes_on { GoesOn 1 w.old w.new }
+    ensures handles { CountsHandles 0 w.old w.new result }
     ensures stands { IfOk result (StandsForSome (leaves_of w.old)) }
 {
     let classes = w.leaves.classes();
@@ -76,6 +110,7 @@ fn constant_of<'t, R: Wait>(
 fn rooted<'t, R: Wait>(w: &mut Work<'_, 't>, rt: &R, root: Root) -> Result<Handle<'t>, HandleError>
     requires ready { IsReady w.old 4 }
     ensures goes_on { GoesOn 4 w.old w.new }
+    ensures handles { CountsHandles 0 w.old w.new result }
     ensures stands { IfOk result (StandsForSome (leaves_of w.old)) }
 {
     let classes = w.leaves.classes();
@@ -95,6 +130,16 @@ fn rooted<'t, R: Wait>(w: &mut Work<'_, 't>, rt: &R, root: Root) -> Result<Handl
     }
 }
 
+/// Want of memory, for which a handle is given back.
+fn given_back<'t>(w: &mut Work<'_, 't>, handle: Handle<'t>) -> HandleError
+    ensures error { result ≡ NoMemory }
+    ensures unchanged { IsUnchanged w.old w.new }
+    ensures handles { w.new.handles.now ≡ w.old.handles.now - 1 }
+{
+    handle.give_back(w);
+    HandleError::NoMemory
+}
+
 fn bound<'t, R: Wait>(
     w: &mut Work<'_, 't>,
     rt: &R,
@@ -105,10 +150,13 @@ fn bound<'t, R: Wait>(
     requires ready { IsReady w.old 1 }
     requires stands { StandsForSome (leaves_of w.old) target }
     ensures goes_on { GoesOn 1 w.old w.new }
+    ensures handles { CountsHandles 1 w.old w.new result }
     ensures stands { IfOk result (StandsForSome (leaves_of w.old)) }
 {
-    let value = value_of(w.alloc, text, w.leaves.classes())?;
-    bind(w, rt, target, position, value)
+    match value_of(w.alloc, text, w.leaves.classes()) {
+        Ok(value) => bind(w, rt, target, position, value),
+        Err(NoMemory) => Err(given_back(w, target)),
+    }
 }
 
 fn by_type<'t, R: Wait>(
@@ -121,6 +169,7 @@ fn by_type<'t, R: Wait>(
     requires ready { IsReady w.old 2 }
     requires stands { StandsForSome (leaves_of w.old) target }
     ensures goes_on { GoesOn 2 w.old w.new }
+    ensures handles { CountsHandles 1 w.old w.new result }
     ensures stands { IfOk result (StandsForSome (leaves_of w.old)) }
 {
     match how {
@@ -142,10 +191,13 @@ fn with_type<'t, R: Wait>(
     requires ready { IsReady w.old 2 }
     requires stands { StandsForSome (leaves_of w.old) target }
     ensures goes_on { GoesOn 2 w.old w.new }
+    ensures handles { CountsHandles 1 w.old w.new result }
     ensures stands { IfOk result (StandsForSome (leaves_of w.old)) }
 {
-    let ty = type_of(w.alloc, text, w.leaves.classes())?;
-    by_type(w, rt, target, &ty, how)
+    match type_of(w.alloc, text, w.leaves.classes()) {
+        Ok(ty) => by_type(w, rt, target, &ty, how),
+        Err(NoMemory) => Err(given_back(w, target)),
+    }
 }
 
 fn by_part<'t, R: Wait>(
@@ -159,6 +211,7 @@ fn by_part<'t, R: Wait>(
     requires stands { StandsForSome (leaves_of w.old) target }
     requires part { StandsForSome (leaves_of w.old) part }
     ensures goes_on { GoesOn 1 w.old w.new }
+    ensures handles { CountsHandles 2 w.old w.new result }
     ensures stands { IfOk result (StandsForSome (leaves_of w.old)) }
 {
     match how {
@@ -178,10 +231,16 @@ fn with_part<'t, R: Wait>(
     requires ready { IsReady w.old 2 }
     requires stands { StandsForSome (leaves_of w.old) target }
     ensures goes_on { GoesOn 2 w.old w.new }
+    ensures handles { CountsHandles 1 w.old w.new result }
     ensures stands { IfOk result (StandsForSome (leaves_of w.old)) }
 {
-    let part = leaf_at(w, rt, id)?;
-    by_part(w, rt, target, part, how)
+    match leaf_at(w, rt, id) {
+        Ok(part) => by_part(w, rt, target, part, how),
+        Err(error) => {
+            target.give_back(w);
+            Err(error)
+        }
+    }
 }
 
 fn doubled<'t, R: Wait>(
@@ -192,10 +251,13 @@ fn doubled<'t, R: Wait>(
     requires ready { IsReady w.old 1 }
     requires stands { StandsForSome (leaves_of w.old) target }
     ensures goes_on { GoesOn 1 w.old w.new }
+    ensures handles { CountsHandles 1 w.old w.new result }
     ensures stands { IfOk result (StandsForSome (leaves_of w.old)) }
 {
-    let part = target.copy(w)?;
-    filterret(w, rt, target, part)
+    match target.copy(w) {
+        Ok(part) => filterret(w, rt, target, part),
+        Err(NoMemory) => Err(given_back(w, target)),
+    }
 }
 
 fn adapted<'t, R: Wait>(
@@ -207,6 +269,7 @@ fn adapted<'t, R: Wait>(
     requires ready { IsReady w.old 2 }
     requires stands { StandsForSome (leaves_of w.old) target }
     ensures goes_on { GoesOn 2 w.old w.new }
+    ensures handles { CountsHandles 1 w.old w.new result }
     ensures stands { IfOk result (StandsForSome (leaves_of w.old)) }
 {
     match step {
@@ -227,6 +290,7 @@ pub fn made<'t, R: Wait>(
     requires ready { IsReady w.old 204 }
     requires few { length steps.now ≤ 100 }
     ensures goes_on { GoesOn 204 w.old w.new }
+    ensures handles { CountsHandles 0 w.old w.new result }
     ensures stands { IfOk result (StandsForSome (leaves_of w.old)) }
 {
     let mut h = rooted(w, rt, root)?;
