@@ -1,6 +1,6 @@
 -- What the call of a gather answers, from what it adds to the handle that it adapts.
-use Rattle.std.proofs.Common.{◌≡◌, sym, subst, ap, ◌∙◌, ℕ, ◌+◌, ◌-◌, ◌≤◌, Bool, ◌&&◌, List, [], ◌∷◌, ◌++◌, length, replicate, Option, Some, Result, Ok, Err, IfOk, codes, nat_lt}
-use Rattle.std.specs.Prelude.{slice_get}
+use Rattle.std.proofs.Common.{◌≡◌, sym, subst, ap, ◌∙◌, ℕ, ◌+◌, ◌-◌, ◌≤◌, Bool, ◌&&◌, List, [], ◌∷◌, ◌++◌, append-nil, length, replicate, Option, Some, Result, Ok, Err, IfOk, codes, nat_lt}
+use Rattle.std.specs.Prelude.{slice_get, IsTrue}
 use Rattle.mh_values.specs.declared.class.Class.{Class}
 use Rattle.mh_values.specs.declared.types.Comp.{Comp}
 use Rattle.mh_values.specs.declared.types.Ty.{Ty}
@@ -14,19 +14,23 @@ use Rattle.mh_tree.specs.Tree.{Tree}
 use Rattle.mh_tree.specs.Tree as tree
 use Rattle.mh_tree.proofs.Provided.{provided-parts, provided_some-parts}
 use Rattle.mh_tree.proofs.RowParts.{gather_row-parts}
-use Rattle.mh_form.specs.declared.field.Field.{Field}
-use Rattle.mh_form.specs.declared.field.Field.TheVariants as field
 use Rattle.mh_form.specs.Erasure.{basic_of}
-use Rattle.mh_edit.specs.declared.key.Key.{Key}
 use Rattle.mh_edit.specs.declared.key.Key.TheVariants as key
+use Rattle.mh_edit.specs.Applied.{applied}
+use Rattle.mh_edit.specs.Fit.{fits}
 use Rattle.mh_handle.specs.declared.error.HandleError.{HandleError}
-use Rattle.mh_handle.specs.Grows.{Grows}
+use Rattle.mh_handle.specs.declared.growth.Growth.{Growth}
+use Rattle.mh_handle.specs.declared.handle.Handle.{Handle}
+use Rattle.mh_handle.specs.Grows.{GainsNode, GrowsBy}
+use Rattle.mh_handle.specs.Parts.{PartsView}
 use Rattle.mh_handle.specs.declared.work.Work.{Work}
 use Rattle.mh_handle.specs.Recipe.{at_some, recipe}
-use Rattle.mh_handle.specs.Stands.{HandleView, Stands}
-use Rattle.mh_handle.specs.Works.{Makes}
+use Rattle.mh_handle.specs.Stands.{HandleView, HasShape, IsShaped, Stands, handle_body}
+use Rattle.mh_handle.specs.Works.{CountsHandles, Makes}
 use Rattle.mh_handle.proofs.Limits.{limited-low}
-use Rattle.mh_branch.specs.Growths.{gather_keys}
+use Rattle.mh_branch.specs.Growths.{IsGather, TellsGather, gather_keys}
+use Rattle.mh_branch.proofs.ArrayFits.{gather-fits}
+use Rattle.mh_branch.proofs.ArrayShapes.{gather-shaped}
 use Rattle.mh_branch.proofs.GatherStands.{gather-stands}
 
 pub gather-array : (classes : List Class) (t : MethodTy) (weight : ℕ) (array : Option Ty) (count : ℕ) (u : MethodTy) →
@@ -45,37 +49,63 @@ gather-light classes t weight array count u row =
     let r = provided-parts (test q.0) (illegal (codes "gather")) (within q.0) u q.2 in
     (limited-low (codes "gather") (1 + weight) (made q.0) u r.1).1
 
-pub gather-makes :
-    (table : LeafTable) (h : HandleView) (t : Tree) (array : Option Ty) (count : ℕ) (c : Comp) (k : Key) (old new : Work)
-    (r : Result HandleView HandleError) →
-    Stands table h t →
-    component_of array ≡ Some c →
-    k ≡ key.Gather count (basic_of (item_type c)) →
-    Makes (h.form.recipe ++ k ∷ []) old new r →
-    Makes (recipe table (tree.Gather t array count)) old new r
-gather-makes table h t array count c k old new r st some is makes =
-    let keys : k ∷ [] ≡ gather_keys array count =
-    ap (λ x. x ∷ []) is ∙ sym (ap (λ o. at_some o (λ d. key.Gather count (basic_of (item_type d)))) some) in
-    subst (λ ks. Makes ks old new r) (λ i. st.made i ++ keys i) makes
+module _ (classes : List Class) (h : HandleView) (array : Option Ty) (count : ℕ) (by : Growth) (tells : TellsGather classes h array count (Ok by)) where
+  component : Comp
+  component = tells.1
+
+  some : component_of array ≡ Some component
+  unfolding component
+  some = tells.2
+
+  adds : IsGather h component count by
+  unfolding component
+  adds = tells.3
+
+  pub gather-fits-by : IsShaped h → IsTrue (fits by.key (handle_body h))
+  gather-fits-by shaped =
+      subst (λ k. IsTrue (fits k (handle_body h))) (sym adds.key)
+      (gather-fits classes h.ty h.weight array count by.ty (basic_of (item_type component)) (handle_body h) tells.0 shaped.made shaped.params)
+
+  pub gather-shaped-by : IsShaped h → HasShape (applied by.key (handle_body h)) by.ty
+  gather-shaped-by shaped =
+      subst (λ k. HasShape (applied k (handle_body h)) by.ty) (sym adds.key)
+      (gather-shaped classes h.ty h.weight array count component by.ty (handle_body h) tells.0 some shaped.params)
+
+  pub gather-makes :
+      (table : LeafTable) (t : Tree) (old new : Work) (r : Result Handle HandleError) →
+      Stands table h t →
+      Makes (h.form.recipe ++ by.key ∷ []) old new r →
+      Makes (recipe table (tree.Gather t array count)) old new r
+  gather-makes table t old new r st makes =
+      let keys : by.key ∷ [] ≡ gather_keys array count =
+      ap (λ x. x ∷ []) adds.key ∙ sym (ap (λ o. at_some o (λ d. key.Gather count (basic_of (item_type d)))) some) in
+      subst (λ ks. Makes ks old new r) (λ i. st.made i ++ keys i) makes
+
+  pub gather-counts : (old new : Work) (r : Result Handle HandleError) → CountsHandles (1 + by.parts.count) old new r → CountsHandles 1 old new r
+  gather-counts old new r counts = subst (λ (p : PartsView). CountsHandles (1 + p.count) old new r) adds.parts counts
+
+  pub gather-gains : (r : Result Handle HandleError) → GrowsBy h by r → IfOk r (GainsNode h)
+  gather-gains (Ok x) grows = record {
+    weighed = grows.weighed ∙ adds.weight;
+    holds = grows.holds ∙ (ap (λ (p : PartsView). h.sides ++ p.sides) adds.parts ∙ append-nil h.sides);
+  }
+  gather-gains (Err e) grows = grows
 
 pub gather-answers :
-    (table : LeafTable) (h : HandleView) (array : Option Ty) (count : ℕ) (c : Comp) (u : MethodTy) (k : Key) (sides : List MethodTy) (fields : List Field)
-    (r : Result HandleView HandleError) (t : Tree) →
+    (table : LeafTable) (h : HandleView) (array : Option Ty) (count : ℕ) (by : Growth) →
+    TellsGather table.classes h array count (Ok by) →
+    (r : Result Handle HandleError) (t : Tree) →
     AreClasses table.classes →
-    gather_row table.classes h.ty h.weight array count ≡ Ok u →
-    component_of array ≡ Some c →
-    k ≡ key.Gather count (basic_of (item_type c)) →
-    sides ≡ [] →
-    fields ≡ field.Comp c ∷ [] →
-    IfOk r (λ x. Grows h x u (1 + h.weight) sides k fields) →
+    GrowsBy h by r →
     Stands table h t →
     IfOk r (λ x. Stands table x (tree.Gather t array count))
-gather-answers table h array count c u k sides fields (Ok x) t are row some is none one grows st =
-    gather-stands table h x t array count c u are st row some (record {
+gather-answers table h array count by tells (Ok x) t are grows st =
+    let adds : IsGather h tells.1 count by = tells.3 in
+    gather-stands table h x t array count tells.1 by.ty are st tells.0 tells.2 (record {
       typed = grows.typed;
-      weighed = grows.weighed;
-      holds = grows.holds ∙ ap (λ s. h.sides ++ s) none;
-      made = grows.made ∙ ap (λ j. h.form.recipe ++ j ∷ []) is;
-      fielded = grows.fielded ∙ ap (λ f. h.fields ++ f) one;
+      weighed = grows.weighed ∙ adds.weight;
+      holds = grows.holds ∙ ap (λ (p : PartsView). h.sides ++ p.sides) adds.parts;
+      made = grows.made ∙ ap (λ j. h.form.recipe ++ j ∷ []) adds.key;
+      fielded = grows.fielded ∙ ap (λ (p : PartsView). h.fields ++ p.fields) adds.parts;
     })
-gather-answers table h array count c u k sides fields (Err e) t are row some is none one grows st = grows
+gather-answers table h array count by tells (Err e) t are grows st = grows

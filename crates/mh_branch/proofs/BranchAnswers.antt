@@ -20,14 +20,15 @@ use Rattle.mh_form.specs.Body.{nothing}
 use Rattle.mh_form.specs.Erasure.{basic_of}
 use Rattle.mh_edit.specs.Fit.{fits}
 use Rattle.mh_handle.specs.declared.error.HandleError.{HandleError}
-use Rattle.mh_handle.specs.declared.growth.Growth.{Growth}
-use Rattle.mh_handle.specs.Grows.{Grows, base_handle}
+use Rattle.mh_handle.specs.declared.handle.Handle.{Handle}
+use Rattle.mh_handle.specs.Parts.{PartsView}
 use Rattle.mh_handle.specs.declared.work.Work.{Work}
 use Rattle.mh_handle.specs.Recipe.{at_type, recipe}
 use Rattle.mh_handle.specs.Stands.{HandleView, Stands}
 use Rattle.mh_handle.specs.Works.{Makes}
 use Rattle.mh_handle.proofs.Limits.{limited-low}
-use Rattle.mh_branch.specs.Growths.{IsCatch, IsGuard, catch_key, guard_key}
+use Rattle.mh_branch.specs.declared.growths.Branch.{Branch}
+use Rattle.mh_branch.specs.Growths.{AreCatchParts, AreGuardParts, HasBranches, HasHandler, RootsBranch, catch_key, guard_key}
 use Rattle.mh_branch.proofs.Branching.{first-few}
 use Rattle.mh_branch.proofs.CatchStands.{catch-fits, catch-stands, handler-few}
 use Rattle.mh_branch.proofs.GuardStands.{guard-fits, guard-stands}
@@ -50,44 +51,51 @@ module _ (c t e : HandleView) (u : MethodTy) (row : guard_row c.ty c.weight t.ty
       let many = limits.0 in
       omega (arith, length-map t.ty.params basic_of)
 
-  module _ (by : Growth) (is : IsGuard u c t e by) where
-    key : by.key ≡ guard_key t.ty c.ty
-    key = is.key ∙ ap (λ m. guard_key m c.ty) own
+  module _ (b : Branch) (is : u ≡ b.ty) (weight : b.weight ≡ 1 + c.weight + t.weight + e.weight) (key : b.key ≡ guard_key b.ty c.ty) where
+    own-key : b.key ≡ guard_key t.ty c.ty
+    own-key = key ∙ ap (λ m. guard_key m c.ty) (sym is ∙ own)
 
-    pub guard-fits-by : IsTrue (fits by.key nothing)
-    guard-fits-by = subst (λ k. IsTrue (fits k nothing)) (sym key) (guard-fits c.ty c.weight t.ty t.weight e.ty e.weight u row)
+    pub guard-fits-by : IsTrue (fits b.key nothing)
+    guard-fits-by = subst (λ k. IsTrue (fits k nothing)) (sym own-key) (guard-fits c.ty c.weight t.ty t.weight e.ty e.weight u row)
 
-    pub guard-light : by.weight ≤ 256
-    guard-light = let light = limits.1 in omega (arith, is.weight)
+    pub guard-light : b.weight ≤ 256
+    guard-light = let light = limits.1 in omega (arith, weight)
 
     pub guard-makes :
-        (table : LeafTable) (old new : Work) (r : Result HandleView HandleError) (a b d : Tree) →
-        Stands table c a →
-        Stands table t b →
-        Makes (by.key ∷ []) old new r →
-        Makes (recipe table (tree.Guard a b d)) old new r
-    guard-makes table old new r a b d tests stands makes =
-        let keys : guard_key t.ty c.ty ∷ [] ≡ recipe table (tree.Guard a b d) =
+        (table : LeafTable) (old new : Work) (r : Result Handle HandleError) (x y z : Tree) →
+        Stands table c x →
+        Stands table t y →
+        Makes (b.key ∷ []) old new r →
+        Makes (recipe table (tree.Guard x y z)) old new r
+    guard-makes table old new r x y z tests stands makes =
+        let keys : guard_key t.ty c.ty ∷ [] ≡ recipe table (tree.Guard x y z) =
         λ i. at_type (sym stands.typed i) (λ ty. at_type (sym tests.typed i) (λ test. guard_key ty test ∷ [])) in
-        subst (λ ks. Makes ks old new r) (ap (λ k. k ∷ []) key ∙ keys) makes
+        subst (λ ks. Makes ks old new r) (ap (λ k. k ∷ []) own-key ∙ keys) makes
 
-    pub guard-answers :
-        (table : LeafTable) (r : Result HandleView HandleError) (a b d : Tree) →
-        IfOk r (λ h. Grows base_handle h by.ty by.weight by.sides by.key by.fields.items) →
-        Stands table c a →
-        Stands table t b →
-        Stands table e d →
-        IfOk r (λ h. Stands table h (tree.Guard a b d))
-    guard-answers table (Ok h) a b d g tests stands others =
-        let f = is.fields in
-        guard-stands table h a b d u c t e f.0 f.1 f.2 tests stands others f.4 f.5 f.6 row (record {
-          typed = g.typed ∙ is.ty;
-          weighed = g.weighed ∙ is.weight;
-          holds = g.holds ∙ is.sides;
-          made = g.made ∙ ap (λ k. k ∷ []) key;
-          fielded = g.fielded ∙ f.3;
-        })
-    guard-answers table (Err x) a b d g tests stands others = g
+    module _ (parts : PartsView) (are : AreGuardParts c t e parts) where
+      pub guard-gains : (r : Result Handle HandleError) → RootsBranch b parts r → IfOk r (HasBranches c t e)
+      guard-gains (Ok h) g =
+          let f = are.fields in
+          record { weighed = g.weighed ∙ weight; holds = g.holds ∙ are.sides; fielded = (f.0, f.1, f.2, g.fielded ∙ f.3, f.4, f.5, f.6) }
+      guard-gains (Err x) g = g
+
+      pub guard-answers :
+          (table : LeafTable) (r : Result Handle HandleError) (x y z : Tree) →
+          RootsBranch b parts r →
+          Stands table c x →
+          Stands table t y →
+          Stands table e z →
+          IfOk r (λ h. Stands table h (tree.Guard x y z))
+      guard-answers table (Ok h) x y z g tests stands others =
+          let f = are.fields in
+          guard-stands table h x y z u c t e f.0 f.1 f.2 tests stands others f.4 f.5 f.6 row (record {
+            typed = g.typed ∙ sym is;
+            weighed = g.weighed ∙ weight;
+            holds = g.holds ∙ are.sides;
+            made = g.made ∙ ap (λ k. k ∷ []) own-key;
+            fielded = g.fielded ∙ f.3;
+          })
+      guard-answers table (Err x') x y z g tests stands others = g
 
 module _ (classes : List Class) (t : HandleView) (class : ClassId) (h : HandleView) (u : MethodTy) (row : catch_row classes t.ty t.weight class h.ty
     h.weight ≡ Ok u) where
@@ -117,43 +125,51 @@ module _ (classes : List Class) (t : HandleView) (class : ClassId) (h : HandleVi
       let many = bounds.0 in
       omega (arith, length-map t.ty.params basic_of)
 
-  module _ (by : Growth) (is : IsCatch u t class h by) where
-    key' : by.key ≡ catch_key t.ty h.ty
-    key' = is.key ∙ ap (λ m. catch_key m h.ty) target
+  module _ (b : Branch) (is : u ≡ b.ty) (weight : b.weight ≡ 1 + t.weight + h.weight) (key : b.key ≡ catch_key b.ty h.ty) where
+    target-key : b.key ≡ catch_key t.ty h.ty
+    target-key = key ∙ ap (λ m. catch_key m h.ty) (sym is ∙ target)
 
-    pub catch-fits-by : IsTrue (fits by.key nothing)
-    catch-fits-by = subst (λ k. IsTrue (fits k nothing)) (sym key') (catch-fits classes t.ty t.weight class h.ty h.weight u row)
+    pub catch-fits-by : IsTrue (fits b.key nothing)
+    catch-fits-by = subst (λ k. IsTrue (fits k nothing)) (sym target-key) (catch-fits classes t.ty t.weight class h.ty h.weight u row)
 
-    pub catch-light : by.weight ≤ 256
-    catch-light = let light = bounds.1 in omega (arith, is.weight)
+    pub catch-light : b.weight ≤ 256
+    catch-light = let light = bounds.1 in omega (arith, weight)
 
     pub catch-makes :
-        (table : LeafTable) (old new : Work) (r : Result HandleView HandleError) (a b : Tree) →
-        Stands table t a →
-        Stands table h b →
-        Makes (by.key ∷ []) old new r →
-        Makes (recipe table (tree.Catch a class b)) old new r
-    catch-makes table old new r a b stands handles makes =
-        let keys : catch_key t.ty h.ty ∷ [] ≡ recipe table (tree.Catch a class b) =
-        λ i. at_type (sym stands.typed i) (λ ty. at_type (sym handles.typed i) (λ handler. catch_key ty handler ∷ [])) in
-        subst (λ ks. Makes ks old new r) (ap (λ k. k ∷ []) key' ∙ keys) makes
+        (table : LeafTable) (old new : Work) (r : Result Handle HandleError) (x y : Tree) →
+        Stands table t x →
+        Stands table h y →
+        Makes (b.key ∷ []) old new r →
+        Makes (recipe table (tree.Catch x class y)) old new r
+    catch-makes table old new r x y stands handled makes =
+        let keys : catch_key t.ty h.ty ∷ [] ≡ recipe table (tree.Catch x class y) =
+        λ i. at_type (sym stands.typed i) (λ ty. at_type (sym handled.typed i) (λ handler. catch_key ty handler ∷ [])) in
+        subst (λ ks. Makes ks old new r) (ap (λ k. k ∷ []) target-key ∙ keys) makes
 
-pub catch-answers :
-    (table : LeafTable) (t : HandleView) (class : ClassId) (h : HandleView) (u : MethodTy) (by : Growth) (r : Result HandleView HandleError) (a b : Tree) →
-    AreClasses table.classes →
-    catch_row table.classes t.ty t.weight class h.ty h.weight ≡ Ok u →
-    IsCatch u t class h by →
-    IfOk r (λ x. Grows base_handle x by.ty by.weight by.sides by.key by.fields.items) →
-    Stands table t a →
-    Stands table h b →
-    IfOk r (λ x. Stands table x (tree.Catch a class b))
-catch-answers table t class h u by (Ok x) a b are row is g stands handled =
-    let f = is.fields in
-    catch-stands table x a class b u t h f.0 f.1 are stands handled f.3 f.4 row (record {
-      typed = g.typed ∙ is.ty;
-      weighed = g.weighed ∙ is.weight;
-      holds = g.holds ∙ is.sides;
-      made = g.made ∙ ap (λ k. k ∷ []) (key' table.classes t class h u row by is);
-      fielded = g.fielded ∙ f.2;
-    })
-catch-answers table t class h u by (Err e) a b are row is g stands handled = g
+    module _ (parts : PartsView) (are : AreCatchParts t class h parts) where
+      pub catch-gains : (r : Result Handle HandleError) → RootsBranch b parts r → IfOk r (HasHandler t class h)
+      catch-gains (Ok x) g =
+          let f = are.fields in
+          record { weighed = g.weighed ∙ weight; holds = g.holds ∙ are.sides; fielded = (f.0, f.1, g.fielded ∙ f.2, f.3, f.4) }
+      catch-gains (Err x) g = g
+
+      pub catch-answers :
+          (table : LeafTable) (r : Result Handle HandleError) (x y : Tree) →
+          table.classes ≡ classes →
+          AreClasses table.classes →
+          RootsBranch b parts r →
+          Stands table t x →
+          Stands table h y →
+          IfOk r (λ z. Stands table z (tree.Catch x class y))
+      catch-answers table (Ok z) x y same all g stands handled =
+          let f = are.fields in
+          let row' : catch_row table.classes t.ty t.weight class h.ty h.weight ≡ Ok u =
+          subst (λ cs. catch_row cs t.ty t.weight class h.ty h.weight ≡ Ok u) (sym same) row in
+          catch-stands table z x class y u t h f.0 f.1 all stands handled f.3 f.4 row' (record {
+            typed = g.typed ∙ sym is;
+            weighed = g.weighed ∙ weight;
+            holds = g.holds ∙ are.sides;
+            made = g.made ∙ ap (λ k. k ∷ []) target-key;
+            fielded = g.fielded ∙ f.2;
+          })
+      catch-answers table (Err e) x y same all g stands handled = g

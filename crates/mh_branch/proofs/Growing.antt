@@ -1,47 +1,51 @@
 -- The parts of a branch, added one after the other.
-use Rattle.std.proofs.Common.{◌≡◌, ap, ◌∙◌, [], ◌∷◌, ◌++◌, Result, Ok, Err, IfOk}
+use Rattle.std.proofs.Common.{◌≡◌, ap, ◌∙◌, ◌+◌, [], ◌∷◌, ◌++◌, Result, Ok, Err, IfOk}
 use Rattle.mh_base.specs.declared.memory.NoMemory.{NoMemory}
 use Rattle.mh_values.specs.declared.class.ClassId.{ClassId}
 use Rattle.mh_form.specs.declared.field.Field.TheVariants as field
+use Rattle.mh_handle.specs.Parts.{AddsHandle, PartsView, held_by, no_parts}
 use Rattle.mh_handle.specs.Stands.{HandleView}
-use Rattle.mh_branch.specs.declared.growths.Parts.{Parts}
-use Rattle.mh_branch.specs.Growths.{AddsClass, AddsHandle, AreCatchParts, AreGuardParts, held_by}
+use Rattle.mh_branch.specs.Growths.{AddsHandler, AddsHandles, AreCatchParts, AreGuardParts}
 
-pub guard-parts :
-    (c t e : HandleView) (none one two : Parts) (r : Result Parts NoMemory) →
-    none.fields.items ≡ [] →
-    none.sides ≡ [] →
-    AddsHandle c none one →
-    AddsHandle t one two →
-    IfOk r (AddsHandle e two) →
-    IfOk r (AreGuardParts c t e)
-guard-parts c t e none one two (Err x) empty bare a b d = d
-guard-parts c t e none one two (Ok three) empty bare a b d =
+if-ok : (r : Result PartsView NoMemory) (P Q : PartsView → Type 0) → IfOk r P → ((x : PartsView) → P x → Q x) → IfOk r Q
+if-ok (Ok x) P Q has then-has = then-has x has
+if-ok (Err e) P Q has then-has = has
+
+guard-parts : (c t e : HandleView) (none one all : PartsView) → none ≡ no_parts → AddsHandle c none one → AddsHandles t e one all → AreGuardParts c t e all
+guard-parts c t e none one all bare a more =
+    let b = more.1 in
+    let d = more.2 in
     let x = a.fields.0 in
     let y = b.fields.0 in
     let z = d.fields.0 in
-    let first : one.fields.items ≡ x ∷ [] = a.fields.1 ∙ ap (λ fs. fs ++ x ∷ []) empty in
-    let second : two.fields.items ≡ x ∷ y ∷ [] = b.fields.1 ∙ ap (λ fs. fs ++ y ∷ []) first in
+    let first : one.fields ≡ x ∷ [] = a.fields.1 ∙ ap (λ (p : PartsView). p.fields ++ x ∷ []) bare in
+    let second : more.0.fields ≡ x ∷ y ∷ [] = b.fields.1 ∙ ap (λ fs. fs ++ y ∷ []) first in
+    let sides : one.sides ≡ held_by c = a.sides ∙ ap (λ (p : PartsView). p.sides ++ held_by c) bare in
+    let counts : one.count ≡ 1 = a.count ∙ ap (λ (p : PartsView). p.count + 1) bare in
     record {
       fields = (x, y, z, d.fields.1 ∙ ap (λ fs. fs ++ z ∷ []) second, a.fields.2, b.fields.2, d.fields.2);
-      sides = d.sides ∙ ap (λ s. s ++ held_by e) (b.sides ∙ ap (λ s. s ++ held_by t) (a.sides ∙ ap (λ s. s ++ held_by c) bare));
+      sides = d.sides ∙ ap (λ s. s ++ held_by e) (b.sides ∙ ap (λ s. s ++ held_by t) sides);
+      count = d.count ∙ ap (λ n. n + 1) (b.count ∙ ap (λ n. n + 1) counts);
     }
 
-pub catch-parts :
-    (t : HandleView) (class : ClassId) (h : HandleView) (none one two : Parts) (r : Result Parts NoMemory) →
-    none.fields.items ≡ [] →
-    none.sides ≡ [] →
-    AddsHandle t none one →
-    AddsClass class one two →
-    IfOk r (AddsHandle h two) →
-    IfOk r (AreCatchParts t class h)
-catch-parts t class h none one two (Err x) empty bare a b d = d
-catch-parts t class h none one two (Ok three) empty bare a b d =
+catch-parts : (t : HandleView) (class : ClassId) (h : HandleView) (none one all : PartsView) → none ≡ no_parts → AddsHandle t none one →
+    AddsHandler class h one all → AreCatchParts t class h all
+catch-parts t class h none one all bare a d =
     let x = a.fields.0 in
     let z = d.fields.0 in
-    let first : one.fields.items ≡ x ∷ [] = a.fields.1 ∙ ap (λ fs. fs ++ x ∷ []) empty in
-    let second : two.fields.items ≡ x ∷ field.Class class ∷ [] = b.fields ∙ ap (λ fs. fs ++ field.Class class ∷ []) first in
+    let first : one.fields ≡ x ∷ [] = a.fields.1 ∙ ap (λ (p : PartsView). p.fields ++ x ∷ []) bare in
+    let sides : one.sides ≡ held_by t = a.sides ∙ ap (λ (p : PartsView). p.sides ++ held_by t) bare in
+    let counts : one.count ≡ 1 = a.count ∙ ap (λ (p : PartsView). p.count + 1) bare in
     record {
-      fields = (x, z, d.fields.1 ∙ ap (λ fs. fs ++ z ∷ []) second, a.fields.2, d.fields.2);
-      sides = d.sides ∙ ap (λ s. s ++ held_by h) (b.sides ∙ a.sides ∙ ap (λ s. s ++ held_by t) bare);
+      fields = (x, z, d.fields.1 ∙ ap (λ fs. (fs ++ field.Class class ∷ []) ++ z ∷ []) first, a.fields.2, d.fields.2);
+      sides = d.sides ∙ ap (λ s. s ++ held_by h) sides;
+      count = d.count ∙ ap (λ n. n + 1) counts;
     }
+
+module _ (none one : PartsView) (bare : none ≡ no_parts) (r : Result PartsView NoMemory) where
+  pub guard-all : (c t e : HandleView) → AddsHandle c none one → IfOk r (AddsHandles t e one) → IfOk r (AreGuardParts c t e)
+  guard-all c t e a more = if-ok r (AddsHandles t e one) (AreGuardParts c t e) more (λ all. guard-parts c t e none one all bare a)
+
+  pub catch-all : (t : HandleView) (class : ClassId) (h : HandleView) → AddsHandle t none one → IfOk r (AddsHandler class h one) →
+      IfOk r (AreCatchParts t class h)
+  catch-all t class h a more = if-ok r (AddsHandler class h one) (AreCatchParts t class h) more (λ all. catch-parts t class h none one all bare a)

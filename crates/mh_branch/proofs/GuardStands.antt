@@ -36,7 +36,8 @@ use Rattle.mh_edit.specs.Fit.{fits}
 use Rattle.mh_edit.specs.Law.{returned}
 use Rattle.mh_edit.proofs.RootLaws.{law-GuardRoot}
 use Rattle.mh_handle.specs.Form.{body_of}
-use Rattle.mh_handle.specs.Grows.{Grows, IsPartOf, base_handle}
+use Rattle.mh_handle.specs.Grows.{Grows, base_handle}
+use Rattle.mh_handle.specs.Parts.{IsPartOf}
 use Rattle.mh_handle.specs.Recipe.{at_type, recipe}
 use Rattle.mh_handle.specs.Stands.{HandleView, Stands, handle_run}
 use Rattle.mh_branch.proofs.Computing.{and_then-erased}

@@ -5,7 +5,6 @@ mod BranchAnswers
 mod Branching
 mod CatchStands
 mod Computing
-mod Gained
 mod GatherStands
 mod GatheredArrays
 mod Growing

@@ -15,7 +15,7 @@ use Rattle.mh_form.specs.declared.name.Name.{Name}
 use Rattle.mh_form.specs.Erasure.{basic_of, erased, erased_ran}
 use Rattle.mh_form.specs.Run.{run_bound, run_on}
 use Rattle.mh_form.proofs.Refines.{refined}
-use Rattle.mh_handle.specs.Grows.{IsPartOf}
+use Rattle.mh_handle.specs.Parts.{IsPartOf}
 use Rattle.mh_handle.specs.Recipe.{recipe}
 use Rattle.mh_handle.specs.Stands.{HandleView, IsMade, Stands, handle_body, handle_run}
 use Rattle.mh_handle.proofs.Erasing.{returns-runs}

@@ -1,5 +1,5 @@
 -- What the check of a spread tells of its rule, and what its two edits leave of the work.
-use Rattle.std.proofs.Common.{◌≡◌, refl, sym, subst, ap, ◌∙◌, ℕ, ◌≤◌, Bool, true, false, cond, List, [], ◌++◌, append-nil, length, Option, Some, None, Result, Ok, Err, codes, nat_le, inl, inr, ⊎_elim, arith}
+use Rattle.std.proofs.Common.{◌≡◌, refl, sym, subst, ap, ◌∙◌, ℕ, ◌+◌, ◌≤◌, Bool, true, false, cond, List, [], ◌++◌, append-nil, length, Option, Some, None, Result, Ok, Err, codes, nat_le, inl, inr, ⊎_elim, arith}
 use Rattle.std.specs.Prelude.{IsErrAnd}
 use Rattle.std.specs.Option.{option_map_or}
 use Rattle.mh_values.specs.declared.class.Class.{Class}
@@ -23,10 +23,11 @@ use Rattle.mh_handle.specs.declared.handle.Handle.{Handle}
 use Rattle.mh_handle.specs.declared.work.Work.{Work}
 use Rattle.mh_handle.specs.Errors.{of_check}
 use Rattle.mh_handle.specs.Obeys.{Obeys}
-use Rattle.mh_handle.specs.Works.{GoesOn, IsAccepted, Makes}
+use Rattle.mh_handle.specs.Parts.{PartsView, no_parts}
+use Rattle.mh_handle.specs.Works.{CountsHandles, GoesOn, IsAccepted, IsUnchanged, Makes}
 use Rattle.mh_handle.specs.Recipe.{at_type, convert_keys, recipe}
 use Rattle.mh_astype.specs.Use.{MakesFrom}
-use Rattle.mh_astype.proofs.Using.{makes-nothing}
+use Rattle.mh_astype.proofs.Using.{makes-refused}
 use Rattle.mh_branch.specs.declared.spreading.Spreading.{Spreading}
 use Rattle.mh_branch.specs.Spreading.{IsSpreading, MakesBoth, MakesSpread, TellsSpreading}
 
@@ -54,11 +55,13 @@ module _ (classes : List Class) (t : MethodTy) (weight : ℕ) (array : Option Ty
       at-use s.component s.asked is.component is.within is.asked
       ∙ (ap (λ r. with_type r (λ a. spread_row a (use_weight t weight s.asked) array count)) is.used ∙ is.own)
 
-  pub spreading-refused : (e : CheckError) (r : Result Handle HandleError) → TellsSpreading classes t weight array count (Err e) →
-      IsErrAnd r (λ x. x ≡ of_check e) → Obeys (spread_use_row classes t weight array count) r
-  spreading-refused e (Ok h) tells is = absurd is
-  spreading-refused check.NoMemory (Err x) tells is = subst (λ v. Obeys (spread_use_row classes t weight array count) (Err v)) (sym is) tt
-  spreading-refused (check.Refused e) (Err x) tells is = subst (λ v. Obeys (spread_use_row classes t weight array count) (Err v)) (sym is) tells
+  refusal-obeys : (e : CheckError) → TellsSpreading classes t weight array count (Err e) → Obeys (spread_use_row classes t weight array count) (Err (of_check e))
+  refusal-obeys check.NoMemory tells = tt
+  refusal-obeys (check.Refused e) tells = tells
+
+  pub spreading-refused : (e : CheckError) (r : Result Handle HandleError) → TellsSpreading classes t weight array count (Err e) → r ≡ Err (of_check e) →
+      Obeys (spread_use_row classes t weight array count) r
+  spreading-refused e r tells is = subst (λ v. Obeys (spread_use_row classes t weight array count) v) (sym is) (refusal-obeys e tells)
 
   -- an error of the use, where the use is not refused
   pub used-error : (u asked : MethodTy) (e : HandleError) (r : Result Handle HandleError) → spread_use_row classes t weight array count ≡ Ok u →
@@ -92,23 +95,36 @@ items-keyed table own t count None = ([], sym (append-nil (recipe table t)))
 items-keyed table own t count (Some c) = used-keyed table t (taking_items own c count) (is_same_method_type own (taking_items own c count))
 
 -- want of memory before any edit, or a refusal
-refused-both : (first keys third : List Key) (w : Work) (e : CheckError) → MakesBoth first (first ++ keys) third w w (Err (of_check e))
-refused-both first keys third w check.NoMemory = inl (makes-nothing first keys w (Err NoMemory) refl)
-refused-both first keys third w (check.Refused e) = refl
+refused-both : (first keys third : List Key) (old new : Work) (e : CheckError) → IsUnchanged old new →
+    MakesBoth first (first ++ keys) third old new (Err (of_check e))
+refused-both first keys third old new check.NoMemory same = inl (makes-refused first keys old new check.NoMemory (Err NoMemory) refl same)
+refused-both first keys third old new (check.Refused e) same = same
 
-pub makes-none : (own : MethodTy) (array : Option Ty) (count : ℕ) (t : Tree) (w : Work) (e : CheckError) (r : Result Handle HandleError) →
-    IsErrAnd r (λ x. x ≡ of_check e) → MakesSpread own array count t w w r
-makes-none own array count t w e (Ok h) is = absurd is
-makes-none own array count t w e (Err x) is =
-    let table = w.leaves.now in
+pub makes-none : (own : MethodTy) (array : Option Ty) (count : ℕ) (t : Tree) (old new : Work) (e : CheckError) (r : Result Handle HandleError) →
+    r ≡ Err (of_check e) → IsUnchanged old new → MakesSpread own array count t old new r
+makes-none own array count t old new e r is same =
+    let table = old.leaves.now in
     let keyed = items-keyed table own t count (component_of array) in
     let third = recipe table (tree.Spread (items_used_as own array count t) array count) in
-    subst (λ v. MakesSpread own array count t w w (Err v)) (sym is)
-    (subst (λ second. MakesBoth (recipe table t) second third w w (Err (of_check e))) (sym keyed.1) (refused-both (recipe table t) keyed.0 third w e))
+    subst (λ v. MakesSpread own array count t old new v) (sym is)
+    (subst (λ second. MakesBoth (recipe table t) second third old new (Err (of_check e))) (sym keyed.1)
+    (refused-both (recipe table t) keyed.0 third old new e same))
 
--- a refusal leaves all as it was
-from-refused : (first second : List Key) (old new : Work) (e : Exc) → MakesFrom first second old new (Err (Refused e)) → new ≡ old
+-- a refusal leaves all but the number of handles as it was
+from-refused : (first second : List Key) (old new : Work) (e : Exc) → MakesFrom first second old new (Err (Refused e)) → IsUnchanged old new
 from-refused first second old new e makes = ⊎_elim (λ same. same.1) (λ other. other.1) makes
+
+-- ---- the number of handles
+
+pub counts-first : (old new : Work) (e : HandleError) (r : Result Handle HandleError) → CountsHandles {A = Handle} 1 old new (Err e) →
+    IsErrAnd r (λ x. x ≡ e) → CountsHandles 1 old new r
+counts-first old new e (Ok h) counts is = absurd is
+counts-first old new e (Err x) counts is = counts
+
+pub counts-second : (old mid new : Work) (parts : PartsView) (g : Handle) (r : Result Handle HandleError) → parts ≡ no_parts →
+    CountsHandles {E = HandleError} 1 old mid (Ok g) → CountsHandles (1 + parts.count) mid new r → CountsHandles 1 old new r
+counts-second old mid new parts g (Ok h) none first second = omega (arith, first, second, ap (λ (p : PartsView). p.count) none)
+counts-second old mid new parts g (Err e) none first second = omega (arith, first, second, ap (λ (p : PartsView). p.count) none)
 
 -- an error of the first edit
 pub makes-first : (first second third : List Key) (old new : Work) (e : HandleError) (r : Result Handle HandleError) →

@@ -1,24 +1,28 @@
 -- What branches and arrays add to the form that does nothing, or to the handle that they adapt.
-use Rattle.std.specs.Prelude.{◌≡◌, ℕ, ◌+◌, ◌-◌, List, [], ◌∷◌, ◌++◌, length, Option}
+use Rattle.std.specs.Prelude.{◌≡◌, ℕ, ◌+◌, ◌-◌, List, [], ◌∷◌, ◌++◌, length, Option, Some, Result, Ok, Err, IfOk}
+use Rattle.mh_values.specs.declared.class.Class.{Class}
 use Rattle.mh_values.specs.declared.class.ClassId.{ClassId}
+use Rattle.mh_values.specs.declared.types.Comp.{Comp}
 use Rattle.mh_values.specs.declared.types.Ty.{Ty}
 use Rattle.mh_values.specs.declared.types.MethodTy.{MethodTy}
 use Rattle.mh_values.specs.Array.{item_type}
-use Rattle.mh_tree.specs.Rows.{component_of}
+use Rattle.mh_tree.specs.declared.error.CheckError.{CheckError}
+use Rattle.mh_tree.specs.Check.{Tells}
+use Rattle.mh_tree.specs.Rows.{catch_row, component_of, gather_row, guard_row}
 use Rattle.mh_form.specs.declared.field.Field.{Field}
 use Rattle.mh_form.specs.declared.field.Field.TheVariants as field
 use Rattle.mh_form.specs.Erasure.{basic_of, shape_of}
 use Rattle.mh_edit.specs.declared.key.Key.{Key}
 use Rattle.mh_edit.specs.declared.key.Key.TheVariants as key
+use Rattle.mh_handle.specs.declared.error.HandleError.{HandleError}
 use Rattle.mh_handle.specs.declared.growth.Growth.{Growth}
-use Rattle.mh_branch.specs.declared.growths.Parts.{Parts}
-use Rattle.mh_handle.specs.Grows.{IsPartOf}
+use Rattle.mh_handle.specs.declared.handle.Handle.{Handle}
+use Rattle.mh_handle.specs.declared.work.Work.{Work}
+use Rattle.mh_branch.specs.declared.growths.Branch.{Branch}
+use Rattle.mh_handle.specs.Grows.{Grows, base_handle}
+use Rattle.mh_handle.specs.Parts.{AddsHandle, IsPartOf, PartsView, held_by, no_parts}
 use Rattle.mh_handle.specs.Recipe.{at_some}
 use Rattle.mh_handle.specs.Stands.{HandleView}
-
--- the types that a handle holds as a part
-abbrev pub held_by : HandleView → List MethodTy
-held_by h = h.ty ∷ h.sides
 
 -- the key of a guard of this type, with a test of that type
 abbrev pub guard_key : MethodTy → MethodTy → Key
@@ -36,41 +40,62 @@ spread_keys array count = at_some (component_of array) (λ c. key.Spread count (
 abbrev pub gather_keys : Option Ty → ℕ → List Key
 gather_keys array count = at_some (component_of array) (λ c. key.Gather count (basic_of (item_type c)))
 
--- one part more: a field that holds the handle, and the types that it holds
-pub record AddsHandle (h : HandleView) (old new : Parts) : Type 0 where
-  pub fields : (f : Field) × (new.fields.items ≡ old.fields.items ++ f ∷ []) × IsPartOf h f
-  pub sides : new.sides ≡ old.sides ++ held_by h
+-- what a gather of a component's items adds to a handle: one to its weight, its key, and a field that holds the component
+pub record IsGather (t : HandleView) (c : Comp) (count : ℕ) (by : Growth) : Type 0 where
+  pub weight : by.weight ≡ 1 + t.weight
+  pub key : by.key ≡ key.Gather count (basic_of (item_type c))
+  pub parts : by.parts ≡ record no_parts { fields = field.Comp c ∷ [] }
 
--- one field more, which holds a class
-pub record AddsClass (class : ClassId) (old new : Parts) : Type 0 where
-  pub fields : new.fields.items ≡ old.fields.items ++ field.Class class ∷ []
-  pub sides : new.sides ≡ old.sides
+-- the same, with the type that its rule gives, or its very refusal; want of memory tells nothing
+abbrev pub TellsGather : List Class → HandleView → Option Ty → ℕ → Result Growth CheckError → Type 0
+TellsGather classes t array count (Ok by) =
+    (gather_row classes t.ty t.weight array count ≡ Ok by.ty) × (c : Comp) × (component_of array ≡ Some c) × IsGather t c count by
+TellsGather classes t array count (Err e) = Tells (Err e) (gather_row classes t.ty t.weight array count)
+
+-- two parts more, one after the other
+abbrev pub AddsHandles : HandleView → HandleView → PartsView → PartsView → Type 0
+AddsHandles first second old new = (mid : PartsView) × AddsHandle first old mid × AddsHandle second mid new
+
+-- a class more, and a part after it
+abbrev pub AddsHandler : ClassId → HandleView → PartsView → PartsView → Type 0
+AddsHandler class handler old new = AddsHandle handler (record old { fields = old.fields ++ field.Class class ∷ [] }) new
 
 -- the parts of a guard: the test first, then the target and the fallback
-pub record AreGuardParts (test target fallback : HandleView) (parts : Parts) : Type 0 where
-  pub fields : (c b o : Field) × (parts.fields.items ≡ c ∷ b ∷ o ∷ []) × IsPartOf test c × IsPartOf target b × IsPartOf fallback o
+pub record AreGuardParts (test target fallback : HandleView) (parts : PartsView) : Type 0 where
+  pub fields : (c b o : Field) × (parts.fields ≡ c ∷ b ∷ o ∷ []) × IsPartOf test c × IsPartOf target b × IsPartOf fallback o
   pub sides : parts.sides ≡ held_by test ++ held_by target ++ held_by fallback
+  pub count : parts.count ≡ 3
 
 -- the parts of a catch: the target first, then the class of exceptions, then the handler
-pub record AreCatchParts (target : HandleView) (class : ClassId) (handler : HandleView) (parts : Parts) : Type 0 where
-  pub fields : (b h : Field) × (parts.fields.items ≡ b ∷ field.Class class ∷ h ∷ []) × IsPartOf target b × IsPartOf handler h
+pub record AreCatchParts (target : HandleView) (class : ClassId) (handler : HandleView) (parts : PartsView) : Type 0 where
+  pub fields : (b h : Field) × (parts.fields ≡ b ∷ field.Class class ∷ h ∷ []) × IsPartOf target b × IsPartOf handler h
   pub sides : parts.sides ≡ held_by target ++ held_by handler
+  pub count : parts.count ≡ 2
 
--- a guard of this type: the test first, then the target and the fallback
-pub record IsGuard (t : MethodTy) (test target fallback : HandleView) (by : Growth) : Type 0 where
-  pub ty : by.ty ≡ t
-  pub weight : by.weight ≡ 1 + test.weight + target.weight + fallback.weight
-  pub sides : by.sides ≡ held_by test ++ held_by target ++ held_by fallback
-  pub key : by.key ≡ guard_key t test.ty
-  pub fields : (c b o : Field) × (by.fields.items ≡ c ∷ b ∷ o ∷ []) × IsPartOf test c × IsPartOf target b × IsPartOf fallback o
+-- what a call leaves of the number of handles that makes parts of so many of them: where it fails each was given back
+abbrev pub CountsParts : {A E : Type 0} → ℕ → Work → Work → Result A E → Type 0
+CountsParts handed old new (Ok parts) = new.handles.now ≡ old.handles.now
+CountsParts handed old new (Err error) = new.handles.now ≡ old.handles.now - handed
 
--- a catch of this type: the target first, then the class of exceptions, then the handler
-pub record IsCatch (t : MethodTy) (target : HandleView) (class : ClassId) (handler : HandleView) (by : Growth) : Type 0 where
-  pub ty : by.ty ≡ t
-  pub weight : by.weight ≡ 1 + target.weight + handler.weight
-  pub sides : by.sides ≡ held_by target ++ held_by handler
-  pub key : by.key ≡ catch_key t handler.ty
-  pub fields : (b h : Field) × (by.fields.items ≡ b ∷ field.Class class ∷ h ∷ []) × IsPartOf target b × IsPartOf handler h
+-- a guard before its parts are there, with the type that its rule gives, or its very refusal; want of memory tells nothing
+abbrev pub TellsGuard : HandleView → HandleView → HandleView → Result Branch CheckError → Type 0
+TellsGuard test target fallback (Ok b) =
+    (guard_row test.ty test.weight target.ty target.weight fallback.ty fallback.weight ≡ Ok b.ty)
+    × (b.weight ≡ 1 + test.weight + target.weight + fallback.weight) × (b.key ≡ guard_key b.ty test.ty)
+TellsGuard test target fallback (Err e) =
+    Tells (Err e) (guard_row test.ty test.weight target.ty target.weight fallback.ty fallback.weight)
+
+-- a catch before its parts are there, with the type that its rule gives, or its very refusal; want of memory tells nothing
+abbrev pub TellsCatch : List Class → HandleView → ClassId → HandleView → Result Branch CheckError → Type 0
+TellsCatch classes target class handler (Ok b) =
+    (catch_row classes target.ty target.weight class handler.ty handler.weight ≡ Ok b.ty)
+    × (b.weight ≡ 1 + target.weight + handler.weight) × (b.key ≡ catch_key b.ty handler.ty)
+TellsCatch classes target class handler (Err e) =
+    Tells (Err e) (catch_row classes target.ty target.weight class handler.ty handler.weight)
+
+-- a handle that was made is the branch, with its parts
+abbrev pub RootsBranch : Branch → PartsView → Result Handle HandleError → Type 0
+RootsBranch b parts made = IfOk made (λ h. Grows base_handle h b.ty b.weight parts.sides b.key parts.fields)
 
 -- a handle with a test, a target and a fallback: what they weigh and one more, the types that they hold, and a field for each
 pub record HasBranches (test target fallback new : HandleView) : Type 0 where

@@ -15,7 +15,7 @@ use Rattle.mh_handle.specs.declared.error.HandleError.TheVariants.{Refused}
 use Rattle.mh_handle.specs.declared.handle.Handle.{Handle}
 use Rattle.mh_handle.specs.declared.work.Work.{Work}
 use Rattle.mh_handle.specs.Recipe.{recipe}
-use Rattle.mh_handle.specs.Works.{Makes}
+use Rattle.mh_handle.specs.Works.{IsUnchanged, Makes}
 use Rattle.mh_branch.specs.declared.spreading.Spreading.{Spreading}
 use Rattle.mh_astype.specs.Use.{MakesFrom}
 
@@ -42,7 +42,7 @@ TellsUse classes t weight asked (Err check.NoMemory) = Unit {0}
 -- what is left of the work by two edits, one after the other, from one recipe to a second, where they differ, and then to a third: the first edit, or both
 abbrev pub MakesBoth : List Key → List Key → List Key → Work → Work → Result Handle HandleError → Type 0
 MakesBoth first second third old new (Ok h) = (mid : Work) × (g : Handle) × MakesFrom first second old mid (Ok g) × Makes third mid new (Ok h)
-MakesBoth first second third old new (Err (Refused e)) = new ≡ old
+MakesBoth first second third old new (Err (Refused e)) = IsUnchanged old new
 MakesBoth first second third old new (Err e) =
     MakesFrom first second old new (Err e) ⊎ ((mid : Work) × (g : Handle) × MakesFrom first second old mid (Ok g) × Makes third mid new (Err e))
 

@@ -8,12 +8,12 @@ ghost use Rattle.mh_handle.specs.Grows.{GainsNode};
 ghost use Rattle.mh_handle.specs.Obeys.{Obeys};
 ghost use Rattle.mh_handle.specs.Stands.{IsShaped};
 ghost use Rattle.mh_handle.specs.Recipe.{recipe};
-ghost use Rattle.mh_handle.specs.Works.{IsReady, GoesOn, Makes, StandsIn, classes_of, leaves_of};
+ghost use Rattle.mh_branch.specs.Growths.{TellsGather};
+ghost use Rattle.mh_handle.specs.Works.{CountsHandles, IsReady, GoesOn, Makes, StandsIn, classes_of, leaves_of};
 
-use mh_base::Seq;
 use mh_edit::Key;
 use mh_form::{Field, basic_of};
-use mh_handle::{Growth, Handle, HandleError, Work, one_field};
+use mh_handle::{Growth, Handle, HandleError, Parts, Work, one_field};
 use mh_tree::{CheckError, check_gather};
 use mh_values::{Comp, MethodTy, Ty};
 use std::sync::Wait;
@@ -51,6 +51,31 @@ fn gather_type<'t>(
     )
 }
 
+/// What a gather of items adds to a handle.
+fn gather_growth<'t>(
+    w: &Work<'_, 't>,
+    target: &Handle<'t>,
+    array: Option<Ty>,
+    count: u8,
+) -> Result<Growth<'t>, CheckError>
+    ensures are { AreClasses (classes_of w.now) }
+    ensures shaped { IsShaped target.now }
+    ensures tells { TellsGather (classes_of w.now) target.now array count result }
+{
+    let ty = gather_type(w, target, array, count)?;
+    let component = component_of(array);
+    let fields = one_field(w.alloc, Field::Comp(component))?;
+    Ok(Growth {
+        ty,
+        weight: 1 + target.weight(),
+        key: Key::Gather {
+            count,
+            basic: basic_of(component.item_type()),
+        },
+        parts: Parts::of_fields(w.alloc, fields),
+    })
+}
+
 /// A handle that takes up to 254 items in the place of the last argument of `target`, to which
 /// their array is passed (`MethodHandle.asCollector`, SE 17). Refused where the type is no array,
 /// where such an array cannot be passed to the last parameter, and for 255 items.
@@ -67,22 +92,13 @@ pub fn gather<'t, R: Wait>(
         target.entry.ty target.entry.weight array count) result }
     ensures makes { (a : Tree) → StandsIn w.old target.entry a
         → Makes (recipe (leaves_of w.old) (tree.Gather a array count)) w.old w.new result }
+    ensures handles { CountsHandles 1 w.old w.new result }
     ensures gains { IfOk result (GainsNode target.entry) }
     ensures stands { (a : Tree) → StandsIn w.old target.entry a
         → IfOk result (λ h. StandsIn w.old h (tree.Gather a array count)) }
 {
-    let own = gather_type(w, &target, array, count)?;
-    let component = component_of(array);
-    let fields = one_field(w.alloc, Field::Comp(component))?;
-    let by = Growth {
-        ty: own,
-        weight: 1 + target.weight(),
-        sides: Seq::new(w.alloc),
-        key: Key::Gather {
-            count,
-            basic: basic_of(component.item_type()),
-        },
-        fields,
-    };
-    target.grown(w, rt, by)
+    match gather_growth(w, &target, array, count) {
+        Ok(by) => target.grown(w, rt, by),
+        Err(error) => target.refused(w, error),
+    }
 }

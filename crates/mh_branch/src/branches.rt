@@ -1,16 +1,20 @@
-ghost use Rattle.std.specs.Prelude.{IfOk};
+ghost use Rattle.std.specs.Prelude.{◌≤◌, ◌∷◌, [], IfOk, IsTrue};
 ghost use Rattle.mh_values.specs.Classes.{AreClasses};
 ghost use Rattle.mh_tree.specs.Check.{Tells};
 ghost use Rattle.mh_tree.specs.Rows.{guard_row, catch_row};
 ghost use Rattle.mh_tree.specs.Tree.{Tree};
 ghost use Rattle.mh_tree.specs.Tree as tree;
+ghost use Rattle.mh_form.specs.Body.{nothing};
+ghost use Rattle.mh_edit.specs.Applied.{applied};
+ghost use Rattle.mh_edit.specs.Fit.{fits};
 ghost use Rattle.mh_handle.specs.Obeys.{Obeys};
 ghost use Rattle.mh_handle.specs.Recipe.{recipe};
-ghost use Rattle.mh_handle.specs.Works.{IsReady, GoesOn, Makes, StandsIn, classes_of, leaves_of};
-ghost use Rattle.mh_branch.specs.Growths.{HasBranches, HasHandler};
+ghost use Rattle.mh_handle.specs.Stands.{HasShape};
+ghost use Rattle.mh_handle.specs.Works.{CountsHandles, IsAccepted, IsReady, GoesOn, Makes, StandsIn, classes_of, leaves_of};
+ghost use Rattle.mh_branch.specs.Growths.{HasBranches, HasHandler, RootsBranch, TellsCatch, TellsGuard};
 
-use crate::growths::{catching, guarding};
-use mh_handle::{Handle, HandleError, Work};
+use crate::growths::{Branch, catch_key, catch_parts, guard_key, guard_parts};
+use mh_handle::{Growth, Handle, HandleError, Parts, Work};
 use mh_tree::{CheckError, check_catch, check_guard};
 use mh_values::{ClassId, MethodTy};
 use std::sync::Wait;
@@ -59,6 +63,70 @@ fn catch_type<'t>(
     )
 }
 
+/// What a guard of handles is before its parts are there.
+fn guard_branch<'t>(
+    w: &Work<'_, 't>,
+    test: &Handle<'t>,
+    target: &Handle<'t>,
+    fallback: &Handle<'t>,
+) -> Result<Branch, CheckError>
+    ensures { TellsGuard test.now target.now fallback.now result }
+{
+    let ty = guard_type(w, test, target, fallback)?;
+    let key = guard_key(w.alloc, &ty, test)?;
+    Ok(Branch {
+        ty,
+        weight: 1 + test.weight() + target.weight() + fallback.weight(),
+        key,
+    })
+}
+
+/// What a catch of handles is before its parts are there.
+fn catch_branch<'t>(
+    w: &Work<'_, 't>,
+    target: &Handle<'t>,
+    class: ClassId,
+    handler: &Handle<'t>,
+) -> Result<Branch, CheckError>
+    ensures are { AreClasses (classes_of w.now) }
+    ensures tells { TellsCatch (classes_of w.now) target.now class handler.now result }
+{
+    let ty = catch_type(w, target, class, handler)?;
+    let key = catch_key(w.alloc, &ty, handler)?;
+    Ok(Branch {
+        ty,
+        weight: 1 + target.weight() + handler.weight(),
+        key,
+    })
+}
+
+/// The handle of a branch, with its parts.
+fn branch_of<'t, R: Wait>(
+    w: &mut Work<'_, 't>,
+    rt: &R,
+    branch: Branch,
+    parts: Parts<'t>,
+) -> Result<Handle<'t>, HandleError>
+    requires fits { IsTrue (fits branch.key nothing) }
+    requires shaped { HasShape (applied branch.key nothing) branch.ty }
+    requires light { branch.weight ≤ 256 }
+    requires ready { IsReady w.old 1 }
+    ensures goes_on { GoesOn 1 w.old w.new }
+    ensures makes { Makes (branch.key ∷ []) w.old w.new result }
+    ensures accepted { IsAccepted result }
+    ensures roots { RootsBranch branch parts.entry result }
+    ensures handles { CountsHandles parts.entry.count w.old w.new result }
+{
+    let Branch { ty, weight, key } = branch;
+    let by = Growth {
+        ty,
+        weight,
+        key,
+        parts,
+    };
+    Handle::rooted(w, rt, by)
+}
+
 /// A handle that runs `target` where `test` gives true on the first arguments, and else `fallback`
 /// (`MethodHandles.guardWithTest`, SE 17). Refused where `target` and `fallback` differ in type,
 /// and where the test does not give a boolean or does not take the first parameters of `target`.
@@ -76,14 +144,23 @@ pub fn guard<'t, R: Wait>(
     ensures makes { (a b d : Tree) → StandsIn w.old test.entry a
         → StandsIn w.old target.entry b → StandsIn w.old fallback.entry d
         → Makes (recipe (leaves_of w.old) (tree.Guard a b d)) w.old w.new result }
+    ensures handles { CountsHandles 3 w.old w.new result }
     ensures gains { IfOk result (HasBranches test.entry target.entry fallback.entry) }
     ensures stands { (a b d : Tree) → StandsIn w.old test.entry a
         → StandsIn w.old target.entry b → StandsIn w.old fallback.entry d
         → IfOk result (λ h. StandsIn w.old h (tree.Guard a b d)) }
 {
-    let own = guard_type(w, &test, &target, &fallback)?;
-    let by = guarding(w.alloc, own, test, target, fallback)?;
-    Handle::rooted(w, rt, by)
+    match guard_branch(w, &test, &target, &fallback) {
+        Ok(branch) => {
+            let parts = guard_parts(w, test, target, fallback)?;
+            branch_of(w, rt, branch, parts)
+        }
+        Err(error) => {
+            test.give_back(w);
+            target.give_back(w);
+            fallback.refused(w, error)
+        }
+    }
 }
 
 /// A handle that runs `target`, and where that throws an exception of the class or of one below it,
@@ -104,12 +181,20 @@ pub fn catch<'t, R: Wait>(
     ensures makes { (a b : Tree) → StandsIn w.old target.entry a
         → StandsIn w.old handler.entry b
         → Makes (recipe (leaves_of w.old) (tree.Catch a class b)) w.old w.new result }
+    ensures handles { CountsHandles 2 w.old w.new result }
     ensures gains { IfOk result (HasHandler target.entry class handler.entry) }
     ensures stands { (a b : Tree) → StandsIn w.old target.entry a
         → StandsIn w.old handler.entry b → IfOk result
         (λ h. StandsIn w.old h (tree.Catch a class b)) }
 {
-    let own = catch_type(w, &target, class, &handler)?;
-    let by = catching(w.alloc, own, target, class, handler)?;
-    Handle::rooted(w, rt, by)
+    match catch_branch(w, &target, class, &handler) {
+        Ok(branch) => {
+            let parts = catch_parts(w, target, class, handler)?;
+            branch_of(w, rt, branch, parts)
+        }
+        Err(error) => {
+            target.give_back(w);
+            handler.refused(w, error)
+        }
+    }
 }

@@ -1,132 +1,159 @@
-ghost use Rattle.std.specs.Prelude.{◌≤◌, length, IfOk};
-ghost use Rattle.mh_branch.specs.Growths.{AddsClass, AddsHandle, AreCatchParts, AreGuardParts, IsCatch, IsGuard};
+//! What branches are made of: their type, weight and key, and then their parts.
 
-use mh_base::{NoMemory, Seq};
+ghost use Rattle.std.specs.Prelude.{◌≡◌, ◌≤◌, ◌+◌, length, IfOk};
+ghost use Rattle.mh_handle.specs.Parts.{AddsHandle};
+ghost use Rattle.mh_handle.specs.Works.{IsUnchanged};
+ghost use Rattle.mh_branch.specs.Growths.{AddsHandler, AddsHandles, AreCatchParts, AreGuardParts, CountsParts, catch_key, guard_key};
+
+use mh_base::NoMemory;
 use mh_edit::Key;
-use mh_form::{Field, Fields, shape};
-use mh_handle::{Growth, Handle, MethodTys};
+use mh_form::{Field, shape};
+use mh_handle::{Handle, Parts, Work};
 use mh_values::{ClassId, MethodTy};
 use std::alloc::Global;
 
-/// Parts that a branch runs: the fields that hold them, and the types that they hold.
+/// What a branch is before its parts are there.
 #[derive(Drop)]
-struct Parts<'t> {
-    fields: Fields<'t>,
-    sides: MethodTys,
+pub(crate) struct Branch {
+    pub ty: MethodTy,
+    pub weight: u32,
+    pub key: Key,
 }
 
-/// One part more.
-fn with_part<'t>(alloc: Global, parts: Parts<'t>, part: Handle<'t>) -> Result<Parts<'t>, NoMemory>
-    ensures { IfOk result (AddsHandle part.entry parts.entry) }
+/// The key of a guard of this type.
+pub(crate) fn guard_key<'t>(
+    alloc: Global,
+    ty: &MethodTy,
+    test: &Handle<'t>,
+) -> Result<Key, NoMemory>
+    requires few { length test.now.ty.params ≤ 254 }
+    ensures { IfOk result (λ key. key ≡ guard_key ty.now test.now.ty) }
 {
-    let (field, holds) = part.into_part(alloc)?;
-    let Parts {
-        mut fields,
-        mut sides,
-    } = parts;
-    sides.append(holds)?;
-    fields.push(field)?;
-    Ok(Parts { fields, sides })
+    let tested = test.ty().params.len() as u8;
+    Ok(Key::GuardRoot {
+        shape: shape(alloc, ty)?,
+        test: tested,
+    })
 }
 
-/// A class of exceptions after parts.
-fn with_class<'t>(parts: Parts<'t>, class: ClassId) -> Result<Parts<'t>, NoMemory>
-    ensures { IfOk result (AddsClass class parts.entry) }
+/// The key of a catch of this type.
+pub(crate) fn catch_key<'t>(
+    alloc: Global,
+    ty: &MethodTy,
+    handler: &Handle<'t>,
+) -> Result<Key, NoMemory>
+    requires some { 1 ≤ length handler.now.ty.params }
+    requires few { length handler.now.ty.params ≤ 255 }
+    ensures { IfOk result (λ key. key ≡ catch_key ty.now handler.now.ty) }
 {
-    let Parts { mut fields, sides } = parts;
-    fields.push(Field::Class(class))?;
-    Ok(Parts { fields, sides })
+    let handled = (handler.ty().params.len() - 1) as u8;
+    Ok(Key::CatchRoot {
+        shape: shape(alloc, ty)?,
+        handler: handled,
+    })
+}
+
+/// One part more. Where memory is short all are given back.
+fn with_part<'t>(
+    w: &mut Work<'_, 't>,
+    parts: Parts<'t>,
+    part: Handle<'t>,
+) -> Result<Parts<'t>, NoMemory>
+    ensures unchanged { IsUnchanged w.old w.new }
+    ensures adds { IfOk result (AddsHandle part.entry parts.entry) }
+    ensures handles { CountsParts (1 + parts.entry.count) w.old w.new result }
+{
+    let mut parts = parts;
+    match parts.push(w, part) {
+        Ok(()) => Ok(parts),
+        Err(NoMemory) => {
+            parts.give_back(w);
+            Err(NoMemory)
+        }
+    }
+}
+
+/// Two parts more. Where memory is short all are given back.
+fn with_two<'t>(
+    w: &mut Work<'_, 't>,
+    parts: Parts<'t>,
+    first: Handle<'t>,
+    second: Handle<'t>,
+) -> Result<Parts<'t>, NoMemory>
+    ensures unchanged { IsUnchanged w.old w.new }
+    ensures adds { IfOk result (AddsHandles first.entry second.entry parts.entry) }
+    ensures handles { CountsParts (2 + parts.entry.count) w.old w.new result }
+{
+    match with_part(w, parts, first) {
+        Ok(parts) => with_part(w, parts, second),
+        Err(NoMemory) => {
+            second.give_back(w);
+            Err(NoMemory)
+        }
+    }
+}
+
+/// A class of exceptions more, and a part after it. Where memory is short all are given back.
+fn with_handler<'t>(
+    w: &mut Work<'_, 't>,
+    parts: Parts<'t>,
+    class: ClassId,
+    handler: Handle<'t>,
+) -> Result<Parts<'t>, NoMemory>
+    ensures unchanged { IsUnchanged w.old w.new }
+    ensures adds { IfOk result (AddsHandler class handler.entry parts.entry) }
+    ensures handles { CountsParts (1 + parts.entry.count) w.old w.new result }
+{
+    let mut parts = parts;
+    match parts.push_field(Field::Class(class)) {
+        Ok(()) => with_part(w, parts, handler),
+        Err(NoMemory) => {
+            parts.give_back(w);
+            handler.give_back(w);
+            Err(NoMemory)
+        }
+    }
 }
 
 /// The parts of a guard: the test, the target and the fallback.
-fn guard_parts<'t>(
-    alloc: Global,
+pub(crate) fn guard_parts<'t>(
+    w: &mut Work<'_, 't>,
     test: Handle<'t>,
     target: Handle<'t>,
     fallback: Handle<'t>,
 ) -> Result<Parts<'t>, NoMemory>
-    ensures { IfOk result (AreGuardParts test.entry target.entry fallback.entry) }
+    ensures unchanged { IsUnchanged w.old w.new }
+    ensures parts { IfOk result (AreGuardParts test.entry target.entry fallback.entry) }
+    ensures handles { CountsParts 3 w.old w.new result }
 {
-    let none = Parts {
-        fields: Vec::new(alloc),
-        sides: Seq::new(alloc),
-    };
-    let tested = with_part(alloc, none, test)?;
-    let one_branch = with_part(alloc, tested, target)?;
-    with_part(alloc, one_branch, fallback)
+    let none = Parts::new(w.alloc);
+    match with_part(w, none, test) {
+        Ok(parts) => with_two(w, parts, target, fallback),
+        Err(NoMemory) => {
+            target.give_back(w);
+            fallback.give_back(w);
+            Err(NoMemory)
+        }
+    }
 }
 
 /// The parts of a catch: the target and the handler, with the class of exceptions between them.
-fn catch_parts<'t>(
-    alloc: Global,
+pub(crate) fn catch_parts<'t>(
+    w: &mut Work<'_, 't>,
     target: Handle<'t>,
     class: ClassId,
     handler: Handle<'t>,
 ) -> Result<Parts<'t>, NoMemory>
-    ensures { IfOk result (AreCatchParts target.entry class handler.entry) }
+    ensures unchanged { IsUnchanged w.old w.new }
+    ensures parts { IfOk result (AreCatchParts target.entry class handler.entry) }
+    ensures handles { CountsParts 2 w.old w.new result }
 {
-    let none = Parts {
-        fields: Vec::new(alloc),
-        sides: Seq::new(alloc),
-    };
-    let one_part = with_part(alloc, none, target)?;
-    let caught = with_class(one_part, class)?;
-    with_part(alloc, caught, handler)
-}
-
-/// What a guard of this type has: its three parts.
-pub(crate) fn guarding<'t>(
-    alloc: Global,
-    ty: MethodTy,
-    test: Handle<'t>,
-    target: Handle<'t>,
-    fallback: Handle<'t>,
-) -> Result<Growth<'t>, NoMemory>
-    requires few { length test.ty.params ≤ 254 }
-    ensures { IfOk result (IsGuard ty test.entry target.entry fallback.entry) }
-{
-    let tested = test.ty().params.len() as u8;
-    let weight = 1 + test.weight() + target.weight() + fallback.weight();
-    let parts = guard_parts(alloc, test, target, fallback)?;
-    let shape = shape(alloc, &ty)?;
-    let Parts { fields, sides } = parts;
-    Ok(Growth {
-        ty,
-        weight,
-        sides,
-        key: Key::GuardRoot {
-            shape,
-            test: tested,
-        },
-        fields,
-    })
-}
-
-/// What a catch of this type has: its two parts, and the class of exceptions.
-pub(crate) fn catching<'t>(
-    alloc: Global,
-    ty: MethodTy,
-    target: Handle<'t>,
-    class: ClassId,
-    handler: Handle<'t>,
-) -> Result<Growth<'t>, NoMemory>
-    requires some { 1 ≤ length handler.ty.params }
-    requires few { length handler.ty.params ≤ 255 }
-    ensures { IfOk result (IsCatch ty target.entry class handler.entry) }
-{
-    let handled = (handler.ty().params.len() - 1) as u8;
-    let weight = 1 + target.weight() + handler.weight();
-    let parts = catch_parts(alloc, target, class, handler)?;
-    let shape = shape(alloc, &ty)?;
-    let Parts { fields, sides } = parts;
-    Ok(Growth {
-        ty,
-        weight,
-        sides,
-        key: Key::CatchRoot {
-            shape,
-            handler: handled,
-        },
-        fields,
-    })
+    let none = Parts::new(w.alloc);
+    match with_part(w, none, target) {
+        Ok(parts) => with_handler(w, parts, class, handler),
+        Err(NoMemory) => {
+            handler.give_back(w);
+            Err(NoMemory)
+        }
+    }
 }

@@ -4,13 +4,12 @@ ghost use Rattle.mh_tree.specs.Rows.{constant_row, identity_row, throw_row};
 ghost use Rattle.mh_tree.specs.Tree as tree;
 ghost use Rattle.mh_handle.specs.Obeys.{Obeys};
 ghost use Rattle.mh_handle.specs.Recipe.{recipe};
-ghost use Rattle.mh_handle.specs.Works.{IsReady, GoesOn, Makes, StandsIn, classes_of, leaves_of};
+ghost use Rattle.mh_handle.specs.Works.{CountsHandles, IsReady, GoesOn, Makes, StandsIn, classes_of, leaves_of};
 
-use mh_base::Seq;
 use mh_convert::fit;
 use mh_edit::Key;
 use mh_form::{Field, basic_of, erase, shape};
-use mh_handle::{Growth, Handle, HandleError, Work, one_field};
+use mh_handle::{Growth, Handle, HandleError, Parts, Work, one_field};
 use mh_tree::{check_constant, check_identity, check_throw};
 use mh_values::{ClassId, Classes, Ty, Value};
 use std::alloc::Global;
@@ -39,6 +38,7 @@ pub fn constant<'t, R: Wait>(
     ensures goes_on { GoesOn 1 w.old w.new }
     ensures obeys { Obeys (constant_row (classes_of w.old) ty value) result }
     ensures makes { Makes (recipe (leaves_of w.old) (tree.Constant ty value)) w.old w.new result }
+    ensures handles { CountsHandles 0 w.old w.new result }
     ensures stands { IfOk result (λ h. StandsIn w.old h (tree.Constant ty value)) }
 {
     let classes = w.leaves.classes();
@@ -49,11 +49,10 @@ pub fn constant<'t, R: Wait>(
     let by = Growth {
         ty: own,
         weight: 1,
-        sides: Seq::new(w.alloc),
         key: Key::ConstRoot {
             basic: basic_of(ret),
         },
-        fields,
+        parts: Parts::of_fields(w.alloc, fields),
     };
     Handle::rooted(w, rt, by)
 }
@@ -69,6 +68,7 @@ pub fn identity<'t, R: Wait>(
     ensures goes_on { GoesOn 1 w.old w.new }
     ensures obeys { Obeys (identity_row ty) result }
     ensures makes { Makes (recipe (leaves_of w.old) (tree.Identity ty)) w.old w.new result }
+    ensures handles { CountsHandles 0 w.old w.new result }
     ensures stands { IfOk result (λ h. StandsIn w.old h (tree.Identity ty)) }
 {
     let own = check_identity(w.alloc, ty, w.leaves.classes())?;
@@ -76,11 +76,10 @@ pub fn identity<'t, R: Wait>(
     let by = Growth {
         ty: own,
         weight: 1,
-        sides: Seq::new(w.alloc),
         key: Key::IdentityRoot {
             basic: basic_of(ret),
         },
-        fields: Vec::new(w.alloc),
+        parts: Parts::new(w.alloc),
     };
     Handle::rooted(w, rt, by)
 }
@@ -97,6 +96,7 @@ pub fn throw<'t, R: Wait>(
     ensures goes_on { GoesOn 1 w.old w.new }
     ensures obeys { Obeys (throw_row (classes_of w.old) ret class) result }
     ensures makes { Makes (recipe (leaves_of w.old) (tree.Throw ret class)) w.old w.new result }
+    ensures handles { CountsHandles 0 w.old w.new result }
     ensures stands { IfOk result (λ h. StandsIn w.old h (tree.Throw ret class)) }
 {
     let own = check_throw(w.alloc, ret, class, w.classes())?;
@@ -104,9 +104,8 @@ pub fn throw<'t, R: Wait>(
     let by = Growth {
         ty: own,
         weight: 1,
-        sides: Seq::new(w.alloc),
         key: Key::ThrowRoot { ret: shape.ret },
-        fields: Vec::new(w.alloc),
+        parts: Parts::new(w.alloc),
     };
     Handle::rooted(w, rt, by)
 }

@@ -4,14 +4,14 @@ ghost use Rattle.mh_tree.specs.Tree.{Tree};
 ghost use Rattle.mh_tree.specs.Tree as tree;
 ghost use Rattle.mh_tree.specs.Use.{items_used_as, spread_use_row, taking_items};
 ghost use Rattle.mh_handle.specs.Obeys.{Obeys};
-ghost use Rattle.mh_handle.specs.Works.{IsReady, GoesOn, StandsIn, classes_of};
+ghost use Rattle.mh_handle.specs.Works.{CountsHandles, IsReady, GoesOn, StandsIn, classes_of};
 ghost use Rattle.mh_branch.specs.Spreading.{TellsUse, TellsSpreading, MakesSpread};
 
 use mh_astype::as_type;
 use mh_base::{NoMemory, Seq};
 use mh_edit::Key;
 use mh_form::basic_of;
-use mh_handle::{Growth, Handle, HandleError, Work};
+use mh_handle::{Growth, Handle, HandleError, Parts, Work};
 use mh_tree::{CheckError, check_astype, check_spread};
 use mh_values::{ClassId, Classes, Comp, Exc, MethodTy, Ty, is_same_method_type};
 use std::alloc::Global;
@@ -132,12 +132,16 @@ pub fn spread<'t, R: Wait>(
         target.entry.ty target.entry.weight array count) result }
     ensures makes { (a : Tree) → StandsIn w.old target.entry a
         → MakesSpread target.entry.ty array count a w.old w.new result }
+    ensures handles { CountsHandles 1 w.old w.new result }
     ensures sides { IfOk result (λ h. h.sides ≡ target.entry.sides) }
     ensures stands { (a : Tree) → StandsIn w.old target.entry a
         → IfOk result (λ h. StandsIn w.old h
         (tree.Spread (items_used_as target.entry.ty array count a) array count)) }
 {
-    let spreading = spreading_of(w, &target, array, count)?;
+    let spreading = match spreading_of(w, &target, array, count) {
+        Ok(spreading) => spreading,
+        Err(error) => return target.refused(w, error),
+    };
     let Spreading {
         component,
         asked,
@@ -149,12 +153,11 @@ pub fn spread<'t, R: Wait>(
     let by = Growth {
         ty: own,
         weight: 1 + used.weight(),
-        sides: Seq::new(w.alloc),
         key: Key::Spread {
             count,
             basic: basic_of(component.item_type()),
         },
-        fields: Vec::new(w.alloc),
+        parts: Parts::new(w.alloc),
     };
     used.grown(w, rt, by)
 }

@@ -1,36 +1,41 @@
-use Rattle.mh_branch.proofs.BranchAnswers.{catch-answers, catch-few, catch-fits-by, catch-light, catch-makes, catch-some}
-use Rattle.mh_branch.proofs.Gained.{catch-gains}
+use Rattle.std.proofs.Common.{refl}
+use Rattle.mh_tree.specs.Tree as tree
+use Rattle.mh_handle.specs.Recipe.{recipe}
+use Rattle.mh_handle.proofs.Going.{goes_on-after, makes-after}
+use Rattle.mh_branch.proofs.BranchAnswers.{catch-answers, catch-fits-by, catch-gains, catch-light, catch-makes}
 use Rattle.mh_branch.proofs.branches.catch.Goals as goal
 
-pub catching-requires-clause-some : goal.catching-requires-clause-some
-catching-requires-clause-some g c = catch-some c.args.w.now.leaves.now.classes c.args.target c.args.class c.args.handler c.in_ok-own.own
-    c.in_ok-own.ensures.tells
+pub branch_of-requires-clause-fits : goal.branch_of-requires-clause-fits
+branch_of-requires-clause-fits g c =
+    catch-fits-by c.args.w.now.leaves.now.classes c.args.target c.args.class c.args.handler c.in-Ok.branch.ty c.in-Ok.ensures.tells.0 c.in-Ok.branch refl
+    c.in-Ok.ensures.tells.1 c.in-Ok.ensures.tells.2
 
-pub catching-requires-clause-few : goal.catching-requires-clause-few
-catching-requires-clause-few g c =
-    catch-few c.args.w.now.leaves.now.classes c.args.target c.args.class c.args.handler c.in_ok-own.own c.in_ok-own.ensures.tells
+pub branch_of-requires-clause-light : goal.branch_of-requires-clause-light
+branch_of-requires-clause-light g c =
+    catch-light c.args.w.now.leaves.now.classes c.args.target c.args.class c.args.handler c.in-Ok.branch.ty c.in-Ok.ensures.tells.0 c.in-Ok.branch refl
+    c.in-Ok.ensures.tells.1 c.in-Ok.ensures.tells.2
 
-pub rooted-requires-clause-fits : goal.rooted-requires-clause-fits
-rooted-requires-clause-fits g c =
-    catch-fits-by c.args.w.now.leaves.now.classes c.args.target c.args.class c.args.handler c.in_ok-own.own c.in_ok-own.ensures.tells c.in_ok-by.by
-    c.in_ok-by.ensures
+pub returns-in_ok-parts-in-Ok-clause-goes_on : goal.returns-in_ok-parts-in-Ok-clause-goes_on
+returns-in_ok-parts-in-Ok-clause-goes_on g c =
+    goes_on-after 1 c.args.w.now c.catch_parts.new.w c.branch_of.new.w c.in_ok-parts-in-Ok.ensures.unchanged c.branch_of.ensures.goes_on
 
-pub rooted-requires-clause-light : goal.rooted-requires-clause-light
-rooted-requires-clause-light g c =
-    catch-light c.args.w.now.leaves.now.classes c.args.target c.args.class c.args.handler c.in_ok-own.own c.in_ok-own.ensures.tells c.in_ok-by.by
-    c.in_ok-by.ensures
+pub returns-in_ok-parts-in-Ok-clause-makes : goal.returns-in_ok-parts-in-Ok-clause-makes
+returns-in_ok-parts-in-Ok-clause-makes g c a b stands handled =
+    makes-after (recipe c.args.w.now.leaves.now (tree.Catch a c.args.class b)) c.args.w.now c.catch_parts.new.w c.branch_of.new.w c.branch_of.result
+    c.in_ok-parts-in-Ok.ensures.unchanged
+    (catch-makes c.args.w.now.leaves.now.classes c.args.target c.args.class c.args.handler c.in-Ok.branch.ty c.in-Ok.ensures.tells.0 c.in-Ok.branch refl
+    c.in-Ok.ensures.tells.1 c.in-Ok.ensures.tells.2
+    c.args.w.now.leaves.now c.catch_parts.new.w c.branch_of.new.w c.branch_of.result a b stands handled c.branch_of.ensures.makes)
 
-pub returns-clause-makes : goal.returns-clause-makes
-returns-clause-makes g c a b stands handles =
-    catch-makes c.args.w.now.leaves.now.classes c.args.target c.args.class c.args.handler c.in_ok-own.own c.in_ok-own.ensures.tells c.in_ok-by.by
-    c.in_ok-by.ensures
-    c.args.w.now.leaves.now c.args.w.now c.rooted.new.w c.rooted.result a b stands handles c.rooted.ensures.makes
+pub returns-in_ok-parts-in-Ok-clause-gains : goal.returns-in_ok-parts-in-Ok-clause-gains
+returns-in_ok-parts-in-Ok-clause-gains g c =
+    catch-gains c.args.w.now.leaves.now.classes c.args.target c.args.class c.args.handler c.in-Ok.branch.ty c.in-Ok.ensures.tells.0 c.in-Ok.branch refl
+    c.in-Ok.ensures.tells.1 c.in-Ok.ensures.tells.2
+    c.in_ok-parts-in-Ok.parts c.in_ok-parts-in-Ok.ensures.parts c.branch_of.result c.branch_of.ensures.roots
 
-pub returns-clause-gains : goal.returns-clause-gains
-returns-clause-gains g c = catch-gains c.in_ok-own.own c.args.target c.args.class c.args.handler c.in_ok-by.by c.rooted.result c.in_ok-by.ensures
-    c.rooted.ensures.grows
-
-pub returns-clause-stands : goal.returns-clause-stands
-returns-clause-stands g c a b stands handles =
-    catch-answers c.args.w.now.leaves.now c.args.target c.args.class c.args.handler c.in_ok-own.own c.in_ok-by.by c.rooted.result a b
-    c.in_ok-own.ensures.are c.in_ok-own.ensures.tells c.in_ok-by.ensures c.rooted.ensures.grows stands handles
+pub returns-in_ok-parts-in-Ok-clause-stands : goal.returns-in_ok-parts-in-Ok-clause-stands
+returns-in_ok-parts-in-Ok-clause-stands g c a b stands handled =
+    catch-answers c.args.w.now.leaves.now.classes c.args.target c.args.class c.args.handler c.in-Ok.branch.ty c.in-Ok.ensures.tells.0 c.in-Ok.branch refl
+    c.in-Ok.ensures.tells.1 c.in-Ok.ensures.tells.2
+    c.in_ok-parts-in-Ok.parts c.in_ok-parts-in-Ok.ensures.parts c.args.w.now.leaves.now c.branch_of.result a b refl c.in-Ok.ensures.are c.branch_of.ensures.roots
+    stands handled

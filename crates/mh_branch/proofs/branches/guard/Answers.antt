@@ -1,29 +1,35 @@
-use Rattle.mh_branch.proofs.BranchAnswers.{guard-answers, guard-few, guard-fits-by, guard-light, guard-makes}
-use Rattle.mh_branch.proofs.Gained.{guard-gains}
+use Rattle.std.proofs.Common.{refl}
+use Rattle.mh_tree.specs.Tree as tree
+use Rattle.mh_handle.specs.Recipe.{recipe}
+use Rattle.mh_handle.proofs.Going.{goes_on-after, makes-after}
+use Rattle.mh_branch.proofs.BranchAnswers.{guard-answers, guard-fits-by, guard-gains, guard-light, guard-makes}
 use Rattle.mh_branch.proofs.branches.guard.Goals as goal
 
-pub guarding-requires : goal.guarding-requires
-guarding-requires g c =
-    record { few = guard-few c.args.test c.args.target c.args.fallback c.in_ok-own.own c.in_ok-own.ensures }
+pub branch_of-requires-clause-fits : goal.branch_of-requires-clause-fits
+branch_of-requires-clause-fits g c =
+    guard-fits-by c.args.test c.args.target c.args.fallback c.in-Ok.branch.ty c.in-Ok.ensures.0 c.in-Ok.branch refl c.in-Ok.ensures.1 c.in-Ok.ensures.2
 
-pub rooted-requires-clause-fits : goal.rooted-requires-clause-fits
-rooted-requires-clause-fits g c =
-    guard-fits-by c.args.test c.args.target c.args.fallback c.in_ok-own.own c.in_ok-own.ensures c.in_ok-by.by c.in_ok-by.ensures
+pub branch_of-requires-clause-light : goal.branch_of-requires-clause-light
+branch_of-requires-clause-light g c =
+    guard-light c.args.test c.args.target c.args.fallback c.in-Ok.branch.ty c.in-Ok.ensures.0 c.in-Ok.branch refl c.in-Ok.ensures.1 c.in-Ok.ensures.2
 
-pub rooted-requires-clause-light : goal.rooted-requires-clause-light
-rooted-requires-clause-light g c =
-    guard-light c.args.test c.args.target c.args.fallback c.in_ok-own.own c.in_ok-own.ensures c.in_ok-by.by c.in_ok-by.ensures
+pub returns-in_ok-parts-in-Ok-clause-goes_on : goal.returns-in_ok-parts-in-Ok-clause-goes_on
+returns-in_ok-parts-in-Ok-clause-goes_on g c =
+    goes_on-after 1 c.args.w.now c.guard_parts.new.w c.branch_of.new.w c.in_ok-parts-in-Ok.ensures.unchanged c.branch_of.ensures.goes_on
 
-pub returns-clause-makes : goal.returns-clause-makes
-returns-clause-makes g c a b d tests stands others =
-    guard-makes c.args.test c.args.target c.args.fallback c.in_ok-own.own c.in_ok-own.ensures c.in_ok-by.by c.in_ok-by.ensures
-    c.args.w.now.leaves.now c.args.w.now c.rooted.new.w c.rooted.result a b d tests stands c.rooted.ensures.makes
+pub returns-in_ok-parts-in-Ok-clause-makes : goal.returns-in_ok-parts-in-Ok-clause-makes
+returns-in_ok-parts-in-Ok-clause-makes g c a b d tests stands others =
+    makes-after (recipe c.args.w.now.leaves.now (tree.Guard a b d)) c.args.w.now c.guard_parts.new.w c.branch_of.new.w c.branch_of.result
+    c.in_ok-parts-in-Ok.ensures.unchanged
+    (guard-makes c.args.test c.args.target c.args.fallback c.in-Ok.branch.ty c.in-Ok.ensures.0 c.in-Ok.branch refl c.in-Ok.ensures.1 c.in-Ok.ensures.2
+    c.args.w.now.leaves.now c.guard_parts.new.w c.branch_of.new.w c.branch_of.result a b d tests stands c.branch_of.ensures.makes)
 
-pub returns-clause-gains : goal.returns-clause-gains
-returns-clause-gains g c = guard-gains c.in_ok-own.own c.args.test c.args.target c.args.fallback c.in_ok-by.by c.rooted.result c.in_ok-by.ensures
-    c.rooted.ensures.grows
+pub returns-in_ok-parts-in-Ok-clause-gains : goal.returns-in_ok-parts-in-Ok-clause-gains
+returns-in_ok-parts-in-Ok-clause-gains g c =
+    guard-gains c.args.test c.args.target c.args.fallback c.in-Ok.branch.ty c.in-Ok.ensures.0 c.in-Ok.branch refl c.in-Ok.ensures.1 c.in-Ok.ensures.2
+    c.in_ok-parts-in-Ok.parts c.in_ok-parts-in-Ok.ensures.parts c.branch_of.result c.branch_of.ensures.roots
 
-pub returns-clause-stands : goal.returns-clause-stands
-returns-clause-stands g c a b d tests stands others =
-    guard-answers c.args.test c.args.target c.args.fallback c.in_ok-own.own c.in_ok-own.ensures c.in_ok-by.by c.in_ok-by.ensures
-    c.args.w.now.leaves.now c.rooted.result a b d c.rooted.ensures.grows tests stands others
+pub returns-in_ok-parts-in-Ok-clause-stands : goal.returns-in_ok-parts-in-Ok-clause-stands
+returns-in_ok-parts-in-Ok-clause-stands g c a b d tests stands others =
+    guard-answers c.args.test c.args.target c.args.fallback c.in-Ok.branch.ty c.in-Ok.ensures.0 c.in-Ok.branch refl c.in-Ok.ensures.1 c.in-Ok.ensures.2
+    c.in_ok-parts-in-Ok.parts c.in_ok-parts-in-Ok.ensures.parts c.args.w.now.leaves.now c.branch_of.result a b d c.branch_of.ensures.roots tests stands others

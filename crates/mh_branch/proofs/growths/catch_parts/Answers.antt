@@ -1,8 +1,7 @@
-use Rattle.mh_branch.proofs.Growing.{catch-parts}
+use Rattle.mh_branch.proofs.Growing.{catch-all}
 use Rattle.mh_branch.proofs.growths.catch_parts.Goals as goal
 
-pub returns : goal.returns
-returns c =
-    catch-parts c.args.target c.args.class c.args.handler (record { fields = c.new.result; sides = c.new-2.result }) c.in_ok-one_part.one_part
-    c.in_ok-caught.caught c.with_part-2.result
-    c.new.ensures.items c.new-2.ensures c.in_ok-one_part.ensures c.in_ok-caught.ensures c.with_part-2.ensures
+pub returns-in-Ok-clause-parts : goal.returns-in-Ok-clause-parts
+returns-in-Ok-clause-parts c =
+    catch-all c.new-none.result c.in-Ok.parts c.new-none.ensures c.with_handler.result c.args.target c.args.class c.args.handler c.in-Ok.ensures.adds
+    c.with_handler.ensures.adds

@@ -1,6 +1,8 @@
-use Rattle.std.proofs.Common.{◌≡◌, sym, ap, ◌∙◌, Ok}
+use Rattle.std.proofs.Common.{◌≡◌, sym, subst, ap, ◌∙◌, Ok}
 use Rattle.mh_convert.specs.Conversion.{fit}
 use Rattle.mh_tree.specs.Rows.{constant_row}
+use Rattle.mh_handle.specs.Parts.{PartsView}
+use Rattle.mh_handle.specs.Works.{CountsHandles}
 use Rattle.mh_branch.proofs.RootAnswers.{constant-answers}
 use Rattle.mh_branch.proofs.roots.constant.Goals as goal
 
@@ -11,6 +13,10 @@ returns-clause-stands g c =
     let fits : fit c.args.w.now.leaves.now.classes c.args.value c.in-Some.ret ≡ Ok c.fitted.result =
     sym (ap (λ cs. fit cs c.args.value c.in-Some.ret) c.classes-classes.ensures) ∙ c.fitted.ensures in
     constant-answers c.args.w.now.leaves.now c.args.ty c.args.value c.in_ok-own.own c.in-Some.ret c.fitted.result c.erase-slot.result c.basic_of.result
-    c.new.result
-    c.in_ok-fields.fields.items c.rooted.result
-    row c.in-Some.is fits c.erase-slot.ensures c.basic_of.ensures c.new.ensures c.in_ok-fields.ensures c.rooted.ensures.grows
+    c.of_fields.result.sides c.of_fields.result.fields c.rooted.result
+    row c.in-Some.is fits c.erase-slot.ensures c.basic_of.ensures (ap (λ (p : PartsView). p.sides) c.of_fields.ensures)
+    (ap (λ (p : PartsView). p.fields) c.of_fields.ensures ∙ c.in_ok-fields.ensures) c.rooted.ensures.grows
+
+pub returns-clause-handles : goal.returns-clause-handles
+returns-clause-handles g c =
+    subst (λ (p : PartsView). CountsHandles p.count c.args.w.now c.rooted.new.w c.rooted.result) c.of_fields.ensures c.rooted.ensures.handles

@@ -1,5 +1,7 @@
-use Rattle.std.proofs.Common.{◌≡◌, sym, ap, ◌∙◌, Ok}
+use Rattle.std.proofs.Common.{◌≡◌, sym, subst, ap, ◌∙◌, Ok}
 use Rattle.mh_tree.specs.Rows.{throw_row}
+use Rattle.mh_handle.specs.Parts.{PartsView}
+use Rattle.mh_handle.specs.Works.{CountsHandles}
 use Rattle.mh_branch.proofs.RootAnswers.{throw-answers, throw-makes, throw-ret}
 use Rattle.mh_branch.proofs.roots.throw.Goals as goal
 
@@ -13,6 +15,10 @@ pub returns-clause-stands : goal.returns-clause-stands
 returns-clause-stands g c =
     let row : throw_row c.args.w.now.leaves.now.classes c.args.ret c.args.class ≡ Ok c.in_ok-own.own =
     sym (ap (λ cs. throw_row cs c.args.ret c.args.class) c.classes.ensures.classes) ∙ c.in_ok-own.ensures in
-    throw-answers c.args.w.now.leaves.now c.args.ret c.args.class c.in_ok-own.own c.in_ok-shape.shape.ret c.new.result c.new-2.result.items c.rooted.result
+    throw-answers c.args.w.now.leaves.now c.args.ret c.args.class c.in_ok-own.own c.in_ok-shape.shape.ret c.new.result.sides c.new.result.fields c.rooted.result
     c.classes.ensures.are row (throw-ret c.args.w.now.leaves.now.classes c.args.ret c.args.class c.in_ok-own.own c.in_ok-shape.shape row c.in_ok-shape.ensures)
-    c.new.ensures c.new-2.ensures.items c.rooted.ensures.grows
+    (ap (λ (p : PartsView). p.sides) c.new.ensures) (ap (λ (p : PartsView). p.fields) c.new.ensures) c.rooted.ensures.grows
+
+pub returns-clause-handles : goal.returns-clause-handles
+returns-clause-handles g c =
+    subst (λ (p : PartsView). CountsHandles p.count c.args.w.now c.rooted.new.w c.rooted.result) c.new.ensures c.rooted.ensures.handles

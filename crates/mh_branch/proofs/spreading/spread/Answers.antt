@@ -3,60 +3,70 @@ use Rattle.mh_values.specs.Array.{item_type}
 use Rattle.mh_form.specs.Erasure.{basic_of}
 use Rattle.mh_edit.specs.declared.key.Key.TheVariants as key
 use Rattle.mh_tree.specs.Use.{items_used_as, used_as}
+use Rattle.mh_handle.specs.Parts.{PartsView}
 use Rattle.mh_handle.specs.Recipe.{recipe}
 use Rattle.mh_handle.proofs.Going.{goes_on-both}
 use Rattle.mh_astype.specs.Use.{MakesFrom}
 use Rattle.mh_branch.proofs.SpreadCall.{call-fits, call-light, call-makes, call-obeys, call-shaped, call-sides, call-stands}
-use Rattle.mh_branch.proofs.SpreadRules.{items-are, makes-first, makes-none, room-left, spreading-row, used-error}
+use Rattle.mh_branch.proofs.SpreadRules.{counts-first, counts-second, items-are, makes-first, makes-none, room-left, spreading-refused, spreading-row, used-error}
 use Rattle.mh_branch.proofs.spreading.spread.Goals as goal
 
 pub returns-in_err-used-clause-obeys : goal.returns-in_err-used-clause-obeys
 returns-in_err-used-clause-obeys g c =
-    let found = c.in_ok-spreading.ensures.tells in
-    used-error c.args.w.now.leaves.now.classes c.args.target.ty c.args.target.weight c.args.array c.args.count c.in_ok-spreading.spreading.own
-    c.in_ok-spreading.spreading.asked c.in_err-used.field-0.0
-    c.from_residual-in_err-used.result (spreading-row c.args.w.now.leaves.now.classes c.args.target.ty c.args.target.weight c.args.array c.args.count
-    c.in_ok-spreading.spreading found) found.used c.in_err-used.ensures.obeys c.from_residual-in_err-used.ensures.1
+    let found = c.in-Ok.ensures.tells in
+    used-error c.args.w.now.leaves.now.classes c.args.target.ty c.args.target.weight c.args.array c.args.count c.in-Ok.spreading.own
+    c.in-Ok.spreading.asked c.in_err-used.field-0.0
+    c.from_residual.result (spreading-row c.args.w.now.leaves.now.classes c.args.target.ty c.args.target.weight c.args.array c.args.count
+    c.in-Ok.spreading found) found.used c.in_err-used.ensures.obeys c.from_residual.ensures.1
 
-pub returns-in_err-spreading-clause-makes : goal.returns-in_err-spreading-clause-makes
-returns-in_err-spreading-clause-makes g c a st =
-    makes-none c.args.target.ty c.args.array c.args.count a c.args.w.now c.in_err-spreading.field-0.0 c.from_residual.result
-    c.from_residual.ensures.1
+pub returns-in-Err-clause-obeys : goal.returns-in-Err-clause-obeys
+returns-in-Err-clause-obeys g c =
+    spreading-refused c.args.w.now.leaves.now.classes c.args.target.ty c.args.target.weight c.args.array c.args.count c.in-Err.error c.refused.result
+    c.in-Err.ensures.tells c.refused.ensures.error
+
+pub returns-in-Err-clause-makes : goal.returns-in-Err-clause-makes
+returns-in-Err-clause-makes g c a st =
+    makes-none c.args.target.ty c.args.array c.args.count a c.args.w.now c.refused.new.w c.in-Err.error c.refused.result c.refused.ensures.error
+    c.refused.ensures.unchanged
+
+pub returns-in_err-used-clause-handles : goal.returns-in_err-used-clause-handles
+returns-in_err-used-clause-handles g c =
+    counts-first c.args.w.now c.as_type.new.w c.in_err-used.field-0.0 c.from_residual.result c.in_err-used.ensures.handles c.from_residual.ensures.1
 
 pub returns-in_err-used-clause-makes : goal.returns-in_err-used-clause-makes
 returns-in_err-used-clause-makes g c a st =
-    let found = c.in_ok-spreading.ensures.tells in
+    let found = c.in-Ok.ensures.tells in
     let items = items_used_as c.args.target.ty c.args.array c.args.count a in
-    let used-items : used_as c.args.target.ty c.in_ok-spreading.spreading.asked a ≡ items =
-    items-are c.args.w.now.leaves.now.classes c.args.target.ty c.args.target.weight c.args.array c.args.count c.in_ok-spreading.spreading.component
-    c.in_ok-spreading.spreading.asked a found.component found.asked in
+    let used-items : used_as c.args.target.ty c.in-Ok.spreading.asked a ≡ items =
+    items-are c.args.w.now.leaves.now.classes c.args.target.ty c.args.target.weight c.args.array c.args.count c.in-Ok.spreading.component
+    c.in-Ok.spreading.asked a found.component found.asked in
     let first = recipe c.args.w.now.leaves.now a in
-    makes-first first (recipe c.args.w.now.leaves.now items) _ c.args.w.now c.as_type.new.w c.in_err-used.field-0.0 c.from_residual-in_err-used.result
+    makes-first first (recipe c.args.w.now.leaves.now items) _ c.args.w.now c.as_type.new.w c.in_err-used.field-0.0 c.from_residual.result
     (subst (λ x. MakesFrom first (recipe c.args.w.now.leaves.now x) c.args.w.now c.as_type.new.w (Err c.in_err-used.field-0.0)) used-items
-    (c.in_err-used.ensures.makes a st)) c.from_residual-in_err-used.ensures.1
+    (c.in_err-used.ensures.makes a st)) c.from_residual.ensures.1
 
 pub grown-requires-clause-fits : goal.grown-requires-clause-fits
 grown-requires-clause-fits g c =
-    let found = c.in_ok-spreading.ensures.tells in
-    let basic : c.basic_of.result ≡ basic_of (item_type c.in_ok-spreading.spreading.component) = c.basic_of.ensures ∙ ap basic_of c.item_type.ensures in
-    call-fits c.args.w.now.leaves.now.classes c.args.target c.in_ok-used.used c.args.array c.args.count c.in_ok-spreading.spreading found
+    let found = c.in-Ok.ensures.tells in
+    let basic : c.basic_of.result ≡ basic_of (item_type c.in-Ok.spreading.component) = c.basic_of.ensures ∙ ap basic_of c.item_type.ensures in
+    call-fits c.args.w.now.leaves.now.classes c.args.target c.in_ok-used.used c.args.array c.args.count c.in-Ok.spreading found
     c.in_ok-used.ensures.obeys
     c.in_ok-used.ensures.used c.basic_of.result basic c.ty-ty.ensures.shaped
 
 pub grown-requires-clause-shaped : goal.grown-requires-clause-shaped
 grown-requires-clause-shaped g c =
-    let found = c.in_ok-spreading.ensures.tells in
-    let basic : c.basic_of.result ≡ basic_of (item_type c.in_ok-spreading.spreading.component) = c.basic_of.ensures ∙ ap basic_of c.item_type.ensures in
-    call-shaped c.args.w.now.leaves.now.classes c.args.target c.in_ok-used.used c.args.array c.args.count c.in_ok-spreading.spreading found
+    let found = c.in-Ok.ensures.tells in
+    let basic : c.basic_of.result ≡ basic_of (item_type c.in-Ok.spreading.component) = c.basic_of.ensures ∙ ap basic_of c.item_type.ensures in
+    call-shaped c.args.w.now.leaves.now.classes c.args.target c.in_ok-used.used c.args.array c.args.count c.in-Ok.spreading found
     c.in_ok-used.ensures.obeys
     c.in_ok-used.ensures.used c.basic_of.result basic c.ty-ty.ensures.shaped
 
 pub grown-requires-clause-light : goal.grown-requires-clause-light
 grown-requires-clause-light g c =
-    let found = c.in_ok-spreading.ensures.tells in
+    let found = c.in-Ok.ensures.tells in
     subst (λ (n : ℕ). 1 + n ≤ 256) (sym c.weight.ensures.weight) (call-light c.args.w.now.leaves.now.classes c.args.target c.in_ok-used.used c.args.array
     c.args.count
-    c.in_ok-spreading.spreading found c.in_ok-used.ensures.obeys c.in_ok-used.ensures.used)
+    c.in-Ok.spreading found c.in_ok-used.ensures.obeys c.in_ok-used.ensures.used)
 
 pub grown-requires-clause-ready : goal.grown-requires-clause-ready
 grown-requires-clause-ready g c = record {
@@ -69,34 +79,40 @@ returns-clause-goes_on g c = goes_on-both 1 1 c.args.w.now c.as_type.new.w c.gro
 
 pub returns-clause-obeys : goal.returns-clause-obeys
 returns-clause-obeys g c =
-    let found = c.in_ok-spreading.ensures.tells in
-    call-obeys c.args.w.now.leaves.now.classes c.args.target c.in_ok-used.used c.args.array c.args.count c.in_ok-spreading.spreading found
+    let found = c.in-Ok.ensures.tells in
+    call-obeys c.args.w.now.leaves.now.classes c.args.target c.in_ok-used.used c.args.array c.args.count c.in-Ok.spreading found
     c.in_ok-used.ensures.obeys
-    c.in_ok-used.ensures.used (1 + c.weight.result) c.new.result (key.Spread c.args.count c.basic_of.result) c.new-2.result.items c.grown.result
+    c.in_ok-used.ensures.used (1 + c.weight.result) c.new.result.sides (key.Spread c.args.count c.basic_of.result) c.new.result.fields c.grown.result
     c.grown.ensures.accepted c.grown.ensures.grows
 
 pub returns-clause-makes : goal.returns-clause-makes
 returns-clause-makes g c a st =
-    let found = c.in_ok-spreading.ensures.tells in
-    let basic : c.basic_of.result ≡ basic_of (item_type c.in_ok-spreading.spreading.component) = c.basic_of.ensures ∙ ap basic_of c.item_type.ensures in
-    call-makes c.args.w.now.leaves.now.classes c.args.target c.in_ok-used.used c.args.array c.args.count c.in_ok-spreading.spreading found
+    let found = c.in-Ok.ensures.tells in
+    let basic : c.basic_of.result ≡ basic_of (item_type c.in-Ok.spreading.component) = c.basic_of.ensures ∙ ap basic_of c.item_type.ensures in
+    call-makes c.args.w.now.leaves.now.classes c.args.target c.in_ok-used.used c.args.array c.args.count c.in-Ok.spreading found
     c.in_ok-used.ensures.obeys
     c.in_ok-used.ensures.used c.basic_of.result a c.args.w.now c.as_type.new.w c.grown.new.w c.grown.result basic
     (c.in_ok-used.ensures.makes a st) c.grown.ensures.makes c.grown.ensures.accepted (c.in_ok-used.ensures.stands a st)
 
+pub returns-clause-handles : goal.returns-clause-handles
+returns-clause-handles g c =
+    counts-second c.args.w.now c.as_type.new.w c.grown.new.w c.new.result c.in_ok-used.used c.grown.result c.new.ensures c.in_ok-used.ensures.handles
+    c.grown.ensures.handles
+
 pub returns-clause-sides : goal.returns-clause-sides
 returns-clause-sides g c =
-    let found = c.in_ok-spreading.ensures.tells in
-    call-sides c.args.w.now.leaves.now.classes c.args.target c.in_ok-used.used c.args.array c.args.count c.in_ok-spreading.spreading found
+    let found = c.in-Ok.ensures.tells in
+    call-sides c.args.w.now.leaves.now.classes c.args.target c.in_ok-used.used c.args.array c.args.count c.in-Ok.spreading found
     c.in_ok-used.ensures.obeys
-    c.in_ok-used.ensures.used (1 + c.weight.result) c.new.result (key.Spread c.args.count c.basic_of.result) c.new-2.result.items c.grown.result
-    c.new.ensures c.grown.ensures.grows
+    c.in_ok-used.ensures.used (1 + c.weight.result) c.new.result.sides (key.Spread c.args.count c.basic_of.result) c.new.result.fields c.grown.result
+    (ap (λ (p : PartsView). p.sides) c.new.ensures) c.grown.ensures.grows
 
 pub returns-clause-stands : goal.returns-clause-stands
 returns-clause-stands g c a st =
-    let found = c.in_ok-spreading.ensures.tells in
-    let basic : c.basic_of.result ≡ basic_of (item_type c.in_ok-spreading.spreading.component) = c.basic_of.ensures ∙ ap basic_of c.item_type.ensures in
-    call-stands c.args.w.now.leaves.now.classes c.args.target c.in_ok-used.used c.args.array c.args.count c.in_ok-spreading.spreading found
+    let found = c.in-Ok.ensures.tells in
+    let basic : c.basic_of.result ≡ basic_of (item_type c.in-Ok.spreading.component) = c.basic_of.ensures ∙ ap basic_of c.item_type.ensures in
+    call-stands c.args.w.now.leaves.now.classes c.args.target c.in_ok-used.used c.args.array c.args.count c.in-Ok.spreading found
     c.in_ok-used.ensures.obeys
-    c.in_ok-used.ensures.used c.args.w.now.leaves.now c.basic_of.result c.weight.result c.new.result c.new-2.result.items c.grown.result a refl
-    c.in_ok-spreading.ensures.are basic c.weight.ensures.weight c.new.ensures c.new-2.ensures.items c.grown.ensures.grows (c.in_ok-used.ensures.stands a st)
+    c.in_ok-used.ensures.used c.args.w.now.leaves.now c.basic_of.result c.weight.result c.new.result.sides c.new.result.fields c.grown.result a refl
+    c.in-Ok.ensures.are basic c.weight.ensures.weight (ap (λ (p : PartsView). p.sides) c.new.ensures)
+    (ap (λ (p : PartsView). p.fields) c.new.ensures) c.grown.ensures.grows (c.in_ok-used.ensures.stands a st)
