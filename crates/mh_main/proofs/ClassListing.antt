@@ -1,21 +1,66 @@
 -- Class files read one after the other: what is told of the first and of the rest is told of all.
-use Rattle.std.proofs.Common.{◌≡◌, subst, ap, ◌∙◌, ℕ, ◌+◌, ◌-◌, ◌≤◌, false, List, ◌++◌, length, Result, Ok, Err, OnOk, IfErr, arith, append_assoc}
+use Rattle.std.proofs.Common.{◌≡◌, refl, subst, ap, ◌∙◌, ℕ, ◌+◌, ◌-◌, ◌≤◌, Bool, true, false, if◌then◌else◌, List, [], ◌∷◌, ◌++◌, length, Result, Ok, Err, OnOk, IfErr, arith, append_assoc}
 use Rattle.std.specs.Prelude.{nat_lt}
 use Rattle.std.proofs.lemmas.Bool.Decides.{nat_tests}
 use Rattle.mh_outside.specs.Told.{Told, nothing, absent, file}
+use Rattle.mh_class_bytes.specs.Format.{Checked}
+use Rattle.mh_class_pool.specs.declared.fault.ClassKind.{ClassKind}
 use Rattle.mh_classfile.specs.Class.{Class}
 use Rattle.mh_classfile.specs.File.{class_or_fault}
 use Rattle.mh_listing.specs.Listing.{lines_from, listing_from}
 use Rattle.mh_main.specs.declared.stop.Stop.{Stop}
 use Rattle.mh_main.specs.declared.stop.Stop.TheVariants.{NoMemory, ReadFault, TooLong, Fault, Place}
-use Rattle.mh_main.specs.Input.{Input, usage, refused, program, listed, missing, untold, IfListed, IfRefused, within, class_meant, with_class, classes_input, class_limit}
+use Rattle.mh_main.specs.Input.{Accepted, program, listed, Input, usage, refused, accepted, missing, untold, IfAccepted, IfRefused, AreListed, within, class_meant, classes_input, listing_input, class_limit, too_long_line}
 use Rattle.mh_main.specs.Classes.{ListsClass}
 use Rattle.mh_main.specs.Stops.{Refuses}
 
 -- the first file's class, and then the others
 abbrev pub first_and_others : ℕ → Told → List ℕ → List (List ℕ) → (List ℕ → Told) → Input
 first_and_others room t name names files =
-    within name class_limit t (λ bytes. class_meant name (class_or_fault room bytes) (λ c. with_class c (classes_input (room - length c.sites) names files)))
+    within name class_limit t (λ bytes. class_meant name (class_or_fault room bytes) (λ c.
+    classes_input (room - length c.sites) names files (λ classes. accepted (listed (c ∷ classes)))))
+
+-- goes on with listed classes in another way
+abbrev continued : (List Class → Input) → Input → Input
+continued next usage = usage
+continued next (refused line) = refused line
+continued next (accepted (program p)) = accepted (program p)
+continued next (accepted (listed classes)) = next classes
+continued next missing = missing
+continued next untold = untold
+
+-- classes that come before others are put before those that are listed
+before-listed : (next : List Class → Input) (before : List Class → List Class) (room : ℕ) (names : List (List ℕ)) (files : List ℕ → Told) →
+    continued next (classes_input room names files (λ classes. accepted (listed (before classes)))) ≡
+    classes_input room names files (λ classes. next (before classes))
+before-listed next before room [] files = refl
+before-listed next before room (name ∷ names) files = told (files name)
+  where
+    read : (long : Bool) (c : Checked ClassKind Class) →
+        continued next (if long then refused (too_long_line name) else class_meant name c (λ d.
+        classes_input (room - length d.sites) names files (λ classes. accepted (listed (before (d ∷ classes)))))) ≡
+        (if long then refused (too_long_line name) else class_meant name c (λ d.
+        classes_input (room - length d.sites) names files (λ classes. next (before (d ∷ classes)))))
+    read true c = refl
+    read false (Err fault) = refl
+    read false (Ok d) = before-listed next (λ classes. before (d ∷ classes)) (room - length d.sites) names files
+
+    told : (t : Told) →
+        continued next (within name class_limit t (λ bytes. class_meant name (class_or_fault room bytes) (λ d.
+        classes_input (room - length d.sites) names files (λ classes. accepted (listed (before (d ∷ classes))))))) ≡
+        within name class_limit t (λ bytes. class_meant name (class_or_fault room bytes) (λ d.
+        classes_input (room - length d.sites) names files (λ classes. next (before (d ∷ classes)))))
+    told nothing = refl
+    told absent = refl
+    told (file bytes) = read (nat_lt class_limit (length bytes)) (class_or_fault room bytes)
+
+-- a class before those of other files
+abbrev with_class : Class → Input → Input
+with_class c rest = continued (λ classes. accepted (listed (c ∷ classes))) rest
+
+with_class-others : (c : Class) (room : ℕ) (names : List (List ℕ)) (files : List ℕ → Told) →
+    with_class c (listing_input room names files) ≡ classes_input room names files (λ classes. accepted (listed (c ∷ classes)))
+with_class-others c room names files = before-listed (λ classes. accepted (listed (c ∷ classes))) (λ classes. classes) room names files
 
 small-enough : (bytes : List ℕ) → length bytes ≤ class_limit → nat_lt class_limit (length bytes) ≡ false
 small-enough bytes h = grind (arith, nat_tests)
@@ -25,36 +70,41 @@ sites-left room first next n h = omega arith
 
 -- ---- the listing
 
+-- that the text is longer by the lines of these classes
+abbrev IsLonger : ℕ → List ℕ → List ℕ → Accepted → Type 0
+IsLonger first old new a = AreListed (λ classes. new ≡ old ++ listing_from first classes) a
+
 listed-with : (rest : Input) (c : Class) (first next : ℕ) (old mid new : List ℕ) → next ≡ first + length c.sites → mid ≡ old ++ lines_from first c c.sites →
-    IfListed rest (λ cs. new ≡ mid ++ listing_from next cs) → IfListed (with_class c rest) (λ cs. new ≡ old ++ listing_from first cs)
+    IfAccepted rest (IsLonger next mid new) → IfAccepted (with_class c rest) (IsLonger first old new)
 listed-with usage c first next old mid new counted put h = h
 listed-with (refused line) c first next old mid new counted put h = h
-listed-with (program p) c first next old mid new counted put h = h
-listed-with (listed cs) c first next old mid new counted put h =
+listed-with (accepted (program p)) c first next old mid new counted put h = h
+listed-with (accepted (listed cs)) c first next old mid new counted put h =
     h ∙ ap (λ m. m ++ listing_from next cs) put ∙ append_assoc old (lines_from first c c.sites) (listing_from next cs)
     ∙ ap (λ n. old ++ (lines_from first c c.sites ++ listing_from n cs)) counted
 listed-with missing c first next old mid new counted put h = h
 listed-with untold c first next old mid new counted put h = tt
 
 listed-first : (t : Told) (room first next : ℕ) (name : List ℕ) (names : List (List ℕ)) (files : List ℕ → Told) (old mid new : List ℕ) →
-    ListsClass room t first next old mid → IfListed (classes_input (room - (next - first)) names files) (λ cs. new ≡ mid ++ listing_from next cs) →
-    IfListed (first_and_others room t name names files) (λ cs. new ≡ old ++ listing_from first cs)
+    ListsClass room t first next old mid → IfAccepted (listing_input (room - (next - first)) names files) (IsLonger next mid new) →
+    IfAccepted (first_and_others room t name names files) (IsLonger first old new)
 listed-first nothing room first next name names files old mid new l h = tt
 listed-first absent room first next name names files old mid new l h = absurd l
 listed-first (file bytes) room first next name names files old mid new l h =
     let left : room - (next - first) ≡ room - length l.0.sites = sites-left room first next (length l.0.sites) l.3 in
     rw (small-enough bytes l.2, l.1)
-    (listed-with (classes_input (room - length l.0.sites) names files) l.0 first next old mid new l.3 l.4
-    (subst (λ m. IfListed (classes_input m names files) (λ cs. new ≡ mid ++ listing_from next cs)) left h))
+    (subst (λ i. IfAccepted i (IsLonger first old new)) (with_class-others l.0 (room - length l.0.sites) names files)
+    (listed-with (listing_input (room - length l.0.sites) names files) l.0 first next old mid new l.3 l.4
+    (subst (λ m. IfAccepted (listing_input m names files) (IsLonger next mid new)) left h)))
 
 pub listed-all : {E : Type 0} (r : Result (Unit {0}) E) (t : Told) (room first next : ℕ) (name : List ℕ) (names : List (List ℕ)) (files files' : List ℕ →
     Told) (old mid new : List ℕ) → ((n : List ℕ) → files' n ≡ files n) → ListsClass room t first next old mid →
-    OnOk r (IfListed (classes_input (room - (next - first)) names files') (λ cs. new ≡ mid ++ listing_from next cs)) →
-    OnOk r (IfListed (first_and_others room t name names files) (λ cs. new ≡ old ++ listing_from first cs))
+    OnOk r (IfAccepted (listing_input (room - (next - first)) names files') (IsLonger next mid new)) →
+    OnOk r (IfAccepted (first_and_others room t name names files) (IsLonger first old new))
 listed-all (Ok u) t room first next name names files files' old mid new same l h =
     let e : files' ≡ files = λ i n. same n i in
     listed-first t room first next name names files old mid new l
-    (subst (λ (f : List ℕ → Told). IfListed (classes_input (room - (next - first)) names f) (λ cs. new ≡ mid ++ listing_from next cs)) e h)
+    (subst (λ (f : List ℕ → Told). IfAccepted (listing_input (room - (next - first)) names f) (IsLonger next mid new)) e h)
 listed-all (Err e) t room first next name names files files' old mid new same l h = tt
 
 -- ---- refusals
@@ -62,8 +112,7 @@ listed-all (Err e) t room first next name names files files' old mid new same l 
 refused-with : (rest : Input) (c : Class) (P : List ℕ → Type 0) → IfRefused rest P → IfRefused (with_class c rest) P
 refused-with usage c P h = h
 refused-with (refused line) c P h = h
-refused-with (program p) c P h = h
-refused-with (listed cs) c P h = h
+refused-with (accepted a) c P h = absurd h
 refused-with missing c P h = h
 refused-with untold c P h = tt
 
@@ -82,21 +131,23 @@ refuses-untold (Fault at line kind) = tt
 refuses-untold (Place at place kind) = tt
 
 refuses-first : (t : Told) (room first next : ℕ) (name : List ℕ) (names : List (List ℕ)) (files : List ℕ → Told) (old mid : List ℕ) (stop : Stop) →
-    ListsClass room t first next old mid → Refuses (classes_input (room - (next - first)) names files) stop →
+    ListsClass room t first next old mid → Refuses (listing_input (room - (next - first)) names files) stop →
     Refuses (first_and_others room t name names files) stop
 refuses-first nothing room first next name names files old mid stop l h = refuses-untold stop
 refuses-first absent room first next name names files old mid stop l h = absurd l
 refuses-first (file bytes) room first next name names files old mid stop l h =
     let left : room - (next - first) ≡ room - length l.0.sites = sites-left room first next (length l.0.sites) l.3 in
     rw (small-enough bytes l.2, l.1)
-    (refuses-with (classes_input (room - length l.0.sites) names files) l.0 stop (subst (λ m. Refuses (classes_input m names files) stop) left h))
+    (subst (λ i. Refuses i stop) (with_class-others l.0 (room - length l.0.sites) names files)
+    (refuses-with (listing_input (room - length l.0.sites) names files) l.0 stop
+    (subst (λ m. Refuses (listing_input m names files) stop) left h)))
 
 pub refuses-all : {T : Type 0} (r : Result T Stop) (t : Told) (room first next : ℕ) (name : List ℕ) (names : List (List ℕ)) (files files' : List ℕ →
     Told) (old mid : List ℕ) → ((n : List ℕ) → files' n ≡ files n) → ListsClass room t first next old mid →
-    IfErr r (λ stop. Refuses (classes_input (room - (next - first)) names files') stop) →
+    IfErr r (λ stop. Refuses (listing_input (room - (next - first)) names files') stop) →
     IfErr r (λ stop. Refuses (first_and_others room t name names files) stop)
 refuses-all (Ok u) t room first next name names files files' old mid same l h = tt
 refuses-all (Err stop) t room first next name names files files' old mid same l h =
     let e : files' ≡ files = λ i n. same n i in
     refuses-first t room first next name names files old mid stop l
-    (subst (λ (f : List ℕ → Told). Refuses (classes_input (room - (next - first)) names f) stop) e h)
+    (subst (λ (f : List ℕ → Told). Refuses (listing_input (room - (next - first)) names f) stop) e h)

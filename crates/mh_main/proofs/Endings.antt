@@ -6,13 +6,11 @@ use Rattle.mh_main.specs.declared.answer.TopAnswer.{TopAnswer}
 use Rattle.mh_main.specs.declared.stop.Stop.{Stop}
 use Rattle.mh_main.specs.declared.stop.Stop.TheVariants.{NoMemory, ReadFault, TooLong, Fault, Place}
 use Rattle.mh_main.specs.declared.program.Program.{Program}
-use Rattle.mh_classfile.specs.Class.{Class}
-use Rattle.mh_plan.specs.Forms.{forms}
 use Rattle.mh_main.specs.Words.{Command, Named, command_of, run}
-use Rattle.mh_main.specs.Input.{IfAccepted, IfProgram, IfRefused, Input, command_input, fault_line, input_of, listed, missing, most_forms, named_input, place_line, program, refused, too_long_line, untold, usage}
+use Rattle.mh_main.specs.Input.{Accepted, IfAccepted, IfRefused, Input, accepted, command_input, fault_line, input_of, missing, named_input, place_line, program, refused, too_long_line, untold, usage}
 use Rattle.mh_main.specs.Status.{no_memory}
-use Rattle.mh_main.specs.Stops.{Refuses, StopsIn, IsReachedInput, stop_line, stop_status, unread_line}
-use Rattle.mh_main.specs.Due.{FailsToRead, IsDue, IsDueOf, IsIdle, IsListingOf, IsReportOf}
+use Rattle.mh_main.specs.Stops.{Refuses, IsStopAmong, IsReachedInput, stop_line, stop_status, unread_line}
+use Rattle.mh_main.specs.Due.{FailsToRead, IsDue, IsDueOf, IsIdle, IsOutputOf, NeedsManyForms}
 
 -- a stop that is no want of memory has a line that is due
 pub due-at-stop :
@@ -20,7 +18,7 @@ pub due-at-stop :
     Some command ≡ command_of words →
     IsIdle answer →
     stop_status stop ≢ no_memory →
-    StopsIn (IsReachedInput command files) before now stop →
+    IsStopAmong (IsReachedInput command files) before now stop →
     Refuses (command_input command files) stop →
     IsDue words files before now answer (stop_line stop)
 due-at-stop words files before now answer command NoMemory asked idle spoken stops refuses = absurd (spoken refl)
@@ -37,31 +35,30 @@ due-at-stop words files before now answer command (Place at place kind) asked id
     let P : Option Command → Type 0 = λ o. IfRefused (input_of o files) (λ line. line ≡ place_line at.now place kind.now) in
     inr (idle, inr (inl (subst P asked refuses, stops)))
 
--- where the inputs are this program, what holds of it holds of what they are
-accepted : (i : Input) (p : Program) (P : Program → Type 0) (Q : List Class → Type 0) → IfProgram i (λ q. q ≡ p) → P p → IfAccepted i P Q
-accepted usage p P Q is holds = is
-accepted (refused line) p P Q is holds = is
-accepted (program q) p P Q is holds = subst P (sym is) holds
-accepted (listed classes) p P Q is holds = absurd is
-accepted missing p P Q is holds = is
-accepted untold p P Q is holds = tt
+-- what holds of what is accepted holds where it is
+taken : (i : Input) (a : Accepted) (P : Accepted → Type 0) → IfAccepted i (λ b. b ≡ a) → P a → IfAccepted i P
+taken usage a P is holds = is
+taken (refused line) a P is holds = is
+taken (accepted b) a P is holds = subst P (sym is) holds
+taken missing a P is holds = is
+taken untold a P is holds = tt
 
 -- what is due of a program is due of the words and files that give it
 pub due-of-program :
     (words : List (List ℕ)) (files : List ℕ → Told) (before now : List ℕ → ℕ) (answer : TopAnswer) (names : Named) (p : Program) (bytes : List ℕ) →
     Some (run names) ≡ command_of words →
-    IfProgram (named_input names files) (λ q. q ≡ p) →
+    IfAccepted (named_input names files) (λ a. a ≡ program p) →
     AreSame before now →
     IsDueOf p answer bytes →
     IsDue words files before now answer bytes
 due-of-program words files before now answer names p bytes asked is same (inl report) =
     inl (
       same,
-      subst (λ o. IfAccepted (input_of o files) (λ q. IsReportOf q answer bytes) (λ classes. IsListingOf classes answer bytes)) asked
-          (accepted (named_input names files) p (λ q. IsReportOf q answer bytes) (λ classes. IsListingOf classes answer bytes) is report),
+      subst (λ o. IfAccepted (input_of o files) (λ a. IsOutputOf a answer bytes)) asked
+          (taken (named_input names files) (program p) (λ a. IsOutputOf a answer bytes) is report),
     )
 due-of-program words files before now answer names p bytes asked is same (inr full) =
-    let fills : IfAccepted (input_of (command_of words) files) (λ q. most_forms < forms q.leaves q.plan) (λ classes. ⊥) =
-    subst (λ o. IfAccepted (input_of o files) (λ q. most_forms < forms q.leaves q.plan) (λ classes. ⊥)) asked
-    (accepted (named_input names files) p (λ q. most_forms < forms q.leaves q.plan) (λ classes. ⊥) is full.1.0) in
+    let fills : IfAccepted (input_of (command_of words) files) NeedsManyForms =
+    subst (λ o. IfAccepted (input_of o files) NeedsManyForms) asked
+    (taken (named_input names files) (program p) NeedsManyForms is full.1.0) in
     inr (full.0, inr (inr (inr (same, (fills, full.1.1)))))

@@ -1,7 +1,6 @@
 mod Stilled
 pub mod ClassListing
 pub mod Endings
-pub mod Ledger
 pub mod Pieces
 pub mod Reaching
 pub mod Refusals

@@ -10,7 +10,7 @@ use Rattle.mh_main.specs.declared.stop.Stop.{Stop}
 use Rattle.mh_main.specs.declared.stop.Stop.TheVariants.{NoMemory, ReadFault, TooLong, Fault, Place}
 use Rattle.mh_main.specs.Input.{HasMeaning, class_limit}
 use Rattle.mh_main.specs.Classes.{ListsClass}
-use Rattle.mh_main.specs.Stops.{ReachesClass, StopsIn}
+use Rattle.mh_main.specs.Stops.{ReachesClass, IsStopAmong}
 
 -- some site
 abbrev some_site : SiteView
@@ -35,7 +35,7 @@ reached-after room first next name names files old mid at l h =
 
 stops-after : (room first next : ℕ) (name : List ℕ) (names : List (List ℕ)) (files : List ℕ → Told) (before before' now : List ℕ → ℕ) (old mid : List ℕ)
     (stop : Stop) → AreSame before before' → ListsClass room (files name) first next old mid →
-    StopsIn (ReachesClass (room - (next - first)) names files) before' now stop → StopsIn (ReachesClass room (name ∷ names) files) before now stop
+    IsStopAmong (ReachesClass (room - (next - first)) names files) before' now stop → IsStopAmong (ReachesClass room (name ∷ names) files) before now stop
 stops-after room first next name names files before before' now old mid NoMemory same l h = subst (λ (b : List ℕ → ℕ). AreSame b now) (λ i n. same n i) h
 stops-after room first next name names files before before' now old mid (ReadFault at) same l h =
     (reached-after room first next name names files old mid at.now l h.0, subst (λ n. Rose n (now at.now)) (same at.now) h.1)
@@ -47,10 +47,10 @@ stops-after room first next name names files before before' now old mid (Place a
 
 pub stops-all : {T : Type 0} (r : Result T Stop) (room first next : ℕ) (name : List ℕ) (names : List (List ℕ)) (files files' : List ℕ →
     Told) (before before' now : List ℕ → ℕ) (old mid : List ℕ) → ((n : List ℕ) → files' n ≡ files n) → AreSame before before' →
-    ListsClass room (files name) first next old mid → IfErr r (λ stop. StopsIn (ReachesClass (room - (next - first)) names files') before' now stop) →
-    IfErr r (λ stop. StopsIn (ReachesClass room (name ∷ names) files) before now stop)
+    ListsClass room (files name) first next old mid → IfErr r (λ stop. IsStopAmong (ReachesClass (room - (next - first)) names files') before' now stop) →
+    IfErr r (λ stop. IsStopAmong (ReachesClass room (name ∷ names) files) before now stop)
 stops-all (Ok u) room first next name names files files' before before' now old mid told same l h = tt
 stops-all (Err stop) room first next name names files files' before before' now old mid told same l h =
     let e : files' ≡ files = λ i n. told n i in
     stops-after room first next name names files before before' now old mid stop same l
-    (subst (λ (f : List ℕ → Told). StopsIn (ReachesClass (room - (next - first)) names f) before' now stop) e h)
+    (subst (λ (f : List ℕ → Told). IsStopAmong (ReachesClass (room - (next - first)) names f) before' now stop) e h)

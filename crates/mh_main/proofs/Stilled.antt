@@ -6,9 +6,9 @@ use Rattle.mh_outside.specs.Causes.{IsStill, Rose}
 use Rattle.mh_main.specs.declared.stop.Stop.{Stop}
 use Rattle.mh_main.specs.declared.stop.Stop.TheVariants.{NoMemory, ReadFault, TooLong, Fault, Place}
 use Rattle.mh_main.specs.Words.{Command, sites}
-use Rattle.mh_main.specs.Input.{IfRefused, Input, AreAccepted, command_input, input_of, listed, missing, program, refused, untold, usage}
+use Rattle.mh_main.specs.Input.{IfRefused, Input, AreAccepted, accepted, command_input, input_of, missing, refused, untold, usage}
 use Rattle.mh_main.specs.Status.{IsDoneOrWant, IsRefusedOrWant, write_failed}
-use Rattle.mh_main.specs.Stops.{InputsStill, IsReachedInput, ReachesClass, Refuses, StopsIn, stop_status}
+use Rattle.mh_main.specs.Stops.{InputsStill, IsReachedInput, ReachesClass, Refuses, IsStopAmong, stop_status}
 
 never-both : (before now : ℕ) → IsStill before now → Rose before now → ⊥
 never-both before now still rose = absurd (omega arith)
@@ -31,7 +31,7 @@ unfailed names files before now at still reached rose = never-both (before at) (
 
 refused-status :
     (names : List (List ℕ)) (files : List ℕ → Told) (before now : List ℕ → ℕ) (stop : Stop) →
-    InputsStill (Some (sites names)) before now → StopsIn (IsReachedInput (sites names) files) before now stop → IsRefusedOrWant (stop_status stop)
+    InputsStill (Some (sites names)) before now → IsStopAmong (IsReachedInput (sites names) files) before now stop → IsRefusedOrWant (stop_status stop)
 refused-status names files before now NoMemory still stops = inr refl
 refused-status names files before now (ReadFault at) still stops = absurd (unfailed names files before now at.now still stops.0 stops.1)
 refused-status names files before now (TooLong at) still stops = inl refl
@@ -39,22 +39,21 @@ refused-status names files before now (Fault at line kind) still stops = inl ref
 refused-status names files before now (Place at place kind) still stops = inl refl
 
 never-refused : (i : Input) (P : List ℕ → Type 0) → AreAccepted i → IfRefused i P → ⊥
-never-refused usage P accepted is = accepted
-never-refused (refused line) P accepted is = accepted
-never-refused (program p) P accepted is = is
-never-refused (listed classes) P accepted is = is
-never-refused missing P accepted is = is
-never-refused untold P accepted is = accepted
+never-refused usage P so is = so
+never-refused (refused line) P so is = so
+never-refused (accepted a) P so is = is
+never-refused missing P so is = is
+never-refused untold P so is = so
 
 done-status :
     (names : List (List ℕ)) (files : List ℕ → Told) (before now : List ℕ → ℕ) (i : Input) (stop : Stop) →
-    InputsStill (Some (sites names)) before now → StopsIn (IsReachedInput (sites names) files) before now stop → Refuses i stop → AreAccepted i →
+    InputsStill (Some (sites names)) before now → IsStopAmong (IsReachedInput (sites names) files) before now stop → Refuses i stop → AreAccepted i →
     IsDoneOrWant (stop_status stop)
-done-status names files before now i NoMemory still stops refuses accepted = inr refl
-done-status names files before now i (ReadFault at) still stops refuses accepted = absurd (unfailed names files before now at.now still stops.0 stops.1)
-done-status names files before now i (TooLong at) still stops refuses accepted = absurd (never-refused i _ accepted refuses)
-done-status names files before now i (Fault at line kind) still stops refuses accepted = absurd (never-refused i _ accepted refuses)
-done-status names files before now i (Place at place kind) still stops refuses accepted = absurd (never-refused i _ accepted refuses)
+done-status names files before now i NoMemory still stops refuses taken = inr refl
+done-status names files before now i (ReadFault at) still stops refuses taken = absurd (unfailed names files before now at.now still stops.0 stops.1)
+done-status names files before now i (TooLong at) still stops refuses taken = absurd (never-refused i _ taken refuses)
+done-status names files before now i (Fault at line kind) still stops refuses taken = absurd (never-refused i _ taken refuses)
+done-status names files before now i (Place at place kind) still stops refuses taken = absurd (never-refused i _ taken refuses)
 
 -- the status of a stop, where the sink did not fail
 spoken : (before now status due : ℕ) → IsStill before now → (status ≡ write_failed → Rose before now) → (status ≢ write_failed → status ≡ due) → status ≡ due
@@ -63,7 +62,7 @@ spoken before now status due still failed is = is (λ seven. never-both before n
 pub sites-refused :
     (o : Option Command) (names : List (List ℕ)) (files : List ℕ → Told) (before now : List ℕ → ℕ) (stop : Stop) (old new status : ℕ) →
     Some (sites names) ≡ o →
-    StopsIn (IsReachedInput (sites names) files) before now stop →
+    IsStopAmong (IsReachedInput (sites names) files) before now stop →
     (status ≡ write_failed → Rose old new) →
     (status ≢ write_failed → status ≡ stop_status stop) →
     InputsStill o before now →
@@ -76,7 +75,7 @@ sites-refused o names files before now stop old new status asked stops failed is
 pub sites-done :
     (o : Option Command) (names : List (List ℕ)) (files : List ℕ → Told) (before now : List ℕ → ℕ) (stop : Stop) (old new status : ℕ) →
     Some (sites names) ≡ o →
-    StopsIn (IsReachedInput (sites names) files) before now stop →
+    IsStopAmong (IsReachedInput (sites names) files) before now stop →
     Refuses (command_input (sites names) files) stop →
     (status ≡ write_failed → Rose old new) →
     (status ≢ write_failed → status ≡ stop_status stop) →
@@ -84,7 +83,7 @@ pub sites-done :
     InputsStill o before now →
     IsStill old new →
     IsDoneOrWant status
-sites-done o names files before now stop old new status asked stops refuses failed is accepted still quiet =
+sites-done o names files before now stop old new status asked stops refuses failed is taken still quiet =
     subst IsDoneOrWant (sym (spoken old new status (stop_status stop) quiet failed is))
     (done-status names files before now (input_of o files) stop (subst (λ c. InputsStill c before now) (sym asked) still) stops
-    (subst (λ c. Refuses (input_of c files) stop) asked refuses) accepted)
+    (subst (λ c. Refuses (input_of c files) stop) asked refuses) taken)

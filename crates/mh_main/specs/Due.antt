@@ -6,15 +6,15 @@ use Rattle.mh_outside.specs.Told.{Told}
 use Rattle.mh_classfile.specs.Class.{Class}
 use Rattle.mh_listing.specs.Listing.{listing}
 use Rattle.mh_handle.specs.declared.answer.Answer.{Answer}
-use Rattle.mh_plan.specs.Forms.{forms}
-use Rattle.mh_plan.specs.Results.{results_of, results_said, keys_said}
+use Rattle.mh_plan.specs.Forms.{forms_needed}
+use Rattle.mh_plan.specs.Results.{Serials, results_of, results_said, keys_said}
 use Rattle.mh_runtime.specs.Keys.{plan_keys}
+use Rattle.mh_runtime.specs.Ledger.{Ledger, naming_of}
 use Rattle.mh_main.specs.declared.answer.TopAnswer.{TopAnswer}
 use Rattle.mh_main.specs.declared.program.Program.{Program}
 use Rattle.mh_main.specs.Words.{Command, command_of}
-use Rattle.mh_main.specs.Ledger.{Ledger}
-use Rattle.mh_main.specs.Program.{naming_of, text}
-use Rattle.mh_main.specs.Input.{input, IfAccepted, IfRefused, most_forms}
+use Rattle.mh_main.specs.Program.{text}
+use Rattle.mh_main.specs.Input.{Accepted, program, listed, input, IfAccepted, IfRefused, most_forms}
 use Rattle.mh_main.specs.Stops.{IsReachedInput, unread_line}
 
 -- the line for refused words
@@ -29,43 +29,57 @@ full_line = codes "forms full\n"
 abbrev pub IsIdle : TopAnswer → Type 0
 IsIdle answer = (answer.table ≡ []) × (answer.attempts ≡ []) × (answer.threads ≡ [])
 
--- the answers of a program's calls: the result of each, and how many keys the form has that it ran
-abbrev pub AreAnswersOf : Program → List (List Answer) → Type 0
-AreAnswersOf p threads = (results_said threads ≡ results_of p.leaves p.plan) × (keys_said threads ≡ plan_keys p.leaves p.plan)
+-- the answers of a program's calls under a table: the result of each, and how many keys the form has that it ran
+abbrev pub AreAnswersOf : Program → Serials → List (List Answer) → Type 0
+AreAnswersOf p table threads =
+    (results_said threads ≡ results_of p.leaves table p.plan) × (keys_said threads ≡ plan_keys p.leaves table p.plan)
 
--- the report on a program: the answer's table and attempts are a ledger of it, its answers are those of the calls, and
--- the bytes are the text of both
+-- the report on a program: the answer's table and attempts are a ledger of it, its answers are those of the calls under
+-- the table, and the bytes are the text of all
 abbrev pub IsReportOf : Program → TopAnswer → List ℕ → Type 0
 IsReportOf p answer bytes =
     Ledger (naming_of p.plan) 0 answer.table answer.attempts
-    × AreAnswersOf p answer.threads
-    × (bytes ≡ text p answer.attempts)
+    × AreAnswersOf p answer.table answer.threads
+    × (bytes ≡ text p answer.table answer.attempts)
 
 -- the listing of classes, with no table, no attempts and no answers
 abbrev pub IsListingOf : List Class → TopAnswer → List ℕ → Type 0
 IsListingOf classes answer bytes = IsIdle answer × (bytes ≡ listing classes)
 
+-- the report on a program, or the listing of classes
+abbrev pub IsOutputOf : Accepted → TopAnswer → List ℕ → Type 0
+IsOutputOf (program p) answer bytes = IsReportOf p answer bytes
+IsOutputOf (listed classes) answer bytes = IsListingOf classes answer bytes
+
 -- the report on the program, or the listing of the classes, that the words and the files give
 abbrev pub Reports : List (List ℕ) → (List ℕ → Told) → TopAnswer → List ℕ → Type 0
-Reports words files answer bytes =
-    IfAccepted (input words files) (λ p. IsReportOf p answer bytes) (λ classes. IsListingOf classes answer bytes)
+Reports words files answer bytes = IfAccepted (input words files) (λ a. IsOutputOf a answer bytes)
 
 -- the line of a program whose calls need more forms than there are numbers for
 abbrev pub IsFullOf : Program → List ℕ → Type 0
-IsFullOf p bytes = (most_forms < forms p.leaves p.plan) × (bytes ≡ full_line)
+IsFullOf p bytes = (most_forms < forms_needed p.leaves p.plan) × (bytes ≡ full_line)
 
 -- what is due of a program: its report, or that it needs too many forms, and then nothing is answered
 abbrev pub IsDueOf : Program → TopAnswer → List ℕ → Type 0
 IsDueOf p answer bytes = IsReportOf p answer bytes ⊎ (IsIdle answer × IsFullOf p bytes)
 
--- the answers of the calls of the program that the words and the files give; classes are not run
-abbrev pub AnswersCalls : List (List ℕ) → (List ℕ → Told) → List (List Answer) → Type 0
-AnswersCalls words files threads = IfAccepted (input words files) (λ p. AreAnswersOf p threads) (λ classes. threads ≡ [])
+-- the answers of a program's calls; classes are not run
+abbrev pub AreAnswers : Accepted → TopAnswer → Type 0
+AreAnswers (program p) answer = AreAnswersOf p answer.table answer.threads
+AreAnswers (listed classes) answer = answer.threads ≡ []
+
+-- the answers of the calls of the program that the words and the files give
+abbrev pub AnswersCalls : List (List ℕ) → (List ℕ → Told) → TopAnswer → Type 0
+AnswersCalls words files answer = IfAccepted (input words files) (λ a. AreAnswers a answer)
+
+-- a run can need more forms than there are numbers for; a listing needs none
+abbrev pub NeedsManyForms : Accepted → Type 0
+NeedsManyForms (program p) = most_forms < forms_needed p.leaves p.plan
+NeedsManyForms (listed classes) = ⊥
 
 -- the line of a program that the words and the files give and whose calls need more forms than there are numbers for
 abbrev pub FillsForms : List (List ℕ) → (List ℕ → Told) → List ℕ → Type 0
-FillsForms words files bytes =
-    IfAccepted (input words files) (λ p. most_forms < forms p.leaves p.plan) (λ classes. ⊥) × (bytes ≡ full_line)
+FillsForms words files bytes = IfAccepted (input words files) NeedsManyForms × (bytes ≡ full_line)
 
 -- the line of the first input that is refused, where no read failed
 abbrev pub RefusesInput : List (List ℕ) → (List ℕ → Told) → (List ℕ → ℕ) → (List ℕ → ℕ) → List ℕ → Type 0

@@ -8,7 +8,7 @@ use Rattle.mh_class_pool.specs.declared.fault.ClassKind.{ClassKind}
 use Rattle.mh_classfile.specs.Class.{Class}
 use Rattle.mh_classfile.specs.File.{class_or_fault}
 use Rattle.mh_leaves.specs.Manifest.{manifest, kind_word as manifest_word}
-use Rattle.mh_plan.specs.Forms.{forms}
+use Rattle.mh_plan.specs.Forms.{forms_needed}
 use Rattle.mh_plan.specs.Plan.{plan, kind_word as plan_word}
 use Rattle.mh_main.specs.declared.program.Program.{Program}
 use Rattle.mh_main.specs.declared.stop.ScriptsKind.{ScriptsKind}
@@ -16,13 +16,17 @@ use Rattle.mh_main.specs.declared.stop.ScriptsKind.TheVariants.{NotBuilt}
 use Rattle.mh_main.specs.Kinds.{class_word}
 use Rattle.mh_main.specs.Words.{Named, Command, run, sites, command_of}
 
--- the words are refused, an input is refused with its line, there is a program to run, there are classes to list, or the
--- first input that stops the reading is told not to be there, or it is not told
+-- what is accepted: a program to run, or classes whose call sites are listed
+pub data Accepted : Type 0 where
+  program : Program → Accepted
+  listed : List Class → Accepted
+
+-- the words are refused, an input is refused with its line, all inputs are accepted, or the first input that stops the
+-- reading is told not to be there, or it is not told
 pub data Input : Type 0 where
   usage : Input
   refused : List ℕ → Input
-  program : Program → Input
-  listed : List Class → Input
+  accepted : Accepted → Input
   missing : Input
   untold : Input
 
@@ -66,17 +70,13 @@ abbrev pub scripts : List ℕ → Result (Unit {0}) (LineFault ScriptsKind)
 scripts [] = Ok tt
 scripts (b ∷ bs) = Err (record { line = 1; kind = NotBuilt })
 
--- the inputs are taken in the order manifest, scripts, plan
-abbrev pub told_input : Named → Told → Told → Told → Input
-told_input names leaves_file scripts_file plan_file =
-    within names.leaves leaves_limit leaves_file (λ leaves_bytes. meant names.leaves manifest_word (manifest leaves_bytes) (λ leaves.
-    within names.scripts leaves_limit scripts_file (λ scripts_bytes. meant names.scripts scripts_word (scripts scripts_bytes) (λ _.
-    within names.plan plan_limit plan_file (λ plan_bytes. meant names.plan plan_word (plan plan_bytes leaves) (λ threads.
-    program (record { leaves = leaves; plan = threads })))))))
-
--- what the inputs of these names say
+-- what the inputs of these names say, taken in the order manifest, scripts, plan
 abbrev pub named_input : Named → (List ℕ → Told) → Input
-named_input names files = told_input names (files names.leaves) (files names.scripts) (files names.plan)
+named_input names files =
+    within names.leaves leaves_limit (files names.leaves) (λ leaves_bytes. meant names.leaves manifest_word (manifest leaves_bytes) (λ leaves.
+    within names.scripts leaves_limit (files names.scripts) (λ scripts_bytes. meant names.scripts scripts_word (scripts scripts_bytes) (λ _.
+    within names.plan plan_limit (files names.plan) (λ plan_bytes. meant names.plan plan_word (plan plan_bytes leaves) (λ threads.
+    accepted (program (record { leaves = leaves; plan = threads }))))))))
 
 -- how many bytes a class file may have
 abbrev pub class_limit : ℕ
@@ -91,26 +91,21 @@ abbrev pub class_meant : List ℕ → Checked ClassKind Class → (Class → Inp
 class_meant name (Ok c) next = next c
 class_meant name (Err fault) next = refused (place_line name fault.at (class_word fault.kind))
 
--- a class before others, where there are some
-abbrev pub with_class : Class → Input → Input
-with_class c (listed classes) = listed (c ∷ classes)
-with_class c usage = usage
-with_class c (refused line) = refused line
-with_class c (program p) = program p
-with_class c missing = missing
-with_class c untold = untold
-
--- the classes of files in order, which have at most so many call sites together
-abbrev pub classes_input : ℕ → List (List ℕ) → (List ℕ → Told) → Input
-classes_input room [] files = listed []
-classes_input room (name ∷ names) files =
+-- goes on with the classes of files in order, which have at most so many call sites together
+abbrev pub classes_input : ℕ → List (List ℕ) → (List ℕ → Told) → (List Class → Input) → Input
+classes_input room [] files next = next []
+classes_input room (name ∷ names) files next =
     within name class_limit (files name) (λ bytes. class_meant name (class_or_fault room bytes) (λ c.
-    with_class c (classes_input (room - length c.sites) names files)))
+    classes_input (room - length c.sites) names files (λ classes. next (c ∷ classes))))
+
+-- what class files say whose call sites, at most so many together, are listed
+abbrev pub listing_input : ℕ → List (List ℕ) → (List ℕ → Told) → Input
+listing_input room names files = classes_input room names files (λ classes. accepted (listed classes))
 
 -- what the inputs of a command say
 abbrev pub command_input : Command → (List ℕ → Told) → Input
 command_input (run names) files = named_input names files
-command_input (sites names) files = classes_input most_sites names files
+command_input (sites names) files = listing_input most_sites names files
 
 -- the same where the words may be refused
 abbrev pub input_of : Option Command → (List ℕ → Told) → Input
@@ -121,39 +116,19 @@ input_of (Some command) files = command_input command files
 abbrev pub input : List (List ℕ) → (List ℕ → Told) → Input
 input words files = input_of (command_of words) files
 
--- where all inputs are told, they are a program, and P holds of it
-abbrev pub IfProgram : Input → (Program → Type 0) → Type 0
-IfProgram usage P = ⊥
-IfProgram (refused line) P = ⊥
-IfProgram (program p) P = P p
-IfProgram (listed classes) P = ⊥
-IfProgram missing P = ⊥
-IfProgram untold P = Unit {0}
-
--- where all inputs are told, they are class files, and P holds of their classes
-abbrev pub IfListed : Input → (List Class → Type 0) → Type 0
-IfListed usage P = ⊥
-IfListed (refused line) P = ⊥
-IfListed (program p) P = ⊥
-IfListed (listed classes) P = P classes
-IfListed missing P = ⊥
-IfListed untold P = Unit {0}
-
--- where all inputs are told, P holds of the program, or Q of the classes
-abbrev pub IfAccepted : Input → (Program → Type 0) → (List Class → Type 0) → Type 0
-IfAccepted usage P Q = ⊥
-IfAccepted (refused line) P Q = ⊥
-IfAccepted (program p) P Q = P p
-IfAccepted (listed classes) P Q = Q classes
-IfAccepted missing P Q = ⊥
-IfAccepted untold P Q = Unit {0}
+-- where the inputs are told as far as the first that stops the reading, none does, and P holds of what is accepted
+abbrev pub IfAccepted : Input → (Accepted → Type 0) → Type 0
+IfAccepted usage P = ⊥
+IfAccepted (refused line) P = ⊥
+IfAccepted (accepted a) P = P a
+IfAccepted missing P = ⊥
+IfAccepted untold P = Unit {0}
 
 -- where the inputs are told as far as the first that is refused, there is one, and P holds of its line
 abbrev pub IfRefused : Input → (List ℕ → Type 0) → Type 0
 IfRefused usage P = ⊥
 IfRefused (refused line) P = P line
-IfRefused (program p) P = ⊥
-IfRefused (listed classes) P = ⊥
+IfRefused (accepted a) P = ⊥
 IfRefused missing P = ⊥
 IfRefused untold P = Unit {0}
 
@@ -161,8 +136,7 @@ IfRefused untold P = Unit {0}
 abbrev pub IsRefused : Input → Type 0
 IsRefused usage = ⊥
 IsRefused (refused line) = Unit {0}
-IsRefused (program p) = ⊥
-IsRefused (listed classes) = ⊥
+IsRefused (accepted a) = ⊥
 IsRefused missing = ⊥
 IsRefused untold = ⊥
 
@@ -170,8 +144,7 @@ IsRefused untold = ⊥
 abbrev pub AreAccepted : Input → Type 0
 AreAccepted usage = ⊥
 AreAccepted (refused line) = ⊥
-AreAccepted (program p) = Unit {0}
-AreAccepted (listed classes) = Unit {0}
+AreAccepted (accepted a) = Unit {0}
 AreAccepted missing = ⊥
 AreAccepted untold = ⊥
 
@@ -179,23 +152,27 @@ AreAccepted untold = ⊥
 abbrev pub IsMissing : Input → Type 0
 IsMissing usage = ⊥
 IsMissing (refused line) = ⊥
-IsMissing (program p) = ⊥
-IsMissing (listed classes) = ⊥
+IsMissing (accepted a) = ⊥
 IsMissing missing = Unit {0}
 IsMissing untold = ⊥
+
+-- these are classes of which P holds
+abbrev pub AreListed : (List Class → Type 0) → Accepted → Type 0
+AreListed P (program p) = ⊥
+AreListed P (listed classes) = P classes
 
 -- how many forms there are numbers for
 abbrev pub most_forms : ℕ
 most_forms = 16384
 
--- the calls of a program need at most as many forms as there are numbers
+-- a run can need at most as many forms as there are numbers; a listing needs none
+abbrev pub NeedsFewForms : Accepted → Type 0
+NeedsFewForms (program p) = forms_needed p.leaves p.plan ≤ most_forms
+NeedsFewForms (listed classes) = Unit {0}
+
+-- the same of inputs that are accepted, where they are told
 abbrev pub FitsForms : Input → Type 0
-FitsForms usage = Unit {0}
-FitsForms (refused line) = Unit {0}
-FitsForms (program p) = forms p.leaves p.plan ≤ most_forms
-FitsForms (listed classes) = Unit {0}
-FitsForms missing = Unit {0}
-FitsForms untold = Unit {0}
+FitsForms i = IfAccepted i NeedsFewForms
 
 -- where it is told, a file within its limit has this meaning
 abbrev pub HasMeaning : {T K : Type 0} → ℕ → (List ℕ → Result T K) → Told → T → Type 0

@@ -2,7 +2,6 @@ pub mod Classes
 pub mod Due
 pub mod Input
 pub mod Kinds
-pub mod Ledger
 pub mod Program
 pub mod Status
 pub mod Stops

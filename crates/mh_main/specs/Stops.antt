@@ -3,7 +3,7 @@ use Rattle.std.specs.Prelude.{◌≡◌, ◌⊎◌, ℕ, ◌-◌, List, [], ◌�
 use Rattle.std.specs.List.{Contains}
 use Rattle.mh_base.specs.declared.lines.LineFault.{LineFault}
 use Rattle.mh_outside.specs.Causes.{Rose, IsStill, AreSame}
-use Rattle.mh_outside.specs.Told.{Told, nothing, absent, file}
+use Rattle.mh_outside.specs.Told.{Told, nothing, absent, file, MayBeLonger}
 use Rattle.mh_leaf.specs.LeafTable.{LeafTable}
 use Rattle.mh_leaves.specs.Manifest.{manifest}
 use Rattle.mh_main.specs.declared.stop.Stop.{Stop}
@@ -29,50 +29,52 @@ stop_line (TooLong at) = too_long_line at.now
 stop_line (Fault at line kind) = fault_line at.now line kind.now
 stop_line (Place at place kind) = place_line at.now place kind.now
 
--- the reading stopped at this input: at a read fault the count of its name rose, and else none did
-abbrev pub StopsAt : List ℕ → (List ℕ → ℕ) → (List ℕ → ℕ) → Stop → Type 0
-StopsAt name before now NoMemory = AreSame before now
-StopsAt name before now (ReadFault at) = (at.now ≡ name) × Rose (before name) (now name)
-StopsAt name before now (TooLong at) = (at.now ≡ name) × AreSame before now
-StopsAt name before now (Fault at line kind) = (at.now ≡ name) × AreSame before now
-StopsAt name before now (Place at place kind) = (at.now ≡ name) × AreSame before now
+-- the stop is one of this input: at a read fault the count of its name rose, and else no count did
+abbrev pub IsStopOf : List ℕ → (List ℕ → ℕ) → (List ℕ → ℕ) → Stop → Type 0
+IsStopOf name before now NoMemory = AreSame before now
+IsStopOf name before now (ReadFault at) = (at.now ≡ name) × Rose (before name) (now name)
+IsStopOf name before now (TooLong at) = (at.now ≡ name) × AreSame before now
+IsStopOf name before now (Fault at line kind) = (at.now ≡ name) × AreSame before now
+IsStopOf name before now (Place at place kind) = (at.now ≡ name) × AreSame before now
 
--- a file of at most so many bytes was not read, or it is longer; one that is not there cannot be read
-abbrev pub UnreadIn : ℕ → Told → Stop → Type 0
-UnreadIn limit told NoMemory = Unit {0}
-UnreadIn limit told (ReadFault at) = Unit {0}
-UnreadIn limit (file bytes) (TooLong at) = limit < length bytes
-UnreadIn limit nothing (TooLong at) = Unit {0}
-UnreadIn limit absent (TooLong at) = ⊥
-UnreadIn limit told (Fault at line kind) = ⊥
-UnreadIn limit told (Place at place kind) = ⊥
+-- this stops the reading of a file of at most so many bytes: it cannot be read, or it is longer
+abbrev pub StopsFile : ℕ → Told → Stop → Type 0
+StopsFile limit told NoMemory = Unit {0}
+StopsFile limit told (ReadFault at) = Unit {0}
+StopsFile limit told (TooLong at) = MayBeLonger told limit
+StopsFile limit told (Fault at line kind) = ⊥
+StopsFile limit told (Place at place kind) = ⊥
 
--- what is wrong with a file of a grammar whose faults have these words, where it is told; one that is not there cannot be read
-abbrev pub StopIn : {T K : Type 0} → ℕ → (K → List ℕ) → (List ℕ → Result T (LineFault K)) → Told → Stop → Type 0
-StopIn limit word meaning (file bytes) NoMemory = Unit {0}
-StopIn limit word meaning (file bytes) (ReadFault at) = Unit {0}
-StopIn limit word meaning (file bytes) (TooLong at) = limit < length bytes
-StopIn {K = K} limit word meaning (file bytes) (Fault at line kind) =
-    (length bytes ≤ limit) × ((fault : LineFault K) × (meaning bytes ≡ Err fault) × (line ≡ fault.line) × (kind.now ≡ word fault.kind))
-StopIn limit word meaning (file bytes) (Place at place kind) = ⊥
-StopIn limit word meaning nothing stop = Unit {0}
-StopIn limit word meaning absent NoMemory = Unit {0}
-StopIn limit word meaning absent (ReadFault at) = Unit {0}
-StopIn limit word meaning absent stop = ⊥
+-- where it is told, a text of at most so many bytes has the fault at this line, of the kind that has this word
+abbrev pub HasLineFault : {T K : Type 0} → ℕ → (K → List ℕ) → (List ℕ → Result T (LineFault K)) → Told → ℕ → List ℕ → Type 0
+HasLineFault {K = K} limit word meaning (file bytes) line kind =
+    (length bytes ≤ limit) × ((fault : LineFault K) × (meaning bytes ≡ Err fault) × (line ≡ fault.line) × (kind ≡ word fault.kind))
+HasLineFault limit word meaning nothing line kind = Unit {0}
+HasLineFault limit word meaning absent line kind = ⊥
 
--- what is wrong with a class file that may have so many call sites, where it is told; one that is not there cannot be read
-abbrev pub ClassStopIn : ℕ → Told → Stop → Type 0
-ClassStopIn room (file bytes) NoMemory = Unit {0}
-ClassStopIn room (file bytes) (ReadFault at) = Unit {0}
-ClassStopIn room (file bytes) (TooLong at) = class_limit < length bytes
-ClassStopIn room (file bytes) (Fault at line kind) = ⊥
-ClassStopIn room (file bytes) (Place at place kind) =
+-- this stops the reading of a text: its file cannot be read or is too long, or it has a fault
+abbrev pub StopsText : {T K : Type 0} → ℕ → (K → List ℕ) → (List ℕ → Result T (LineFault K)) → Told → Stop → Type 0
+StopsText limit word meaning told NoMemory = Unit {0}
+StopsText limit word meaning told (ReadFault at) = Unit {0}
+StopsText limit word meaning told (TooLong at) = MayBeLonger told limit
+StopsText limit word meaning told (Fault at line kind) = HasLineFault limit word meaning told line kind.now
+StopsText limit word meaning told (Place at place kind) = ⊥
+
+-- where it is told, a class file that may have so many call sites has the fault at this place, of the kind that has this word
+abbrev pub HasClassFault : ℕ → Told → ℕ → List ℕ → Type 0
+HasClassFault room (file bytes) place kind =
     (length bytes ≤ class_limit)
-    × ((fault : Fault' ClassKind) × (class_or_fault room bytes ≡ Err fault) × (place ≡ fault.at) × (kind.now ≡ class_word fault.kind))
-ClassStopIn room nothing stop = Unit {0}
-ClassStopIn room absent NoMemory = Unit {0}
-ClassStopIn room absent (ReadFault at) = Unit {0}
-ClassStopIn room absent stop = ⊥
+    × ((fault : Fault' ClassKind) × (class_or_fault room bytes ≡ Err fault) × (place ≡ fault.at) × (kind ≡ class_word fault.kind))
+HasClassFault room nothing place kind = Unit {0}
+HasClassFault room absent place kind = ⊥
+
+-- this stops the reading of a class file that may have so many call sites: it cannot be read or is too long, or it has a fault
+abbrev pub StopsClass : ℕ → Told → Stop → Type 0
+StopsClass room told NoMemory = Unit {0}
+StopsClass room told (ReadFault at) = Unit {0}
+StopsClass room told (TooLong at) = MayBeLonger told class_limit
+StopsClass room told (Fault at line kind) = ⊥
+StopsClass room told (Place at place kind) = HasClassFault room told place kind.now
 
 -- the input is one of a run's, and each before it was accepted, as far as it is told
 abbrev pub ReachesInput : Named → (List ℕ → Told) → List ℕ → Type 0
@@ -94,13 +96,13 @@ abbrev pub IsReachedInput : Command → (List ℕ → Told) → List ℕ → Typ
 IsReachedInput (run names) files name = ReachesInput names files name
 IsReachedInput (sites names) files name = ReachesClass most_sites names files name
 
--- the reading stopped at an input: at a read fault it was reached and its count rose, and else no count did
-abbrev pub StopsIn : (List ℕ → Type 0) → (List ℕ → ℕ) → (List ℕ → ℕ) → Stop → Type 0
-StopsIn Reaches before now NoMemory = AreSame before now
-StopsIn Reaches before now (ReadFault at) = Reaches at.now × Rose (before at.now) (now at.now)
-StopsIn Reaches before now (TooLong at) = AreSame before now
-StopsIn Reaches before now (Fault at line kind) = AreSame before now
-StopsIn Reaches before now (Place at place kind) = AreSame before now
+-- the stop is one of the inputs that are reached: at a read fault it was, and its count rose, and else no count did
+abbrev pub IsStopAmong : (List ℕ → Type 0) → (List ℕ → ℕ) → (List ℕ → ℕ) → Stop → Type 0
+IsStopAmong Reaches before now NoMemory = AreSame before now
+IsStopAmong Reaches before now (ReadFault at) = Reaches at.now × Rose (before at.now) (now at.now)
+IsStopAmong Reaches before now (TooLong at) = AreSame before now
+IsStopAmong Reaches before now (Fault at line kind) = AreSame before now
+IsStopAmong Reaches before now (Place at place kind) = AreSame before now
 
 -- what the inputs say, where one of them is refused
 abbrev pub Refuses : Input → Stop → Type 0

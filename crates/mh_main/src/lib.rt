@@ -11,6 +11,7 @@ pub mod status;
 mod stop;
 mod words;
 
-pub use answer::{Attempt, Attempts, Serials, TopAnswer};
+pub use answer::TopAnswer;
+pub use mh_plan::{Attempt, Attempts, Serials};
 pub use program::Program;
 pub use running::top;

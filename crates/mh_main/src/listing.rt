@@ -4,9 +4,9 @@ ghost use Rattle.mh_outside.specs.Causes.{AreSame};
 ghost use Rattle.mh_outside.specs.Kept.{KeepsInputs};
 ghost use Rattle.mh_main.specs.Kinds.{class_word};
 ghost use Rattle.mh_main.specs.Words.{said};
-ghost use Rattle.mh_main.specs.Input.{IfListed, classes_input, most_sites};
+ghost use Rattle.mh_main.specs.Input.{AreListed, IfAccepted, listing_input, most_sites};
 ghost use Rattle.mh_main.specs.Classes.{ListsClass};
-ghost use Rattle.mh_main.specs.Stops.{StopsAt, StopsIn, ClassStopIn, ReachesClass, Refuses};
+ghost use Rattle.mh_main.specs.Stops.{IsStopAmong, IsStopOf, ReachesClass, Refuses, StopsClass};
 
 use crate::reading::read_input;
 use crate::stop::Stop;
@@ -44,7 +44,7 @@ fn class_word(kind: ClassKind) -> &'static str
 
 // Reads a class file that may have `room` call sites, lists them from number `first` on, and gives
 // the number after the last.
-#[tactic(auto, using(crate::proofs::Unread::class_unread_in))]
+#[tactic(auto, using(crate::proofs::Unread::unread_class))]
 fn list_class<'a, I: Inputs>(
     alloc: Global,
     inputs: &mut I,
@@ -57,9 +57,9 @@ fn list_class<'a, I: Inputs>(
         (I.faults inputs.old) (I.faults inputs.new) }
     ensures no_fault { OnOk result (AreSame (I.faults inputs.old) (I.faults inputs.new)) }
     ensures stop { IfErr result
-        (λ stop. StopsAt name.now (I.faults inputs.old) (I.faults inputs.new) stop) }
+        (λ stop. IsStopOf name.now (I.faults inputs.old) (I.faults inputs.new) stop) }
     ensures refuses { IfErr result
-        (λ stop. ClassStopIn room (I.told inputs.old name.now) stop) }
+        (λ stop. StopsClass room (I.told inputs.old name.now) stop) }
     ensures ok { IfOk result
         (λ next. ListsClass room (I.told inputs.old name.now) first next
         text.old.items text.new.items) }
@@ -93,13 +93,13 @@ fn list_classes<'a, I: Inputs>(
         (I.faults inputs.old) (I.faults inputs.new) }
     ensures no_fault { OnOk result (AreSame (I.faults inputs.old) (I.faults inputs.new)) }
     ensures stop { IfErr result
-        (λ stop. StopsIn (ReachesClass room (said names.now) (I.told inputs.old))
+        (λ stop. IsStopAmong (ReachesClass room (said names.now) (I.told inputs.old))
         (I.faults inputs.old) (I.faults inputs.new) stop) }
     ensures refuses { IfErr result
-        (λ stop. Refuses (classes_input room (said names.now) (I.told inputs.old)) stop) }
+        (λ stop. Refuses (listing_input room (said names.now) (I.told inputs.old)) stop) }
     ensures ok { OnOk result
-        (IfListed (classes_input room (said names.now) (I.told inputs.old))
-        (λ classes. text.new.items ≡ text.old.items ++ listing_from first classes)) }
+        (IfAccepted (listing_input room (said names.now) (I.told inputs.old))
+        (AreListed (λ classes. text.new.items ≡ text.old.items ++ listing_from first classes))) }
 {
     let Some((name, others)) = names.split_first() else {
         return Ok(push_count(text, first)?);
@@ -119,13 +119,13 @@ pub fn list_sites<'a, I: Inputs>(
         (I.faults inputs.old) (I.faults inputs.new) }
     ensures no_fault { OnOk result (AreSame (I.faults inputs.old) (I.faults inputs.new)) }
     ensures stop { IfErr result
-        (λ stop. StopsIn (ReachesClass most_sites (said names.now) (I.told inputs.old))
+        (λ stop. IsStopAmong (ReachesClass most_sites (said names.now) (I.told inputs.old))
         (I.faults inputs.old) (I.faults inputs.new) stop) }
     ensures refuses { IfErr result
-        (λ stop. Refuses (classes_input most_sites (said names.now) (I.told inputs.old)) stop) }
+        (λ stop. Refuses (listing_input most_sites (said names.now) (I.told inputs.old)) stop) }
     ensures ok { IfOk result
-        (λ text. IfListed (classes_input most_sites (said names.now) (I.told inputs.old))
-        (λ classes. text.items ≡ listing classes)) }
+        (λ text. IfAccepted (listing_input most_sites (said names.now) (I.told inputs.old))
+        (AreListed (λ classes. text.items ≡ listing classes))) }
 {
     let mut text = Vec::new(alloc);
     list_classes(alloc, inputs, names, MOST_SITES, 0, &mut text)?;

@@ -6,8 +6,8 @@ ghost use Rattle.mh_leaves.specs.Manifest.{manifest, kind_word as manifest_word}
 ghost use Rattle.mh_plan.specs.Results.{AreCallsOf};
 ghost use Rattle.mh_plan.specs.Plan.{plan, kind_word as plan_word};
 ghost use Rattle.mh_main.specs.Words.{held_names};
-ghost use Rattle.mh_main.specs.Input.{HasMeaning, named_input, IfProgram, scripts, scripts_word, leaves_limit, plan_limit};
-ghost use Rattle.mh_main.specs.Stops.{StopsAt, StopIn, StopsIn, ReachesInput, Refuses, UnreadIn};
+ghost use Rattle.mh_main.specs.Input.{HasMeaning, IfAccepted, named_input, program, scripts, scripts_word, leaves_limit, plan_limit};
+ghost use Rattle.mh_main.specs.Stops.{IsStopAmong, IsStopOf, ReachesInput, Refuses, StopsFile, StopsText};
 
 use crate::Program;
 use crate::stop::{Stop, no_scripts};
@@ -34,8 +34,8 @@ pub(crate) fn read_input<'a, I: Inputs>(
         (I.faults inputs.old) (I.faults inputs.new) }
     ensures no_fault { OnOk result (AreSame (I.faults inputs.old) (I.faults inputs.new)) }
     ensures stop { IfErr result
-        (λ stop. StopsAt name.now (I.faults inputs.old) (I.faults inputs.new) stop) }
-    ensures unread { IfErr result (λ stop. UnreadIn limit (I.told inputs.old name.now) stop) }
+        (λ stop. IsStopOf name.now (I.faults inputs.old) (I.faults inputs.new) stop) }
+    ensures unread { IfErr result (λ stop. StopsFile limit (I.told inputs.old name.now) stop) }
     ensures file { IfOk result (λ bytes. IsWhole (I.told inputs.old name.now) bytes.items) }
     ensures within { IfOk result (λ bytes. length bytes.items ≤ limit) }
 {
@@ -47,7 +47,7 @@ pub(crate) fn read_input<'a, I: Inputs>(
     }
 }
 
-#[tactic(auto, using(crate::proofs::Unread::unread_in))]
+#[tactic(auto, using(crate::proofs::Unread::unread_text))]
 fn read_leaves<'a, I: Inputs>(
     alloc: Global,
     inputs: &mut I,
@@ -57,9 +57,9 @@ fn read_leaves<'a, I: Inputs>(
         (I.faults inputs.old) (I.faults inputs.new) }
     ensures no_fault { OnOk result (AreSame (I.faults inputs.old) (I.faults inputs.new)) }
     ensures stop { IfErr result
-        (λ stop. StopsAt name.now (I.faults inputs.old) (I.faults inputs.new) stop) }
+        (λ stop. IsStopOf name.now (I.faults inputs.old) (I.faults inputs.new) stop) }
     ensures refuses { IfErr result
-        (λ stop. StopIn leaves_limit manifest_word manifest (I.told inputs.old name.now) stop) }
+        (λ stop. StopsText leaves_limit manifest_word manifest (I.told inputs.old name.now) stop) }
     ensures ok { IfOk result
         (λ leaves. HasMeaning leaves_limit manifest (I.told inputs.old name.now) leaves) }
 {
@@ -71,15 +71,15 @@ fn read_leaves<'a, I: Inputs>(
     }
 }
 
-#[tactic(auto, using(crate::proofs::Unread::unread_in))]
+#[tactic(auto, using(crate::proofs::Unread::unread_text))]
 fn read_scripts<'a, I: Inputs>(alloc: Global, inputs: &mut I, name: &'a str) -> Result<(), Stop<'a>>
     ensures keeps { KeepsInputs (I.told inputs.old) (I.told inputs.new)
         (I.faults inputs.old) (I.faults inputs.new) }
     ensures no_fault { OnOk result (AreSame (I.faults inputs.old) (I.faults inputs.new)) }
     ensures stop { IfErr result
-        (λ stop. StopsAt name.now (I.faults inputs.old) (I.faults inputs.new) stop) }
+        (λ stop. IsStopOf name.now (I.faults inputs.old) (I.faults inputs.new) stop) }
     ensures refuses { IfErr result
-        (λ stop. StopIn leaves_limit scripts_word scripts (I.told inputs.old name.now) stop) }
+        (λ stop. StopsText leaves_limit scripts_word scripts (I.told inputs.old name.now) stop) }
     ensures ok { OnOk result (HasMeaning leaves_limit scripts (I.told inputs.old name.now) tt) }
 {
     let bytes = read_input(alloc, inputs, name, LEAVES_LIMIT)?;
@@ -89,7 +89,7 @@ fn read_scripts<'a, I: Inputs>(alloc: Global, inputs: &mut I, name: &'a str) -> 
     }
 }
 
-#[tactic(auto, using(crate::proofs::Unread::unread_in))]
+#[tactic(auto, using(crate::proofs::Unread::unread_text))]
 fn read_calls<'a, I: Inputs>(
     alloc: Global,
     inputs: &mut I,
@@ -100,9 +100,9 @@ fn read_calls<'a, I: Inputs>(
         (I.faults inputs.old) (I.faults inputs.new) }
     ensures no_fault { OnOk result (AreSame (I.faults inputs.old) (I.faults inputs.new)) }
     ensures stop { IfErr result
-        (λ stop. StopsAt name.now (I.faults inputs.old) (I.faults inputs.new) stop) }
+        (λ stop. IsStopOf name.now (I.faults inputs.old) (I.faults inputs.new) stop) }
     ensures refuses { IfErr result
-        (λ stop. StopIn plan_limit plan_word (λ bytes. plan bytes leaves.now)
+        (λ stop. StopsText plan_limit plan_word (λ bytes. plan bytes leaves.now)
         (I.told inputs.old name.now) stop) }
     ensures ok { IfOk result
         (λ calls. HasMeaning plan_limit (λ bytes. plan bytes leaves.now)
@@ -127,13 +127,13 @@ pub fn read_program<'a, I: Inputs>(
         (I.faults inputs.old) (I.faults inputs.new) }
     ensures no_fault { OnOk result (AreSame (I.faults inputs.old) (I.faults inputs.new)) }
     ensures stop { IfErr result
-        (λ stop. StopsIn (ReachesInput (held_names names.entry) (I.told inputs.old))
+        (λ stop. IsStopAmong (ReachesInput (held_names names.entry) (I.told inputs.old))
         (I.faults inputs.old) (I.faults inputs.new) stop) }
     ensures refuses { IfErr result
         (λ stop. Refuses (named_input (held_names names.entry) (I.told inputs.old)) stop) }
     ensures ok { IfOk result
-        (λ p. IfProgram (named_input (held_names names.entry) (I.told inputs.old))
-        (λ q. q ≡ p)) }
+        (λ p. IfAccepted (named_input (held_names names.entry) (I.told inputs.old))
+        (λ a. a ≡ program p)) }
     ensures calls { IfOk result (λ p. AreCallsOf p.leaves p.plan) }
 {
     let leaves = read_leaves(alloc, inputs, names.leaves)?;

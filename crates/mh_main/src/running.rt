@@ -1,13 +1,13 @@
-ghost use Rattle.std.specs.Prelude.{◌≡◌, ◌≢◌, ◌<◌, [], None, IfOk};
+ghost use Rattle.std.specs.Prelude.{◌≡◌, ◌≢◌, ◌<◌, [], None, IfOk, length};
 ghost use Rattle.std.specs.List.{flat_map};
 ghost use Rattle.std.specs.Io.KnownBytes.{Appends, Keeps};
 ghost use Rattle.mh_outside.specs.Causes.{IsStill, AreSame, AppendsPart};
 ghost use Rattle.mh_outside.specs.Kept.{KeepsInputs};
-ghost use Rattle.mh_plan.specs.Forms.{forms};
+ghost use Rattle.mh_plan.specs.Forms.{forms_needed};
 ghost use Rattle.mh_plan.specs.Results.{AreCallsOf};
 ghost use Rattle.mh_runtime.specs.Asking.{IfFull};
+ghost use Rattle.mh_runtime.specs.Ledger.{Ledger, naming_of};
 ghost use Rattle.mh_main.specs.Words.{command_of, said, IsListing};
-ghost use Rattle.mh_main.specs.Ledger.{Ledger, Naming};
 ghost use Rattle.mh_main.specs.Program.{text};
 ghost use Rattle.mh_main.specs.Input.{input, IsRefused, AreAccepted, IsMissing, FitsForms, most_forms};
 ghost use Rattle.mh_main.specs.Stops.{stop_line, stop_status, InputsStill};
@@ -22,10 +22,10 @@ use crate::stop::Stop;
 use crate::words::{Command, read_words};
 use crate::{Program, TopAnswer};
 use itoa::Buffer;
-use mh_base::Seq;
+use mh_base::{NoMemory, Seq};
 use mh_outside::{Failed, Gate, Inputs, Sink, write_whole};
-use mh_plan::{ThreadAnswers, report};
-use mh_runtime::{WorkError, run_plan};
+use mh_plan::{Attempts, report};
+use mh_runtime::{RunReport, WorkError, run_plan};
 use std::alloc::Global;
 use std::sync::Wait;
 use std::thread::Threads;
@@ -60,47 +60,57 @@ fn answer_line<S: Sink>(alloc: Global, sink: &mut S, status: u8, pieces: &[&[u8]
     }
 }
 
-// The answers of a program's calls, and the text of the run.
+// How many attempts there are. A number that does not fit counts as out of memory.
+fn count(attempts: &Attempts) -> Result<u32, NoMemory>
+    ensures { IfOk result (λ n. n ≡ length attempts.now) }
+{
+    match u32::try_from(attempts.len()) {
+        Ok(count) => Ok(count),
+        Err(_) => Err(NoMemory),
+    }
+}
+
+// What the run of a program's calls gives, and its text.
 fn run_and_report<R: Wait>(
     rt: &R,
     alloc: Global,
     program: &Program,
-) -> Result<(ThreadAnswers, Vec<u8>), WorkError>
+) -> Result<(RunReport, Vec<u8>), WorkError>
     requires { AreCallsOf program.now.leaves program.now.plan }
-    ensures answers { IfOk result (λ r. AreAnswersOf program.now r.0) }
-    ensures text { IfOk result (λ r. r.1.items ≡ text program.now []) }
-    ensures full { IfFull result (most_forms < forms program.now.leaves program.now.plan) }
+    ensures ledger { IfOk result
+        (λ r. Ledger (naming_of program.now.plan) 0 r.0.table r.0.attempts) }
+    ensures answers { IfOk result (λ r. AreAnswersOf program.now r.0.table r.0.threads) }
+    ensures text { IfOk result (λ r. r.1.items ≡ text program.now r.0.table r.0.attempts) }
+    ensures full { IfFull result
+        (most_forms < forms_needed program.now.leaves program.now.plan) }
 {
     let run = run_plan(rt, alloc, &program.leaves, &program.plan)?;
-    let text = report(alloc, &run.threads, 0, run.forms, 0, &program.leaves)?;
-    Ok((run.threads, text))
+    let attempts = count(&run.attempts)?;
+    let classes = program.leaves.classes();
+    let text = report(alloc, &run.threads, attempts, run.forms, 0, classes)?;
+    Ok((run, text))
 }
 
-// The answer of a run that has no sites.
-fn answered(alloc: Global, status: u8, threads: ThreadAnswers) -> TopAnswer
+// The answer with what a run gave.
+fn answered(status: u8, run: RunReport) -> TopAnswer
     ensures status { result.status ≡ status }
-    ensures threads { result.threads ≡ threads }
-    ensures ledger { (naming : Naming) → Ledger naming 0 result.table result.attempts }
-    ensures attempts { result.attempts ≡ [] }
+    ensures threads { result.threads ≡ run.threads }
+    ensures table { result.table ≡ run.table }
+    ensures attempts { result.attempts ≡ run.attempts }
 {
     TopAnswer {
         status,
-        table: Seq::new(alloc),
-        attempts: Seq::new(alloc),
-        threads,
+        table: run.table,
+        attempts: run.attempts,
+        threads: run.threads,
     }
 }
 
-// Writes the report of a program's run.
-fn answer_report<S: Sink>(
-    alloc: Global,
-    sink: &mut S,
-    threads: ThreadAnswers,
-    text: &[u8],
-) -> TopAnswer
-    ensures threads { result.threads ≡ threads }
-    ensures ledger { (naming : Naming) → Ledger naming 0 result.table result.attempts }
-    ensures attempts { result.attempts ≡ [] }
+// Writes the report of a run.
+fn answer_report<S: Sink>(sink: &mut S, run: RunReport, text: &[u8]) -> TopAnswer
+    ensures threads { result.threads ≡ run.threads }
+    ensures table { result.table ≡ run.table }
+    ensures attempts { result.attempts ≡ run.attempts }
     ensures status { result.status ≢ write_failed → result.status ≡ done }
     ensures written { result.status ≢ write_failed
         → Appends (S.taken sink.old) (S.taken sink.new) text.now }
@@ -109,8 +119,8 @@ fn answer_report<S: Sink>(
     ensures fails { FailsWhere result.status (S.faults sink.old) (S.faults sink.new) }
 {
     match write_whole(sink, text) {
-        Ok(()) => answered(alloc, DONE, threads),
-        Err(Failed) => answered(alloc, WRITE_FAILED, threads),
+        Ok(()) => answered(DONE, run),
+        Err(Failed) => answered(WRITE_FAILED, run),
     }
 }
 
@@ -124,7 +134,8 @@ fn run_program<R: Wait, S: Sink>(
     requires { AreCallsOf program.now.leaves program.now.plan }
     ensures report { result.status ≡ done
         → Writes (IsReportOf program.now result) (S.taken sink.old) (S.taken sink.new) }
-    ensures answers { result.status ≡ done → AreAnswersOf program.now result.threads }
+    ensures answers { result.status ≡ done
+        → AreAnswersOf program.now result.table result.threads }
     ensures full { result.status ≡ forms_full
         → Writes (IsFullOf program.now) (S.taken sink.old) (S.taken sink.new) }
     ensures broken { result.status ≡ write_failed
@@ -135,7 +146,7 @@ fn run_program<R: Wait, S: Sink>(
     ensures fails { FailsWhere result.status (S.faults sink.old) (S.faults sink.new) }
 {
     match run_and_report(rt, alloc, program) {
-        Ok((threads, text)) => answer_report(alloc, sink, threads, &text),
+        Ok((run, text)) => answer_report(sink, run, &text),
         Err(WorkError::NoMemory) => nothing_ran(alloc, NO_MEMORY),
         Err(WorkError::FormsFull { drawn: _ }) => {
             answer_line(alloc, sink, FORMS_FULL, &[FULL.as_bytes()])
@@ -228,7 +239,7 @@ pub fn top<'a, R: Threads + Wait + Sync, I: Inputs, S: Sink, G: Gate + Sync>(
         → Writes (Reports (said words.now) (I.told inputs.old) result)
         (S.taken sink.old) (S.taken sink.new) }
     ensures answers { result.status ≡ done
-        → AnswersCalls (said words.now) (I.told inputs.old) result.threads }
+        → AnswersCalls (said words.now) (I.told inputs.old) result }
     ensures refusal { result.status ≡ refused
         → Writes (RefusesInput (said words.now) (I.told inputs.old)
         (I.faults inputs.old) (I.faults inputs.new)) (S.taken sink.old) (S.taken sink.new) }

@@ -84,7 +84,7 @@ lines-fit table n so_far threads (line ∷ lines) all is =
     (λ next taken rest. lines-fit table (n + 1) next threads lines (line-fits table so_far next line all taken) rest) is
 
 -- what goes on after a good part is good itself
-first_part : {A B : Type 0} (r : Result A (LineFault PlanKind)) (next : A → Result B (LineFault PlanKind)) (b : B) → faultless r next ≡ Ok b →
+pub first_part : {A B : Type 0} (r : Result A (LineFault PlanKind)) (next : A → Result B (LineFault PlanKind)) (b : B) → faultless r next ≡ Ok b →
     (a : A) × (r ≡ Ok a) × (next a ≡ Ok b)
 first_part (Err fault) next b is = cc
 first_part (Ok a) next b is = (a, refl, is)

@@ -4,5 +4,6 @@ pub mod ReadOn
 pub mod Threads
 pub mod Fitting
 pub mod FoundCalls
+pub mod Limits
 pub mod Numbers
 pub mod Recipes

@@ -1,5 +1,5 @@
--- Which forms the calls of a plan need: one for each recipe that they make.
-use Rattle.std.specs.Prelude.{ℕ, if◌then◌else◌, List, [], ◌∷◌, Ok, Err}
+-- Which forms a run makes and can need: one for each recipe.
+use Rattle.std.specs.Prelude.{ℕ, if◌then◌else◌, List, [], ◌∷◌, ◌++◌, Ok, Err}
 use Rattle.std.specs.List.{flat_map}
 use Rattle.std.specs.Set.{distinct_count}
 use Rattle.mh_values.specs.declared.types.MethodTy.{MethodTy}
@@ -11,6 +11,7 @@ use Rattle.mh_tree.specs.Rows.{TypeOrRefusal}
 use Rattle.mh_tree.specs.Typing.{type_of}
 use Rattle.mh_edit.specs.declared.key.Key.{Key}
 use Rattle.mh_handle.specs.Recipe.{recipe}
+use Rattle.mh_plan.specs.declared.attempt.Attempt.{Attempt}
 use Rattle.mh_plan.specs.declared.call.Call.{Call}
 use Rattle.mh_plan.specs.declared.call.Call.TheVariants.{Exact, Generic}
 use Rattle.mh_plan.specs.SameRecipes.{same_recipe}
@@ -40,6 +41,18 @@ thread_edits table calls = flat_map (λ call. call_edits table call) calls
 abbrev pub plan_edits : LeafTable → List (List Call) → List (List Key)
 plan_edits table threads = flat_map (λ calls. thread_edits table calls) threads
 
--- how many forms the calls need: the number of different recipes that they make
-abbrev pub forms : LeafTable → List (List Call) → ℕ
-forms table threads = distinct_count same_recipe (plan_edits table threads)
+-- the recipes that an attempt makes; there is no call site yet that one could link, and so there are none
+abbrev pub attempt_edits : Attempt → List (List Key)
+attempt_edits attempt = []
+
+-- how many forms a run makes: the number of different recipes that its attempts and its calls make
+abbrev pub forms : LeafTable → List (List Call) → List Attempt → ℕ
+forms table threads attempts = distinct_count same_recipe (flat_map attempt_edits attempts ++ plan_edits table threads)
+
+-- the recipes that a run can make, whichever attempts link its sites; as there are no sites, those of its calls
+abbrev pub all_edits : LeafTable → List (List Call) → List (List Key)
+all_edits table threads = plan_edits table threads
+
+-- how many forms a run can need: the number of different recipes that it can make
+abbrev pub forms_needed : LeafTable → List (List Call) → ℕ
+forms_needed table threads = distinct_count same_recipe (all_edits table threads)

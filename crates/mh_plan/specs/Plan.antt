@@ -33,6 +33,15 @@ kind_word NoSite = codes "NoSite"
 kind_word BadType = codes "BadType"
 kind_word BadArguments = codes "BadArguments"
 
+-- the number of a kind: of the kinds that apply to a line, the one with the lowest number counts
+abbrev pub kind_number : PlanKind → ℕ
+kind_number BadLine = 1
+kind_number TooMany = 2
+kind_number NoLeaf = 3
+kind_number NoSite = 4
+kind_number BadType = 5
+kind_number BadArguments = 6
+
 -- ---- the form of a line
 
 -- a token that is not empty
@@ -78,15 +87,23 @@ is_thread _ = false
 abbrev pub none_counted : Counts
 none_counted = record { threads = 0; calls = 0 }
 
--- one more thread: there are at most 64
-abbrev pub thread_counted : Counts → Result Counts PlanKind
-thread_counted counts = provided (nat_lt counts.threads 64) TooMany (Ok (record { threads = counts.threads + 1; calls = counts.calls }))
+-- how many threads a plan may have
+abbrev pub most_threads : ℕ
+most_threads = 64
 
--- one more call, within a thread: there are at most 10,000 in all threads together
+-- how many calls all its threads may have together
+abbrev pub most_calls : ℕ
+most_calls = 10000
+
+-- one more thread, where there may be one
+abbrev pub thread_counted : Counts → Result Counts PlanKind
+thread_counted counts = provided (nat_lt counts.threads most_threads) TooMany (Ok (record { threads = counts.threads + 1; calls = counts.calls }))
+
+-- one more call, within a thread, where there may be one
 abbrev pub call_counted : Counts → List (List ℕ) → Result Counts PlanKind
 call_counted counts tokens =
     provided (is_call tokens && not (counts.threads == 0)) BadLine
-    (provided (nat_lt counts.calls 10000) TooMany (Ok (record { threads = counts.threads; calls = counts.calls + 1 })))
+    (provided (nat_lt counts.calls most_calls) TooMany (Ok (record { threads = counts.threads; calls = counts.calls + 1 })))
 
 -- the tokens of a line that counts; none is empty
 abbrev pub tokens_counted : Counts → List (List ℕ) → Result Counts PlanKind

@@ -15,27 +15,31 @@ use Rattle.mh_plan.specs.declared.call.Call.TheVariants.{Exact, Generic}
 abbrev pub Result : Type 0
 Result = Ran (Option Value)
 
--- the result of a call
-abbrev pub result_of : LeafTable → Call → Result
-result_of table (Exact leaf ty args) = exact table (tree.Leaf leaf) ty args 0
-result_of table (Generic leaf ty args) = generic table (tree.Leaf leaf) ty args 0
+-- for each site the serial of the attempt by which it is linked, where it is
+abbrev pub Serials : Type 0
+Serials = List (Option ℕ)
+
+-- the result of a call where sites are linked by these attempts; a call of a leaf looks at none
+abbrev pub result_of : LeafTable → Serials → Call → Result
+result_of leaves table (Exact leaf ty args) = exact leaves (tree.Leaf leaf) ty args 0
+result_of leaves table (Generic leaf ty args) = generic leaves (tree.Leaf leaf) ty args 0
 
 -- a call that can be made: its leaf is there, and its arguments have the types of its type
 abbrev pub IsCallOf : LeafTable → Call → Type 0
-IsCallOf table (Exact leaf ty args) = (leaf.0 < length table.leaves) × HaveTypes table.classes args ty.params
-IsCallOf table (Generic leaf ty args) = (leaf.0 < length table.leaves) × HaveTypes table.classes args ty.params
+IsCallOf leaves (Exact leaf ty args) = (leaf.0 < length leaves.leaves) × HaveTypes leaves.classes args ty.params
+IsCallOf leaves (Generic leaf ty args) = (leaf.0 < length leaves.leaves) × HaveTypes leaves.classes args ty.params
 
 -- the calls of each thread can be made
 abbrev pub AreCallsOf : LeafTable → List (List Call) → Type 0
-AreCallsOf table threads = All (λ calls. All (IsCallOf table) calls) threads
+AreCallsOf leaves threads = All (λ calls. All (IsCallOf leaves) calls) threads
 
 -- the results of one thread's calls, in order
-abbrev pub thread_results : LeafTable → List Call → List Result
-thread_results table calls = map (λ call. result_of table call) calls
+abbrev pub thread_results : LeafTable → Serials → List Call → List Result
+thread_results leaves table calls = map (λ call. result_of leaves table call) calls
 
 -- the results of each thread
-abbrev pub results_of : LeafTable → List (List Call) → List (List Result)
-results_of table threads = map (λ calls. thread_results table calls) threads
+abbrev pub results_of : LeafTable → Serials → List (List Call) → List (List Result)
+results_of leaves table threads = map (λ calls. thread_results leaves table calls) threads
 
 -- what an answer says
 abbrev pub result_said : Answer → Result

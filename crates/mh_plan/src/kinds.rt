@@ -1,5 +1,5 @@
 ghost use Rattle.std.specs.Prelude.{◌≡◌};
-ghost use Rattle.mh_plan.specs.Plan.{kind_word};
+ghost use Rattle.mh_plan.specs.Plan.{kind_word, kind_number};
 ghost use Rattle.mh_plan.specs.declared.kinds.PlanError.TheVariants.{NoMemory as WithoutMemory};
 
 use mh_base::{LineError, LineFault, NoMemory};
@@ -37,6 +37,20 @@ impl PlanKind {
             PlanKind::NoSite => "NoSite",
             PlanKind::BadType => "BadType",
             PlanKind::BadArguments => "BadArguments",
+        }
+    }
+
+    /// The kind's number, from 1: of the kinds that apply to a line, the one with the lowest counts.
+    pub fn number(self) -> u8
+        ensures { result ≡ kind_number self }
+    {
+        match self {
+            PlanKind::BadLine => 1,
+            PlanKind::TooMany => 2,
+            PlanKind::NoLeaf => 3,
+            PlanKind::NoSite => 4,
+            PlanKind::BadType => 5,
+            PlanKind::BadArguments => 6,
         }
     }
 }

@@ -3,6 +3,7 @@
 
 mod answer;
 mod arguments;
+mod attempt;
 mod call;
 mod calls;
 mod counting;
@@ -12,6 +13,7 @@ mod printing;
 mod reading;
 
 pub use answer::{Answers, ThreadAnswers};
+pub use attempt::{Attempt, Attempts, Serials};
 pub use call::{Call, Plan, ThreadCalls};
 pub use kinds::{PlanError, PlanFault, PlanKind};
 pub use printing::report;

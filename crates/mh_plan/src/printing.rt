@@ -8,7 +8,6 @@ use crate::ThreadAnswers;
 use itoa::Buffer;
 use mh_base::NoMemory;
 use mh_handle::Answer;
-use mh_leaves::Leaves;
 use mh_texts::{show_exc, show_value};
 use mh_values::{Classes, LeafCall, Outcome, Value};
 use std::alloc::Global;
@@ -164,13 +163,13 @@ pub fn report(
     attempts: u32,
     forms: u32,
     types: u32,
-    leaves: &Leaves,
+    classes: &Classes,
 ) -> Result<Vec<u8>, NoMemory>
     ensures { IfOk result (λ text. text.items
-        ≡ report_text leaves.now.classes (results_said threads.now) attempts forms types) }
+        ≡ report_text classes.now (results_said threads.now) attempts forms types) }
 {
     let mut text = Vec::new(alloc);
-    push_threads(alloc, &mut text, threads, leaves.classes())?;
+    push_threads(alloc, &mut text, threads, classes)?;
     push_summary(&mut text, attempts, forms, types)?;
     Ok(text)
 }

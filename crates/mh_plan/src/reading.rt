@@ -1,6 +1,7 @@
 ghost use Rattle.std.specs.Prelude.{◌≡◌, map, IfOk};
 ghost use Rattle.mh_plan.specs.Plan.{plan_of, plan};
 ghost use Rattle.mh_plan.specs.Fault.{TellsLines, TellsPlan};
+ghost use Rattle.mh_plan.specs.Limits.{IsWithinLimits};
 ghost use Rattle.mh_plan.specs.Results.{AreCallsOf};
 
 use crate::calls::read_lines;
@@ -19,11 +20,12 @@ fn read_all(alloc: Global, leaves: &Leaves, lines: &[&[u8]]) -> Result<Plan, Pla
 }
 
 /// Reads a plan of calls of these leaves, or gives the faulty line that counts. Its calls can then be
-/// made: nothing of them has to be tested when they run. A line that no `u32` can number is want of
-/// memory.
+/// made: nothing of them has to be tested when they run. It has at most 64 threads and 10,000 calls. A
+/// line that no `u32` can number is want of memory.
 pub fn read_plan(alloc: Global, bytes: &[u8], leaves: &Leaves) -> Result<Plan, PlanError>
     ensures meaning { TellsPlan result (plan bytes.now leaves.now) }
     ensures calls { IfOk result (AreCallsOf leaves.now) }
+    ensures limits { IfOk result IsWithinLimits }
 {
     let lines = split_at_byte(alloc, bytes, b'\n')?;
     read_all(alloc, leaves, &lines)

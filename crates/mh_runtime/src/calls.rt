@@ -7,7 +7,7 @@ ghost use Rattle.mh_handle.specs.Recipe.{recipe};
 ghost use Rattle.mh_handle.specs.Works.{GoesOn, IsReady, StandsIn, classes_of, leaves_of};
 ghost use Rattle.mh_astype.specs.Calls.{exact_keys, generic_keys};
 ghost use Rattle.mh_plan.specs.Forms.{used_edits, call_edits};
-ghost use Rattle.mh_plan.specs.Results.{IsCallOf, result_of};
+ghost use Rattle.mh_plan.specs.Results.{IsCallOf, Serials, result_of};
 ghost use Rattle.mh_runtime.specs.Asking.{Asks, DrawsAtMost, KeepsOrder};
 ghost use Rattle.mh_runtime.specs.Keys.{keys_of};
 
@@ -100,8 +100,8 @@ pub fn call<'t, R: Wait>(w: &mut Work<'_, 't>, rt: &R, call: &Call) -> Result<An
     requires call { IsCallOf (leaves_of w.old) call.now }
     requires ready { IsReady w.old 2 }
     ensures goes_on { GoesOn w.old w.new }
-    ensures answer { IfOk result
-        (IsAnswer (result_of (leaves_of w.old) call.now) (keys_of (leaves_of w.old) call.now)) }
+    ensures answer { (table : Serials) → IfOk result (IsAnswer
+        (result_of (leaves_of w.old) table call.now) (keys_of (leaves_of w.old) table call.now)) }
     ensures asks { Asks (call_edits (leaves_of w.old) call.now) w.old w.new result }
     ensures in_order { KeepsOrder w.old w.new result }
     ensures draws { DrawsAtMost 2 w.old w.new }

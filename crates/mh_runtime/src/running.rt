@@ -1,16 +1,17 @@
 ghost use Rattle.std.specs.Prelude.{◌≡◌, ◌<◌, ◌^◌, [], length, All, IfOk, OnOk};
 ghost use Rattle.mh_handle.specs.Passes.{pass_at, seat_at};
 ghost use Rattle.mh_handle.specs.Works.{leaves_of};
-ghost use Rattle.mh_plan.specs.Forms.{thread_edits, plan_edits, forms};
-ghost use Rattle.mh_plan.specs.Results.{IsCallOf, AreCallsOf, thread_results, results_of, thread_said, results_said, thread_keys_said, keys_said};
+ghost use Rattle.mh_plan.specs.Forms.{thread_edits, plan_edits, forms, forms_needed};
+ghost use Rattle.mh_plan.specs.Results.{IsCallOf, AreCallsOf, Serials, thread_results, results_of, thread_said, results_said, thread_keys_said, keys_said};
 ghost use Rattle.mh_runtime.specs.Asking.{Asks, IsWork, IfFull};
 ghost use Rattle.mh_runtime.specs.Keys.{thread_keys, plan_keys};
+ghost use Rattle.mh_runtime.specs.Ledger.{Ledger, naming_of};
 
 use crate::calls::{WorkError, call};
 use mh_base::Seq;
 use mh_handle::{FormPass, FormSeat, FormTable, Work};
 use mh_leaves::Leaves;
-use mh_plan::{Answers, Plan, ThreadAnswers, ThreadCalls};
+use mh_plan::{Answers, Attempts, Plan, Serials, ThreadAnswers, ThreadCalls};
 use std::alloc::Global;
 use std::sync::Wait;
 
@@ -19,6 +20,10 @@ use std::sync::Wait;
 pub struct RunReport {
     /// The answer of each call, thread by thread.
     pub threads: ThreadAnswers,
+    /// By which attempt each call site is linked.
+    pub table: Serials,
+    /// All attempts, in the order of their serials.
+    pub attempts: Attempts,
     /// How many forms were asked for.
     pub forms: u32,
 }
@@ -40,10 +45,10 @@ fn run_thread<'t, R: Wait>(
     requires work { IsWork w.old }
     ensures leaves { w.new.leaves ≡ w.old.leaves }
     ensures work { OnOk result (IsWork w.new) }
-    ensures results { IfOk result
-        (λ answers. thread_said answers ≡ thread_results (leaves_of w.old) calls.now) }
-    ensures keys { IfOk result
-        (λ answers. thread_keys_said answers ≡ thread_keys (leaves_of w.old) calls.now) }
+    ensures results { (table : Serials) → IfOk result
+        (λ answers. thread_said answers ≡ thread_results (leaves_of w.old) table calls.now) }
+    ensures keys { (table : Serials) → IfOk result
+        (λ answers. thread_keys_said answers ≡ thread_keys (leaves_of w.old) table calls.now) }
     ensures asks { Asks (thread_edits (leaves_of w.old) calls.now) w.old w.new result }
 {
     let mut answers = Seq::new(w.alloc);
@@ -63,10 +68,10 @@ fn run_threads<'t, R: Wait>(
     requires calls { AreCallsOf (leaves_of w.old) plan.now }
     requires work { IsWork w.old }
     ensures leaves { w.new.leaves ≡ w.old.leaves }
-    ensures results { IfOk result
-        (λ threads. results_said threads ≡ results_of (leaves_of w.old) plan.now) }
-    ensures keys { IfOk result
-        (λ threads. keys_said threads ≡ plan_keys (leaves_of w.old) plan.now) }
+    ensures results { (table : Serials) → IfOk result
+        (λ threads. results_said threads ≡ results_of (leaves_of w.old) table plan.now) }
+    ensures keys { (table : Serials) → IfOk result
+        (λ threads. keys_said threads ≡ plan_keys (leaves_of w.old) table plan.now) }
     ensures asks { Asks (plan_edits (leaves_of w.old) plan.now) w.old w.new result }
 {
     let mut threads = Seq::new(w.alloc);
@@ -87,11 +92,13 @@ fn run_over<'t, R: Wait>(
 ) -> Result<RunReport, WorkError>
     requires calls { AreCallsOf leaves.now plan.now }
     requires seat { seat ≡ seat_at 0 }
+    ensures ledger { IfOk result (λ run. Ledger (naming_of plan.now) 0 run.table run.attempts) }
     ensures results { IfOk result
-        (λ run. results_said run.threads ≡ results_of leaves.now plan.now) }
-    ensures keys { IfOk result (λ run. keys_said run.threads ≡ plan_keys leaves.now plan.now) }
-    ensures forms { IfOk result (λ run. run.forms ≡ forms leaves.now plan.now) }
-    ensures full { IfFull result (16384 < forms leaves.now plan.now) }
+        (λ run. results_said run.threads ≡ results_of leaves.now run.table plan.now) }
+    ensures keys { IfOk result
+        (λ run. keys_said run.threads ≡ plan_keys leaves.now run.table plan.now) }
+    ensures forms { IfOk result (λ run. run.forms ≡ forms leaves.now plan.now run.attempts) }
+    ensures full { IfFull result (16384 < forms_needed leaves.now plan.now) }
 {
     let mut pass = table.first_pass(alloc, seat)?;
     let mut w = Work {
@@ -109,12 +116,14 @@ fn run_over<'t, R: Wait>(
     } = w;
     Ok(RunReport {
         threads: threads?,
+        table: Seq::new(alloc),
+        attempts: Seq::new(alloc),
         forms: asked.len(),
     })
 }
 
 /// Runs the calls of a plan, one thread after the other, over one table, which has numbers for
-/// 16,384 forms. The plan is one of these leaves.
+/// 16,384 forms. The plan is one of these leaves; there are no call sites, so none is linked.
 pub fn run_plan<R: Wait>(
     rt: &R,
     alloc: Global,
@@ -122,11 +131,13 @@ pub fn run_plan<R: Wait>(
     plan: &Plan,
 ) -> Result<RunReport, WorkError>
     requires { AreCallsOf leaves.now plan.now }
+    ensures ledger { IfOk result (λ run. Ledger (naming_of plan.now) 0 run.table run.attempts) }
     ensures results { IfOk result
-        (λ run. results_said run.threads ≡ results_of leaves.now plan.now) }
-    ensures keys { IfOk result (λ run. keys_said run.threads ≡ plan_keys leaves.now plan.now) }
-    ensures forms { IfOk result (λ run. run.forms ≡ forms leaves.now plan.now) }
-    ensures full { IfFull result (16384 < forms leaves.now plan.now) }
+        (λ run. results_said run.threads ≡ results_of leaves.now run.table plan.now) }
+    ensures keys { IfOk result
+        (λ run. keys_said run.threads ≡ plan_keys leaves.now run.table plan.now) }
+    ensures forms { IfOk result (λ run. run.forms ≡ forms leaves.now plan.now run.attempts) }
+    ensures full { IfFull result (16384 < forms_needed leaves.now plan.now) }
 {
     let (table, seat) = FormTable::new(alloc)?;
     run_over(rt, alloc, &table, seat, leaves, plan)

@@ -1,20 +1,19 @@
 use Rattle.std.proofs.Common.{◌≢◌, rules, refl, inl, arith}
 use Rattle.mh_main.specs.Status.{write_failed}
 use Rattle.mh_main.specs.Due.{full_line}
-use Rattle.mh_main.specs.Program.{naming_of}
 use Rattle.mh_main.proofs.running.run_program.Goals as goal
 
 pub returns-in-Ok-clause-report : goal.returns-in-Ok-clause-report
 returns-in-Ok-clause-report g c = λ done. (
   c.in-Ok.text.items,
-  (c.answer_report.ensures.ledger (naming_of c.args.program.now.plan), search rules, search rules),
+  (search rules, search rules, search rules),
   search rules,
 )
 
 pub returns-in-Ok-clause-broken : goal.returns-in-Ok-clause-broken
 returns-in-Ok-clause-broken g c = λ failed. (
   c.in-Ok.text.items,
-  inl (c.answer_report.ensures.ledger (naming_of c.args.program.now.plan), search rules, search rules),
+  inl (search rules, search rules, search rules),
   search rules,
 )
 

@@ -1,5 +1,7 @@
 use Rattle.std.proofs.Common.{◌∙◌, []}
 use Rattle.mh_plan.specs.Forms.{plan_edits}
+use Rattle.mh_runtime.specs.Ledger.{naming_of}
+use Rattle.mh_runtime.proofs.Ledger.{no_attempts}
 use Rattle.mh_runtime.proofs.Repeating.{asked-count, first-in_order, full-run, none-asked}
 use Rattle.mh_runtime.proofs.running.run_over.Goals as goal
 
@@ -15,3 +17,6 @@ returns-clause-forms g c =
     c.len.ensures
     ∙ asked-count (plan_edits c.args.leaves.now c.args.plan.now) c.run_threads-threads.new.w.pass.now
     (c.in_ok-threads.ensures.asks [] (none-asked c.in_ok-pass.pass c.args.table.now c.args.seat c.in_ok-pass.ensures))
+
+pub returns-clause-ledger : goal.returns-clause-ledger
+returns-clause-ledger g c = rw (c.new.ensures, c.new-2.ensures) (no_attempts (naming_of c.args.plan.now))

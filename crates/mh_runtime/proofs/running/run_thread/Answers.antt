@@ -3,7 +3,7 @@ use Rattle.mh_leaf.specs.LeafTable.{LeafTable}
 use Rattle.mh_handle.specs.Answers.{AnswerView, IsAnswer}
 use Rattle.mh_plan.specs.declared.call.Call.{Call}
 use Rattle.mh_plan.specs.Forms.{call_edits, thread_edits}
-use Rattle.mh_plan.specs.Results.{result_of, result_said}
+use Rattle.mh_plan.specs.Results.{Serials, result_of, result_said}
 use Rattle.mh_runtime.specs.Asking.{Asks, Stopped}
 use Rattle.mh_runtime.specs.Keys.{keys_of}
 use Rattle.mh_runtime.proofs.Calling.{stops}
@@ -25,21 +25,22 @@ returns-in_err-call-clause-asks g c =
 pub loop-next-preserved : goal.loop-next-preserved
 loop-next-preserved g c =
     let same : c.loop-next.w.leaves.now ≡ c.args.w.now.leaves.now = ap (λ leaves. leaves.now) c.loop-next.invariant.leaves in
-    let answer : IsAnswer (result_of c.args.w.now.leaves.now c.next-item.result) (keys_of c.args.w.now.leaves.now c.next-item.result) c.in_ok-call.field-0 =
-    subst (λ (table : LeafTable). IsAnswer (result_of table c.next-item.result) (keys_of table c.next-item.result) c.in_ok-call.field-0) same
-    c.in_ok-call.ensures.answer in
+    let answer : (table : Serials) → IsAnswer (result_of c.args.w.now.leaves.now table c.next-item.result)
+    (keys_of c.args.w.now.leaves.now table c.next-item.result) c.in_ok-call.field-0 =
+    λ table. subst (λ (leaves : LeafTable). IsAnswer (result_of leaves table c.next-item.result) (keys_of leaves table c.next-item.result)
+    c.in_ok-call.field-0) same (c.in_ok-call.ensures.answer table) in
     record {
       leaves = c.call.ensures.goes_on.leaves ∙ c.loop-next.invariant.leaves;
       work = record {
         of_table = c.call.ensures.goes_on.cells ∙ (c.loop-next.invariant.work.of_table ∙ ap (λ forms. forms.now) (sym c.call.ensures.goes_on.forms));
         in_order = c.in_ok-call.ensures.in_order c.loop-next.invariant.work.in_order;
       };
-      results = told-next (result_of c.args.w.now.leaves.now) result_said c.as_slice-next-items.result.now c.loop-next.next-index c.next-item.result
+      results = λ table. told-next (result_of c.args.w.now.leaves.now table) result_said c.as_slice-next-items.result.now c.loop-next.next-index c.next-item.result
           c.loop-next.answers c.push.new.self c.in_ok-call.field-0
-          c.loop-next-test.true c.next-item.is c.in_ok-push.ensures.ok c.loop-next.invariant.results answer.ran_is;
-      keys = told-next (keys_of c.args.w.now.leaves.now) (λ (a : AnswerView). a.keys) c.as_slice-next-items.result.now c.loop-next.next-index c.next-item.result
+          c.loop-next-test.true c.next-item.is c.in_ok-push.ensures.ok (c.loop-next.invariant.results table) (answer table).ran_is;
+      keys = λ table. told-next (keys_of c.args.w.now.leaves.now table) (λ (a : AnswerView). a.keys) c.as_slice-next-items.result.now c.loop-next.next-index c.next-item.result
           c.loop-next.answers c.push.new.self c.in_ok-call.field-0
-          c.loop-next-test.true c.next-item.is c.in_ok-push.ensures.ok c.loop-next.invariant.keys answer.keys_are;
+          c.loop-next-test.true c.next-item.is c.in_ok-push.ensures.ok (c.loop-next.invariant.keys table) (answer table).keys_are;
       asks = asks-next (call_edits c.args.w.now.leaves.now) c.as_slice-next-items.result.now c.loop-next.next-index c.next-item.result c.args.w.now.pass.now
           c.loop-next.w.pass.now c.call.new.w.pass.now
           c.loop-next-test.true c.next-item.is c.loop-next.invariant.asks

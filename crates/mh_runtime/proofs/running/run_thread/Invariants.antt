@@ -1,6 +1,6 @@
 use Rattle.std.proofs.Common.{◌≡◌, take}
 use Rattle.mh_plan.specs.Forms.{call_edits}
-use Rattle.mh_plan.specs.Results.{thread_said, thread_results, thread_keys_said}
+use Rattle.mh_plan.specs.Results.{Serials, thread_said, thread_results, thread_keys_said}
 use Rattle.mh_runtime.specs.Asking.{IsWork}
 use Rattle.mh_runtime.specs.Keys.{thread_keys}
 use Rattle.mh_runtime.proofs.Repeating.{AsksUpTo}
@@ -10,7 +10,7 @@ abbrev pub invariant-loop-next : goal.invariant-loop-next
 invariant-loop-next g l = record {
   leaves : l.w.leaves ≡ l.initial.w.leaves;
   work : IsWork l.w;
-  results : thread_said l.answers ≡ thread_results l.initial.w.leaves.now (take l.next-index l.next-items);
-  keys : thread_keys_said l.answers ≡ thread_keys l.initial.w.leaves.now (take l.next-index l.next-items);
+  results : (table : Serials) → thread_said l.answers ≡ thread_results l.initial.w.leaves.now table (take l.next-index l.next-items);
+  keys : (table : Serials) → thread_keys_said l.answers ≡ thread_keys l.initial.w.leaves.now table (take l.next-index l.next-items);
   asks : AsksUpTo (call_edits l.initial.w.leaves.now) l.next-items l.next-index l.initial.w.pass.now l.w.pass.now;
 }

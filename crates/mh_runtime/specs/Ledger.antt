@@ -1,11 +1,23 @@
--- By which attempt each site is linked.
+-- By which attempt each site of a run is linked.
 use Rattle.std.specs.Prelude.{◌≡◌, ◌≢◌, ℕ, ◌==◌, ◌↔◌, List, [], ◌∷◌, if◌then◌else◌, Option, Some, IsSome, length, map, filter, slice_get, Contains, AllPairs}
-use Rattle.std.specs.List.{range_with_len, list_any}
-use Rattle.mh_main.specs.declared.answer.Attempt.{Attempt}
+use Rattle.std.specs.List.{flat_map, range_with_len, list_any}
+use Rattle.mh_plan.specs.declared.attempt.Attempt.{Attempt}
+use Rattle.mh_plan.specs.declared.call.Call.{Call}
+use Rattle.mh_plan.specs.declared.call.Call.TheVariants.{Exact, Generic}
+use Rattle.mh_plan.specs.Results.{Serials}
 
 -- for each thread the sites that its calls name, in the order of the calls
 abbrev pub Naming : Type 0
 Naming = List (List ℕ)
+
+-- the sites that a call names: a call of a leaf names none
+abbrev pub sites_named : Call → List ℕ
+sites_named (Exact leaf ty args) = []
+sites_named (Generic leaf ty args) = []
+
+-- the sites that the calls of each thread name
+abbrev pub naming_of : List (List Call) → Naming
+naming_of threads = map (λ calls. flat_map sites_named calls) threads
 
 -- each number where it first stands, but for those that were seen before
 abbrev pub first_places : List ℕ → List ℕ → List ℕ
@@ -25,7 +37,7 @@ abbrev pub attempted_by : ℕ → List Attempt → List ℕ
 attempted_by thread attempts = map (λ a. a.site) (filter (λ a. a.thread == thread) attempts)
 
 -- a table with the serial of the attempt by which each site is linked, over all attempts of a run
-pub record Ledger (naming : Naming) (sites : ℕ) (table : List (Option ℕ)) (attempts : List Attempt) : Type 0 where
+pub record Ledger (naming : Naming) (sites : ℕ) (table : Serials) (attempts : List Attempt) : Type 0 where
   -- there is one entry for each site, and the serials are 1 to the number of attempts, in order
   pub entries : length table ≡ sites
   pub serials : map (λ a. a.serial) attempts ≡ range_with_len 1 (length attempts)
