@@ -72,7 +72,7 @@ AreAnswers (listed classes) answer = answer.threads ≡ []
 abbrev pub AnswersCalls : List (List ℕ) → (List ℕ → Told) → TopAnswer → Type 0
 AnswersCalls words files answer = IfAccepted (input words files) (λ a. AreAnswers a answer)
 
--- a run can need more forms than there are numbers for; a listing needs none
+-- a run of the program can need more forms than there are numbers for; a listing needs none
 abbrev pub NeedsManyForms : Accepted → Type 0
 NeedsManyForms (program p) = most_forms < forms_needed p.leaves p.plan
 NeedsManyForms (listed classes) = ⊥

@@ -165,12 +165,12 @@ AreListed P (listed classes) = P classes
 abbrev pub most_forms : ℕ
 most_forms = 16384
 
--- a run can need at most as many forms as there are numbers; a listing needs none
+-- a run of the program can need at most as many forms as there are numbers; a listing needs none
 abbrev pub NeedsFewForms : Accepted → Type 0
 NeedsFewForms (program p) = forms_needed p.leaves p.plan ≤ most_forms
 NeedsFewForms (listed classes) = Unit {0}
 
--- the same of inputs that are accepted, where they are told
+-- where they are told, the inputs are accepted, and what they give can need at most as many forms as there are numbers
 abbrev pub FitsForms : Input → Type 0
 FitsForms i = IfAccepted i NeedsFewForms
 

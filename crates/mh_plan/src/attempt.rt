@@ -14,5 +14,6 @@ pub struct Attempt {
 /// The attempts of a run, by their serials.
 pub type Attempts = Seq<Attempt>;
 
-/// For each site the serial of the attempt by which it is linked; none for a site that no call names.
+/// For each site the serial of the attempt by which it is linked; none for a site that no call
+/// names.
 pub type Serials = Seq<Option<u64>>;

@@ -40,7 +40,7 @@ impl PlanKind {
         }
     }
 
-    /// The kind's number, from 1: of the kinds that apply to a line, the one with the lowest counts.
+    /// The kind's number, from 1: of the kinds that apply to a line, the lowest counts.
     pub fn number(self) -> u8
         ensures { result ≡ kind_number self }
     {

@@ -19,9 +19,9 @@ fn read_all(alloc: Global, leaves: &Leaves, lines: &[&[u8]]) -> Result<Plan, Pla
     read_lines(alloc, leaves, lines)
 }
 
-/// Reads a plan of calls of these leaves, or gives the faulty line that counts. Its calls can then be
-/// made: nothing of them has to be tested when they run. It has at most 64 threads and 10,000 calls. A
-/// line that no `u32` can number is want of memory.
+/// Reads a plan of calls of these leaves, or gives the faulty line that counts. Its calls can then
+/// be made: nothing of them has to be tested when they run. It has at most 64 threads and 10,000
+/// calls. A line that no `u32` can number is want of memory.
 pub fn read_plan(alloc: Global, bytes: &[u8], leaves: &Leaves) -> Result<Plan, PlanError>
     ensures meaning { TellsPlan result (plan bytes.now leaves.now) }
     ensures calls { IfOk result (AreCallsOf leaves.now) }

@@ -14,9 +14,9 @@ returns-in_err-threads-clause-full g c =
 
 pub returns-clause-forms : goal.returns-clause-forms
 returns-clause-forms g c =
-    c.len.ensures
+    rw c.new-2.ensures (c.len.ensures
     ∙ asked-count (plan_edits c.args.leaves.now c.args.plan.now) c.run_threads-threads.new.w.pass.now
-    (c.in_ok-threads.ensures.asks [] (none-asked c.in_ok-pass.pass c.args.table.now c.args.seat c.in_ok-pass.ensures))
+    (c.in_ok-threads.ensures.asks [] (none-asked c.in_ok-pass.pass c.args.table.now c.args.seat c.in_ok-pass.ensures)))
 
 pub returns-clause-ledger : goal.returns-clause-ledger
 returns-clause-ledger g c = rw (c.new.ensures, c.new-2.ensures) (no_attempts (naming_of c.args.plan.now))

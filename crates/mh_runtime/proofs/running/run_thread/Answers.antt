@@ -35,11 +35,11 @@ loop-next-preserved g c =
         of_table = c.call.ensures.goes_on.cells ∙ (c.loop-next.invariant.work.of_table ∙ ap (λ forms. forms.now) (sym c.call.ensures.goes_on.forms));
         in_order = c.in_ok-call.ensures.in_order c.loop-next.invariant.work.in_order;
       };
-      results = λ table. told-next (result_of c.args.w.now.leaves.now table) result_said c.as_slice-next-items.result.now c.loop-next.next-index c.next-item.result
-          c.loop-next.answers c.push.new.self c.in_ok-call.field-0
+      results = λ table. told-next (result_of c.args.w.now.leaves.now table) result_said c.as_slice-next-items.result.now c.loop-next.next-index
+          c.next-item.result c.loop-next.answers c.push.new.self c.in_ok-call.field-0
           c.loop-next-test.true c.next-item.is c.in_ok-push.ensures.ok (c.loop-next.invariant.results table) (answer table).ran_is;
-      keys = λ table. told-next (keys_of c.args.w.now.leaves.now table) (λ (a : AnswerView). a.keys) c.as_slice-next-items.result.now c.loop-next.next-index c.next-item.result
-          c.loop-next.answers c.push.new.self c.in_ok-call.field-0
+      keys = λ table. told-next (keys_of c.args.w.now.leaves.now table) (λ (a : AnswerView). a.keys) c.as_slice-next-items.result.now
+          c.loop-next.next-index c.next-item.result c.loop-next.answers c.push.new.self c.in_ok-call.field-0
           c.loop-next-test.true c.next-item.is c.in_ok-push.ensures.ok (c.loop-next.invariant.keys table) (answer table).keys_are;
       asks = asks-next (call_edits c.args.w.now.leaves.now) c.as_slice-next-items.result.now c.loop-next.next-index c.next-item.result c.args.w.now.pass.now
           c.loop-next.w.pass.now c.call.new.w.pass.now

@@ -27,12 +27,12 @@ loop-calls-preserved g c =
     record {
       leaves = c.run_thread.ensures.leaves ∙ c.loop-calls.invariant.leaves;
       work = c.in_ok-run_thread.ensures.work;
-      results = λ table. told-next (thread_results c.args.w.now.leaves.now table) thread_said c.as_slice-calls-items.result.now c.loop-calls.calls-index c.calls-item.result
-          c.loop-calls.threads c.push.new.self c.in_ok-run_thread.field-0
+      results = λ table. told-next (thread_results c.args.w.now.leaves.now table) thread_said c.as_slice-calls-items.result.now
+          c.loop-calls.calls-index c.calls-item.result c.loop-calls.threads c.push.new.self c.in_ok-run_thread.field-0
           c.loop-calls-test.true c.calls-item.is c.in_ok-push.ensures.ok (c.loop-calls.invariant.results table)
           (c.in_ok-run_thread.ensures.results table ∙ ap (λ (leaves : LeafTable). thread_results leaves table c.calls-item.result) same);
-      keys = λ table. told-next (thread_keys c.args.w.now.leaves.now table) thread_keys_said c.as_slice-calls-items.result.now c.loop-calls.calls-index c.calls-item.result
-          c.loop-calls.threads c.push.new.self c.in_ok-run_thread.field-0
+      keys = λ table. told-next (thread_keys c.args.w.now.leaves.now table) thread_keys_said c.as_slice-calls-items.result.now
+          c.loop-calls.calls-index c.calls-item.result c.loop-calls.threads c.push.new.self c.in_ok-run_thread.field-0
           c.loop-calls-test.true c.calls-item.is c.in_ok-push.ensures.ok (c.loop-calls.invariant.keys table)
           (c.in_ok-run_thread.ensures.keys table ∙ ap (λ (leaves : LeafTable). thread_keys leaves table c.calls-item.result) same);
       asks = asks-next (thread_edits c.args.w.now.leaves.now) c.as_slice-calls-items.result.now c.loop-calls.calls-index c.calls-item.result
