@@ -10,7 +10,7 @@ use Rattle.mh_classfile.specs.File.{class_or_fault}
 use Rattle.mh_listing.specs.Listing.{lines_from, listing_from}
 use Rattle.mh_main.specs.declared.stop.Stop.{Stop}
 use Rattle.mh_main.specs.declared.stop.Stop.TheVariants.{NoMemory, ReadFault, TooLong, Fault, Place}
-use Rattle.mh_main.specs.Input.{Accepted, program, listed, Input, usage, refused, accepted, missing, untold, IfAccepted, IfRefused, AreListed, within, class_meant, classes_input, listing_input, class_limit, too_long_line}
+use Rattle.mh_main.specs.Input.{Accepted, program, listed, Input, usage, refused, accepted, missing, untold, IfAccepted, IfRefused, AreListed, within, class_meant, classes_input, listing_input, to_list, class_limit, too_long_line}
 use Rattle.mh_main.specs.Classes.{ListsClass}
 use Rattle.mh_main.specs.Stops.{Refuses}
 
@@ -18,7 +18,7 @@ use Rattle.mh_main.specs.Stops.{Refuses}
 abbrev pub first_and_others : ℕ → Told → List ℕ → List (List ℕ) → (List ℕ → Told) → Input
 first_and_others room t name names files =
     within name class_limit t (λ bytes. class_meant name (class_or_fault room bytes) (λ c.
-    classes_input (room - length c.sites) names files (λ classes. accepted (listed (c ∷ classes)))))
+    classes_input (room - length c.sites) names files (λ classes. to_list (c ∷ classes))))
 
 -- goes on with listed classes in another way
 abbrev continued : (List Class → Input) → Input → Input
@@ -29,38 +29,40 @@ continued next (accepted (listed classes)) = next classes
 continued next missing = missing
 continued next untold = untold
 
--- classes that come before others are put before those that are listed
-before-listed : (next : List Class → Input) (before : List Class → List Class) (room : ℕ) (names : List (List ℕ)) (files : List ℕ → Told) →
-    continued next (classes_input room names files (λ classes. accepted (listed (before classes)))) ≡
-    classes_input room names files (λ classes. next (before classes))
-before-listed next before room [] files = refl
-before-listed next before room (name ∷ names) files = told (files name)
+-- the first of some files, whose others go on in another way
+continued-first : (next listing : Class → Input) (way : List Class → Input) (name : List ℕ) (t : Told) (room : ℕ) →
+    ((c : Class) → continued way (listing c) ≡ next c) →
+    continued way (within name class_limit t (λ bytes. class_meant name (class_or_fault room bytes) listing)) ≡
+    within name class_limit t (λ bytes. class_meant name (class_or_fault room bytes) next)
+continued-first next listing way name nothing room others = refl
+continued-first next listing way name absent room others = refl
+continued-first next listing way name (file bytes) room others = read (nat_lt class_limit (length bytes)) (class_or_fault room bytes)
   where
     read : (long : Bool) (c : Checked ClassKind Class) →
-        continued next (if long then refused (too_long_line name) else class_meant name c (λ d.
-        classes_input (room - length d.sites) names files (λ classes. accepted (listed (before (d ∷ classes)))))) ≡
-        (if long then refused (too_long_line name) else class_meant name c (λ d.
-        classes_input (room - length d.sites) names files (λ classes. next (before (d ∷ classes)))))
+        continued way (if long then refused (too_long_line name) else class_meant name c listing) ≡
+        (if long then refused (too_long_line name) else class_meant name c next)
     read true c = refl
     read false (Err fault) = refl
-    read false (Ok d) = before-listed next (λ classes. before (d ∷ classes)) (room - length d.sites) names files
+    read false (Ok c) = others c
 
-    told : (t : Told) →
-        continued next (within name class_limit t (λ bytes. class_meant name (class_or_fault room bytes) (λ d.
-        classes_input (room - length d.sites) names files (λ classes. accepted (listed (before (d ∷ classes))))))) ≡
-        within name class_limit t (λ bytes. class_meant name (class_or_fault room bytes) (λ d.
-        classes_input (room - length d.sites) names files (λ classes. next (before (d ∷ classes)))))
-    told nothing = refl
-    told absent = refl
-    told (file bytes) = read (nat_lt class_limit (length bytes)) (class_or_fault room bytes)
+-- classes that stand before those of other files, where these are listed, and where the reading goes on in another way
+before-listed : (way : List Class → Input) (before : List Class → List Class) (room : ℕ) (names : List (List ℕ)) (files : List ℕ → Told) →
+    continued way (classes_input room names files (λ classes. to_list (before classes))) ≡ classes_input room names files (λ classes. way (before classes))
+before-listed way before room [] files = refl
+before-listed way before room (name ∷ names) files =
+    continued-first
+    (λ c. classes_input (room - length c.sites) names files (λ classes. way (before (c ∷ classes))))
+    (λ c. classes_input (room - length c.sites) names files (λ classes. to_list (before (c ∷ classes))))
+    way name (files name) room
+    (λ c. before-listed way (λ classes. before (c ∷ classes)) (room - length c.sites) names files)
 
 -- a class before those of other files
 abbrev with_class : Class → Input → Input
-with_class c rest = continued (λ classes. accepted (listed (c ∷ classes))) rest
+with_class c rest = continued (λ classes. to_list (c ∷ classes)) rest
 
 with_class-others : (c : Class) (room : ℕ) (names : List (List ℕ)) (files : List ℕ → Told) →
-    with_class c (listing_input room names files) ≡ classes_input room names files (λ classes. accepted (listed (c ∷ classes)))
-with_class-others c room names files = before-listed (λ classes. accepted (listed (c ∷ classes))) (λ classes. classes) room names files
+    with_class c (listing_input room names files) ≡ classes_input room names files (λ classes. to_list (c ∷ classes))
+with_class-others c room names files = before-listed (λ classes. to_list (c ∷ classes)) (λ classes. classes) room names files
 
 small-enough : (bytes : List ℕ) → length bytes ≤ class_limit → nat_lt class_limit (length bytes) ≡ false
 small-enough bytes h = grind (arith, nat_tests)

@@ -1,16 +1,37 @@
 -- What is due where the reading stopped.
-use Rattle.std.proofs.Common.{◌≡◌, ◌≢◌, ◌<◌, refl, sym, subst, inl, inr, ℕ, List, Option, Some}
+use Rattle.std.proofs.Common.{◌≡◌, ◌≢◌, refl, sym, subst, inl, inr, ℕ, List, Option, Some, arith}
 use Rattle.mh_outside.specs.Causes.{AreSame}
 use Rattle.mh_outside.specs.Told.{Told}
+use Rattle.mh_listing.specs.Listing.{listing}
 use Rattle.mh_main.specs.declared.answer.TopAnswer.{TopAnswer}
 use Rattle.mh_main.specs.declared.stop.Stop.{Stop}
 use Rattle.mh_main.specs.declared.stop.Stop.TheVariants.{NoMemory, ReadFault, TooLong, Fault, Place}
 use Rattle.mh_main.specs.declared.program.Program.{Program}
-use Rattle.mh_main.specs.Words.{Command, Named, command_of, run}
-use Rattle.mh_main.specs.Input.{Accepted, IfAccepted, IfRefused, Input, accepted, command_input, fault_line, input_of, missing, named_input, place_line, program, refused, too_long_line, untold, usage}
-use Rattle.mh_main.specs.Status.{no_memory}
+use Rattle.mh_main.specs.Words.{Command, Named, command_of, run, sites}
+use Rattle.mh_main.specs.Input.{Accepted, AreListed, IfAccepted, IfRefused, Input, accepted, command_input, fault_line, input_of, listed, listing_input, missing, most_sites, named_input, place_line, program, refused, too_long_line, untold, usage}
+use Rattle.mh_main.specs.Status.{no_memory, refused as refusal}
 use Rattle.mh_main.specs.Stops.{Refuses, IsStopAmong, IsReachedInput, stop_line, stop_status, unread_line}
-use Rattle.mh_main.specs.Due.{FailsToRead, IsDue, IsDueOf, IsIdle, IsOutputOf, NeedsManyForms}
+use Rattle.mh_main.specs.Due.{FailsToRead, IsDue, IsDueOf, IsIdle, IsOutputOf, NeedsManyForms, RefusesInput}
+
+-- a stop that comes with a refusal has the line of the input that is refused
+pub refused-at-stop :
+    (words : List (List ℕ)) (files : List ℕ → Told) (before now : List ℕ → ℕ) (command : Command) (stop : Stop) →
+    Some command ≡ command_of words →
+    stop_status stop ≡ refusal →
+    IsStopAmong (IsReachedInput command files) before now stop →
+    Refuses (command_input command files) stop →
+    RefusesInput words files before now (stop_line stop)
+refused-at-stop words files before now command NoMemory asked is stops refuses = absurd (omega (arith, is))
+refused-at-stop words files before now command (ReadFault at) asked is stops refuses = absurd (omega (arith, is))
+refused-at-stop words files before now command (TooLong at) asked is stops refuses =
+    let P : Option Command → Type 0 = λ o. IfRefused (input_of o files) (λ line. line ≡ too_long_line at.now) in
+    (subst P asked refuses, stops)
+refused-at-stop words files before now command (Fault at number kind) asked is stops refuses =
+    let P : Option Command → Type 0 = λ o. IfRefused (input_of o files) (λ line. line ≡ fault_line at.now number kind.now) in
+    (subst P asked refuses, stops)
+refused-at-stop words files before now command (Place at place kind) asked is stops refuses =
+    let P : Option Command → Type 0 = λ o. IfRefused (input_of o files) (λ line. line ≡ place_line at.now place kind.now) in
+    (subst P asked refuses, stops)
 
 -- a stop that is no want of memory has a line that is due
 pub due-at-stop :
@@ -26,14 +47,11 @@ due-at-stop words files before now answer command (ReadFault at) asked idle spok
     let P : Option Command → Type 0 = λ o. FailsToRead o files before now (unread_line at.now) in
     inr (idle, inr (inr (inl (subst P asked (at.now, stops.0, stops.1, refl)))))
 due-at-stop words files before now answer command (TooLong at) asked idle spoken stops refuses =
-    let P : Option Command → Type 0 = λ o. IfRefused (input_of o files) (λ line. line ≡ too_long_line at.now) in
-    inr (idle, inr (inl (subst P asked refuses, stops)))
+    inr (idle, inr (inl (refused-at-stop words files before now command (TooLong at) asked refl stops refuses)))
 due-at-stop words files before now answer command (Fault at number kind) asked idle spoken stops refuses =
-    let P : Option Command → Type 0 = λ o. IfRefused (input_of o files) (λ line. line ≡ fault_line at.now number kind.now) in
-    inr (idle, inr (inl (subst P asked refuses, stops)))
+    inr (idle, inr (inl (refused-at-stop words files before now command (Fault at number kind) asked refl stops refuses)))
 due-at-stop words files before now answer command (Place at place kind) asked idle spoken stops refuses =
-    let P : Option Command → Type 0 = λ o. IfRefused (input_of o files) (λ line. line ≡ place_line at.now place kind.now) in
-    inr (idle, inr (inl (subst P asked refuses, stops)))
+    inr (idle, inr (inl (refused-at-stop words files before now command (Place at place kind) asked refl stops refuses)))
 
 -- what holds of what is accepted holds where it is
 taken : (i : Input) (a : Accepted) (P : Accepted → Type 0) → IfAccepted i (λ b. b ≡ a) → P a → IfAccepted i P
@@ -62,3 +80,27 @@ due-of-program words files before now answer names p bytes asked is same (inr fu
     subst (λ o. IfAccepted (input_of o files) NeedsManyForms) asked
     (taken (named_input names files) (program p) NeedsManyForms is full.1.0) in
     inr (full.0, inr (inr (inr (same, (fills, full.1.1)))))
+
+listed-output : (i : Input) (answer : TopAnswer) (bytes : List ℕ) → IsIdle answer → IfAccepted i (AreListed (λ classes. bytes ≡ listing classes)) →
+    IfAccepted i (λ a. IsOutputOf a answer bytes)
+listed-output usage answer bytes idle is = is
+listed-output (refused line) answer bytes idle is = is
+listed-output (accepted (program p)) answer bytes idle is = absurd is
+listed-output (accepted (listed classes)) answer bytes idle is = (idle, is)
+listed-output missing answer bytes idle is = is
+listed-output untold answer bytes idle is = tt
+
+-- a listing is due of the words and files that give its classes
+pub due-of-listing :
+    (words : List (List ℕ)) (files : List ℕ → Told) (before now : List ℕ → ℕ) (answer : TopAnswer) (names : List (List ℕ)) (bytes : List ℕ) →
+    Some (sites names) ≡ command_of words →
+    IfAccepted (listing_input most_sites names files) (AreListed (λ classes. bytes ≡ listing classes)) →
+    AreSame before now →
+    IsIdle answer →
+    IsDue words files before now answer bytes
+due-of-listing words files before now answer names bytes asked is same idle =
+    inl (
+      same,
+      subst (λ o. IfAccepted (input_of o files) (λ a. IsOutputOf a answer bytes)) asked
+          (listed-output (listing_input most_sites names files) answer bytes idle is),
+    )

@@ -6,8 +6,8 @@ use Rattle.mh_outside.specs.Causes.{IsStill, Rose}
 use Rattle.mh_main.specs.declared.stop.Stop.{Stop}
 use Rattle.mh_main.specs.declared.stop.Stop.TheVariants.{NoMemory, ReadFault, TooLong, Fault, Place}
 use Rattle.mh_main.specs.Words.{Command, sites}
-use Rattle.mh_main.specs.Input.{IfRefused, Input, AreAccepted, accepted, command_input, input_of, missing, refused, untold, usage}
-use Rattle.mh_main.specs.Status.{IsDoneOrWant, IsRefusedOrWant, write_failed}
+use Rattle.mh_main.specs.Input.{Accepted, AreAccepted, IfAccepted, IfRefused, Input, IsMissing, IsRefused, accepted, command_input, input_of, listing_input, missing, most_sites, refused, untold, usage}
+use Rattle.mh_main.specs.Status.{IsDoneOrWant, IsRefusedOrWant, IsUnreadOrWant, write_failed}
 use Rattle.mh_main.specs.Stops.{InputsStill, IsReachedInput, ReachesClass, Refuses, IsStopAmong, stop_status}
 
 never-both : (before now : ℕ) → IsStill before now → Rose before now → ⊥
@@ -87,3 +87,62 @@ sites-done o names files before now stop old new status asked stops refuses fail
     subst IsDoneOrWant (sym (spoken old new status (stop_status stop) quiet failed is))
     (done-status names files before now (input_of o files) stop (subst (λ c. InputsStill c before now) (sym asked) still) stops
     (subst (λ c. Refuses (input_of c files) stop) asked refuses) taken)
+
+-- ---- listings
+
+not-refused : (i : Input) (P : Accepted → Type 0) → IfAccepted i P → IsRefused i → ⊥
+not-refused usage P holds is = is
+not-refused (refused line) P holds is = holds
+not-refused (accepted a) P holds is = is
+not-refused missing P holds is = is
+not-refused untold P holds is = is
+
+not-missing : (i : Input) (P : Accepted → Type 0) → IfAccepted i P → IsMissing i → ⊥
+not-missing usage P holds is = is
+not-missing (refused line) P holds is = is
+not-missing (accepted a) P holds is = is
+not-missing missing P holds is = holds
+not-missing untold P holds is = is
+
+-- class files that are listed are not refused
+pub listed-unrefused :
+    (o : Option Command) (names : List (List ℕ)) (files : List ℕ → Told) (P : Accepted → Type 0) →
+    Some (sites names) ≡ o → IfAccepted (listing_input most_sites names files) P → IsRefused (input_of o files) → ⊥
+listed-unrefused o names files P asked holds is =
+    not-refused (input_of o files) P (subst (λ c. IfAccepted (input_of c files) P) asked holds) is
+
+-- and none is told not to be there
+pub listed-there :
+    (o : Option Command) (names : List (List ℕ)) (files : List ℕ → Told) (P : Accepted → Type 0) →
+    Some (sites names) ≡ o → IfAccepted (listing_input most_sites names files) P → IsMissing (input_of o files) → ⊥
+listed-there o names files P asked holds is =
+    not-missing (input_of o files) P (subst (λ c. IfAccepted (input_of c files) P) asked holds) is
+
+-- ---- inputs that are told not to be there
+
+refused-there : (i : Input) (P : List ℕ → Type 0) → IfRefused i P → IsMissing i → ⊥
+refused-there usage P is missing_is = is
+refused-there (refused line) P is missing_is = missing_is
+refused-there (accepted a) P is missing_is = is
+refused-there missing P is missing_is = is
+refused-there untold P is missing_is = missing_is
+
+missing-status : (i : Input) (stop : Stop) → Refuses i stop → IsMissing i → IsUnreadOrWant (stop_status stop)
+missing-status i NoMemory refuses is = inr refl
+missing-status i (ReadFault at) refuses is = inl refl
+missing-status i (TooLong at) refuses is = absurd (refused-there i _ refuses is)
+missing-status i (Fault at line kind) refuses is = absurd (refused-there i _ refuses is)
+missing-status i (Place at place kind) refuses is = absurd (refused-there i _ refuses is)
+
+pub sites-missing :
+    (o : Option Command) (names : List (List ℕ)) (files : List ℕ → Told) (stop : Stop) (old new status : ℕ) →
+    Some (sites names) ≡ o →
+    Refuses (command_input (sites names) files) stop →
+    (status ≡ write_failed → Rose old new) →
+    (status ≢ write_failed → status ≡ stop_status stop) →
+    IsMissing (input_of o files) →
+    IsStill old new →
+    IsUnreadOrWant status
+sites-missing o names files stop old new status asked refuses failed is missing_is quiet =
+    subst IsUnreadOrWant (sym (spoken old new status (stop_status stop) quiet failed is))
+    (missing-status (input_of o files) stop (subst (λ c. Refuses (input_of c files) stop) asked refuses) missing_is)

@@ -98,9 +98,13 @@ classes_input room (name ∷ names) files next =
     within name class_limit (files name) (λ bytes. class_meant name (class_or_fault room bytes) (λ c.
     classes_input (room - length c.sites) names files (λ classes. next (c ∷ classes))))
 
+-- classes are accepted to be listed
+abbrev pub to_list : List Class → Input
+to_list classes = accepted (listed classes)
+
 -- what class files say whose call sites, at most so many together, are listed
 abbrev pub listing_input : ℕ → List (List ℕ) → (List ℕ → Told) → Input
-listing_input room names files = classes_input room names files (λ classes. accepted (listed classes))
+listing_input room names files = classes_input room names files to_list
 
 -- what the inputs of a command say
 abbrev pub command_input : Command → (List ℕ → Told) → Input

@@ -1,7 +1,12 @@
+use Rattle.std.proofs.Common.{◌≡◌, ◌≢◌, ◌∙◌, sym, rules, List, arith}
+use Rattle.mh_classfile.specs.Class.{Class}
+use Rattle.mh_listing.specs.Listing.{listing}
+use Rattle.mh_main.specs.Input.{AreListed}
+use Rattle.mh_main.specs.Status.{no_memory, refused, write_failed}
+use Rattle.mh_main.specs.Stops.{stop_line, stop_status}
 use Rattle.mh_main.specs.Words.{command_of, run, sites, held_names, said}
-use Rattle.mh_main.specs.Stops.{stop_line}
-use Rattle.mh_main.proofs.Endings.{due-at-stop, due-of-program}
-use Rattle.mh_main.proofs.Stilled.{sites-done, sites-refused}
+use Rattle.mh_main.proofs.Endings.{due-at-stop, due-of-listing, due-of-program, refused-at-stop}
+use Rattle.mh_main.proofs.Stilled.{listed-there, listed-unrefused, sites-done, sites-missing, sites-refused}
 use Rattle.mh_main.proofs.running.top.Goals as goal
 
 pub returns-in-Ok-clause-broken : goal.returns-in-Ok-clause-broken
@@ -49,3 +54,44 @@ returns-in-Err-list_sites-clause-complete g c = λ accepted fits still quiet.
     (g.S.Sink.faults c.answer_stop-in-Err-list_sites.new.sink) c.answer_stop-in-Err-list_sites.result.status (rw c.in-Sites.is at c.in-Some.ensures)
     c.in-Err-list_sites.ensures.stop
     c.in-Err-list_sites.ensures.refuses c.answer_stop-in-Err-list_sites.ensures.fails.failed c.answer_stop-in-Err-list_sites.ensures.status accepted still quiet
+
+pub returns-in-Ok-list_sites-clause-broken : goal.returns-in-Ok-list_sites-clause-broken
+returns-in-Ok-list_sites-clause-broken g c = λ failed. (
+  c.in-Ok-list_sites.text.items,
+  due-of-listing (said c.args.words.now) (g.I.Inputs.told c.args.inputs.now) (g.I.Inputs.faults c.args.inputs.now)
+      (g.I.Inputs.faults c.list_sites.new.inputs)
+      c.answer_listing.result (said c.in-Sites.names.now) c.in-Ok-list_sites.text.items (rw c.in-Sites.is at c.in-Some.ensures)
+      c.in-Ok-list_sites.ensures.ok c.in-Ok-list_sites.ensures.no_fault c.answer_listing.ensures.idle,
+  search rules,
+)
+
+pub returns-in-Ok-list_sites-clause-refusal_wanted : goal.returns-in-Ok-list_sites-clause-refusal_wanted
+returns-in-Ok-list_sites-clause-refusal_wanted g c = λ wanted still quiet.
+    absurd (listed-unrefused (command_of (said c.args.words.now)) (said c.in-Sites.names.now) (g.I.Inputs.told c.args.inputs.now)
+    (AreListed (λ (classes : List Class). c.in-Ok-list_sites.text.items ≡ listing classes)) (rw c.in-Sites.is at c.in-Some.ensures)
+    c.in-Ok-list_sites.ensures.ok wanted)
+
+pub returns-in-Ok-list_sites-clause-unread_wanted : goal.returns-in-Ok-list_sites-clause-unread_wanted
+returns-in-Ok-list_sites-clause-unread_wanted g c = λ missing quiet.
+    absurd (listed-there (command_of (said c.args.words.now)) (said c.in-Sites.names.now) (g.I.Inputs.told c.args.inputs.now)
+    (AreListed (λ (classes : List Class). c.in-Ok-list_sites.text.items ≡ listing classes)) (rw c.in-Sites.is at c.in-Some.ensures)
+    c.in-Ok-list_sites.ensures.ok missing)
+
+pub returns-in-Err-list_sites-clause-refusal : goal.returns-in-Err-list_sites-clause-refusal
+returns-in-Err-list_sites-clause-refusal g c = λ is.
+    let spoken : c.answer_stop-in-Err-list_sites.result.status ≢ write_failed = λ bad. omega (arith, is, bad) in
+    let due : stop_status c.in-Err-list_sites.stop ≡ refused = sym (c.answer_stop-in-Err-list_sites.ensures.status spoken) ∙ is in
+    let wanting : stop_status c.in-Err-list_sites.stop ≢ no_memory = λ bad. omega (arith, due, bad) in (
+      stop_line c.in-Err-list_sites.stop,
+      refused-at-stop (said c.args.words.now) (g.I.Inputs.told c.args.inputs.now) (g.I.Inputs.faults c.args.inputs.now)
+          (g.I.Inputs.faults c.list_sites.new.inputs) (sites (said c.in-Sites.names.now)) c.in-Err-list_sites.stop
+          (rw c.in-Sites.is at c.in-Some.ensures) due c.in-Err-list_sites.ensures.stop c.in-Err-list_sites.ensures.refuses,
+      c.answer_stop-in-Err-list_sites.ensures.written spoken wanting,
+    )
+
+pub returns-in-Err-list_sites-clause-unread_wanted : goal.returns-in-Err-list_sites-clause-unread_wanted
+returns-in-Err-list_sites-clause-unread_wanted g c = λ missing quiet.
+    sites-missing (command_of (said c.args.words.now)) (said c.in-Sites.names.now) (g.I.Inputs.told c.args.inputs.now)
+    c.in-Err-list_sites.stop (g.S.Sink.faults c.args.sink.now) (g.S.Sink.faults c.answer_stop-in-Err-list_sites.new.sink)
+    c.answer_stop-in-Err-list_sites.result.status (rw c.in-Sites.is at c.in-Some.ensures) c.in-Err-list_sites.ensures.refuses
+    c.answer_stop-in-Err-list_sites.ensures.fails.failed c.answer_stop-in-Err-list_sites.ensures.status missing quiet
