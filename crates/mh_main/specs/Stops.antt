@@ -1,5 +1,5 @@
 -- Why there is no program.
-use Rattle.std.specs.Prelude.{◌≡◌, ◌⊎◌, ℕ, ◌-◌, List, [], ◌∷◌, ◌++◌, codes, ◌<◌, ◌≤◌, length, Result, Err, Option, None, Some}
+use Rattle.std.specs.Prelude.{◌≡◌, ◌⊎◌, ℕ, ◌-◌, List, [], ◌∷◌, ◌++◌, codes, ◌≤◌, length, Result, Err, Option, None, Some}
 use Rattle.std.specs.List.{Contains}
 use Rattle.mh_base.specs.declared.lines.LineFault.{LineFault}
 use Rattle.mh_outside.specs.Causes.{Rose, IsStill, AreSame}
