@@ -3,6 +3,7 @@ ghost use Rattle.mh_outside.specs.Causes.{AreSame};
 ghost use Rattle.mh_outside.specs.Kept.{KeepsInputs};
 ghost use Rattle.mh_outside.specs.Told.{IsWhole};
 ghost use Rattle.mh_leaves.specs.Manifest.{manifest, kind_word as manifest_word};
+ghost use Rattle.mh_plan.specs.Limits.{IsWithinLimits};
 ghost use Rattle.mh_plan.specs.Results.{AreCallsOf};
 ghost use Rattle.mh_plan.specs.Plan.{plan, kind_word as plan_word};
 ghost use Rattle.mh_main.specs.Words.{held_names};
@@ -108,6 +109,7 @@ fn read_calls<'a, I: Inputs>(
         (λ calls. HasMeaning plan_limit (λ bytes. plan bytes leaves.now)
         (I.told inputs.old name.now) calls) }
     ensures calls { IfOk result (AreCallsOf leaves.now) }
+    ensures limits { IfOk result IsWithinLimits }
 {
     let bytes = read_input(alloc, inputs, name, PLAN_LIMIT)?;
     match read_plan(alloc, &bytes, leaves) {
@@ -135,6 +137,7 @@ pub fn read_program<'a, I: Inputs>(
         (λ p. IfAccepted (named_input (held_names names.entry) (I.told inputs.old))
         (λ a. a ≡ program p)) }
     ensures calls { IfOk result (λ p. AreCallsOf p.leaves p.plan) }
+    ensures limits { IfOk result (λ p. IsWithinLimits p.plan) }
 {
     let leaves = read_leaves(alloc, inputs, names.leaves)?;
     read_scripts(alloc, inputs, names.scripts)?;

@@ -4,6 +4,7 @@ ghost use Rattle.std.specs.Io.KnownBytes.{Appends, Keeps};
 ghost use Rattle.mh_outside.specs.Causes.{IsStill, AreSame, AppendsPart};
 ghost use Rattle.mh_outside.specs.Kept.{KeepsInputs};
 ghost use Rattle.mh_plan.specs.Forms.{forms_needed};
+ghost use Rattle.mh_plan.specs.Limits.{IsWithinLimits};
 ghost use Rattle.mh_plan.specs.Results.{AreCallsOf};
 ghost use Rattle.mh_runtime.specs.Asking.{IfFull};
 ghost use Rattle.mh_runtime.specs.Ledger.{Ledger, naming_of};
@@ -76,7 +77,8 @@ fn run_and_report<R: Wait>(
     alloc: Global,
     program: &Program,
 ) -> Result<(RunReport, Vec<u8>), WorkError>
-    requires { AreCallsOf program.now.leaves program.now.plan }
+    requires calls { AreCallsOf program.now.leaves program.now.plan }
+    requires limits { IsWithinLimits program.now.plan }
     ensures ledger { IfOk result
         (λ r. Ledger (naming_of program.now.plan) 0 r.0.table r.0.attempts) }
     ensures answers { IfOk result (λ r. AreAnswersOf program.now r.0.table r.0.threads) }
@@ -131,7 +133,8 @@ fn run_program<R: Wait, S: Sink>(
     sink: &mut S,
     program: &Program,
 ) -> TopAnswer
-    requires { AreCallsOf program.now.leaves program.now.plan }
+    requires calls { AreCallsOf program.now.leaves program.now.plan }
+    requires limits { IsWithinLimits program.now.plan }
     ensures report { result.status ≡ done
         → Writes (IsReportOf program.now result) (S.taken sink.old) (S.taken sink.new) }
     ensures answers { result.status ≡ done

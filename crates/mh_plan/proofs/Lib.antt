@@ -5,5 +5,3 @@ pub mod Threads
 pub mod Fitting
 pub mod FoundCalls
 pub mod Limits
-pub mod Numbers
-pub mod Recipes

@@ -14,7 +14,7 @@ use Rattle.mh_handle.specs.Recipe.{recipe}
 use Rattle.mh_plan.specs.declared.attempt.Attempt.{Attempt}
 use Rattle.mh_plan.specs.declared.call.Call.{Call}
 use Rattle.mh_plan.specs.declared.call.Call.TheVariants.{Exact, Generic}
-use Rattle.mh_plan.specs.SameRecipes.{same_recipe}
+use Rattle.mh_handle.specs.SameRecipes.{same_recipe}
 
 -- edits that depend on a type, none where there is none
 abbrev pub at_type : TypeOrRefusal → (MethodTy → List (List Key)) → List (List Key)

@@ -12,9 +12,9 @@ use Rattle.mh_setonce.specs.Walks.{Lacks, Has}
 use Rattle.mh_edit.specs.declared.key.Key.{Key}
 use Rattle.mh_handle.specs.Form.{FormView}
 use Rattle.mh_handle.specs.Index.{recipe_of}
-use Rattle.mh_handle.specs.Passes.{PassView, SeatView, AsksFor, Draws, DrawsAtMostOne}
-use Rattle.mh_plan.specs.SameRecipes.{same_recipe}
-use Rattle.mh_plan.proofs.Recipes.{same_recipe-decides, same_recipe-equivalence}
+use Rattle.mh_handle.specs.Passes.{PassView, SeatView, AsksFor, Draws, DrawsAtMostOne, IsUnlearnt}
+use Rattle.mh_handle.specs.SameRecipes.{same_recipe}
+use Rattle.mh_handle.proofs.SameRecipes.{same_recipe-decides, same_recipe-equivalence}
 use Rattle.mh_runtime.specs.Asking.{asked_recipes, DrawsInOrder, HasAsked, AreTooMany}
 use Rattle.mh_runtime.proofs.Counting.{is_one, again, one-more}
 
@@ -91,7 +91,7 @@ drawn-now old new f r in_order pushed draws =
       few = subst (λ (s : SeatView). length s.numbers ≤ length new.asked) (sym same) few;
       room = subst (λ (s : SeatView). length s.numbers + s.room ≡ 2 ^ 62) (sym same) in_order.room;
     })
-    (λ (d : (number : ℕ) × Draws number old.seat new.seat × Lacks recipe_of old.nodes r).
+    (λ (d : (number : ℕ) × Draws number old.seat new.seat × IsUnlearnt r old).
     let numbers : length new.seat.numbers ≡ length old.seat.numbers + 1 = ap length d.1.numbers ∙ length-append old.seat.numbers (d.0 ∷ []) in
     let left : new.seat.room + 1 ≡ old.seat.room = d.1.room in
     record {

@@ -24,7 +24,7 @@ use Rattle.mh_plan.specs.Forms.{at_type, used_edits}
 use Rattle.mh_runtime.specs.Asking.{Asks, AreTooMany, DrawsInOrder, HasAsked, Stopped}
 use Rattle.mh_runtime.proofs.Asking.{asked-again, asked-full, asked-more}
 use Rattle.mh_runtime.proofs.Counting.{is_one, one-more, or-true, too_many-more}
-use Rattle.mh_plan.proofs.Recipes.{same_recipe-equivalence}
+use Rattle.mh_handle.proofs.SameRecipes.{same_recipe-equivalence}
 
 -- ---- recipes of a use as another type
 
@@ -87,9 +87,15 @@ asks-keys r (k ∷ keys) old mid new (Err (FormsFull drawn)) kept first asks = �
     subst AreTooMany (two before r (r ++ k ∷ keys))
     (asked-full (before ++ r ∷ []) mid.pass.now new.pass.now.seat (r ++ k ∷ keys) drawn (first before has) (kept in_order) asks.0.0 asks.1 asks.2)
 
+-- the pass stays as it is when the handle is given back
+pub asks-back : {A : Type 0} (recipes : List (List Key)) (old new new' : Work) (answer : Result A EditError) → new'.pass.now ≡ new.pass.now →
+    Asks recipes old new answer → Asks recipes old new' answer
+asks-back recipes old new new' (Ok a) back asks = λ before has. subst (HasAsked (before ++ recipes)) (sym back) (asks before has)
+asks-back recipes old new new' (Err e) back asks = asks
+
 -- a generic call of what stands for a tree, and the handle given back
 pub asks-generic : (table table' : LeafTable) (t : Tree) (h : HandleView) (asked : MethodTy) (old mid new new' : Work) (answer : Result Answer EditError) →
-    table' ≡ table → new' ≡ new → Stands table h t → (DrawsInOrder old.pass.now → DrawsInOrder mid.pass.now) →
+    table' ≡ table → new'.pass.now ≡ new.pass.now → Stands table h t → (DrawsInOrder old.pass.now → DrawsInOrder mid.pass.now) →
     ((before : List (List Key)) → HasAsked before old.pass.now → HasAsked (before ++ recipe table t ∷ []) mid.pass.now) →
     AsksBy h.form.recipe (call_keys table'.classes h.ty h.weight asked) mid new answer →
     Asks (recipe table t ∷ used_edits table t asked) old new' answer
@@ -99,7 +105,7 @@ asks-generic table table' t h asked old mid new new' answer same back st kept fi
     subst (λ (x : LeafTable). AsksBy h.form.recipe (call_keys x.classes h.ty h.weight asked) mid new answer) same asks in
     let first' : (before : List (List Key)) → HasAsked before old.pass.now → HasAsked (before ++ h.form.recipe ∷ []) mid.pass.now =
     λ before has. subst (λ r. HasAsked (before ++ r ∷ []) mid.pass.now) (sym st.made) (first before has) in
-    subst (λ p. Asks (recipe table t ∷ used_edits table t asked) old p answer) (sym back)
+    asks-back (recipe table t ∷ used_edits table t asked) old new new' answer back
     (subst (λ r. Asks (r ∷ used_edits table t asked) old new answer) st.made
     (⊎_elim
     (λ (none : (keys ≡ []) × (used_edits table t asked ≡ [])).

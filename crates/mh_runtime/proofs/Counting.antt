@@ -5,8 +5,8 @@ use Rattle.std.specs.Set.{unique_keys}
 use Rattle.std.proofs.lemmas.List.Folds.{list_any-append}
 use Rattle.std.proofs.lemmas.Map.Made.{length-le_from_is_member}
 use Rattle.mh_edit.specs.declared.key.Key.{Key}
-use Rattle.mh_plan.specs.SameRecipes.{same_recipe}
-use Rattle.mh_plan.proofs.Recipes.{same_recipe-decides, same_recipe-equivalence}
+use Rattle.mh_handle.specs.SameRecipes.{same_recipe}
+use Rattle.mh_handle.proofs.SameRecipes.{same_recipe-decides, same_recipe-equivalence}
 use Rattle.mh_runtime.specs.Asking.{AreTooMany}
 
 -- whether a recipe is one of a list

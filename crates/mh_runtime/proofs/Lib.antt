@@ -4,3 +4,4 @@ pub mod Counting
 pub mod Drawing
 pub mod Ledger
 pub mod Repeating
+pub mod Room

@@ -10,9 +10,9 @@ use Rattle.mh_edit.specs.declared.key.Key.{Key}
 use Rattle.mh_handle.specs.declared.error.EditError.{EditError}
 use Rattle.mh_handle.specs.declared.error.EditError.TheVariants.{NoMemory, FormsFull}
 use Rattle.mh_handle.specs.Index.{recipe_of}
-use Rattle.mh_handle.specs.Passes.{PassView, SeatView, pass_at, seat_at}
-use Rattle.mh_plan.specs.SameRecipes.{same_recipe}
-use Rattle.mh_plan.proofs.Recipes.{same_recipe-equivalence}
+use Rattle.mh_handle.specs.Passes.{PassView, SeatView, TableView, pass_at, seat_at}
+use Rattle.mh_handle.specs.SameRecipes.{same_recipe}
+use Rattle.mh_handle.proofs.SameRecipes.{same_recipe-equivalence}
 use Rattle.mh_runtime.specs.Asking.{AreTooMany, DrawsInOrder, HasAsked, IfFull, Stopped, asked_recipes}
 use Rattle.mh_runtime.proofs.Counting.{too_many-more}
 
@@ -34,13 +34,13 @@ module _ {X : Type 0} (f : X → List (List Key)) where
       (asks (before ++ flat_map f (take i xs)) (so_far before has))
 
   pub stopped-at : (xs : List X) (i : ℕ) (x : X) (old mid : PassView) (e : EditError) → i < length xs → x ≡ get_or xs i x → AsksUpTo xs i old mid →
-      DrawsInOrder mid → Stopped (f x) mid e → Stopped (flat_map f xs) old e
-  stopped-at xs i x old mid NoMemory within is so_far in_order stopped = tt
-  stopped-at xs i x old mid (FormsFull drawn) within is so_far in_order stopped = λ _ before has.
+      (DrawsInOrder old → DrawsInOrder mid) → Stopped (f x) mid e → Stopped (flat_map f xs) old e
+  stopped-at xs i x old mid NoMemory within is so_far kept stopped = tt
+  stopped-at xs i x old mid (FormsFull drawn) within is so_far kept stopped = λ in_order before has.
       let front : List (List Key) = flat_map f (take (i + 1) xs) in
       let here : AreTooMany (before ++ front) =
       subst AreTooMany (append_assoc before (flat_map f (take i xs)) (f x) ∙ ap (λ rs. before ++ rs) (sym (up-to xs i x within is)))
-      (stopped in_order (before ++ flat_map f (take i xs)) (so_far before has)) in
+      (stopped (kept in_order) (before ++ flat_map f (take i xs)) (so_far before has)) in
       let whole : front ++ flat_map f (drop (i + 1) xs) ≡ flat_map f xs =
       sym (flat_map-append f (take (i + 1) xs) (drop (i + 1) xs)) ∙ ap (flat_map f) (take-append-drop (i + 1) xs) in
       subst AreTooMany (append_assoc before front (flat_map f (drop (i + 1) xs)) ∙ ap (λ rs. before ++ rs) whole)
@@ -60,13 +60,13 @@ told-next f g xs i x ys ys' y within is pushed before told =
 
 -- ---- a whole run
 
-pub none-asked : (pass : PassView) (cells : List ℕ) (seat : SeatView) → pass ≡ pass_at cells seat → HasAsked [] pass
+pub none-asked : (pass : PassView) (table : TableView) (seat : SeatView) → pass ≡ pass_at table seat → HasAsked [] pass
 unfolding IsDistinct
-none-asked pass cells seat new = subst (HasAsked []) (sym new) (record { once = tt; same = λ recipe. refl })
+none-asked pass table seat new = subst (HasAsked []) (sym new) (record { once = tt; same = λ recipe. refl })
 
-pub first-in_order : (pass : PassView) (cells : List ℕ) (seat : SeatView) → pass ≡ pass_at cells seat → seat ≡ seat_at 0 → DrawsInOrder pass
-first-in_order pass cells seat new first =
-    subst DrawsInOrder (sym new) (subst (λ (s : SeatView). DrawsInOrder (pass_at cells s)) (sym first) (record { few = omega arith; room = refl }))
+pub first-in_order : (pass : PassView) (table : TableView) (seat : SeatView) → pass ≡ pass_at table seat → seat ≡ seat_at table 0 → DrawsInOrder pass
+first-in_order pass table seat new first =
+    subst DrawsInOrder (sym new) (subst (λ (s : SeatView). DrawsInOrder (pass_at table s)) (sym first) (record { few = omega arith; room = refl }))
 
 pub asked-count : (recipes : List (List Key)) (pass : PassView) → HasAsked recipes pass → length pass.asked ≡ distinct_count same_recipe recipes
 asked-count recipes pass has =

@@ -1,5 +1,5 @@
 -- What calls leave of a thread's work, by the recipes that they make.
-use Rattle.std.specs.Prelude.{◌≡◌, ◌+◌, ◌^◌, ◌<◌, ◌≤◌, ℕ, List, ◌++◌, length, map, Result, Ok, Err, OnOk}
+use Rattle.std.specs.Prelude.{◌≡◌, ◌+◌, ◌*◌, ◌^◌, ◌<◌, ◌≤◌, ℕ, List, ◌++◌, length, map, Result, Ok, Err, OnOk}
 use Rattle.std.specs.List.{list_any, IsDistinct}
 use Rattle.std.specs.Set.{distinct_count}
 use Rattle.mh_edit.specs.declared.key.Key.{Key}
@@ -8,29 +8,38 @@ use Rattle.mh_handle.specs.declared.error.EditError.TheVariants.{NoMemory, Forms
 use Rattle.mh_handle.specs.declared.work.Work.{Work}
 use Rattle.mh_handle.specs.Index.{recipe_of}
 use Rattle.mh_handle.specs.Passes.{PassView}
-use Rattle.mh_plan.specs.SameRecipes.{same_recipe}
+use Rattle.mh_handle.specs.SameRecipes.{same_recipe}
+use Rattle.mh_plan.specs.declared.call.Call.{Call}
+use Rattle.mh_plan.specs.Limits.{calls_in}
 
 -- the recipes of the forms that a pass has asked for
 abbrev pub asked_recipes : PassView → List (List Key)
 asked_recipes pass = map recipe_of pass.asked
+
+-- how many numbers a call may draw: one for the form of its leaf, and one for that of the leaf's use as another type
+abbrev pub call_draws : ℕ
+call_draws = 2
+
+-- how many numbers the calls of a thread may draw
+abbrev pub thread_draws : List Call → ℕ
+thread_draws calls = call_draws * length calls
+
+-- how many numbers the calls of all threads may draw
+abbrev pub plan_draws : List (List Call) → ℕ
+plan_draws threads = call_draws * calls_in threads
 
 -- the pass has drawn no more numbers than it has asked for forms; they and its room are 2^62 together, so that each number drawn is the next one
 pub record DrawsInOrder (pass : PassView) : Type 0 where
   pub few : length pass.seat.numbers ≤ length pass.asked
   pub room : length pass.seat.numbers + pass.seat.room ≡ 2 ^ 62
 
--- the pass is one of the work's table, and draws its numbers in order
-pub record IsWork (w : Work) : Type 0 where
-  pub of_table : w.pass.now.cells ≡ w.forms.now
-  pub in_order : DrawsInOrder w.pass.now
-
 -- a pass that draws its numbers in order still does, where the call was not refused
 abbrev pub KeepsOrder : {A E : Type 0} → Work → Work → Result A E → Type 0
 KeepsOrder old new result = DrawsInOrder old.pass.now → OnOk result (DrawsInOrder new.pass.now)
 
--- at most so many numbers were drawn
-abbrev pub DrawsAtMost : ℕ → Work → Work → Type 0
-DrawsAtMost count old new = old.pass.now.seat.room ≤ new.pass.now.seat.room + count
+-- as many handles are made and not given back as before
+abbrev pub KeepsHandles : Work → Work → Type 0
+KeepsHandles old new = new.handles.now ≡ old.handles.now
 
 -- the pass has asked for forms of these recipes and of no others, and for none twice
 pub record HasAsked (recipes : List (List Key)) (pass : PassView) : Type 0 where

@@ -4,11 +4,11 @@ ghost use Rattle.mh_tree.specs.Meaning.{exact, generic};
 ghost use Rattle.mh_tree.specs.Tree as tree;
 ghost use Rattle.mh_handle.specs.Answers.{IsAnswer};
 ghost use Rattle.mh_handle.specs.Recipe.{recipe};
-ghost use Rattle.mh_handle.specs.Works.{GoesOn, IsReady, StandsIn, classes_of, leaves_of};
+ghost use Rattle.mh_handle.specs.Works.{CountsHandles, GoesOn, IsReady, StandsIn, classes_of, leaves_of};
 ghost use Rattle.mh_astype.specs.Calls.{exact_keys, generic_keys};
 ghost use Rattle.mh_plan.specs.Forms.{used_edits, call_edits};
 ghost use Rattle.mh_plan.specs.Results.{IsCallOf, Serials, result_of};
-ghost use Rattle.mh_runtime.specs.Asking.{Asks, DrawsAtMost, KeepsOrder};
+ghost use Rattle.mh_runtime.specs.Asking.{Asks, KeepsHandles, KeepsOrder, call_draws};
 ghost use Rattle.mh_runtime.specs.Keys.{keys_of};
 
 use mh_astype::{invoke_exact, invoke_generic};
@@ -28,11 +28,11 @@ fn leaf_handle<'t, R: Wait>(
 ) -> Result<Handle<'t>, WorkError>
     requires leaf { id.0 < length (leaves_of w.old).leaves }
     requires ready { IsReady w.old 1 }
-    ensures goes_on { GoesOn w.old w.new }
+    ensures goes_on { GoesOn 1 w.old w.new }
+    ensures handles { CountsHandles 0 w.old w.new result }
     ensures stands { IfOk result (λ h. StandsIn w.old h (tree.Leaf id)) }
     ensures asks { Asks (recipe (leaves_of w.old) (tree.Leaf id) ∷ []) w.old w.new result }
     ensures in_order { KeepsOrder w.old w.new result }
-    ensures draws { DrawsAtMost 1 w.old w.new }
 {
     match leaf(w, rt, id) {
         Ok(handle) => Ok(handle),
@@ -53,13 +53,13 @@ fn call_exact<'t, R: Wait>(
     requires leaf { id.0 < length (leaves_of w.old).leaves }
     requires typed { HaveTypes (classes_of w.old) args.now ty.now.params }
     requires ready { IsReady w.old 1 }
-    ensures goes_on { GoesOn w.old w.new }
+    ensures goes_on { GoesOn 1 w.old w.new }
+    ensures handles { KeepsHandles w.old w.new }
     ensures answer { IfOk result
         (IsAnswer (exact (leaves_of w.old) (tree.Leaf id) ty.now args.now 0)
         (exact_keys (leaves_of w.old) (tree.Leaf id) ty.now)) }
     ensures asks { Asks (recipe (leaves_of w.old) (tree.Leaf id) ∷ []) w.old w.new result }
     ensures in_order { KeepsOrder w.old w.new result }
-    ensures draws { DrawsAtMost 1 w.old w.new }
 {
     let handle = leaf_handle(w, rt, id)?;
     let answer = invoke_exact(w.alloc, &handle, w.leaves, ty, args, 0);
@@ -78,14 +78,14 @@ fn call_generic<'t, R: Wait>(
     requires leaf { id.0 < length (leaves_of w.old).leaves }
     requires typed { HaveTypes (classes_of w.old) args.now ty.now.params }
     requires ready { IsReady w.old 2 }
-    ensures goes_on { GoesOn w.old w.new }
+    ensures goes_on { GoesOn 2 w.old w.new }
+    ensures handles { KeepsHandles w.old w.new }
     ensures answer { IfOk result
         (IsAnswer (generic (leaves_of w.old) (tree.Leaf id) ty.now args.now 0)
         (generic_keys (leaves_of w.old) (tree.Leaf id) ty.now)) }
     ensures asks { Asks (recipe (leaves_of w.old) (tree.Leaf id)
         ∷ used_edits (leaves_of w.old) (tree.Leaf id) ty.now) w.old w.new result }
     ensures in_order { KeepsOrder w.old w.new result }
-    ensures draws { DrawsAtMost 2 w.old w.new }
 {
     let handle = leaf_handle(w, rt, id)?;
     let answer = invoke_generic(w, rt, &handle, ty, args, 0);
@@ -94,17 +94,17 @@ fn call_generic<'t, R: Wait>(
 }
 
 /// Makes a call: by a handle of its leaf, as the first of its invocation. At most it draws a number
-/// for the form of the leaf and one for that of its use. The handle is given back, also where no
-/// memory or no form was left.
+/// for the form of the leaf and one for that of its use. Each handle that it makes is given back, also
+/// where no memory or no form was left.
 pub fn call<'t, R: Wait>(w: &mut Work<'_, 't>, rt: &R, call: &Call) -> Result<Answer, WorkError>
     requires call { IsCallOf (leaves_of w.old) call.now }
-    requires ready { IsReady w.old 2 }
-    ensures goes_on { GoesOn w.old w.new }
+    requires ready { IsReady w.old call_draws }
+    ensures goes_on { GoesOn call_draws w.old w.new }
+    ensures handles { KeepsHandles w.old w.new }
     ensures answer { (table : Serials) → IfOk result (IsAnswer
         (result_of (leaves_of w.old) table call.now) (keys_of (leaves_of w.old) table call.now)) }
     ensures asks { Asks (call_edits (leaves_of w.old) call.now) w.old w.new result }
     ensures in_order { KeepsOrder w.old w.new result }
-    ensures draws { DrawsAtMost 2 w.old w.new }
 {
     match call {
         Call::Exact(id, ty, args) => call_exact(w, rt, *id, ty, args),

@@ -1,15 +1,16 @@
-ghost use Rattle.std.specs.Prelude.{◌≡◌, ◌<◌, ◌^◌, [], length, All, IfOk, OnOk};
-ghost use Rattle.mh_handle.specs.Passes.{pass_at, seat_at};
-ghost use Rattle.mh_handle.specs.Works.{leaves_of};
+ghost use Rattle.std.specs.Prelude.{◌≡◌, ◌<◌, [], All, IfOk, OnOk};
+ghost use Rattle.mh_handle.specs.Passes.{seat_at};
+ghost use Rattle.mh_handle.specs.Works.{GoesOn, IsReady, leaves_of};
 ghost use Rattle.mh_plan.specs.Forms.{thread_edits, plan_edits, forms, forms_needed};
+ghost use Rattle.mh_plan.specs.Limits.{IsWithinLimits};
 ghost use Rattle.mh_plan.specs.Results.{IsCallOf, AreCallsOf, Serials, thread_results, results_of, thread_said, results_said, thread_keys_said, keys_said};
-ghost use Rattle.mh_runtime.specs.Asking.{Asks, IsWork, IfFull};
+ghost use Rattle.mh_runtime.specs.Asking.{Asks, IfFull, KeepsHandles, KeepsOrder, plan_draws, thread_draws};
 ghost use Rattle.mh_runtime.specs.Keys.{thread_keys, plan_keys};
 ghost use Rattle.mh_runtime.specs.Ledger.{Ledger, naming_of};
 
 use crate::calls::{WorkError, call};
 use mh_base::Seq;
-use mh_handle::{FormPass, FormSeat, FormTable, Work};
+use mh_handle::{FormSeat, FormTable, LiveHandles, Work};
 use mh_leaves::Leaves;
 use mh_plan::{Answers, Attempts, Plan, Serials, ThreadAnswers, ThreadCalls};
 use std::alloc::Global;
@@ -28,13 +29,6 @@ pub struct RunReport {
     pub forms: u32,
 }
 
-// How many forms a pass can have asked for. It does nothing when it runs.
-fn has_few_forms(pass: &FormPass<'_>)
-    ensures { length pass.now.asked < 2 ^ 32 }
-{
-    let _forms = pass.len();
-}
-
 // Makes the calls of a thread, in order.
 fn run_thread<'t, R: Wait>(
     w: &mut Work<'_, 't>,
@@ -42,18 +36,18 @@ fn run_thread<'t, R: Wait>(
     calls: &ThreadCalls,
 ) -> Result<Answers, WorkError>
     requires calls { All (IsCallOf (leaves_of w.old)) calls.now }
-    requires work { IsWork w.old }
-    ensures leaves { w.new.leaves ≡ w.old.leaves }
-    ensures work { OnOk result (IsWork w.new) }
+    requires ready { IsReady w.old (thread_draws calls.now) }
+    ensures goes_on { GoesOn (thread_draws calls.now) w.old w.new }
+    ensures handles { KeepsHandles w.old w.new }
     ensures results { (table : Serials) → IfOk result
         (λ answers. thread_said answers ≡ thread_results (leaves_of w.old) table calls.now) }
     ensures keys { (table : Serials) → IfOk result
         (λ answers. thread_keys_said answers ≡ thread_keys (leaves_of w.old) table calls.now) }
     ensures asks { Asks (thread_edits (leaves_of w.old) calls.now) w.old w.new result }
+    ensures in_order { KeepsOrder w.old w.new result }
 {
     let mut answers = Seq::new(w.alloc);
     for next in calls.as_slice() {
-        has_few_forms(w.pass);
         answers.push(call(w, rt, next)?)?;
     }
     Ok(answers)
@@ -66,13 +60,15 @@ fn run_threads<'t, R: Wait>(
     plan: &Plan,
 ) -> Result<ThreadAnswers, WorkError>
     requires calls { AreCallsOf (leaves_of w.old) plan.now }
-    requires work { IsWork w.old }
-    ensures leaves { w.new.leaves ≡ w.old.leaves }
+    requires ready { IsReady w.old (plan_draws plan.now) }
+    ensures goes_on { GoesOn (plan_draws plan.now) w.old w.new }
+    ensures handles { KeepsHandles w.old w.new }
     ensures results { (table : Serials) → IfOk result
         (λ threads. results_said threads ≡ results_of (leaves_of w.old) table plan.now) }
     ensures keys { (table : Serials) → IfOk result
         (λ threads. keys_said threads ≡ plan_keys (leaves_of w.old) table plan.now) }
     ensures asks { Asks (plan_edits (leaves_of w.old) plan.now) w.old w.new result }
+    ensures in_order { KeepsOrder w.old w.new result }
 {
     let mut threads = Seq::new(w.alloc);
     for calls in plan.as_slice() {
@@ -91,7 +87,8 @@ fn run_over<'t, R: Wait>(
     plan: &Plan,
 ) -> Result<RunReport, WorkError>
     requires calls { AreCallsOf leaves.now plan.now }
-    requires seat { seat ≡ seat_at 0 }
+    requires limits { IsWithinLimits plan.now }
+    requires seat { seat ≡ seat_at table.now 0 }
     ensures ledger { IfOk result (λ run. Ledger (naming_of plan.now) 0 run.table run.attempts) }
     ensures results { IfOk result
         (λ run. results_said run.threads ≡ results_of leaves.now run.table plan.now) }
@@ -101,11 +98,13 @@ fn run_over<'t, R: Wait>(
     ensures full { IfFull result (16384 < forms_needed leaves.now plan.now) }
 {
     let mut pass = table.first_pass(alloc, seat)?;
+    let mut handles = LiveHandles::new();
     let mut w = Work {
         alloc,
         forms: table,
         pass: &mut pass,
         leaves,
+        handles: &mut handles,
     };
     let threads = run_threads(&mut w, rt, plan);
     let Work {
@@ -113,6 +112,7 @@ fn run_over<'t, R: Wait>(
         forms: _,
         pass: asked,
         leaves: _,
+        handles: _,
     } = w;
     Ok(RunReport {
         threads: threads?,
@@ -123,14 +123,16 @@ fn run_over<'t, R: Wait>(
 }
 
 /// Runs the calls of a plan, one thread after the other, over one table, which has numbers for
-/// 16,384 forms. The plan is one of these leaves; there are no call sites, so none is linked.
+/// 16,384 forms. The plan is one of these leaves and within the limits on threads and calls; there are
+/// no call sites, so none is linked.
 pub fn run_plan<R: Wait>(
     rt: &R,
     alloc: Global,
     leaves: &Leaves,
     plan: &Plan,
 ) -> Result<RunReport, WorkError>
-    requires { AreCallsOf leaves.now plan.now }
+    requires calls { AreCallsOf leaves.now plan.now }
+    requires limits { IsWithinLimits plan.now }
     ensures ledger { IfOk result (λ run. Ledger (naming_of plan.now) 0 run.table run.attempts) }
     ensures results { IfOk result
         (λ run. results_said run.threads ≡ results_of leaves.now run.table plan.now) }

@@ -1,14 +1,12 @@
-use Rattle.std.proofs.Common.{ap, sym, subst, ◌++◌, ◌∷◌, []}
+use Rattle.std.proofs.Common.{ap, ◌∷◌, [], Ok}
 use Rattle.mh_leaf.specs.LeafTable.{LeafTable}
 use Rattle.mh_tree.specs.Meaning.{exact}
 use Rattle.mh_tree.specs.Tree.{Tree}
 use Rattle.mh_tree.specs.Tree as tree
-use Rattle.mh_handle.specs.declared.work.Work.{Work}
 use Rattle.mh_handle.specs.Answers.{IsAnswer}
 use Rattle.mh_handle.specs.Recipe.{recipe}
 use Rattle.mh_astype.specs.Calls.{exact_keys}
-use Rattle.mh_runtime.specs.Asking.{HasAsked}
-use Rattle.mh_runtime.proofs.Calling.{moved}
+use Rattle.mh_runtime.proofs.Calling.{asks-back, moved}
 use Rattle.mh_runtime.proofs.calls.call_exact.Goals as goal
 
 pub returns-clause-answer : goal.returns-clause-answer
@@ -18,6 +16,6 @@ returns-clause-answer g c =
     (ap (λ leaves. leaves.now) c.in_ok-handle.ensures.goes_on.leaves) c.in_ok-handle.ensures.stands c.in_ok-answer.ensures
 
 pub returns-clause-asks : goal.returns-clause-asks
-returns-clause-asks g c = λ before has.
-    subst (λ (w : Work). HasAsked (before ++ recipe c.args.w.now.leaves.now (tree.Leaf c.args.id) ∷ []) w.pass.now) (sym c.give_back.ensures)
-    (c.in_ok-handle.ensures.asks before has)
+returns-clause-asks g c =
+    asks-back (recipe c.args.w.now.leaves.now (tree.Leaf c.args.id) ∷ []) c.args.w.now c.leaf_handle.new.w c.give_back.new.w (Ok c.in_ok-answer.field-0)
+    c.give_back.ensures.unchanged.pass c.in_ok-handle.ensures.asks

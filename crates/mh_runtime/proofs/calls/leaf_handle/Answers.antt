@@ -1,8 +1,7 @@
-use Rattle.std.proofs.Common.{Ok, Err}
 use Rattle.mh_tree.specs.Tree as tree
 use Rattle.mh_handle.specs.Recipe.{recipe}
 use Rattle.mh_runtime.proofs.Calling.{asks-leaf, full-leaf}
-use Rattle.mh_runtime.proofs.Drawing.{drawn-for-handle, kept-by-handle}
+use Rattle.mh_runtime.proofs.Drawing.{kept-by-handle}
 use Rattle.mh_runtime.proofs.calls.leaf_handle.Goals as goal
 
 pub returns-in-Ok-clause-asks : goal.returns-in-Ok-clause-asks
@@ -18,18 +17,3 @@ returns-in-Err-FormsFull-clause-asks g c =
 pub returns-in-Ok-clause-in_order : goal.returns-in-Ok-clause-in_order
 returns-in-Ok-clause-in_order g c =
     kept-by-handle (recipe c.args.w.now.leaves.now (tree.Leaf c.args.id)) c.args.w.now c.leaf.new.w c.in-Ok.handle c.in-Ok.ensures.makes
-
-pub returns-in-Ok-clause-draws : goal.returns-in-Ok-clause-draws
-returns-in-Ok-clause-draws g c =
-    drawn-for-handle (recipe c.args.w.now.leaves.now (tree.Leaf c.args.id)) c.args.w.now c.leaf.new.w (Ok c.in-Ok.handle)
-    c.in-Ok.ensures.makes
-
-pub returns-in-Err-NoMemory-clause-draws : goal.returns-in-Err-NoMemory-clause-draws
-returns-in-Err-NoMemory-clause-draws g c =
-    drawn-for-handle (recipe c.args.w.now.leaves.now (tree.Leaf c.args.id)) c.args.w.now c.leaf.new.w (Err c.in-Err-NoMemory.field-0)
-    c.in-Err-NoMemory.ensures.makes
-
-pub returns-in-Err-FormsFull-clause-draws : goal.returns-in-Err-FormsFull-clause-draws
-returns-in-Err-FormsFull-clause-draws g c =
-    drawn-for-handle (recipe c.args.w.now.leaves.now (tree.Leaf c.args.id)) c.args.w.now c.leaf.new.w (Err c.in-Err-FormsFull.field-0)
-    c.in-Err-FormsFull.ensures.makes
