@@ -4,7 +4,7 @@ use Rattle.std.specs.Prelude.{slice_get}
 use Rattle.std.proofs.Math.Seq.{drop-cons, drop-length}
 use Rattle.std.proofs.lemmas.List.{append_assoc, append-nil}
 use Rattle.std.proofs.lemmas.Option.{get_or_from_slice_get, slice_get_within}
-use Rattle.mh_values.specs.declared.value.ExcParts.{ExcParts}
+use Rattle.mh_values.specs.declared.value.Exc.{Exc}
 use Rattle.mh_leaf.specs.LeafTable.{LeafTable}
 use Rattle.mh_classfile.specs.declared.constant.Constant.{Constant}
 use Rattle.mh_jobs.specs.declared.job.Argument.{Argument}
@@ -40,7 +40,7 @@ pub next_read : (leaves : LeafTable) (all : List Constant) (k : ℕ) (before : L
 next_read leaves all k before c a read there h =
     subst (λ n. AreRead leaves all n (before ++ a ∷ [])) (sym (add-one k)) (next-read leaves all k before c a read there h)
 
-none-read : (leaves : LeafTable) (all : List Constant) (k : ℕ) (before : List Argument) (c : Constant) (e : ExcParts) →
+none-read : (leaves : LeafTable) (all : List Constant) (k : ℕ) (before : List Argument) (c : Constant) (e : Exc) →
     AreRead leaves all k before → slice_get all k ≡ Some c → argument_of leaves c ≡ Err e → arguments_of leaves all ≡ Err e
 none-read leaves all k before c e read there h =
     read ∙ ap (λ cs. arguments_of leaves cs >>= (λ others. Ok (before ++ others))) (drop-here all k c there)
@@ -59,3 +59,6 @@ pub all_read : (leaves : LeafTable) (all : List Constant) (k : ℕ) (before : Li
 all_read leaves all k before read h =
     read ∙ ap (λ cs. arguments_of leaves cs >>= (λ others. Ok (before ++ others))) (ap (λ n. drop n all) h ∙ drop-length all)
     ∙ ap (λ x. Ok x) (append-nil before)
+
+-- how arguments are read one after the other
+pub ruleset reading = (next_read, read_stops, all_read)

@@ -1,5 +1,7 @@
 pub mod Arguments
 pub mod Host
 pub mod Numbering
+pub mod Parts
+pub mod Recorded
 pub mod Telling
 mod WorkedJobs

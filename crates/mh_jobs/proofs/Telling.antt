@@ -2,7 +2,7 @@
 use Rattle.std.proofs.Common.{◌≡◌, refl, sym, ◌∙◌, ap, subst, List, ℕ, Result, Err}
 use Rattle.mh_values.specs.declared.descriptor.DescriptorError.{DescriptorError}
 use Rattle.mh_values.specs.declared.descriptor.DescriptorError.TheVariants as descriptor
-use Rattle.mh_values.specs.declared.value.ExcParts.{ExcParts}
+use Rattle.mh_values.specs.declared.value.Exc.{Exc}
 use Rattle.mh_values.specs.Descriptor.{TellsType}
 use Rattle.mh_jobs.specs.declared.error.ResolutionError.{ResolutionError}
 use Rattle.mh_jobs.specs.declared.error.ResolutionError.TheVariants.{NoMemory, Thrown}
@@ -11,7 +11,7 @@ use Rattle.mh_jobs.specs.Thrown.{OrThrown, Says, no_type}
 use Rattle.mh_jobs.specs.Told.{Throws, Tells}
 
 -- what is thrown is what was to be told
-pub thrown-tells : {A : Type 0} (error : ResolutionError) (e : ExcParts) (m : OrThrown A) → m ≡ Err e → Throws error e → Tells {A = A} (Err error) m
+pub thrown-tells : {A : Type 0} (error : ResolutionError) (e : Exc) (m : OrThrown A) → m ≡ Err e → Throws error e → Tells {A = A} (Err error) m
 thrown-tells NoMemory e m h t = tt
 thrown-tells (Thrown told) e m h t = h ∙ ap (λ x. Err x) t
 

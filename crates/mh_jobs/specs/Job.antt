@@ -1,5 +1,6 @@
 -- The job of a call site: which script links it, and what the script is given (JVMS SE 17, 5.1 and 5.4.3.6).
-use Rattle.std.specs.Prelude.{ℕ, ◌==◌, nat_le, nat_eq, if◌then◌else◌, List, [], ◌∷◌, codes, length, Option, Some, None, option_map, slice_get, Result, Ok, Err, ok_or}
+use Rattle.std.specs.Prelude.{ℕ, ◌==◌, nat_le, nat_eq, if◌then◌else◌, List, [], ◌∷◌, codes, length, slice_get}
+use Rattle.std.specs.Prelude.{Option, Some, None, option_map, Result, Ok, Err, ok_or}
 use Rattle.std.specs.List.{starts_with}
 use Rattle.std.specs.Option.{option_map_or}
 use Rattle.std.specs.Result.{result_ok}

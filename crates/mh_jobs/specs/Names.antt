@@ -5,7 +5,7 @@ use Rattle.mh_values.specs.declared.class.ClassId.{ClassId}
 use Rattle.mh_values.specs.declared.descriptor.DescriptorError.{DescriptorError}
 use Rattle.mh_values.specs.declared.types.Ty.{Ty}
 use Rattle.mh_values.specs.declared.types.MethodTy.{MethodTy}
-use Rattle.mh_values.specs.declared.value.ExcParts.{ExcParts}
+use Rattle.mh_values.specs.declared.value.Exc.{Exc}
 use Rattle.mh_values.specs.declared.value.LeafId.{LeafId}
 use Rattle.mh_values.specs.Classes.{class_named}
 use Rattle.mh_values.specs.Descriptor.{desc, type_desc, types_desc}
@@ -46,7 +46,7 @@ method_type_of_text says classes text = meaning says text (desc classes text)
 -- ---- leaves
 
 -- what is thrown where no leaf has this name: its class is missing, or the method alone
-abbrev pub missing : Says → MethodName → Missing → ExcParts
+abbrev pub missing : Says → MethodName → Missing → Exc
 missing says m NoClass = no_class says m.owner
 missing says m NoMethod = no_method says m
 

@@ -4,7 +4,7 @@ use Rattle.mh_values.specs.declared.class.Class.{Class}
 use Rattle.mh_values.specs.declared.class.ClassId.{ClassId}
 use Rattle.mh_values.specs.declared.descriptor.DescriptorError.{DescriptorError}
 use Rattle.mh_values.specs.declared.descriptor.DescriptorError.TheVariants as descriptor
-use Rattle.mh_values.specs.declared.value.ExcParts.{ExcParts}
+use Rattle.mh_values.specs.declared.value.Exc.{Exc}
 use Rattle.mh_values.specs.Class.{class_at, is_subclass}
 use Rattle.mh_values.specs.Exception.{saying}
 use Rattle.mh_class_bytes.specs.Chars.{shown_text}
@@ -15,7 +15,7 @@ use Rattle.mh_script.specs.declared.script.MethodName.{MethodName}
 
 -- a value, or an exception that is thrown in its place
 abbrev pub OrThrown : Type 0 → Type 0
-OrThrown A = Result A ExcParts
+OrThrown A = Result A Exc
 
 infixl 10 ◌>>=◌
 -- goes on with a value; what is thrown ends all
@@ -24,7 +24,7 @@ abbrev pub ◌>>=◌ : {A B : Type 0} → OrThrown A → (A → OrThrown B) → 
 (Err e) >>= next = Err e
 
 -- nothing, where the condition holds; else what is thrown
-abbrev pub require : Bool → ExcParts → OrThrown (Unit {0})
+abbrev pub require : Bool → Exc → OrThrown (Unit {0})
 require true e = Ok tt
 require false e = Err e
 
@@ -81,20 +81,20 @@ method_text says m = says m.owner ++ codes "." ++ says m.name ++ codes ":" ++ sa
 -- ---- exceptions
 
 -- no class has this name
-abbrev pub no_class : Says → List ℕ → ExcParts
+abbrev pub no_class : Says → List ℕ → Exc
 no_class says name = saying no_class_def_found_class (says name)
 
 -- no method has this name
-abbrev pub no_method : Says → MethodName → ExcParts
+abbrev pub no_method : Says → MethodName → Exc
 no_method says m = saying no_such_method_class (method_text says m)
 
 -- what is left out
-abbrev pub unsupported : List ℕ → ExcParts
+abbrev pub unsupported : List ℕ → Exc
 unsupported word = saying unsupported_class word
 
 -- a descriptor that has no type: it names an unknown class, or a type that is left out, whichever stands first;
 -- a text that is no descriptor is the name of no class
-abbrev pub no_type : Says → List ℕ → DescriptorError → ExcParts
+abbrev pub no_type : Says → List ℕ → DescriptorError → Exc
 no_type says text (descriptor.NoClass at len) = no_class says (take len (drop at text))
 no_type says text (descriptor.Unsupported at) = unsupported (codes "type")
 no_type says text _ = no_class says text
@@ -102,9 +102,9 @@ no_type says text _ = no_class says text
 -- ---- what is recorded
 
 -- an exception as the cause of a BootstrapMethodError
-abbrev pub caused : ExcParts → ExcParts
+abbrev pub caused : Exc → Exc
 caused e = record { class = bootstrap_method_error_class; message = []; cause = Some (record { class = e.class; message = e.message }) }
 
 -- what is recorded of an exception: itself, where it is an Error, and else a BootstrapMethodError that it caused (JVMS SE 17, 5.4.3.6)
-abbrev pub recorded : List Class → ExcParts → ExcParts
+abbrev pub recorded : List Class → Exc → Exc
 recorded classes e = if is_subclass classes e.class error_class then e else caused e

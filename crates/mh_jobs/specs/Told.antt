@@ -1,18 +1,18 @@
 -- What resolution answers.
 use Rattle.std.specs.Prelude.{◌≡◌, Result, Ok, Err}
 use Rattle.mh_base.specs.declared.memory.NoMemory.{NoMemory as OutOfMemory}
-use Rattle.mh_values.specs.declared.value.ExcParts.{ExcParts}
+use Rattle.mh_values.specs.declared.value.Exc.{Exc}
 use Rattle.mh_jobs.specs.declared.error.ResolutionError.{ResolutionError}
 use Rattle.mh_jobs.specs.declared.error.ResolutionError.TheVariants.{NoMemory, Thrown}
 use Rattle.mh_jobs.specs.Thrown.{OrThrown}
 
 -- an exception that was made, or the want of memory for it
-abbrev pub error_of : Result ExcParts OutOfMemory → ResolutionError
+abbrev pub error_of : Result Exc OutOfMemory → ResolutionError
 error_of (Ok e) = Thrown e
 error_of (Err u) = NoMemory
 
 -- this exception; want of memory tells nothing
-abbrev pub Throws : ResolutionError → ExcParts → Type 0
+abbrev pub Throws : ResolutionError → Exc → Type 0
 Throws NoMemory e = Unit {0}
 Throws (Thrown told) e = e ≡ told
 

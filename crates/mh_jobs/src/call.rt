@@ -43,7 +43,7 @@ fn constant<'b>(view: &ClassView<'b>, bootstrap: u16, k: u16) -> Constant<'b>
 }
 
 /// The static arguments of a bootstrap method.
-#[tactic(auto, using(crate::proofs::Arguments::next_read, crate::proofs::Arguments::read_stops, crate::proofs::Arguments::all_read))]
+#[tactic(auto, using(crate::proofs::Arguments::reading))]
 fn arguments_of(
     alloc: Global,
     from: &Resolving<'_, '_>,
