@@ -4,4 +4,5 @@ pub mod Numbering
 pub mod Parts
 pub mod Recorded
 pub mod Telling
+pub mod ReadOnce
 mod WorkedJobs

@@ -3,3 +3,4 @@ pub mod Jobs
 pub mod Names
 pub mod Thrown
 pub mod Told
+pub mod Types

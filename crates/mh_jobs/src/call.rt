@@ -6,12 +6,13 @@ use crate::argument::{argument_of, text_of};
 use crate::error::ResolutionError;
 use crate::names::script_of;
 use crate::thrown::unsupported;
+use crate::types::TypeOrThrown;
 use crate::{Argument, BootstrapCall};
 use mh_base::{Copied, Seq, Shared};
 use mh_classfile::{ClassView, Constant, HandleRef, SiteView};
 use mh_leaves::Leaves;
 use mh_script::{ScriptId, Scripts};
-use mh_values::{Exc, MethodTy};
+use mh_values::MethodTy;
 use std::alloc::Global;
 
 /// What the call sites of a class are resolved with.
@@ -21,9 +22,6 @@ pub(crate) struct Resolving<'a, 'b> {
     pub scripts: &'a Scripts,
     pub leaves: &'a Leaves,
 }
-
-/// The type of a call site, or what is thrown in its place.
-pub(crate) type SiteType = Result<Shared<MethodTy>, Exc>;
 
 /// The number of static arguments of a bootstrap method.
 fn count(view: &ClassView<'_>, bootstrap: u16) -> u16
@@ -78,7 +76,7 @@ fn bootstrap_script(
 }
 
 /// A type that was read, once more.
-fn shared(alloc: Global, ty: &SiteType) -> Result<Shared<MethodTy>, ResolutionError>
+fn shared(alloc: Global, ty: &TypeOrThrown) -> Result<Shared<MethodTy>, ResolutionError>
     ensures { Tells result ty.now }
 {
     match ty {
@@ -92,7 +90,7 @@ fn call_of(
     alloc: Global,
     from: &Resolving<'_, '_>,
     site: &SiteView<'_>,
-    ty: &SiteType,
+    ty: &TypeOrThrown,
     handle: &HandleRef<'_>,
 ) -> Result<BootstrapCall, ResolutionError>
     requires ty { ty.now ≡ site_type from.now.leaves.now.classes site.now }
@@ -117,7 +115,7 @@ pub(crate) fn bootstrap_call(
     alloc: Global,
     from: &Resolving<'_, '_>,
     site: &SiteView<'_>,
-    ty: &SiteType,
+    ty: &TypeOrThrown,
 ) -> Result<BootstrapCall, ResolutionError>
     requires { ty.now ≡ site_type from.now.leaves.now.classes site.now }
     ensures { Tells result (bootstrap_call from.now.leaves.now from.now.scripts.now

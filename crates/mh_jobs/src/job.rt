@@ -2,14 +2,14 @@ ghost use Rattle.std.specs.Prelude.{◌≡◌, ◌<◌, length, Some, IfOk};
 ghost use Rattle.std.specs.Option.{option_copied};
 ghost use Rattle.mh_jobs.specs.Job.{bootstrap_call, job_of, site_job, site_type};
 
-use crate::call::{Resolving, SiteType, bootstrap_call};
+use crate::call::{Resolving, bootstrap_call};
 use crate::error::ResolutionError;
-use crate::names::method_type_of_text;
+use crate::types::{TypeOrThrown, read_type};
 use mh_base::{NoMemory, Seq, Shared};
 use mh_classfile::{ClassView, SiteView};
 use mh_leaves::Leaves;
 use mh_script::{ScriptId, Scripts};
-use mh_values::{Classes, Exc, LeafId, MethodTy, Str, Ty, Value};
+use mh_values::{Exc, LeafId, MethodTy, Str, Ty, Value};
 use std::alloc::Global;
 
 /// A static argument of a bootstrap method (JVMS SE 17, 5.4.3.6).
@@ -64,23 +64,12 @@ impl Job {
     }
 }
 
-/// The type of a call site.
-fn site_type(alloc: Global, classes: &Classes, site: &SiteView<'_>) -> Result<SiteType, NoMemory>
-    ensures { IfOk result (λ ty. ty ≡ site_type classes.now site.now) }
-{
-    match method_type_of_text(alloc, classes, site.descriptor.bytes()) {
-        Ok(ty) => Ok(Ok(ty)),
-        Err(ResolutionError::Thrown(exc)) => Ok(Err(exc)),
-        Err(ResolutionError::NoMemory) => Err(NoMemory),
-    }
-}
-
 /// What a call site of a type calls, or what is thrown in its place.
 fn call_or_thrown(
     alloc: Global,
     from: &Resolving<'_, '_>,
     site: &SiteView<'_>,
-    ty: &SiteType,
+    ty: &TypeOrThrown,
 ) -> Result<Result<BootstrapCall, Exc>, NoMemory>
     requires { ty.now ≡ site_type from.now.leaves.now.classes site.now }
     ensures { IfOk result (λ call. call ≡ bootstrap_call from.now.leaves.now from.now.scripts.now
@@ -93,17 +82,18 @@ fn call_or_thrown(
     }
 }
 
-/// The job of a call site, which has a number in the run.
+/// The job of a call site of a type, which has a number in the run.
 pub(crate) fn site_job(
     alloc: Global,
     from: &Resolving<'_, '_>,
     number: u32,
     site: &SiteView<'_>,
+    ty: TypeOrThrown,
 ) -> Result<Job, NoMemory>
+    requires { ty ≡ site_type from.now.leaves.now.classes site.now }
     ensures { IfOk result (λ made. made ≡ site_job from.now.leaves.now from.now.scripts.now
         from.now.view.now number site.now) }
 {
-    let ty = site_type(alloc, from.leaves.classes(), site)?;
     let call = call_or_thrown(alloc, from, site, &ty)?;
     Ok(Job {
         site: number,
@@ -136,5 +126,7 @@ pub fn job_of(
         scripts,
         leaves,
     };
-    site_job(alloc, &from, site, &view.site(k))
+    let at = view.site(k);
+    let ty = read_type(alloc, leaves.classes(), at.descriptor.bytes())?;
+    site_job(alloc, &from, site, &at, ty)
 }

@@ -4,6 +4,7 @@ ghost use Rattle.mh_jobs.specs.Jobs.{with_class};
 use crate::Job;
 use crate::call::Resolving;
 use crate::job::site_job;
+use crate::types::{no_types, read_once};
 use mh_base::{NoMemory, Seq};
 use mh_classfile::ClassView;
 use mh_leaves::Leaves;
@@ -72,7 +73,7 @@ impl Jobs {
 }
 
 /// These jobs and those of the call sites of one more class, numbered on. A call site that no `u32`
-/// can number is want of memory.
+/// can number is want of memory. Equal descriptors of the class are read once.
 #[tactic(auto, using(crate::proofs::Numbering::next_made, crate::proofs::Numbering::all_made))]
 pub fn push_jobs(
     alloc: Global,
@@ -89,9 +90,13 @@ pub fn push_jobs(
         leaves,
     };
     let mut all = jobs;
+    let mut types = no_types(alloc);
     for k in 0..view.sites() {
         let number = next_number(all.len())?;
-        let job = site_job(alloc, &from, number, &view.site(k))?;
+        let site = view.site(k);
+        let read = read_once(alloc, leaves.classes(), types, site.descriptor.bytes())?;
+        types = read.0;
+        let job = site_job(alloc, &from, number, &site, read.1)?;
         all.push(job)?;
     }
     Ok(all)

@@ -8,6 +8,7 @@ mod job;
 mod jobs;
 mod names;
 mod thrown;
+mod types;
 
 pub use job::{Argument, BootstrapCall, Job, job_of};
 pub use jobs::{Jobs, push_jobs};
