@@ -1,0 +1,4 @@
+pub mod Linked
+pub mod Made
+pub mod Operands
+pub mod Operations

@@ -1,0 +1,102 @@
+-- What an attempt links at a call site: a script's lines folded over its registers, and what is recorded of how they end (JVMS SE 17, 5.4.3.6).
+use Rattle.std.specs.Prelude.{ℕ, ◌%◌, ◌==◌, not, List, [], ◌∷◌, codes, pos, Ok, Err, ok_or, slice_get}
+use Rattle.mh_values.specs.declared.class.Class.{Class}
+use Rattle.mh_values.specs.declared.types.MethodTy.{MethodTy}
+use Rattle.mh_values.specs.declared.value.Exc.{Exc}
+use Rattle.mh_values.specs.declared.value.Num.TheVariants as num
+use Rattle.mh_values.specs.declared.value.Value.TheVariants as values
+use Rattle.mh_values.specs.declared.value.Value.{Value}
+use Rattle.mh_values.specs.Class.{is_subclass, throwable_class, illegal_argument_class}
+use Rattle.mh_values.specs.Computation.{Threw}
+use Rattle.mh_values.specs.Exception.{bare, saying}
+use Rattle.mh_values.specs.Same.{is_same_method_type}
+use Rattle.mh_leaf.specs.LeafTable.{LeafTable}
+use Rattle.mh_tree.specs.Tree.{Tree}
+use Rattle.mh_tree.specs.Rows.{illegal, mismatch}
+use Rattle.mh_tree.specs.Typing.{type_of, held}
+use Rattle.mh_tree.specs.Meaning.{Done, mean}
+use Rattle.mh_jobs.specs.declared.job.BootstrapCall.{BootstrapCall}
+use Rattle.mh_jobs.specs.declared.job.Job.{Job}
+use Rattle.mh_script.specs.declared.script.End.{End}
+use Rattle.mh_script.specs.declared.script.End.TheVariants as end
+use Rattle.mh_script.specs.declared.script.Script.{Script}
+use Rattle.mh_script.specs.declared.script.Step.{Step}
+use Rattle.mh_script.specs.declared.script.Step.TheVariants as step
+use Rattle.mh_jobs.specs.Names.{class_of}
+use Rattle.mh_link.specs.Operands.{Content, handle, value, Frame, handle_in}
+use Rattle.mh_link.specs.Operations.{node_of}
+use Rattle.mh_jobs.specs.Thrown.{OrThrown, ◌>>=◌, ◌>>◌, require, plainly, recorded, runtime_class}
+
+-- ---- lines
+
+-- a register gets something
+abbrev pub assigning : List ℕ → Content → Frame → Frame
+assigning name content frame = record frame { assigned = (name, content) ∷ frame.assigned }
+
+-- a line before the last one
+abbrev pub stepped : LeafTable → Step → Frame → OrThrown Frame
+stepped leaves (step.Let name op) frame = do
+  t ← node_of leaves frame op
+  Ok (assigning name (handle t) frame)
+stepped leaves (step.Serial name) frame = Ok (assigning name (value (values.Boxed (num.J (pos frame.serial)))) frame)
+stepped leaves (step.FailMod modulus remainder) frame = do
+  require (not (frame.serial % modulus == remainder)) (saying runtime_class (codes "failmod"))
+  Ok frame
+
+-- the last line: the target, whose type must be the site's, or an exception
+abbrev pub ended : LeafTable → End → Frame → OrThrown Tree
+ended leaves (end.Return h) frame = do
+  t ← handle_in frame h
+  own ← type_of leaves t
+  require (is_same_method_type own frame.call.ty) (mismatch leaves.classes own frame.call.ty)
+  Ok t
+ended leaves (end.Raise class message) frame = do
+  c ← class_of plainly leaves.classes class
+  require (is_subclass leaves.classes c throwable_class) (illegal (codes "raise"))
+  Err (saying c message)
+
+-- the lines from where a script stands; the first that throws ends it
+abbrev pub ran : LeafTable → List Step → End → Frame → OrThrown Tree
+ran leaves [] e frame = ended leaves e frame
+ran leaves (s ∷ steps) e frame = stepped leaves s frame >>= ran leaves steps e
+
+-- ---- attempts
+
+-- the script that is called; that of a job is always there
+abbrev pub called_script : List Script → BootstrapCall → OrThrown Script
+called_script scripts call = ok_or (slice_get scripts call.script.0) (bare illegal_argument_class)
+
+-- a script before its first line, in the attempt of a serial number
+abbrev pub at_start : BootstrapCall → ℕ → Frame
+at_start call serial = record { call = call; serial = serial; assigned = [] }
+
+-- the target of an attempt to link a job's site, or what is thrown
+abbrev pub outcome : LeafTable → List Script → Job → ℕ → OrThrown Tree
+outcome leaves scripts job serial = do
+  call ← job.call
+  script ← called_script scripts call
+  ran leaves script.steps script.end (at_start call serial)
+
+-- what is recorded at a site: the target of all calls, or the error that all throw
+pub data Linked : Type 0 where
+  Target : Tree → Linked
+  Error : Exc → Linked
+
+-- an outcome as it is recorded
+abbrev pub linkage : List Class → OrThrown Tree → Linked
+linkage classes (Ok t) = Target t
+linkage classes (Err e) = Error (recorded classes e)
+
+-- what the attempt of a serial number links at a job's site
+abbrev pub linked : LeafTable → List Script → Job → ℕ → Linked
+linked leaves scripts job serial = linkage leaves.classes (outcome leaves scripts job serial)
+
+-- a call of a site: of its target, or the recorded error without a leaf call
+abbrev pub site_call : LeafTable → Linked → List Value → Done
+site_call leaves (Target t) args = mean leaves t args 0
+site_call leaves (Error e) args = Threw e []
+
+-- the types that what is linked holds
+abbrev pub held_by : LeafTable → Linked → List MethodTy
+held_by leaves (Target t) = held leaves t
+held_by leaves (Error e) = []

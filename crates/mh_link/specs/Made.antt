@@ -1,0 +1,102 @@
+-- What an attempt makes: nodes, and the recipes that forms are asked for.
+use Rattle.std.specs.Prelude.{ℕ, List, [], ◌∷◌, ◌++◌, map, flat_map, Option, Some, slice_get, Ok, Err}
+use Rattle.mh_values.specs.declared.types.MethodTy.{MethodTy}
+use Rattle.mh_leaf.specs.LeafTable.{LeafTable}
+use Rattle.mh_tree.specs.Tree.{Tree}
+use Rattle.mh_tree.specs.Tree as tree
+use Rattle.mh_tree.specs.Typing.{type_of, held_before}
+use Rattle.mh_jobs.specs.declared.job.Argument.{Argument}
+use Rattle.mh_jobs.specs.declared.job.Argument.TheVariants as argument
+use Rattle.mh_jobs.specs.declared.job.Job.{Job}
+use Rattle.mh_script.specs.declared.operand.Register.{Register}
+use Rattle.mh_script.specs.declared.operand.Register.TheVariants as register
+use Rattle.mh_script.specs.declared.script.End.{End}
+use Rattle.mh_script.specs.declared.script.End.TheVariants as end
+use Rattle.mh_script.specs.declared.script.Operation.{Operation}
+use Rattle.mh_script.specs.declared.script.Operation.TheVariants as operation
+use Rattle.mh_script.specs.declared.script.Script.{Script}
+use Rattle.mh_script.specs.declared.script.Step.{Step}
+use Rattle.mh_script.specs.declared.script.Step.TheVariants as step
+use Rattle.mh_link.specs.Linked.{stepped, ended, called_script, at_start}
+use Rattle.mh_link.specs.Operands.{Frame}
+use Rattle.mh_link.specs.Operations.{node_of}
+use Rattle.mh_jobs.specs.Thrown.{OrThrown}
+
+-- ---- the nodes of a line
+
+-- the registers of an operation that stand for method handles
+abbrev pub handles_of : Operation → List Register
+handles_of (operation.Bind h place v) = h ∷ []
+handles_of (operation.Drop h place types) = h ∷ []
+handles_of (operation.Permute h ty order) = h ∷ []
+handles_of (operation.Filter h place f) = h ∷ f ∷ []
+handles_of (operation.FilterReturn h f) = h ∷ f ∷ []
+handles_of (operation.Fold h place f) = h ∷ f ∷ []
+handles_of (operation.Collect h place f) = h ∷ f ∷ []
+handles_of (operation.Spread h ty count) = h ∷ []
+handles_of (operation.Gather h ty count) = h ∷ []
+handles_of (operation.AsType h ty) = h ∷ []
+handles_of (operation.Guard c h e) = c ∷ h ∷ e ∷ []
+handles_of (operation.Catch h class f) = h ∷ f ∷ []
+handles_of _ = []
+
+-- the node of a static argument that is a leaf
+abbrev pub leaf_among : Option Argument → List Tree
+leaf_among (Some (argument.Leaf l)) = tree.Leaf l ∷ []
+leaf_among _ = []
+
+-- the node that the use of a register makes: that of a static argument that is a leaf, since all others were made before
+abbrev pub node_of_use : Frame → Register → List Tree
+node_of_use frame (register.Argument n) = leaf_among (slice_get frame.call.arguments n)
+node_of_use frame _ = []
+
+-- the nodes that the uses of registers make
+abbrev pub nodes_of_uses : Frame → List Register → List Tree
+nodes_of_uses frame used = flat_map (node_of_use frame) used
+
+-- the register whose method handle is returned
+abbrev pub returned : End → List Register
+returned (end.Return h) = h ∷ []
+returned (end.Raise class message) = []
+
+-- the nodes that an operation makes itself: its own, and for a spread, before it, the use of its part as another type
+abbrev pub nodes_of : Tree → List Tree
+nodes_of (tree.Spread t array count) = t ∷ tree.Spread t array count ∷ []
+nodes_of t = t ∷ []
+
+-- ---- the nodes of an attempt
+
+-- none where an exception is thrown
+abbrev pub unless_thrown : {A : Type 0} → OrThrown A → (A → List Tree) → List Tree
+unless_thrown (Ok a) made = made a
+unless_thrown (Err e) made = []
+
+-- the nodes that a line makes before the last one: a line that throws makes none
+abbrev pub nodes_of_step : LeafTable → Step → Frame → List Tree
+nodes_of_step leaves (step.Let name op) frame = unless_thrown (node_of leaves frame op) (λ t. nodes_of_uses frame (handles_of op) ++ nodes_of t)
+nodes_of_step leaves _ frame = []
+
+-- the nodes that the lines make from where a script stands, up to the one that throws
+abbrev pub nodes_from : LeafTable → List Step → End → Frame → List Tree
+nodes_from leaves [] e frame = unless_thrown (ended leaves e frame) (λ t. nodes_of_uses frame (returned e))
+nodes_from leaves (s ∷ steps) e frame = nodes_of_step leaves s frame ++ unless_thrown (stepped leaves s frame) (nodes_from leaves steps e)
+
+-- the nodes that the attempt of a serial number makes; some may stand there twice
+abbrev pub nodes : LeafTable → List Script → Job → ℕ → List Tree
+nodes leaves scripts job serial =
+    unless_thrown job.call (λ call. unless_thrown (called_script scripts call) (λ script. nodes_from leaves script.steps script.end (at_start call serial)))
+
+-- ---- what is asked for
+
+-- the types of nodes
+abbrev pub types_of : LeafTable → List Tree → List MethodTy
+types_of leaves made = flat_map (λ t. held_before (type_of leaves t) []) made
+
+-- the beginnings of a list, without the empty one
+abbrev pub beginnings : {A : Type 0} → List A → List (List A)
+beginnings [] = []
+beginnings (x ∷ xs) = (x ∷ []) ∷ map (λ front. x ∷ front) (beginnings xs)
+
+-- the edits of an attempt, where each tree has a recipe: all beginnings of the recipes of the nodes that it makes
+abbrev pub edits : {K : Type 0} → (Tree → List K) → LeafTable → List Script → Job → ℕ → List (List K)
+edits recipe leaves scripts job serial = flat_map (λ t. beginnings (recipe t)) (nodes leaves scripts job serial)

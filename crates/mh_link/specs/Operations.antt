@@ -1,0 +1,103 @@
+-- What each operation of a script makes: a tree of its operands, if that has a type.
+use Rattle.std.specs.Prelude.{ℕ, nat_le, ◌&&◌, length, codes, Option, is_some, Ok}
+use Rattle.mh_values.specs.declared.types.Ty.{Ty}
+use Rattle.mh_values.specs.declared.types.MethodTy.{MethodTy}
+use Rattle.mh_leaf.specs.LeafTable.{LeafTable}
+use Rattle.mh_leaves.specs.declared.naming.How.TheVariants.{Any}
+use Rattle.mh_tree.specs.Tree.{Tree}
+use Rattle.mh_tree.specs.Tree as tree
+use Rattle.mh_tree.specs.Rows.{component_of, illegal}
+use Rattle.mh_tree.specs.Typing.{type_of}
+use Rattle.mh_tree.specs.Use.{used_as, items_used_as}
+use Rattle.mh_script.specs.declared.script.Operation.{Operation}
+use Rattle.mh_script.specs.declared.script.Operation.TheVariants as operation
+use Rattle.mh_link.specs.Operands.{Frame, handle_in, value_in, type_in, method_type_in}
+use Rattle.mh_jobs.specs.Names.{class_of, types_of_text, leaf_named}
+use Rattle.mh_jobs.specs.Thrown.{OrThrown, ◌>>=◌, ◌>>◌, require, plainly}
+
+-- a tree that is used as a type
+abbrev pub use_of : LeafTable → Tree → MethodTy → OrThrown Tree
+use_of leaves t asked = do
+  own ← type_of leaves t
+  Ok (used_as own asked t)
+
+-- a spread of a tree, which is used as the type that takes the array's items
+abbrev pub spread_of : LeafTable → Tree → Option Ty → ℕ → OrThrown Tree
+spread_of leaves t array count = do
+  own ← type_of leaves t
+  require (is_some (component_of array) && nat_le count (length own.params)) (illegal (codes "spread"))
+  Ok (tree.Spread (items_used_as own array count t) array count)
+
+-- the tree that an operation asks for: its operands, from left to right
+abbrev pub asked_by : LeafTable → Frame → Operation → OrThrown Tree
+asked_by leaves frame (operation.Leaf method) = do
+  l ← leaf_named plainly leaves Any method
+  Ok (tree.Leaf l)
+asked_by leaves frame (operation.Constant ty v) = do
+  t ← type_in leaves.classes frame ty
+  w ← value_in frame v
+  Ok (tree.Constant t w)
+asked_by leaves frame (operation.Identity ty) = do
+  t ← type_in leaves.classes frame ty
+  Ok (tree.Identity t)
+asked_by leaves frame (operation.Throw ret class) = do
+  t ← type_in leaves.classes frame ret
+  c ← class_of plainly leaves.classes class
+  Ok (tree.Throw t c)
+asked_by leaves frame (operation.Bind h place v) = do
+  t ← handle_in frame h
+  w ← value_in frame v
+  Ok (tree.Bind t place w)
+asked_by leaves frame (operation.Drop h place types) = do
+  t ← handle_in frame h
+  ts ← types_of_text plainly leaves.classes types
+  Ok (tree.Drop t place ts)
+asked_by leaves frame (operation.Permute h ty order) = do
+  t ← handle_in frame h
+  asked ← method_type_in leaves.classes frame ty
+  Ok (tree.Permute t asked order)
+asked_by leaves frame (operation.Filter h place f) = do
+  t ← handle_in frame h
+  filter ← handle_in frame f
+  Ok (tree.FilterArg t place filter)
+asked_by leaves frame (operation.FilterReturn h f) = do
+  t ← handle_in frame h
+  filter ← handle_in frame f
+  Ok (tree.FilterRet t filter)
+asked_by leaves frame (operation.Fold h place f) = do
+  t ← handle_in frame h
+  combiner ← handle_in frame f
+  Ok (tree.Fold t place combiner)
+asked_by leaves frame (operation.Collect h place f) = do
+  t ← handle_in frame h
+  filter ← handle_in frame f
+  Ok (tree.Collect t place filter)
+asked_by leaves frame (operation.Spread h ty count) = do
+  t ← handle_in frame h
+  array ← type_in leaves.classes frame ty
+  spread_of leaves t array count
+asked_by leaves frame (operation.Gather h ty count) = do
+  t ← handle_in frame h
+  array ← type_in leaves.classes frame ty
+  Ok (tree.Gather t array count)
+asked_by leaves frame (operation.AsType h ty) = do
+  t ← handle_in frame h
+  asked ← method_type_in leaves.classes frame ty
+  use_of leaves t asked
+asked_by leaves frame (operation.Guard c h e) = do
+  test ← handle_in frame c
+  target ← handle_in frame h
+  fallback ← handle_in frame e
+  Ok (tree.Guard test target fallback)
+asked_by leaves frame (operation.Catch h class f) = do
+  target ← handle_in frame h
+  c ← class_of plainly leaves.classes class
+  handler ← handle_in frame f
+  Ok (tree.Catch target c handler)
+
+-- the node that an operation makes: the tree that it asks for, which must have a type
+abbrev pub node_of : LeafTable → Frame → Operation → OrThrown Tree
+node_of leaves frame op = do
+  t ← asked_by leaves frame op
+  own ← type_of leaves t
+  Ok t

@@ -1,0 +1,2 @@
+//! What an attempt links at a call site, and what it makes for that.
+#![tactic(auto)]
