@@ -1,8 +1,10 @@
 pub mod Arguments
+pub mod Bootstraps
 pub mod Host
 pub mod Numbering
 pub mod Parts
-pub mod Recorded
-pub mod Telling
 pub mod ReadOnce
+pub mod Recorded
+pub mod Spelled
+pub mod Telling
 mod WorkedJobs
