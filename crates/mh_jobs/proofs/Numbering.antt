@@ -41,3 +41,10 @@ all_made leaves scripts class before all k made h =
 pub one_more_class : (leaves : LeafTable) (scripts : List Script) (classes : List class_file.Class) (class : class_file.Class) →
     jobs_of leaves scripts (classes ++ class ∷ []) ≡ with_class leaves scripts (jobs_of leaves scripts classes) class
 one_more_class leaves scripts classes class = fold-append (with_class leaves scripts) [] classes (class ∷ [])
+
+-- jobs of classes that become those of one more class
+pub more_classes : (leaves : LeafTable) (scripts : List Script) (class : class_file.Class) (before all : List Job) →
+    all ≡ with_class leaves scripts before class → (classes : List class_file.Class) → before ≡ jobs_of leaves scripts classes →
+    all ≡ jobs_of leaves scripts (classes ++ class ∷ [])
+more_classes leaves scripts class before all is classes are =
+    is ∙ ap (λ (jobs : List Job). with_class leaves scripts jobs class) are ∙ sym (one_more_class leaves scripts classes class)

@@ -1,5 +1,6 @@
-ghost use Rattle.std.specs.Prelude.{◌≡◌, ◌<◌, [], ◌∷◌, ◌++◌, length, slice_get, Some, IfOk, OnOk};
-ghost use Rattle.mh_jobs.specs.Jobs.{with_class};
+ghost use Rattle.std.specs.Prelude.{◌≡◌, ◌<◌, List, [], ◌∷◌, ◌++◌, length, slice_get, Some, IfOk, OnOk};
+ghost use Rattle.mh_classfile.specs.Class.{Class};
+ghost use Rattle.mh_jobs.specs.Jobs.{jobs_of, with_class};
 
 use crate::Job;
 use crate::call::Resolving;
@@ -74,7 +75,7 @@ impl Jobs {
 
 /// These jobs and those of the call sites of one more class, numbered on. A call site that no `u32`
 /// can number is want of memory. Equal descriptors of the class are read once.
-#[tactic(auto, using(crate::proofs::Numbering::next_made, crate::proofs::Numbering::all_made))]
+#[tactic(auto, using(crate::proofs::Numbering::all_made, crate::proofs::Numbering::more_classes))]
 pub fn push_jobs(
     alloc: Global,
     jobs: Jobs,
@@ -82,7 +83,11 @@ pub fn push_jobs(
     scripts: &Scripts,
     leaves: &Leaves,
 ) -> Result<Jobs, NoMemory>
-    ensures { IfOk result (λ all. all ≡ with_class leaves.now scripts.now jobs view.now) }
+    ensures more { IfOk result (λ all. all ≡ with_class leaves.now scripts.now jobs view.now) }
+
+    // The jobs of classes become those of the classes and this one.
+    ensures run { (classes : List Class) → jobs ≡ jobs_of leaves.now scripts.now classes
+        → IfOk result (λ all. all ≡ jobs_of leaves.now scripts.now (classes ++ view.now ∷ [])) }
 {
     let from = Resolving {
         view,
