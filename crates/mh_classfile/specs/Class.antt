@@ -1,5 +1,5 @@
 -- What a class is: its constants, its call sites and its bootstrap methods (JVMS 4.4, 4.7.23).
-use Rattle.std.specs.Prelude.{ℕ, ◌+◌, ◌*◌, ◌^◌, List, [], map, Option, Some, None, unwrap_or}
+use Rattle.std.specs.Prelude.{◌≡◌, ℕ, ◌+◌, ◌*◌, ◌^◌, ◌<◌, List, [], length, map, slice_get, Option, Some, None, unwrap_or}
 use Rattle.std.specs.Int.{cast_signed, w32, w64}
 use Rattle.mh_class_pool.specs.declared.entry.Entry.TheVariants as entries
 use Rattle.mh_class_pool.specs.Entries.{Slot, slot, text}
@@ -105,3 +105,7 @@ class_of pool sites rows = record {
   sites = map (site_view pool) sites;
   bootstraps = map (bootstrap_of pool) rows;
 }
+
+-- each call site of a class names a bootstrap method that is there (JVMS 4.4.10, 4.7.23)
+abbrev pub HasBootstraps : Class → Type 0
+HasBootstraps class = (k : ℕ) (site : SiteView) → slice_get class.sites k ≡ Some site → site.bootstrap < length class.bootstraps

@@ -4,7 +4,7 @@ ghost use Rattle.mh_class_pool.specs.Answers.{Yields};
 ghost use Rattle.mh_class_pool.specs.Entries.{slot};
 ghost use Rattle.mh_class_pool.specs.References.{each};
 ghost use Rattle.mh_classfile.specs.Rows.{closed_of};
-ghost use Rattle.mh_classfile.specs.Class.{Class};
+ghost use Rattle.mh_classfile.specs.Class.{Class, HasBootstraps};
 ghost use Rattle.mh_classfile.specs.File.{header, has_bootstrap, rows_or_none, class_end, class_rest, class_body, class_read, IsClassFile, class_or_fault, IsEither};
 
 use crate::attributes::check_filled;
@@ -162,6 +162,9 @@ fn read_exact<'b>(alloc: Global, bytes: &'b [u8], room: u32) -> Result<ClassView
 pub fn read<'b>(alloc: Global, bytes: &'b [u8], room: u32) -> Result<ClassView<'b>, ClassError>
     // A view is the class of a class file.
     ensures found { IfOk result (λ v. IsClassFile room bytes.now v) }
+
+    // Each of its call sites has its bootstrap method.
+    ensures bootstraps { IfOk result (λ v. HasBootstraps v) }
 
     // A class file is accepted, unless memory runs out.
     ensures only { (c : Class) → IsClassFile room bytes.now c → Yields (λ v. v) result (Ok c) }

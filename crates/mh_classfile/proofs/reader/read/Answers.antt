@@ -4,6 +4,7 @@ use Rattle.mh_class_pool.specs.declared.fault.ClassKind.{ClassKind}
 use Rattle.mh_class_pool.specs.Answers.{Yields}
 use Rattle.mh_classfile.specs.Class.{Class}
 use Rattle.mh_classfile.proofs.FileLaw.{file_complete, is_found, either}
+use Rattle.mh_classfile.proofs.NamedBootstraps.{found-have}
 use Rattle.mh_classfile.proofs.reader.read.Goals as goal
 
 pub returns-clause-found : goal.returns-clause-found
@@ -15,3 +16,9 @@ returns-clause-only c = λ d s. subst (λ (r : Checked ClassKind Class). Yields 
 
 pub returns-clause-either : goal.returns-clause-either
 returns-clause-either c = either c.args.room c.args.bytes.now
+
+pub returns-clause-bootstraps : goal.returns-clause-bootstraps
+returns-clause-bootstraps c =
+    let bytes = c.args.bytes.now in
+    let result = c.read_exact.result in
+    found-have (λ v. v) c.args.room bytes result (is_found (λ v. v) c.args.room bytes result c.read_exact.ensures)
