@@ -5,6 +5,5 @@ pub mod Numbering
 pub mod Parts
 pub mod ReadOnce
 pub mod Recorded
-pub mod Spelled
 pub mod Telling
 mod WorkedJobs

@@ -96,7 +96,7 @@ arguments_of leaves (c ∷ constants) = do
 
 -- ---- jobs
 
--- the bootstrap method of a number; no class file lacks one that its call sites name (JVMS SE 17, 4.4.10), so no job of one has this exception
+-- the bootstrap method of a number; a class that was read has those that its call sites name (JVMS SE 17, 4.7.23), so no job of one has this exception
 abbrev pub bootstrap_at : class_file.Class → ℕ → OrThrown class_file.Bootstrap
 bootstrap_at class j = ok_or (slice_get class.bootstraps j) (unsupported (codes "constant"))
 
