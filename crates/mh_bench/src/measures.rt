@@ -17,7 +17,10 @@ pub(crate) enum Measure {
 }
 
 pub(crate) static MEASURES: [(&str, Measure); 16] = [
-    ("run-three-names", Measure::Handles(rows::Row::RunThreeNames)),
+    (
+        "run-three-names",
+        Measure::Handles(rows::Row::RunThreeNames),
+    ),
     ("edit-seen", Measure::Handles(rows::Row::EditSeen)),
     ("bind-seen", Measure::Handles(rows::Row::BindSeen)),
     ("drops-60", Measure::Handles(rows::Row::Drops60)),
