@@ -1,5 +1,5 @@
 //! Adapters of method handles: bound values, dropped and permuted arguments, and parts that run
-//! before or after a handle.
+//! before or after a handle. A call that makes none gives back the handles that it was handed.
 #![tactic(auto)]
 
 mod growths;

@@ -1,13 +1,14 @@
 mod ArrayAnswers
 mod ArrayFits
 mod ArrayShapes
-mod BranchAnswers
 mod Branching
+mod CatchAnswers
 mod CatchStands
 mod Computing
 mod GatherStands
 mod GatheredArrays
 mod Growing
+mod GuardAnswers
 mod GuardStands
 mod RootAnswers
 mod RootStands

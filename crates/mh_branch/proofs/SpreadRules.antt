@@ -55,7 +55,8 @@ module _ (classes : List Class) (t : MethodTy) (weight : ℕ) (array : Option Ty
       at-use s.component s.asked is.component is.within is.asked
       ∙ (ap (λ r. with_type r (λ a. spread_row a (use_weight t weight s.asked) array count)) is.used ∙ is.own)
 
-  refusal-obeys : (e : CheckError) → TellsSpreading classes t weight array count (Err e) → Obeys (spread_use_row classes t weight array count) (Err (of_check e))
+  refusal-obeys : (e : CheckError) → TellsSpreading classes t weight array count (Err e) →
+      Obeys (spread_use_row classes t weight array count) (Err (of_check e))
   refusal-obeys check.NoMemory tells = tt
   refusal-obeys (check.Refused e) tells = tells
 

@@ -91,7 +91,8 @@ spread-stands table h h' t array count c u are st row some grows =
     run (map erased items) k ≡ erased_ran (next items k) =
     λ items k given small.
     let whole : HaveTypes table.classes (spliced place 1 items args) h.ty.params =
-    types-splice table.classes args items h.ty.params (ty.Array c ∷ []) place count place-within have' (subst (HaveTypes table.classes items) (sym taken) given) in
+    types-splice table.classes args items h.ty.params (ty.Array c ∷ []) place count place-within have' (subst (HaveTypes table.classes
+    items) (sym taken) given) in
     ap (λ xs. run_on table old h.fields xs k) (sym (spliced-map erased place 1 items args)) ∙ st.runs (spliced place 1 items args) k whole small in
     let spreading : and_then (spread_slots count (erased v.0)) n run ≡ erased_ran (and_then (spread_values count v.0) n next) =
     ap (λ r. and_then r n run) (spread-erased table.classes c count v.0 v.2)

@@ -40,4 +40,5 @@ returns-in-Ok-clause-stands g c a st =
     c.args.w.now.leaves.now (tree.Bind a c.args.position c.args.value) c.grown.result c.grown.ensures.grows (λ h grows.
     bind-stands c.args.w.now.leaves.now c.args.target h a c.args.position c.args.value c.in-Ok.ensures.tells.1.fitting
     c.in-Ok.ensures.tells.1.param c.in-Ok.by.ty c.in-Ok.ensures.tells.0 c.in-Ok.ensures.tells.1.at c.in-Ok.ensures.tells.1.fits
-    (bind-fits c.args.w.now.leaves.now.classes c.args.target c.args.position c.args.value c.in-Ok.by.ty c.in-Ok.ensures.tells.0 c.in-Ok.ensures.shaped) grows st)
+    (bind-fits c.args.w.now.leaves.now.classes c.args.target c.args.position c.args.value c.in-Ok.by.ty c.in-Ok.ensures.tells.0
+    c.in-Ok.ensures.shaped) grows st)

@@ -20,7 +20,8 @@ grown-requires-clause-shaped g c =
 
 pub returns-in-Ok-clause-makes : goal.returns-in-Ok-clause-makes
 returns-in-Ok-clause-makes g c a st =
-    makes-node c.args.w.now.leaves.now c.args.target a st c.args.w.now c.grown.new.w c.grown.result c.in-Ok.by.key (key.Add c.args.position (map basic_of c.args.value_types.now))
+    makes-node c.args.w.now.leaves.now c.args.target a st c.args.w.now c.grown.new.w c.grown.result c.in-Ok.by.key (key.Add c.args.position
+    (map basic_of c.args.value_types.now))
     c.in-Ok.ensures.tells.1.key c.grown.ensures.makes
 
 pub returns-in-Ok-clause-handles : goal.returns-in-Ok-clause-handles

@@ -2,7 +2,7 @@ use Rattle.std.proofs.Common.{refl}
 use Rattle.mh_tree.specs.Tree as tree
 use Rattle.mh_handle.specs.Recipe.{recipe}
 use Rattle.mh_handle.proofs.Going.{goes_on-after, makes-after}
-use Rattle.mh_branch.proofs.BranchAnswers.{catch-answers, catch-fits-by, catch-gains, catch-light, catch-makes}
+use Rattle.mh_branch.proofs.CatchAnswers.{catch-answers, catch-fits-by, catch-gains, catch-light, catch-makes}
 use Rattle.mh_branch.proofs.branches.catch.Goals as goal
 
 pub branch_of-requires-clause-fits : goal.branch_of-requires-clause-fits
@@ -37,5 +37,6 @@ pub returns-in_ok-parts-in-Ok-clause-stands : goal.returns-in_ok-parts-in-Ok-cla
 returns-in_ok-parts-in-Ok-clause-stands g c a b stands handled =
     catch-answers c.args.w.now.leaves.now.classes c.args.target c.args.class c.args.handler c.in-Ok.branch.ty c.in-Ok.ensures.tells.0 c.in-Ok.branch refl
     c.in-Ok.ensures.tells.1 c.in-Ok.ensures.tells.2
-    c.in_ok-parts-in-Ok.parts c.in_ok-parts-in-Ok.ensures.parts c.args.w.now.leaves.now c.branch_of.result a b refl c.in-Ok.ensures.are c.branch_of.ensures.roots
+    c.in_ok-parts-in-Ok.parts c.in_ok-parts-in-Ok.ensures.parts c.args.w.now.leaves.now c.branch_of.result a b refl c.in-Ok.ensures.are
+    c.branch_of.ensures.roots
     stands handled

@@ -1,4 +1,4 @@
-use Rattle.mh_branch.proofs.BranchAnswers.{catch-few, catch-some}
+use Rattle.mh_branch.proofs.CatchAnswers.{catch-few, catch-some}
 use Rattle.mh_branch.proofs.branches.catch_branch.Goals as goal
 
 pub catch_key-requires : goal.catch_key-requires

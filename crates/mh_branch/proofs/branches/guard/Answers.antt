@@ -2,7 +2,7 @@ use Rattle.std.proofs.Common.{refl}
 use Rattle.mh_tree.specs.Tree as tree
 use Rattle.mh_handle.specs.Recipe.{recipe}
 use Rattle.mh_handle.proofs.Going.{goes_on-after, makes-after}
-use Rattle.mh_branch.proofs.BranchAnswers.{guard-answers, guard-fits-by, guard-gains, guard-light, guard-makes}
+use Rattle.mh_branch.proofs.GuardAnswers.{guard-answers, guard-fits-by, guard-gains, guard-light, guard-makes}
 use Rattle.mh_branch.proofs.branches.guard.Goals as goal
 
 pub branch_of-requires-clause-fits : goal.branch_of-requires-clause-fits

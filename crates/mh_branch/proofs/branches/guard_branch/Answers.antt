@@ -1,4 +1,4 @@
-use Rattle.mh_branch.proofs.BranchAnswers.{guard-few}
+use Rattle.mh_branch.proofs.GuardAnswers.{guard-few}
 use Rattle.mh_branch.proofs.branches.guard_branch.Goals as goal
 
 pub guard_key-requires : goal.guard_key-requires
