@@ -4,4 +4,5 @@ pub mod ReadOn
 pub mod Threads
 pub mod Fitting
 pub mod FoundCalls
+pub mod Counted
 pub mod Limits

@@ -94,8 +94,8 @@ fn call_generic<'t, R: Wait>(
 }
 
 /// Makes a call: by a handle of its leaf, as the first of its invocation. At most it draws a number
-/// for the form of the leaf and one for that of its use. Each handle that it makes is given back, also
-/// where no memory or no form was left.
+/// for the form of the leaf and one for that of its use. Each handle that it makes is given back,
+/// also where no memory or no form was left.
 pub fn call<'t, R: Wait>(w: &mut Work<'_, 't>, rt: &R, call: &Call) -> Result<Answer, WorkError>
     requires call { IsCallOf (leaves_of w.old) call.now }
     requires ready { IsReady w.old call_draws }

@@ -123,8 +123,8 @@ fn run_over<'t, R: Wait>(
 }
 
 /// Runs the calls of a plan, one thread after the other, over one table, which has numbers for
-/// 16,384 forms. The plan is one of these leaves and within the limits on threads and calls; there are
-/// no call sites, so none is linked.
+/// 16,384 forms. The plan is one of these leaves and within the limits on threads and calls; there
+/// are no call sites, so none is linked.
 pub fn run_plan<R: Wait>(
     rt: &R,
     alloc: Global,
