@@ -1,7 +1,6 @@
 //! Handles made by roots and adapters, which are given as texts.
 
 ghost use Rattle.std.specs.Prelude.{◌≡◌, ◌+◌, ◌-◌, ◌≤◌, length, IfOk, OnOk, OnErr};
-ghost use Rattle.mh_handle.specs.declared.error.HandleError.TheVariants.{NoMemory};
 ghost use Rattle.mh_handle.specs.Stands.{StandsForSome};
 ghost use Rattle.mh_handle.specs.Works.{CountsHandles, IsReady, IsUnchanged, GoesOn, leaves_of};
 
@@ -132,7 +131,6 @@ fn rooted<'t, R: Wait>(w: &mut Work<'_, 't>, rt: &R, root: Root) -> Result<Handl
 
 /// Want of memory, for which a handle is given back.
 fn given_back<'t>(w: &mut Work<'_, 't>, handle: Handle<'t>) -> HandleError
-    ensures error { result ≡ NoMemory }
     ensures unchanged { IsUnchanged w.old w.new }
     ensures handles { w.new.handles.now ≡ w.old.handles.now - 1 }
 {

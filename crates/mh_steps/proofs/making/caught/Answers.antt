@@ -1,21 +1,18 @@
-use Rattle.std.proofs.Common.{ap, ◌∙◌}
+use Rattle.std.proofs.Common.{ap}
 use Rattle.mh_tree.specs.Tree as tree
 use Rattle.mh_handle.proofs.Going.{goes_on-both}
 use Rattle.mh_steps.proofs.Rooms.{ready-after, some-over, stands-over}
 use Rattle.mh_steps.proofs.making.caught.Goals as goal
 
 pub catch-requires : goal.catch-requires
-catch-requires g c =
-    record { ready = ready-after 1 1 _ _ c.in_ok-handler.ensures.goes_on (ready-after 1 2 _ _ c.in_ok-target.ensures.goes_on c.requires.ready) }
+catch-requires g c = record { ready = ready-after 2 1 _ _ c.in_ok-target.ensures.goes_on c.requires.ready }
 
 pub returns-clause-goes_on : goal.returns-clause-goes_on
-returns-clause-goes_on g c =
-    goes_on-both 1 2 _ _ _ c.in_ok-target.ensures.goes_on (goes_on-both 1 1 _ _ _ c.in_ok-handler.ensures.goes_on c.catch.ensures.goes_on)
+returns-clause-goes_on g c = goes_on-both 2 1 _ _ _ c.in_ok-target.ensures.goes_on c.catch.ensures.goes_on
 
 pub returns-clause-stands : goal.returns-clause-stands
 returns-clause-stands g c =
-    let last = ap (λ leaves. leaves.now) c.in_ok-handler.ensures.goes_on.leaves in
-    let both = ap (λ leaves. leaves.now) (c.in_ok-handler.ensures.goes_on.leaves ∙ c.in_ok-target.ensures.goes_on.leaves) in
-    let t = stands-over _ _ c.in_ok-target.target both c.in_ok-target.ensures.stands in
-    let h = stands-over _ _ c.in_ok-handler.handler last c.in_ok-handler.ensures.stands in
-    some-over _ _ (tree.Catch t.0 c.args.class h.0) c.catch.result both (c.catch.ensures.stands t.0 h.0 t.1 h.1)
+    let same = ap (λ leaves. leaves.now) c.in_ok-target.ensures.goes_on.leaves in
+    let t = stands-over _ _ c.in_ok-target.target same c.in_ok-target.ensures.one in
+    let h = stands-over _ _ c.in_ok-target.handler same c.in_ok-target.ensures.other in
+    some-over _ _ (tree.Catch t.0 c.args.class h.0) c.catch.result same (c.catch.ensures.stands t.0 h.0 t.1 h.1)

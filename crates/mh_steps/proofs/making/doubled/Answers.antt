@@ -1,13 +1,12 @@
 use Rattle.std.proofs.Common.{ap}
 use Rattle.mh_tree.specs.Tree as tree
-use Rattle.mh_handle.specs.declared.work.Work.{Work}
 use Rattle.mh_steps.proofs.Rooms.{some-over, stands-over}
 use Rattle.mh_steps.proofs.making.doubled.Goals as goal
 
-pub returns-clause-stands : goal.returns-clause-stands
-returns-clause-stands g c =
-    let same = ap (λ (w : Work). w.leaves.now) c.copy.ensures.same in
+pub returns-in-Ok-clause-stands : goal.returns-in-Ok-clause-stands
+returns-in-Ok-clause-stands g c =
+    let same = ap (λ leaves. leaves.now) c.in-Ok.ensures.unchanged.leaves in
     let t = c.requires.stands.0 in
     let h = stands-over _ _ c.args.target same c.requires.stands in
-    let part = stands-over _ _ c.in_ok-part.part same (t, c.in_ok-part.ensures.stands c.args.w.now.leaves.now t c.requires.stands.1) in
+    let part = stands-over _ _ c.in-Ok.part same (t, c.in-Ok.ensures.stands c.args.w.now.leaves.now t c.requires.stands.1) in
     some-over _ _ (tree.FilterRet h.0 part.0) c.filterret.result same (c.filterret.ensures.stands h.0 part.0 h.1 part.1)

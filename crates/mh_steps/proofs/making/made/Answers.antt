@@ -21,6 +21,7 @@ loop-step-preserved g c = record {
   goes_on =
       goes_on-more (2 * c.loop-step.step-index + 2) (2 * (c.loop-step.step-index + 1)) _ _ (omega arith)
       (goes_on-both (2 * c.loop-step.step-index) 2 _ _ _ c.loop-step.invariant.goes_on c.adapted.ensures.goes_on);
+  handles = let count = c.in_ok-h-2.ensures.handles in omega (arith, c.loop-step.invariant.handles, count);
   stands = stands-over _ _ c.in_ok-h-2.h (ap (λ leaves. leaves.now) c.adapted.ensures.goes_on.leaves) c.in_ok-h-2.ensures.stands;
 }
 
