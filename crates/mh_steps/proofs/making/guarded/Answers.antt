@@ -16,7 +16,7 @@ pub returns-in-Err-clause-goes_on : goal.returns-in-Err-clause-goes_on
 returns-in-Err-clause-goes_on g c =
     goes_on-more 3 4 _ _ (omega arith)
     (goes_on-both 2 1 _ _ _ c.in_ok-test.ensures.goes_on
-    (goes_on-before 1 _ _ _ (goes_on-before 1 _ _ _ c.in-Err.ensures.goes_on c.give_back.ensures.unchanged) c.give_back-2.ensures.unchanged))
+    (goes_on-before 1 _ _ _ (goes_on-before 1 _ _ _ c.in-Err.ensures.goes_on c.give_back.ensures.unchanged) c.give_back-in-Err.ensures.unchanged))
 
 pub returns-in-Ok-clause-stands : goal.returns-in-Ok-clause-stands
 returns-in-Ok-clause-stands g c =

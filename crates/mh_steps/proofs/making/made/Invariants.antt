@@ -1,4 +1,4 @@
-use Rattle.std.proofs.Common.{◌≡◌, ◌+◌, ◌*◌, ◌≤◌}
+use Rattle.std.proofs.Common.{◌≡◌, ◌*◌, ◌≤◌}
 use Rattle.mh_handle.specs.Stands.{StandsForSome}
 use Rattle.mh_handle.specs.Works.{GoesOn}
 use Rattle.mh_steps.proofs.making.made.Given as goal
@@ -9,6 +9,6 @@ invariant-loop-step g l =
     record {
       few : l.step-index ≤ 100;
       goes_on : GoesOn (2 * l.step-index) l.initial.w l.w;
-      handles : l.w.handles.now ≡ 1 + l.initial.w.handles.now;
+      handles : l.w.handles.now ≡ l.initial.w.handles.now;
       stands : StandsForSome l.w.leaves.now l.h;
     }
