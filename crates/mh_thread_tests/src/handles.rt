@@ -14,12 +14,12 @@ use std::thread::Threads;
 const MANIFEST: &[u8] = b"class demo/Host java/lang/Object\nstatic demo/Host same (I)I same\n";
 
 /// A manifest of one leaf.
-fn one_leaf(alloc: Global) -> Result<Leaves, NoMemory> {
+pub(crate) fn one_leaf(alloc: Global) -> Result<Leaves, NoMemory> {
     read_manifest(alloc, MANIFEST).map_err(|_| NoMemory)
 }
 
 /// The handle of the first leaf.
-fn first_leaf<'t, R: Wait>(
+pub(crate) fn first_leaf<'t, R: Wait>(
     rt: &R,
     alloc: Global,
     table: &'t FormTable,

@@ -5,4 +5,6 @@
 #[cfg(test)]
 mod handles;
 #[cfg(test)]
+mod linkages;
+#[cfg(test)]
 mod values;
