@@ -3,8 +3,12 @@ mod CallsOfSites
 pub mod Host
 pub mod HostLeaves
 pub mod Leaves
+pub mod LineNodes
 pub mod Nodes
+pub mod RegisterContents
+pub mod Rooms
 pub mod Targets
+pub mod Telling
 pub mod Uses
 mod WorkedAdapters
 mod WorkedBranchCalls

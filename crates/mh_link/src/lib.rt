@@ -1,2 +1,7 @@
 //! What an attempt links at a call site, and what it makes for that.
 #![tactic(auto)]
+
+mod handle;
+mod names;
+mod registers;
+mod thrown;
