@@ -1,5 +1,6 @@
 pub mod Attempts
 mod CallsOfSites
+pub mod Endings
 pub mod Host
 pub mod HostLeaves
 pub mod Leaves

@@ -1,6 +1,6 @@
 -- What the registers of a run hold is what those of the frame hold for which they stand.
 use denote.Ref.{Bor}
-use Rattle.std.proofs.Common.{◌≡◌, refl, sym, ◌∙◌, ap, subst, ℕ, List, [], ◌∷◌, Bool, true, false, Option, Some, None, Ok, Err}
+use Rattle.std.proofs.Common.{◌≡◌, arith, zero, suc, ◌<◌, ◌≤◌, length, get_or, refl, sym, ◌∙◌, ap, subst, ℕ, List, [], ◌∷◌, Bool, true, false, Option, Some, None, Ok, Err}
 use Rattle.std.specs.Prelude.{if◌then◌else◌, slice_get, option_map, ok_or}
 use Rattle.std.specs.Str.{bytes_eq}
 use Rattle.mh_leaf.specs.LeafTable.{LeafTable}
@@ -16,23 +16,34 @@ use Rattle.mh_link.specs.Operands.{Content, Frame, content, content_of, last_ass
 use Rattle.mh_link.specs.Registers.{AreAssigned, Hold, Holds, HoldsLast, IsContent, IsLeafOf}
 use Rattle.mh_link.specs.Told.{TellsBy}
 
+get-some : {A : Type 0} (xs : List A) (n : ℕ) (a : A) → n < length xs → ((d : A) → a ≡ get_or xs n d) → slice_get xs n ≡ Some a
+get-some [] n a h k = absurd (omega arith)
+get-some (x ∷ xs) zero a h k = ap Some (sym (k a))
+get-some (x ∷ xs) (suc n) a h k = get-some xs n a (omega arith) k
+
+get-none : {A : Type 0} (xs : List A) (n : ℕ) → length xs ≤ n → slice_get xs n ≡ None
+get-none [] n h = refl
+get-none (x ∷ xs) zero h = absurd (omega arith)
+get-none (x ∷ xs) (suc n) h = get-none xs n (omega arith)
+
 -- a static argument that is there
 pub argument-content : (leaves : LeafTable) (registers : Registers) (frame : Frame) → Hold leaves registers frame → (n : ℕ) (a : Argument) (c : Found) →
-    slice_get registers.call.now.arguments n ≡ Some a → (IsLeafOf leaves a → IsContent leaves c (content_of a)) →
+    n < length registers.call.now.arguments → ((d : Argument) → a ≡ get_or registers.call.now.arguments n d) →
+    (IsLeafOf leaves a → IsContent leaves c (content_of a)) →
     TellsBy (IsContent leaves) (Ok c) (content frame (register.Argument n))
-argument-content leaves registers frame hold n a c at is = (
-  content_of a,
-  ap (λ (call : BootstrapCall). ok_or (option_map content_of (slice_get call.arguments n)) no_argument) hold.call
-      ∙ ap (λ o. ok_or (option_map content_of o) no_argument) at,
-  is (hold.arguments n a at),
-)
+argument-content leaves registers frame hold n a c within there is =
+    let at = get-some registers.call.now.arguments n a within there in
+    (content_of a,
+     ap (λ (call : BootstrapCall). ok_or (option_map content_of (slice_get call.arguments n)) no_argument) hold.call
+     ∙ ap (λ o. ok_or (option_map content_of o) no_argument) at,
+     is (hold.arguments n a at))
 
 -- a static argument that is not there
 pub argument-none : (leaves : LeafTable) (registers : Registers) (frame : Frame) → Hold leaves registers frame → (n : ℕ) →
-    slice_get registers.call.now.arguments n ≡ None → content frame (register.Argument n) ≡ Err no_argument
+    length registers.call.now.arguments ≤ n → content frame (register.Argument n) ≡ Err no_argument
 argument-none leaves registers frame hold n at =
     ap (λ (call : BootstrapCall). ok_or (option_map content_of (slice_get call.arguments n)) no_argument) hold.call
-    ∙ ap (λ o. ok_or (option_map content_of o) no_argument) at
+    ∙ ap (λ o. ok_or (option_map content_of o) no_argument) (get-none registers.call.now.arguments n at)
 
 -- what was assigned last
 pub last-content : (leaves : LeafTable) (h : Held) (c : Found) (o : Option Content) → HoldsLast leaves (Some h) o →

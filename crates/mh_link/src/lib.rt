@@ -4,4 +4,5 @@
 mod handle;
 mod names;
 mod registers;
+mod script;
 mod thrown;

@@ -1,6 +1,6 @@
 //! What a run of a script holds, and what its registers stand for.
 
-ghost use Rattle.std.specs.Prelude.{◌≡◌, ◌<◌, ℕ, List, IfOk, codes};
+ghost use Rattle.std.specs.Prelude.{◌≡◌, ◌<◌, ℕ, List, Some, IfOk, codes};
 ghost use Rattle.mh_values.specs.Class.{class_cast_class};
 ghost use Rattle.mh_values.specs.Exception.{saying};
 ghost use Rattle.mh_leaf.specs.LeafTable.{LeafTable};
@@ -8,7 +8,7 @@ ghost use Rattle.mh_jobs.specs.declared.job.Argument.TheVariants as argument;
 ghost use Rattle.mh_script.specs.declared.operand.Register.TheVariants as register;
 ghost use Rattle.mh_link.specs.Operands as operands;
 ghost use Rattle.mh_link.specs.Operands.{Frame, content, content_of, no_argument, as_handle, as_value, as_method_type, as_class, handle_in, value_in, type_in, method_type_in, last_assigned};
-ghost use Rattle.mh_link.specs.Registers.{Hold, AreAssigned, IsContent, HoldsLast, StandsFor, IsLeafOf, class_in};
+ghost use Rattle.mh_link.specs.Registers.{Hold, Holds, AreAssigned, IsContent, HoldsLast, StandsFor, IsLeafOf, class_in};
 ghost use Rattle.mh_link.specs.Told.{Tells, TellsBy, Throws};
 
 use crate::handle::HandleOperand;
@@ -55,17 +55,30 @@ pub(crate) enum Content<'f, 't> {
     Class(Ty),
 }
 
-// What was assigned last under a name.
-fn last_assigned<'f, 't>(last: Option<&'f Assignment<'f, 't>>, name: &[u8]) -> Option<Held<'f, 't>>
+// What was assigned last under a name, up to an assignment.
+fn last_assigned<'f, 't>(last: &'f Assignment<'f, 't>, name: &[u8]) -> Option<Held<'f, 't>>
     ensures { (leaves : LeafTable) (assigned : List (List ℕ × operands.Content))
-        → AreAssigned leaves last.entry assigned
+        → AreAssigned leaves (Some last.entry) assigned
         → HoldsLast leaves result (last_assigned name.now assigned) }
 {
-    let assignment = last?;
-    if assignment.name == name {
-        return Some(assignment.held);
+    if last.name == name {
+        return Some(last.held);
     }
-    last_assigned(assignment.before, name)
+    match last.before {
+        Some(before) => last_assigned(before, name),
+        None => None,
+    }
+}
+
+// What a line assigned as what a register holds.
+fn content_held<'f, 't>(held: Held<'f, 't>) -> Content<'f, 't>
+    ensures { (leaves : LeafTable) (meant : operands.Content) → Holds leaves held.entry meant
+        → IsContent leaves result meant }
+{
+    match held {
+        Held::Handle(handle) => Content::Handle(HandleOperand::Held(handle)),
+        Held::Number(number) => Content::Value(Value::Boxed(Num::J(number))),
+    }
 }
 
 // A static argument as what a register holds.
@@ -157,14 +170,24 @@ impl<'f, 't> Registers<'f, 't> {
         }
     }
 
+    // What was assigned last under a name.
+    fn held(&self, name: &[u8]) -> Option<Held<'f, 't>>
+        ensures { (leaves : LeafTable) (frame : Frame) → Hold leaves self.now frame
+            → HoldsLast leaves result (last_assigned name.now frame.assigned) }
+    {
+        match self.assigned {
+            Some(last) => last_assigned(last, name),
+            None => None,
+        }
+    }
+
     // What a register that a line assigned holds.
     fn assigned(&self, alloc: Global, name: &[u8]) -> Result<Content<'f, 't>, CheckError>
         ensures { (leaves : LeafTable) (frame : Frame) → Hold leaves self.now frame
             → TellsBy (IsContent leaves) result (content frame (register.Assigned name.now)) }
     {
-        match last_assigned(self.assigned, name) {
-            Some(Held::Handle(handle)) => Ok(Content::Handle(HandleOperand::Held(handle))),
-            Some(Held::Number(number)) => Ok(Content::Value(Value::Boxed(Num::J(number)))),
+        match self.held(name) {
+            Some(held) => Ok(content_held(held)),
             None => Err(no_argument(alloc)),
         }
     }
