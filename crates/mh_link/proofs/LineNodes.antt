@@ -1,5 +1,5 @@
 -- The nodes of lines: what their operands and their rules give.
-use Rattle.std.proofs.Common.{◌≡◌, refl, sym, ◌∙◌, ap, subst, ℕ, ◌+◌, Result, Ok, Err, IfOk}
+use Rattle.std.proofs.Common.{◌≡◌, sym, ◌∙◌, ap, subst, Result, Ok, Err, IfOk}
 use Rattle.mh_values.specs.declared.types.MethodTy.{MethodTy}
 use Rattle.mh_values.specs.declared.value.Exc.{Exc}
 use Rattle.mh_leaf.specs.LeafTable.{LeafTable}

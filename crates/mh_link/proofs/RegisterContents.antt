@@ -1,10 +1,9 @@
 -- What the registers of a run hold is what those of the frame hold for which they stand.
 use denote.Ref.{Bor}
-use Rattle.std.proofs.Common.{◌≡◌, arith, zero, suc, ◌<◌, ◌≤◌, length, get_or, refl, sym, ◌∙◌, ap, subst, ℕ, List, [], ◌∷◌, Bool, true, false, Option, Some, None, Ok, Err}
+use Rattle.std.proofs.Common.{◌≡◌, arith, zero, suc, ◌<◌, ◌≤◌, length, get_or, refl, sym, ◌∙◌, ap, subst, ℕ, List, [], ◌∷◌, true, false, Option, Some, None, Ok, Err}
 use Rattle.std.specs.Prelude.{if◌then◌else◌, slice_get, option_map, ok_or}
 use Rattle.std.specs.Str.{bytes_eq}
 use Rattle.mh_leaf.specs.LeafTable.{LeafTable}
-use Rattle.mh_handle.specs.Stands.{HandleView}
 use Rattle.mh_jobs.specs.declared.job.Argument.{Argument}
 use Rattle.mh_jobs.specs.declared.job.BootstrapCall.{BootstrapCall}
 use Rattle.mh_script.specs.declared.operand.Register.TheVariants as register
@@ -32,11 +31,12 @@ pub argument-content : (leaves : LeafTable) (registers : Registers) (frame : Fra
     (IsLeafOf leaves a → IsContent leaves c (content_of a)) →
     TellsBy (IsContent leaves) (Ok c) (content frame (register.Argument n))
 argument-content leaves registers frame hold n a c within there is =
-    let at = get-some registers.call.now.arguments n a within there in
-    (content_of a,
-     ap (λ (call : BootstrapCall). ok_or (option_map content_of (slice_get call.arguments n)) no_argument) hold.call
-     ∙ ap (λ o. ok_or (option_map content_of o) no_argument) at,
-     is (hold.arguments n a at))
+    let at = get-some registers.call.now.arguments n a within there in (
+      content_of a,
+      ap (λ (call : BootstrapCall). ok_or (option_map content_of (slice_get call.arguments n)) no_argument) hold.call
+          ∙ ap (λ o. ok_or (option_map content_of o) no_argument) at,
+      is (hold.arguments n a at),
+    )
 
 -- a static argument that is not there
 pub argument-none : (leaves : LeafTable) (registers : Registers) (frame : Frame) → Hold leaves registers frame → (n : ℕ) →

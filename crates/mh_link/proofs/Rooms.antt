@@ -1,5 +1,5 @@
 -- What calls leave of a thread's work for the calls after them: numbers that may still be drawn.
-use Rattle.std.proofs.Common.{◌≡◌, sym, ap, ◌∙◌, ℕ, ◌+◌, ◌≤◌, arith}
+use Rattle.std.proofs.Common.{sym, ap, ◌∙◌, ℕ, ◌+◌, ◌≤◌, arith}
 use Rattle.mh_handle.specs.declared.work.Work.{Work}
 use Rattle.mh_handle.specs.Works.{GoesOn, IsReady}
 use Rattle.mh_handle.proofs.Going.{goes_on-both, goes_on-more, goes_on-still}
