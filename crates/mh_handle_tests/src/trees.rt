@@ -58,6 +58,7 @@ fn number_on<'t, R: Wait>(w: &mut Work<'_, 't>, rt: &R, making: &Making) -> Resu
     requires ready { IsReady w.old 204 }
     requires few { length making.now.steps.now ≤ 100 }
     ensures goes_on { GoesOn 204 w.old w.new }
+    ensures handles { w.new.handles.now ≡ w.old.handles.now }
 {
     let handle = made(w, rt, making.root, making.steps)?;
     let number = handle.form().number();
