@@ -11,6 +11,7 @@ use Rattle.mh_values.specs.Same.{is_same_method_type}
 use Rattle.mh_leaf.specs.LeafTable.{LeafTable}
 use Rattle.mh_tree.specs.declared.error.CheckError.{CheckError}
 use Rattle.mh_tree.specs.declared.error.CheckError.TheVariants as check
+use Rattle.mh_tree.specs.Check.{Tells}
 use Rattle.mh_tree.specs.Rows.{TypeOrRefusal, component_of, illegal, provided, provided_some, spread_row}
 use Rattle.mh_tree.specs.Tree.{Tree}
 use Rattle.mh_tree.specs.Tree as tree
@@ -54,6 +55,10 @@ module _ (classes : List Class) (t : MethodTy) (weight : ℕ) (array : Option Ty
   spreading-row s is =
       at-use s.component s.asked is.component is.within is.asked
       ∙ (ap (λ r. with_type r (λ a. spread_row a (use_weight t weight s.asked) array count)) is.used ∙ is.own)
+
+  pub refusal-tells : (e : CheckError) → TellsSpreading classes t weight array count (Err e) → Tells (Err e) (spread_use_row classes t weight array count)
+  refusal-tells check.NoMemory tells = tt
+  refusal-tells (check.Refused e) tells = tells
 
   refusal-obeys : (e : CheckError) → TellsSpreading classes t weight array count (Err e) →
       Obeys (spread_use_row classes t weight array count) (Err (of_check e))

@@ -10,4 +10,4 @@ mod spreading;
 pub use arrays::gather;
 pub use branches::{catch, guard};
 pub use roots::{constant, identity, throw};
-pub use spreading::spread;
+pub use spreading::{check_spread_use, spread};

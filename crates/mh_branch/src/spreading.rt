@@ -1,5 +1,6 @@
 ghost use Rattle.std.specs.Prelude.{◌≡◌, ◌≤◌, length, IfOk};
 ghost use Rattle.mh_values.specs.Classes.{AreClasses};
+ghost use Rattle.mh_tree.specs.Check.{Tells};
 ghost use Rattle.mh_tree.specs.Tree.{Tree};
 ghost use Rattle.mh_tree.specs.Tree as tree;
 ghost use Rattle.mh_tree.specs.Use.{items_used_as, spread_use_row, taking_items};
@@ -91,6 +92,32 @@ fn check_spreading(
         asked,
         own,
     })
+}
+
+/// The type of a tree, whose last arguments come in an array, after it is used as the type that takes
+/// the array's items. Refused where the type is no array, where there are fewer parameters, and where
+/// the items cannot be converted.
+pub fn check_spread_use(
+    alloc: Global,
+    target: &MethodTy,
+    weight: u32,
+    array: Option<Ty>,
+    count: u8,
+    classes: &Classes,
+) -> Result<MethodTy, CheckError>
+    requires { weight ≤ 256 }
+    ensures { Tells result (spread_use_row classes.now target.now weight array count) }
+{
+    let spreading = match check_spreading(alloc, target, weight, array, count, classes) {
+        Ok(spreading) => spreading,
+        Err(error) => return Err(error),
+    };
+    let Spreading {
+        component: _component,
+        asked: _asked,
+        own,
+    } = spreading;
+    Ok(own)
 }
 
 /// What a spread of a handle is, or why it is refused.
