@@ -101,7 +101,8 @@ arguments-within leaves (c ∷ cs) given h n l k =
     next-within leaves c first.0 rest.0 first.1 (arguments-within leaves cs rest.0 rest.1) n l
     (subst (λ (xs : List Argument). slice_get xs n ≡ Some (argument.Leaf l)) (sym (same_arguments (first.0 ∷ rest.0) given rest.2)) k)
 
-leaf-typed : (leaves : LeafTable) (l : LeafId) → l.0 < length leaves.leaves → IsTyped leaves (tree.Leaf l)
+-- a leaf of the table has a type
+pub leaf-typed : (leaves : LeafTable) (l : LeafId) → l.0 < length leaves.leaves → IsTyped leaves (tree.Leaf l)
 leaf-typed leaves l h = let there = get-within leaves.leaves l.0 h in (there.0.ty, subst (λ o. leaf_row o ≡ Ok there.0.ty) (sym there.1) refl)
 
 same_call : (a b : BootstrapCall) → ◌≡◌ {A = OrThrown BootstrapCall} (Ok a) (Ok b) → a ≡ b

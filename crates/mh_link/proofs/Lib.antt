@@ -1,5 +1,7 @@
+pub mod Asking
 pub mod Attempts
 mod CallsOfSites
+pub mod Counting
 pub mod Endings
 pub mod Host
 pub mod HostLeaves
@@ -8,8 +10,11 @@ pub mod LineNodes
 pub mod Nodes
 pub mod RegisterContents
 pub mod Rooms
+pub mod Rules
+pub mod SpreadNodes
 pub mod Targets
 pub mod Telling
+pub mod UsedNodes
 pub mod Uses
 mod WorkedAdapters
 mod WorkedBranchCalls

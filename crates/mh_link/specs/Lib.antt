@@ -4,4 +4,6 @@ pub mod Made
 pub mod Operands
 pub mod Operations
 pub mod Registers
+pub mod Several
 pub mod Told
+pub mod Uses

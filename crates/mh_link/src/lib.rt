@@ -2,6 +2,7 @@
 #![tactic(auto)]
 
 mod handle;
+mod lines;
 mod names;
 mod registers;
 mod script;
