@@ -14,7 +14,7 @@ use Rattle.mh_handle.specs.declared.work.Work.{Work}
 use Rattle.mh_handle.specs.Obeys.{Obeys}
 use Rattle.mh_handle.specs.Stands.{Stands}
 use Rattle.mh_handle.specs.Works.{IsAccepted, Makes}
-use Rattle.mh_jobs.specs.Thrown.{OrThrown, ◌>>=◌}
+use Rattle.mh_jobs.specs.Thrown.{◌>>=◌}
 use Rattle.mh_link.specs.Lines.{MakesNode, typed}
 use Rattle.mh_link.proofs.LineNodes.{made-node, typed-is}
 

@@ -1,5 +1,5 @@
 -- The node of a handle that is used as a type.
-use Rattle.std.proofs.Common.{◌≡◌, sym, ap, subst, ◌∙◌, ℕ, List, Result, Ok, Err, IfOk}
+use Rattle.std.proofs.Common.{◌≡◌, sym, ap, subst, ◌∙◌, ℕ, List, Result, Ok, IfOk}
 use Rattle.mh_values.specs.declared.class.Class.{Class}
 use Rattle.mh_values.specs.declared.types.MethodTy.{MethodTy}
 use Rattle.mh_leaf.specs.LeafTable.{LeafTable}
@@ -13,7 +13,7 @@ use Rattle.mh_handle.specs.declared.handle.Handle.{Handle}
 use Rattle.mh_handle.specs.declared.work.Work.{Work}
 use Rattle.mh_handle.specs.Obeys.{Obeys}
 use Rattle.mh_handle.specs.Stands.{Stands}
-use Rattle.mh_jobs.specs.Thrown.{OrThrown, ◌>>=◌}
+use Rattle.mh_jobs.specs.Thrown.{◌>>=◌}
 use Rattle.mh_link.specs.Lines.{MakesNode, typed}
 use Rattle.mh_link.specs.Operations.{use_of}
 use Rattle.mh_link.proofs.LineNodes.{made-node, same-node}
