@@ -1,5 +1,8 @@
 -- The jobs of a run: a job for each call site of its classes, in order.
-use Rattle.std.specs.Prelude.{◌≡◌, ℕ, ◌+◌, List, [], ◌∷◌, ◌++◌, length, fold, Some, slice_get}
+use Rattle.std.specs.Prelude.{◌≡◌, ℕ, ◌+◌, List, [], ◌∷◌, ◌++◌, length, fold, Option, Some, slice_get, option_and_then}
+use Rattle.std.specs.Option.{option_map_or}
+use Rattle.mh_values.specs.declared.types.MethodTy.{MethodTy}
+use Rattle.mh_values.specs.declared.types.Ty.{Ty}
 use Rattle.mh_leaf.specs.LeafTable.{LeafTable}
 use Rattle.mh_classfile.specs.declared.constant.SiteView.{SiteView}
 use Rattle.mh_classfile.specs.Class as class_file
@@ -23,3 +26,11 @@ jobs_of leaves scripts classes = fold (with_class leaves scripts) [] classes
 -- the number of each call site is its place
 abbrev pub AreNumbered : List Job → Type 0
 AreNumbered jobs = (k : ℕ) (job : Job) → slice_get jobs k ≡ Some job → job.site ≡ k
+
+-- the type of a call site, where it is readable
+abbrev pub type_at : List Job → ℕ → Option MethodTy
+type_at jobs site = option_and_then (λ job. job.ty) (slice_get jobs site)
+
+-- the types of the arguments that a call of a site takes; it takes none where the site's type is not readable
+abbrev pub params_at : List Job → ℕ → List Ty
+params_at jobs site = option_map_or (λ t. t.params) (type_at jobs site) []

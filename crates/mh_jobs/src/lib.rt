@@ -7,8 +7,10 @@ mod error;
 mod job;
 mod jobs;
 mod names;
+mod run;
 mod thrown;
 mod types;
 
 pub use job::{Argument, BootstrapCall, Job, job_of};
 pub use jobs::{Jobs, push_jobs};
+pub use run::Run;

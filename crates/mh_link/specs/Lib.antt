@@ -1,9 +1,5 @@
-pub mod Lines
 pub mod Linked
 pub mod Made
 pub mod Operands
 pub mod Operations
-pub mod Registers
-pub mod Several
-pub mod Told
-pub mod Uses
+pub mod Sites

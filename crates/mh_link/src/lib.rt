@@ -1,9 +1,3 @@
-//! What an attempt links at a call site, and what it makes for that.
+//! What an attempt links at a call site, and what it makes for that: definitions over trees, values
+//! and types alone, with worked examples and theorems.
 #![tactic(auto)]
-
-mod handle;
-mod lines;
-mod names;
-mod registers;
-mod script;
-mod thrown;

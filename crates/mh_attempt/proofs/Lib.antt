@@ -1,0 +1,10 @@
+pub mod Asking
+pub mod Counting
+pub mod Endings
+pub mod LineNodes
+pub mod RegisterContents
+pub mod Rooms
+pub mod Rules
+pub mod SpreadNodes
+pub mod Telling
+pub mod UsedNodes

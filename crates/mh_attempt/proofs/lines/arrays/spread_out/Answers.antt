@@ -1,0 +1,44 @@
+use Rattle.std.proofs.Common.{ap, ◌∙◌, arith, Err}
+use Rattle.mh_tree.specs.Tree as tree
+use Rattle.mh_tree.specs.Use.{items_used_as}
+use Rattle.mh_handle.specs.Errors.{of_check}
+use Rattle.mh_jobs.specs.Thrown.{◌>>=◌}
+use Rattle.mh_attempt.specs.Lines.{typed}
+use Rattle.mh_attempt.proofs.Asking.{error-node}
+use Rattle.mh_attempt.proofs.LineNodes.{same-node, unmade-node}
+use Rattle.mh_attempt.proofs.Rooms.{goes_on-sum}
+use Rattle.mh_attempt.proofs.SpreadNodes.{node-of-spread, refused-spread, spread-is, spread-rule}
+use Rattle.mh_attempt.proofs.lines.arrays.spread_out.Goals as goal
+
+pub returns-in_err-check_spread_use-clause-node : goal.returns-in_err-check_spread_use-clause-node
+returns-in_err-check_spread_use-clause-node g c t stands =
+    let rule = spread-rule c.args.w.now.leaves.now t c.ty-ty.result.now c.args.array c.args.count
+    (c.ty-ty.ensures t stands) c.classes.result.now c.weight.result
+    c.classes.ensures.classes (c.weight.ensures.weight c.args.w.now.leaves.now t stands) in
+    error-node _ c.args.w.now c.args.w.now (of_check c.in_err-check_spread_use.field-0.0) c.from_residual.result c.from_residual.ensures.1
+    (refused-spread c.args.w.now t c.args.array c.args.count _ c.in_err-check_spread_use.field-0.0 rule c.in_err-check_spread_use.ensures)
+
+pub returns-in_err-target-clause-node : goal.returns-in_err-target-clause-node
+returns-in_err-target-clause-node g c t stands =
+    let rule = spread-rule c.args.w.now.leaves.now t c.ty-ty.result.now c.args.array c.args.count
+    (c.ty-ty.ensures t stands) c.classes.result.now c.weight.result
+    c.classes.ensures.classes (c.weight.ensures.weight c.args.w.now.leaves.now t stands) in
+    let is = spread-is c.args.w.now.leaves.now t c.ty-ty.result.now c.args.array c.args.count (c.ty-ty.ensures t stands) _
+    (rule ∙ c.in_ok-check_spread_use.ensures) in
+    error-node _ c.args.w.now c.made.new.w c.in_err-target.field-0.0 c.from_residual-in_err-target.result c.from_residual-in_err-target.ensures.1
+    (same-node _ _ c.args.w.now c.made.new.w (Err c.in_err-target.field-0.0) (ap (λ m. m >>= typed c.args.w.now.leaves.now) is.0)
+    (unmade-node c.args.w.now c.made.new.w (tree.Spread (items_used_as c.ty-ty.result.now c.args.array c.args.count t) c.args.array c.args.count) _
+    c.in_err-target.field-0.0 is.1 c.in_err-target.ensures.accepted))
+
+pub returns-clause-goes_on : goal.returns-clause-goes_on
+returns-clause-goes_on g c =
+    goes_on-sum 1 2 4 c.args.w.now c.made.new.w c.spread.new.w (omega arith) c.made.ensures.goes_on c.spread.ensures.goes_on
+
+pub returns-clause-node : goal.returns-clause-node
+returns-clause-node g c t stands =
+    let rule = spread-rule c.args.w.now.leaves.now t c.ty-ty.result.now c.args.array c.args.count
+    (c.ty-ty.ensures t stands) c.classes.result.now c.weight.result
+    c.classes.ensures.classes (c.weight.ensures.weight c.args.w.now.leaves.now t stands) in
+    node-of-spread c.args.w.now c.made.new.w c.spread.new.w t c.in_ok-target.target c.args.array c.args.count _ c.spread.result
+    c.made.ensures.goes_on.leaves (c.in_ok-target.ensures.stands t stands) (rule ∙ c.in_ok-check_spread_use.ensures) c.spread.ensures.obeys
+    (c.spread.ensures.stands t)

@@ -1,0 +1,50 @@
+use Rattle.std.proofs.Common.{refl, arith, ◌∙◌}
+use Rattle.mh_tree.specs.Rows.{guard_row}
+use Rattle.mh_tree.specs.Tree as tree
+use Rattle.mh_handle.proofs.Going.{goes_on-more}
+use Rattle.mh_attempt.proofs.Asking.{error-node}
+use Rattle.mh_attempt.proofs.Counting.{counts-several, counts-unmade}
+use Rattle.mh_attempt.proofs.LineNodes.{unmade-node}
+use Rattle.mh_attempt.proofs.Rooms.{goes_on-sum}
+use Rattle.mh_attempt.proofs.Rules.{node-of-three, rule-of-three}
+use Rattle.mh_attempt.proofs.lines.branches.guarded.Goals as goal
+
+pub returns-in_err-made-clause-goes_on : goal.returns-in_err-made-clause-goes_on
+returns-in_err-made-clause-goes_on g c = goes_on-more 3 4 c.args.w.now c.three_made.new.w (omega arith) c.three_made.ensures.goes_on
+
+pub returns-in_err-made-clause-handles : goal.returns-in_err-made-clause-handles
+returns-in_err-made-clause-handles g c =
+    counts-unmade c.args.w.now c.three_made.new.w c.from_residual-in_err-made.result _ c.from_residual-in_err-made.ensures.1 c.in_err-made.ensures.handles
+
+pub returns-in_err-made-clause-node : goal.returns-in_err-made-clause-node
+returns-in_err-made-clause-node g c f t e tests stands others =
+    let checked = rule-of-three (λ test l ty n other m. guard_row test l ty n other m) c.args.w.now.leaves.now f t e c.ty-test_ty.result.now
+    c.ty-ty.result.now
+    c.ty-fallback_ty.result.now c.weight-test_weight.result c.weight-weight.result c.weight-fallback_weight.result
+    (c.ty-test_ty.ensures f tests) (c.weight-test_weight.ensures.weight c.args.w.now.leaves.now f tests) (c.ty-ty.ensures t stands)
+    (c.weight-weight.ensures.weight c.args.w.now.leaves.now t stands)
+    (c.ty-fallback_ty.ensures e others) (c.weight-fallback_weight.ensures.weight c.args.w.now.leaves.now e others) ∙ c.in_ok-check_guard.ensures in
+    error-node _ c.args.w.now c.three_made.new.w c.in_err-made.field-0.0 c.from_residual-in_err-made.result c.from_residual-in_err-made.ensures.1
+    (unmade-node c.args.w.now c.three_made.new.w (tree.Guard f t e) _ c.in_err-made.field-0.0 checked
+    c.in_err-made.ensures.accepted)
+
+pub returns-clause-goes_on : goal.returns-clause-goes_on
+returns-clause-goes_on g c =
+    goes_on-sum 3 1 4 c.args.w.now c.three_made.new.w c.guard.new.w (omega arith) c.three_made.ensures.goes_on c.guard.ensures.goes_on
+
+pub returns-clause-handles : goal.returns-clause-handles
+returns-clause-handles g c =
+    counts-several 3 c.args.w.now c.three_made.new.w c.guard.new.w c.in_ok-made.made c.guard.result c.in_ok-made.ensures.handles c.guard.ensures.handles
+
+pub returns-clause-node : goal.returns-clause-node
+returns-clause-node g c f t e tests stands others =
+    let checked = rule-of-three (λ test l ty n other m. guard_row test l ty n other m) c.args.w.now.leaves.now f t e c.ty-test_ty.result.now
+    c.ty-ty.result.now
+    c.ty-fallback_ty.result.now c.weight-test_weight.result c.weight-weight.result c.weight-fallback_weight.result
+    (c.ty-test_ty.ensures f tests) (c.weight-test_weight.ensures.weight c.args.w.now.leaves.now f tests) (c.ty-ty.ensures t stands)
+    (c.weight-weight.ensures.weight c.args.w.now.leaves.now t stands)
+    (c.ty-fallback_ty.ensures e others) (c.weight-fallback_weight.ensures.weight c.args.w.now.leaves.now e others) ∙ c.in_ok-check_guard.ensures in
+    node-of-three (λ test l ty n other m. guard_row test l ty n other m) c.args.w.now c.three_made.new.w c.guard.new.w f t e (tree.Guard f t e)
+    c.in_ok-made.made.0 c.in_ok-made.made.1 c.in_ok-made.made.2 _ c.guard.result c.three_made.ensures.goes_on.leaves
+    (c.in_ok-made.ensures.first f tests) (c.in_ok-made.ensures.second t stands) (c.in_ok-made.ensures.third e others) refl checked
+    c.guard.ensures.obeys (c.guard.ensures.stands f t e)

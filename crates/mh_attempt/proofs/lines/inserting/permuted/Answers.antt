@@ -1,0 +1,30 @@
+use Rattle.std.proofs.Common.{refl, arith}
+use Rattle.mh_tree.specs.Rows.{permute_row}
+use Rattle.mh_tree.specs.Tree as tree
+use Rattle.mh_attempt.proofs.Asking.{error-node}
+use Rattle.mh_attempt.proofs.LineNodes.{unmade-node}
+use Rattle.mh_attempt.proofs.Rooms.{goes_on-sum}
+use Rattle.mh_attempt.proofs.Rules.{checked-one, node-of-one}
+use Rattle.mh_attempt.proofs.lines.inserting.permuted.Goals as goal
+
+pub returns-in_err-target-clause-node : goal.returns-in_err-target-clause-node
+returns-in_err-target-clause-node g c t stands =
+    let checked = checked-one (λ classes ty n. permute_row ty n c.args.asked.now c.args.order.now) c.args.w.now.leaves.now c.classes.result.now t
+    c.ty-ty.result.now _ c.weight.result c.classes.ensures.classes (c.ty-ty.ensures t stands)
+    (c.weight.ensures.weight c.args.w.now.leaves.now t stands) c.in_ok-check_permute.ensures in
+    error-node _ c.args.w.now c.made.new.w c.in_err-target.field-0.0 c.from_residual-in_err-target.result c.from_residual-in_err-target.ensures.1
+    (unmade-node c.args.w.now c.made.new.w (tree.Permute t c.args.asked.now c.args.order.now) _ c.in_err-target.field-0.0 checked
+    c.in_err-target.ensures.accepted)
+
+pub returns-clause-goes_on : goal.returns-clause-goes_on
+returns-clause-goes_on g c =
+    goes_on-sum 1 1 4 c.args.w.now c.made.new.w c.permute.new.w (omega arith) c.made.ensures.goes_on c.permute.ensures.goes_on
+
+pub returns-clause-node : goal.returns-clause-node
+returns-clause-node g c t stands =
+    let checked = checked-one (λ classes ty n. permute_row ty n c.args.asked.now c.args.order.now) c.args.w.now.leaves.now c.classes.result.now t
+    c.ty-ty.result.now _ c.weight.result c.classes.ensures.classes (c.ty-ty.ensures t stands)
+    (c.weight.ensures.weight c.args.w.now.leaves.now t stands) c.in_ok-check_permute.ensures in
+    node-of-one (λ classes ty n. permute_row ty n c.args.asked.now c.args.order.now) c.args.w.now c.made.new.w c.permute.new.w t
+    (tree.Permute t c.args.asked.now c.args.order.now) c.in_ok-target.target _ c.permute.result
+    c.made.ensures.goes_on.leaves (c.in_ok-target.ensures.stands t stands) refl checked c.permute.ensures.obeys (c.permute.ensures.stands t)

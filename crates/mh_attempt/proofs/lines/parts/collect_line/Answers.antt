@@ -1,0 +1,33 @@
+use Rattle.mh_tree.specs.Tree as tree
+use Rattle.mh_attempt.specs.Registers.{StandsFor}
+use Rattle.mh_attempt.proofs.Asking.{asked-two, thrown-first, thrown-second, told-by}
+use Rattle.mh_attempt.proofs.LineNodes.{same-node}
+use Rattle.mh_attempt.proofs.lines.parts.collect_line.Goals as goal
+
+pub returns-in_err-target-clause-node : goal.returns-in_err-target-clause-node
+returns-in_err-target-clause-node g c frame hold =
+    thrown-first c.args.w.now c.in_err-target.field-0.0 c.from_residual.result c.from_residual.ensures.1
+    _ _ (told-by (StandsFor c.args.w.now.leaves.now) c.in_err-target.field-0.0 _ (c.in_err-target.ensures c.args.w.now.leaves.now frame hold))
+
+pub returns-in_err-filter-clause-node : goal.returns-in_err-filter-clause-node
+returns-in_err-filter-clause-node g c frame hold =
+    let target = c.in_ok-target.ensures c.args.w.now.leaves.now frame hold in
+    thrown-second c.args.w.now c.in_err-filter.field-0.0 c.from_residual-in_err-filter.result c.from_residual-in_err-filter.ensures.1
+    _ _ _ target.0 target.1 (told-by (StandsFor c.args.w.now.leaves.now) c.in_err-filter.field-0.0 _
+    (c.in_err-filter.ensures c.args.w.now.leaves.now frame hold))
+
+pub collected-requires-clause-target : goal.collected-requires-clause-target
+collected-requires-clause-target g c =
+    let found = c.in_ok-target.ensures c.args.w.now.leaves.now c.requires.registers.0 c.requires.registers.1 in (found.0, found.2)
+
+pub collected-requires-clause-filter : goal.collected-requires-clause-filter
+collected-requires-clause-filter g c =
+    let found = c.in_ok-filter.ensures c.args.w.now.leaves.now c.requires.registers.0 c.requires.registers.1 in (found.0, found.2)
+
+pub returns-clause-node : goal.returns-clause-node
+returns-clause-node g c frame hold =
+    let target = c.in_ok-target.ensures c.args.w.now.leaves.now frame hold in
+    let filter = c.in_ok-filter.ensures c.args.w.now.leaves.now frame hold in
+    same-node _ _ c.args.w.now c.collected.new.w c.collected.result
+    (asked-two c.args.w.now.leaves.now _ _ (λ t p. tree.Collect t c.args.position p) target.0 filter.0 target.1 filter.1)
+    (c.collected.ensures.node target.0 filter.0 target.2 filter.2)

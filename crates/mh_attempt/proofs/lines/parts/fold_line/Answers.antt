@@ -1,0 +1,33 @@
+use Rattle.mh_tree.specs.Tree as tree
+use Rattle.mh_attempt.specs.Registers.{StandsFor}
+use Rattle.mh_attempt.proofs.Asking.{asked-two, thrown-first, thrown-second, told-by}
+use Rattle.mh_attempt.proofs.LineNodes.{same-node}
+use Rattle.mh_attempt.proofs.lines.parts.fold_line.Goals as goal
+
+pub returns-in_err-target-clause-node : goal.returns-in_err-target-clause-node
+returns-in_err-target-clause-node g c frame hold =
+    thrown-first c.args.w.now c.in_err-target.field-0.0 c.from_residual.result c.from_residual.ensures.1
+    _ _ (told-by (StandsFor c.args.w.now.leaves.now) c.in_err-target.field-0.0 _ (c.in_err-target.ensures c.args.w.now.leaves.now frame hold))
+
+pub returns-in_err-combiner-clause-node : goal.returns-in_err-combiner-clause-node
+returns-in_err-combiner-clause-node g c frame hold =
+    let target = c.in_ok-target.ensures c.args.w.now.leaves.now frame hold in
+    thrown-second c.args.w.now c.in_err-combiner.field-0.0 c.from_residual-in_err-combiner.result c.from_residual-in_err-combiner.ensures.1
+    _ _ _ target.0 target.1 (told-by (StandsFor c.args.w.now.leaves.now) c.in_err-combiner.field-0.0 _
+    (c.in_err-combiner.ensures c.args.w.now.leaves.now frame hold))
+
+pub folded-requires-clause-target : goal.folded-requires-clause-target
+folded-requires-clause-target g c =
+    let found = c.in_ok-target.ensures c.args.w.now.leaves.now c.requires.registers.0 c.requires.registers.1 in (found.0, found.2)
+
+pub folded-requires-clause-combiner : goal.folded-requires-clause-combiner
+folded-requires-clause-combiner g c =
+    let found = c.in_ok-combiner.ensures c.args.w.now.leaves.now c.requires.registers.0 c.requires.registers.1 in (found.0, found.2)
+
+pub returns-clause-node : goal.returns-clause-node
+returns-clause-node g c frame hold =
+    let target = c.in_ok-target.ensures c.args.w.now.leaves.now frame hold in
+    let combiner = c.in_ok-combiner.ensures c.args.w.now.leaves.now frame hold in
+    same-node _ _ c.args.w.now c.folded.new.w c.folded.result
+    (asked-two c.args.w.now.leaves.now _ _ (λ t p. tree.Fold t c.args.position p) target.0 combiner.0 target.1 combiner.1)
+    (c.folded.ensures.node target.0 combiner.0 target.2 combiner.2)

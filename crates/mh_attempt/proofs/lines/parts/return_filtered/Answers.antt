@@ -1,0 +1,46 @@
+use Rattle.std.proofs.Common.{refl, arith}
+use Rattle.mh_tree.specs.Rows.{filterret_row}
+use Rattle.mh_tree.specs.Tree as tree
+use Rattle.mh_handle.proofs.Going.{goes_on-more}
+use Rattle.mh_attempt.proofs.Asking.{error-node}
+use Rattle.mh_attempt.proofs.Counting.{counts-several, counts-unmade}
+use Rattle.mh_attempt.proofs.LineNodes.{unmade-node}
+use Rattle.mh_attempt.proofs.Rooms.{goes_on-sum}
+use Rattle.mh_attempt.proofs.Rules.{checked-two, node-of-two}
+use Rattle.mh_attempt.proofs.lines.parts.return_filtered.Goals as goal
+
+pub returns-in_err-made-clause-goes_on : goal.returns-in_err-made-clause-goes_on
+returns-in_err-made-clause-goes_on g c = goes_on-more 2 4 c.args.w.now c.both_made.new.w (omega arith) c.both_made.ensures.goes_on
+
+pub returns-in_err-made-clause-handles : goal.returns-in_err-made-clause-handles
+returns-in_err-made-clause-handles g c =
+    counts-unmade c.args.w.now c.both_made.new.w c.from_residual-in_err-made.result _ c.from_residual-in_err-made.ensures.1 c.in_err-made.ensures.handles
+
+pub returns-in_err-made-clause-node : goal.returns-in_err-made-clause-node
+returns-in_err-made-clause-node g c t p stands others =
+    let checked = checked-two (λ classes ty n part m. filterret_row ty n part m) c.args.w.now.leaves.now c.classes.result.now t p
+    c.ty-ty.result.now c.ty-part_ty.result.now _ c.weight-weight.result c.weight-part_weight.result c.classes.ensures.classes (c.ty-ty.ensures t stands)
+    (c.weight-weight.ensures.weight c.args.w.now.leaves.now t stands)
+    (c.ty-part_ty.ensures p others) (c.weight-part_weight.ensures.weight c.args.w.now.leaves.now p others) c.in_ok-check_filterret.ensures in
+    error-node _ c.args.w.now c.both_made.new.w c.in_err-made.field-0.0 c.from_residual-in_err-made.result c.from_residual-in_err-made.ensures.1
+    (unmade-node c.args.w.now c.both_made.new.w (tree.FilterRet t p) _ c.in_err-made.field-0.0 checked c.in_err-made.ensures.accepted)
+
+pub returns-clause-goes_on : goal.returns-clause-goes_on
+returns-clause-goes_on g c =
+    goes_on-sum 2 1 4 c.args.w.now c.both_made.new.w c.filterret.new.w (omega arith) c.both_made.ensures.goes_on c.filterret.ensures.goes_on
+
+pub returns-clause-handles : goal.returns-clause-handles
+returns-clause-handles g c =
+    counts-several 2 c.args.w.now c.both_made.new.w c.filterret.new.w c.in_ok-made.made c.filterret.result c.in_ok-made.ensures.handles
+    c.filterret.ensures.handles
+
+pub returns-clause-node : goal.returns-clause-node
+returns-clause-node g c t p stands others =
+    let checked = checked-two (λ classes ty n part m. filterret_row ty n part m) c.args.w.now.leaves.now c.classes.result.now t p
+    c.ty-ty.result.now c.ty-part_ty.result.now _ c.weight-weight.result c.weight-part_weight.result c.classes.ensures.classes (c.ty-ty.ensures t stands)
+    (c.weight-weight.ensures.weight c.args.w.now.leaves.now t stands)
+    (c.ty-part_ty.ensures p others) (c.weight-part_weight.ensures.weight c.args.w.now.leaves.now p others) c.in_ok-check_filterret.ensures in
+    node-of-two (λ classes ty n part m. filterret_row ty n part m) c.args.w.now c.both_made.new.w c.filterret.new.w t p
+    (tree.FilterRet t p) c.in_ok-made.made.0 c.in_ok-made.made.1 _ c.filterret.result
+    c.both_made.ensures.goes_on.leaves (c.in_ok-made.ensures.first t stands) (c.in_ok-made.ensures.second p others) refl checked
+    c.filterret.ensures.obeys (c.filterret.ensures.stands t p)

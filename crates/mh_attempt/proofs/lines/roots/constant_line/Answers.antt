@@ -1,0 +1,32 @@
+use Rattle.std.proofs.Common.{arith, sym, ap, ◌∙◌, subst, Err}
+use Rattle.mh_tree.specs.Tree as tree
+use Rattle.mh_handle.proofs.Going.{goes_on-more}
+use Rattle.mh_link.specs.Operands.{type_in}
+use Rattle.mh_attempt.specs.Told.{Tells}
+use Rattle.mh_attempt.proofs.Asking.{asked-two, thrown-first, thrown-second}
+use Rattle.mh_attempt.proofs.LineNodes.{same-node}
+use Rattle.mh_attempt.proofs.Rules.{node-of-root}
+use Rattle.mh_attempt.proofs.lines.roots.constant_line.Goals as goal
+
+pub returns-in_err-ty-clause-node : goal.returns-in_err-ty-clause-node
+returns-in_err-ty-clause-node g c frame hold =
+    thrown-first c.args.w.now c.in_err-ty.field-0.0 c.from_residual.result c.from_residual.ensures.1
+    _ _ (subst (λ classes. Tells (Err c.in_err-ty.field-0.0) (type_in classes frame c.args.ty.now)) c.classes.ensures.classes
+    (c.in_err-ty.ensures c.args.w.now.leaves.now frame hold))
+
+pub returns-in_err-value-clause-node : goal.returns-in_err-value-clause-node
+returns-in_err-value-clause-node g c frame hold =
+    let ty = ap (λ classes. type_in classes frame c.args.ty.now) (sym c.classes.ensures.classes) ∙ c.in_ok-ty.ensures c.args.w.now.leaves.now frame hold in
+    thrown-second c.args.w.now c.in_err-value.field-0.0 c.from_residual-in_err-value.result c.from_residual-in_err-value.ensures.1
+    _ _ _ c.in_ok-ty.ty ty (c.in_err-value.ensures c.args.w.now.leaves.now frame hold)
+
+pub returns-clause-goes_on : goal.returns-clause-goes_on
+returns-clause-goes_on g c = goes_on-more 1 4 c.args.w.now c.constant.new.w (omega arith) c.constant.ensures.goes_on
+
+pub returns-clause-node : goal.returns-clause-node
+returns-clause-node g c frame hold =
+    let ty = ap (λ classes. type_in classes frame c.args.ty.now) (sym c.classes.ensures.classes) ∙ c.in_ok-ty.ensures c.args.w.now.leaves.now frame hold in
+    let value = c.in_ok-value.ensures c.args.w.now.leaves.now frame hold in
+    same-node _ _ c.args.w.now c.constant.new.w c.constant.result
+    (asked-two c.args.w.now.leaves.now _ _ (λ t v. tree.Constant t v) c.in_ok-ty.ty c.in_ok-value.value ty value)
+    (node-of-root c.args.w.now c.constant.new.w _ _ c.constant.result c.constant.ensures.obeys c.constant.ensures.makes c.constant.ensures.stands)

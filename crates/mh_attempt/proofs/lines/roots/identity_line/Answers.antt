@@ -1,0 +1,25 @@
+use Rattle.std.proofs.Common.{arith, sym, ap, ◌∙◌, subst, Err}
+use Rattle.mh_tree.specs.Tree as tree
+use Rattle.mh_handle.proofs.Going.{goes_on-more}
+use Rattle.mh_link.specs.Operands.{type_in}
+use Rattle.mh_attempt.specs.Told.{Tells}
+use Rattle.mh_attempt.proofs.Asking.{asked-one, thrown-first}
+use Rattle.mh_attempt.proofs.LineNodes.{same-node}
+use Rattle.mh_attempt.proofs.Rules.{node-of-root}
+use Rattle.mh_attempt.proofs.lines.roots.identity_line.Goals as goal
+
+pub returns-in_err-ty-clause-node : goal.returns-in_err-ty-clause-node
+returns-in_err-ty-clause-node g c frame hold =
+    thrown-first c.args.w.now c.in_err-ty.field-0.0 c.from_residual.result c.from_residual.ensures.1
+    _ _ (subst (λ classes. Tells (Err c.in_err-ty.field-0.0) (type_in classes frame c.args.ty.now)) c.classes.ensures.classes
+    (c.in_err-ty.ensures c.args.w.now.leaves.now frame hold))
+
+pub returns-clause-goes_on : goal.returns-clause-goes_on
+returns-clause-goes_on g c = goes_on-more 1 4 c.args.w.now c.identity.new.w (omega arith) c.identity.ensures.goes_on
+
+pub returns-clause-node : goal.returns-clause-node
+returns-clause-node g c frame hold =
+    let ty = ap (λ classes. type_in classes frame c.args.ty.now) (sym c.classes.ensures.classes) ∙ c.in_ok-ty.ensures c.args.w.now.leaves.now frame hold in
+    same-node _ _ c.args.w.now c.identity.new.w c.identity.result
+    (asked-one c.args.w.now.leaves.now _ (λ t. tree.Identity t) c.in_ok-ty.ty ty)
+    (node-of-root c.args.w.now c.identity.new.w _ _ c.identity.result c.identity.ensures.obeys c.identity.ensures.makes c.identity.ensures.stands)

@@ -1,0 +1,22 @@
+use Rattle.std.proofs.Common.{arith}
+use Rattle.mh_tree.specs.Tree as tree
+use Rattle.mh_handle.proofs.Going.{goes_on-more}
+use Rattle.mh_attempt.proofs.Asking.{asked-one, thrown-first}
+use Rattle.mh_link.proofs.Leaves.{leaf-typed}
+use Rattle.mh_attempt.proofs.LineNodes.{same-node}
+use Rattle.mh_attempt.proofs.Rules.{node-of-leaf}
+use Rattle.mh_attempt.proofs.lines.roots.leaf_line.Goals as goal
+
+pub returns-in_err-id-clause-node : goal.returns-in_err-id-clause-node
+returns-in_err-id-clause-node g c frame =
+    thrown-first c.args.w.now c.in_err-id.field-0.0 c.from_residual.result c.from_residual.ensures.1 _ _ c.in_err-id.ensures.found
+
+pub returns-clause-goes_on : goal.returns-clause-goes_on
+returns-clause-goes_on g c = goes_on-more 1 4 c.args.w.now c.leaf.new.w (omega arith) c.leaf.ensures.goes_on
+
+pub returns-clause-node : goal.returns-clause-node
+returns-clause-node g c frame =
+    let own = leaf-typed c.args.w.now.leaves.now c.in_ok-id.id c.in_ok-id.ensures.within in
+    same-node _ _ c.args.w.now c.leaf.new.w c.leaf.result
+    (asked-one c.args.w.now.leaves.now _ (λ l. tree.Leaf l) c.in_ok-id.id c.in_ok-id.ensures.found)
+    (node-of-leaf c.args.w.now c.leaf.new.w (tree.Leaf c.in_ok-id.id) own.0 c.leaf.result own.1 c.leaf.ensures.accepted c.leaf.ensures.stands)

@@ -1,0 +1,37 @@
+use Rattle.std.proofs.Common.{arith, sym, ap, ◌∙◌, subst, Err}
+use Rattle.mh_tree.specs.Tree as tree
+use Rattle.mh_handle.proofs.Going.{goes_on-more}
+use Rattle.mh_jobs.specs.Names.{class_of}
+use Rattle.mh_jobs.specs.Thrown.{plainly}
+use Rattle.mh_link.specs.Operands.{type_in}
+use Rattle.mh_attempt.specs.Told.{Tells}
+use Rattle.mh_attempt.proofs.Asking.{asked-two, thrown-first, thrown-second}
+use Rattle.mh_attempt.proofs.LineNodes.{same-node}
+use Rattle.mh_attempt.proofs.Rules.{node-of-root}
+use Rattle.mh_attempt.proofs.lines.roots.throw_line.Goals as goal
+
+pub returns-in_err-ret-clause-node : goal.returns-in_err-ret-clause-node
+returns-in_err-ret-clause-node g c frame hold =
+    thrown-first c.args.w.now c.in_err-ret.field-0.0 c.from_residual.result c.from_residual.ensures.1
+    _ _ (subst (λ classes. Tells (Err c.in_err-ret.field-0.0) (type_in classes frame c.args.ret.now)) c.classes-classes.ensures.classes
+    (c.in_err-ret.ensures c.args.w.now.leaves.now frame hold))
+
+pub returns-in_err-class-clause-node : goal.returns-in_err-class-clause-node
+returns-in_err-class-clause-node g c frame hold =
+    let ret = ap (λ classes. type_in classes frame c.args.ret.now)
+    (sym c.classes-classes.ensures.classes) ∙ c.in_ok-ret.ensures c.args.w.now.leaves.now frame hold in
+    thrown-second c.args.w.now c.in_err-class.field-0.0 c.from_residual-in_err-class.result c.from_residual-in_err-class.ensures.1
+    _ _ _ c.in_ok-ret.ret ret (subst (λ classes. Tells (Err c.in_err-class.field-0.0)
+    (class_of plainly classes c.args.class.now)) c.classes-classes.ensures.classes c.in_err-class.ensures)
+
+pub returns-clause-goes_on : goal.returns-clause-goes_on
+returns-clause-goes_on g c = goes_on-more 1 4 c.args.w.now c.throw.new.w (omega arith) c.throw.ensures.goes_on
+
+pub returns-clause-node : goal.returns-clause-node
+returns-clause-node g c frame hold =
+    let ret = ap (λ classes. type_in classes frame c.args.ret.now)
+    (sym c.classes-classes.ensures.classes) ∙ c.in_ok-ret.ensures c.args.w.now.leaves.now frame hold in
+    let class = ap (λ classes. class_of plainly classes c.args.class.now) (sym c.classes-classes.ensures.classes) ∙ c.in_ok-class.ensures in
+    same-node _ _ c.args.w.now c.throw.new.w c.throw.result
+    (asked-two c.args.w.now.leaves.now _ _ (λ t class. tree.Throw t class) c.in_ok-ret.ret c.in_ok-class.class ret class)
+    (node-of-root c.args.w.now c.throw.new.w _ _ c.throw.result c.throw.ensures.obeys c.throw.ensures.makes c.throw.ensures.stands)

@@ -1,0 +1,41 @@
+use Rattle.std.proofs.Common.{◌∙◌, arith, Err}
+use Rattle.mh_tree.specs.Use.{used_as}
+use Rattle.mh_handle.specs.Errors.{of_check}
+use Rattle.mh_attempt.proofs.Asking.{error-node}
+use Rattle.mh_attempt.proofs.LineNodes.{refused-node, same-node, unmade-node}
+use Rattle.mh_attempt.proofs.Rooms.{goes_on-sum}
+use Rattle.mh_attempt.proofs.UsedNodes.{node-of-use, use-is, use-rule}
+use Rattle.mh_attempt.proofs.lines.uses.used.Goals as goal
+
+pub returns-in_err-check_use-clause-node : goal.returns-in_err-check_use-clause-node
+returns-in_err-check_use-clause-node g c t stands =
+    let typed = c.ty-ty.ensures t stands in
+    let rule = use-rule c.args.w.now.leaves.now c.classes.result.now t c.ty-ty.result.now c.args.asked.now c.weight.result c.classes.ensures.classes typed
+    (c.weight.ensures.weight c.args.w.now.leaves.now t stands) in
+    error-node _ c.args.w.now c.args.w.now (of_check c.in_err-check_use.field-0.0) c.from_residual.result c.from_residual.ensures.1
+    (same-node _ _ c.args.w.now c.args.w.now (Err (of_check c.in_err-check_use.field-0.0))
+    (use-is c.args.w.now.leaves.now t c.ty-ty.result.now c.args.asked.now typed)
+    (refused-node c.args.w.now (used_as c.ty-ty.result.now c.args.asked.now t) _ c.in_err-check_use.field-0.0 rule c.in_err-check_use.ensures))
+
+pub returns-in_err-target-clause-node : goal.returns-in_err-target-clause-node
+returns-in_err-target-clause-node g c t stands =
+    let typed = c.ty-ty.ensures t stands in
+    let rule = use-rule c.args.w.now.leaves.now c.classes.result.now t c.ty-ty.result.now c.args.asked.now c.weight.result c.classes.ensures.classes typed
+    (c.weight.ensures.weight c.args.w.now.leaves.now t stands) in
+    error-node _ c.args.w.now c.made.new.w c.in_err-target.field-0.0 c.from_residual-in_err-target.result c.from_residual-in_err-target.ensures.1
+    (same-node _ _ c.args.w.now c.made.new.w (Err c.in_err-target.field-0.0) (use-is c.args.w.now.leaves.now t c.ty-ty.result.now c.args.asked.now typed)
+    (unmade-node c.args.w.now c.made.new.w (used_as c.ty-ty.result.now c.args.asked.now t) _ c.in_err-target.field-0.0 (rule ∙ c.in_ok-check_use.ensures)
+    c.in_err-target.ensures.accepted))
+
+pub returns-clause-goes_on : goal.returns-clause-goes_on
+returns-clause-goes_on g c =
+    goes_on-sum 1 1 4 c.args.w.now c.made.new.w c.as_type.new.w (omega arith) c.made.ensures.goes_on c.as_type.ensures.goes_on
+
+pub returns-clause-node : goal.returns-clause-node
+returns-clause-node g c t stands =
+    let typed = c.ty-ty.ensures t stands in
+    let rule = use-rule c.args.w.now.leaves.now c.classes.result.now t c.ty-ty.result.now c.args.asked.now c.weight.result c.classes.ensures.classes typed
+    (c.weight.ensures.weight c.args.w.now.leaves.now t stands) in
+    node-of-use c.args.w.now c.made.new.w c.as_type.new.w t c.in_ok-target.target c.ty-ty.result.now c.args.asked.now _ c.as_type.result
+    c.made.ensures.goes_on.leaves (c.in_ok-target.ensures.stands t stands) typed (rule ∙ c.in_ok-check_use.ensures) c.as_type.ensures.obeys
+    (c.as_type.ensures.stands t)

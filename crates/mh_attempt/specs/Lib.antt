@@ -1,0 +1,5 @@
+pub mod Lines
+pub mod Registers
+pub mod Several
+pub mod Told
+pub mod Uses

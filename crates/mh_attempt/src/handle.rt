@@ -1,0 +1,63 @@
+//! Method handles as operands.
+
+ghost use Rattle.std.specs.Prelude.{◌≡◌, ◌≤◌, Ok, IfOk};
+ghost use Rattle.mh_leaf.specs.LeafTable.{LeafTable};
+ghost use Rattle.mh_tree.specs.Tree.{Tree, weight};
+ghost use Rattle.mh_tree.specs.Typing.{type_of};
+ghost use Rattle.mh_handle.specs.Works.{CountsHandles, IsReady, GoesOn, IsAccepted, StandsIn, leaves_of};
+ghost use Rattle.mh_attempt.specs.Registers.{StandsFor, StandsForSome};
+
+use mh_handle::{Handle, HandleError, Work, leaf};
+use mh_leaves::Leaves;
+use mh_values::{LeafId, MethodTy};
+use std::sync::Wait;
+
+/// A method handle that an operand names: one that a register holds, or a static argument that is a
+/// leaf, of which a handle is made only once a line has passed its checks.
+#[derive(Clone, Copy)]
+pub(crate) enum HandleOperand<'f, 't> {
+    Held(&'f Handle<'t>),
+    Leaf(LeafId),
+}
+
+impl<'f, 't> HandleOperand<'f, 't> {
+    /// Its type.
+    pub fn ty<'a>(&'a self, leaves: &'a Leaves) -> &'a MethodTy
+        requires { StandsForSome leaves.now self.now }
+        ensures { (t : Tree) → StandsFor leaves.now self.now t
+            → type_of leaves.now t ≡ Ok result.now }
+    {
+        match self {
+            HandleOperand::Held(handle) => handle.ty(),
+            HandleOperand::Leaf(id) => leaves.ty(*id),
+        }
+    }
+
+    /// The weight of its tree.
+    pub fn weight(&self) -> u32
+        ensures weight { (leaves : LeafTable) (t : Tree) → StandsFor leaves self.now t
+            → result ≡ weight t }
+        ensures light { result ≤ 256 }
+    {
+        match self {
+            HandleOperand::Held(handle) => handle.weight(),
+            HandleOperand::Leaf(_) => 1,
+        }
+    }
+
+    /// A handle of its own: a copy of one that is held, or the handle of the leaf.
+    pub fn made<R: Wait>(&self, w: &mut Work<'_, 't>, rt: &R) -> Result<Handle<'t>, HandleError>
+        requires ready { IsReady w.old 1 }
+        requires stands { StandsForSome (leaves_of w.old) self.now }
+        ensures goes_on { GoesOn 1 w.old w.new }
+        ensures accepted { IsAccepted result }
+        ensures handles { CountsHandles 0 w.old w.new result }
+        ensures stands { (t : Tree) → StandsFor (leaves_of w.old) self.now t
+            → IfOk result (λ h. StandsIn w.old h t) }
+    {
+        match self {
+            HandleOperand::Held(handle) => Ok(handle.copy(w)?),
+            HandleOperand::Leaf(id) => leaf(w, rt, *id),
+        }
+    }
+}

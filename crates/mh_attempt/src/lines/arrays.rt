@@ -1,0 +1,105 @@
+//! Lines that pass arguments in arrays: `gather` and `spread`.
+
+ghost use Rattle.mh_tree.specs.Tree.{Tree};
+ghost use Rattle.mh_tree.specs.Tree as tree;
+ghost use Rattle.mh_script.specs.declared.script.Operation.TheVariants as operation;
+ghost use Rattle.mh_handle.specs.Works.{CountsHandles, GoesOn, IsReady, leaves_of};
+ghost use Rattle.mh_attempt.specs.Lines.{MakesNode, typed};
+ghost use Rattle.mh_link.specs.Operands.{Frame};
+ghost use Rattle.mh_link.specs.Operations.{node_of};
+ghost use Rattle.mh_attempt.specs.Registers.{Hold, HoldSome, StandsFor, StandsForSome};
+ghost use Rattle.mh_attempt.specs.Uses.{typed_spread};
+
+use crate::handle::HandleOperand;
+use crate::registers::Registers;
+use mh_branch::{check_spread_use, gather, spread};
+use mh_handle::{Handle, HandleError, Work};
+use mh_script::{Register, TypeOperand};
+use mh_tree::check_gather;
+use mh_values::Ty;
+use std::sync::Wait;
+
+// A handle that takes items for its last argument.
+fn gathered<'t, R: Wait>(
+    w: &mut Work<'_, 't>,
+    rt: &R,
+    target: &HandleOperand<'_, 't>,
+    array: Option<Ty>,
+    count: u8,
+) -> Result<Handle<'t>, HandleError>
+    requires ready { IsReady w.old 4 }
+    requires target { StandsForSome (leaves_of w.old) target.now }
+    ensures goes_on { GoesOn 4 w.old w.new }
+    ensures handles { CountsHandles 0 w.old w.new result }
+    ensures node { (t : Tree) → StandsFor (leaves_of w.old) target.now t → MakesNode
+        (typed (leaves_of w.old) (tree.Gather t array count)) w.old w.new result }
+{
+    let ty = target.ty(w.leaves);
+    check_gather(w.alloc, ty, target.weight(), array, count, w.classes())?;
+    let target = target.made(w, rt)?;
+    gather(w, rt, target, array, count)
+}
+
+/// `gather H T N`: a handle that takes items for its last argument.
+pub(crate) fn gather_line<'t, R: Wait>(
+    w: &mut Work<'_, 't>,
+    rt: &R,
+    registers: &Registers<'_, 't>,
+    target: &Register,
+    array: &TypeOperand,
+    count: u8,
+) -> Result<Handle<'t>, HandleError>
+    requires ready { IsReady w.old 4 }
+    requires registers { HoldSome (leaves_of w.old) registers.now }
+    ensures goes_on { GoesOn 4 w.old w.new }
+    ensures handles { CountsHandles 0 w.old w.new result }
+    ensures node { (frame : Frame) → Hold (leaves_of w.old) registers.now frame → MakesNode
+        (node_of (leaves_of w.old) frame (operation.Gather target.now array.now count)) w.old w.new result }
+{
+    let target = registers.handle(w.alloc, target)?;
+    let array = registers.ty(w.alloc, w.classes(), array)?;
+    gathered(w, rt, &target, array, count)
+}
+
+// A handle whose last arguments come in an array.
+fn spread_out<'t, R: Wait>(
+    w: &mut Work<'_, 't>,
+    rt: &R,
+    target: &HandleOperand<'_, 't>,
+    array: Option<Ty>,
+    count: u8,
+) -> Result<Handle<'t>, HandleError>
+    requires ready { IsReady w.old 4 }
+    requires target { StandsForSome (leaves_of w.old) target.now }
+    ensures goes_on { GoesOn 4 w.old w.new }
+    ensures handles { CountsHandles 0 w.old w.new result }
+    ensures node { (t : Tree) → StandsFor (leaves_of w.old) target.now t → MakesNode
+        (typed_spread (leaves_of w.old) t array count) w.old w.new result }
+{
+    let ty = target.ty(w.leaves);
+    check_spread_use(w.alloc, ty, target.weight(), array, count, w.classes())?;
+    let target = target.made(w, rt)?;
+    spread(w, rt, target, array, count)
+}
+
+/// `spread H T N`: a handle whose last arguments come in an array.
+pub(crate) fn spread_line<'t, R: Wait>(
+    w: &mut Work<'_, 't>,
+    rt: &R,
+    registers: &Registers<'_, 't>,
+    target: &Register,
+    array: &TypeOperand,
+    count: u8,
+) -> Result<Handle<'t>, HandleError>
+    requires ready { IsReady w.old 4 }
+    requires registers { HoldSome (leaves_of w.old) registers.now }
+    ensures goes_on { GoesOn 4 w.old w.new }
+    ensures handles { CountsHandles 0 w.old w.new result }
+    ensures node { (frame : Frame) → Hold (leaves_of w.old) registers.now frame → MakesNode
+        (node_of (leaves_of w.old) frame (operation.Spread target.now array.now count)) w.old w.new
+        result }
+{
+    let target = registers.handle(w.alloc, target)?;
+    let array = registers.ty(w.alloc, w.classes(), array)?;
+    spread_out(w, rt, &target, array, count)
+}

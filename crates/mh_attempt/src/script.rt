@@ -1,0 +1,93 @@
+//! A run of a script: its lines, one after the other, and the last one.
+
+ghost use Rattle.std.specs.Prelude.{◌≤◌};
+ghost use Rattle.mh_script.specs.declared.script.End.TheVariants as end;
+ghost use Rattle.mh_handle.specs.Works.{CountsHandles, IsReady, GoesOn, leaves_of};
+ghost use Rattle.mh_attempt.specs.Lines.{MakesNode, passes, raised};
+ghost use Rattle.mh_link.specs.Linked.{ended};
+ghost use Rattle.mh_link.specs.Operands.{Frame};
+ghost use Rattle.mh_attempt.specs.Registers.{Hold, HoldSome};
+ghost use Rattle.mh_attempt.specs.Told.{Tells};
+
+use crate::names::class_of;
+use crate::registers::Registers;
+use crate::thrown::thrown;
+use mh_handle::{Handle, HandleError, Work};
+use mh_script::{End, Register};
+use mh_tree::{CheckError, mismatch};
+use mh_values::{ClassId, Classes, Exc, ExcParts, Str, is_same_method_type};
+use std::alloc::Global;
+use std::sync::Wait;
+
+/// Goes on where the number of the attempt has another remainder.
+fn pass(alloc: Global, serial: u64, modulus: u32, remainder: u32) -> Result<(), CheckError>
+    requires { 1 ≤ modulus }
+    ensures { Tells result (passes serial modulus remainder) }
+{
+    if serial % u64::from(modulus) == u64::from(remainder) {
+        return Err(thrown(alloc, ClassId::RUNTIME_EXCEPTION, b"failmod"));
+    }
+    Ok(())
+}
+
+/// An exception of a class, which must be at or below `Throwable`, with this message.
+fn raised(alloc: Global, classes: &Classes, class: &[u8], message: &Str) -> Result<Exc, CheckError>
+    ensures { Tells result (raised classes.now class.now message.now) }
+{
+    let class = class_of(alloc, classes, class)?;
+    if !classes.subclass(class, ClassId::THROWABLE) {
+        return Err(thrown(alloc, ClassId::ILLEGAL_ARGUMENT, b"raise"));
+    }
+    let message = message.copy()?;
+    let parts = ExcParts {
+        class,
+        message,
+        cause: None,
+    };
+    Ok(Exc::of(alloc, parts)?)
+}
+
+/// The last line `return H`: a handle of the register, whose type must be the site's.
+fn returned<'t, R: Wait>(
+    w: &mut Work<'_, 't>,
+    rt: &R,
+    registers: &Registers<'_, 't>,
+    register: &Register,
+) -> Result<Handle<'t>, HandleError>
+    requires ready { IsReady w.old 1 }
+    requires registers { HoldSome (leaves_of w.old) registers.now }
+    ensures goes_on { GoesOn 1 w.old w.new }
+    ensures handles { CountsHandles 0 w.old w.new result }
+    ensures node { (frame : Frame) → Hold (leaves_of w.old) registers.now frame
+        → MakesNode (ended (leaves_of w.old) (end.Return register.now) frame) w.old w.new result }
+{
+    let target = registers.handle(w.alloc, register)?;
+    let (own, asked) = (target.ty(w.leaves), registers.call.ty.get());
+    if !is_same_method_type(own, asked) {
+        return Err(HandleError::Refused(mismatch(w.alloc, own, asked, w.classes())?));
+    }
+    target.made(w, rt)
+}
+
+/// The last line.
+fn ended<'t, R: Wait>(
+    w: &mut Work<'_, 't>,
+    rt: &R,
+    registers: &Registers<'_, 't>,
+    end: &End,
+) -> Result<Handle<'t>, HandleError>
+    requires ready { IsReady w.old 1 }
+    requires registers { HoldSome (leaves_of w.old) registers.now }
+    ensures goes_on { GoesOn 1 w.old w.new }
+    ensures handles { CountsHandles 0 w.old w.new result }
+    ensures node { (frame : Frame) → Hold (leaves_of w.old) registers.now frame
+        → MakesNode (ended (leaves_of w.old) end.now frame) w.old w.new result }
+{
+    match end {
+        End::Return(register) => returned(w, rt, registers, register),
+        End::Raise { class, message } => {
+            let exc = raised(w.alloc, w.classes(), class.as_slice(), message)?;
+            Err(HandleError::Refused(exc))
+        }
+    }
+}
