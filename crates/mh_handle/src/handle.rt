@@ -96,6 +96,14 @@ impl<'t> Handle<'t> {
         self.weight
     }
 
+    /// The types of its side parts, followed down: of filters, combiners, tests and branches, and of
+    /// the target and the handler of a catch.
+    pub fn sides(&self) -> &MethodTys
+        ensures { result.now ≡ self.now.sides }
+    {
+        &self.sides
+    }
+
     /// Its form.
     pub fn form(&self) -> &'t Form
         ensures { result.now ≡ self.now.form }
