@@ -1,11 +1,21 @@
 -- What a run is given before anything is linked.
-use Rattle.std.specs.Prelude.{List}
+use Rattle.std.specs.Prelude.{◌≡◌, ℕ, List, Some, slice_get}
 use Rattle.mh_leaf.specs.LeafTable.{LeafTable}
+use Rattle.mh_classfile.specs.Class.{Class}
 use Rattle.mh_script.specs.declared.script.Script.{Script}
 use Rattle.mh_jobs.specs.declared.job.Job.{Job}
+use Rattle.mh_jobs.specs.Job.{job_of}
 
 -- the leaves with their classes, the scripts, and the jobs of the call sites, in order
 pub record Given : Type 0 where
   pub leaves : LeafTable
   pub scripts : List Script
   pub jobs : List Job
+
+-- the job is that of a call site of a class
+abbrev pub IsJob : LeafTable → List Script → Job → Type 0
+IsJob leaves scripts job = (class : Class) × (k : ℕ) × (job_of leaves scripts class k job.site ≡ Some job)
+
+-- each job of the run is that of a call site of a class, over the run's leaves and scripts
+abbrev pub AreJobs : Given → Type 0
+AreJobs given = (site : ℕ) (job : Job) → slice_get given.jobs site ≡ Some job → IsJob given.leaves given.scripts job
