@@ -5,7 +5,7 @@ ghost use Rattle.mh_intern.specs.Seats.{Holds};
 
 use mh_base::{NoMemory, Seq};
 use mh_intern::{HeldType, InternError, TypeSeat, TypeTable};
-use mh_values::{MethodTy, Primitive, Ty};
+use mh_values::{ClassId, MethodTy, Primitive, Ty};
 use std::alloc::Global;
 use std::sync::Wait;
 use std::thread::{Threads, join};
@@ -31,10 +31,6 @@ pub(crate) enum Row {
 const ENTRIES: u32 = 16;
 
 const INT: Ty = Ty::Prim(Primitive::I);
-
-const BOOLEAN: Ty = Ty::Prim(Primitive::Z);
-
-const LONG: Ty = Ty::Prim(Primitive::J);
 
 /// A type of the bucket of its return type: four ints leave a type's bucket as it is.
 fn type_of(alloc: Global, ret: Option<Ty>, number: u32) -> Result<MethodTy, NoMemory> {
@@ -258,9 +254,10 @@ fn two_lanes<R: Threads + Wait + Sync>(
     Ok(first?.wrapping_add(second?))
 }
 
-/// Types of four buckets, each asked for so many times.
+/// Types of four buckets, whose words lie on cache lines of their own, each asked for so many times.
 fn four_asked(turns: u32) -> [Asked; 4] {
-    [None, Some(INT), Some(LONG), Some(BOOLEAN)].map(|ret| Asked { ret, turns })
+    let [first, second, third] = [5, 10, 20].map(|number| Ty::Class(ClassId(number)));
+    [None, Some(first), Some(second), Some(third)].map(|ret| Asked { ret, turns })
 }
 
 /// One thread, which asks for the types of four buckets.

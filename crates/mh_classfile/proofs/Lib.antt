@@ -1,6 +1,7 @@
+pub mod CallingSites
+pub mod Examples
+pub mod FileLaw
+pub mod NamedBootstraps
 pub mod SitesLoop
 pub mod Spans
-pub mod FileLaw
-pub mod Examples
-pub mod NamedBootstraps
 mod Spelled

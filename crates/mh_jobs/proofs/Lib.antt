@@ -6,4 +6,5 @@ pub mod Parts
 pub mod ReadOnce
 pub mod Recorded
 pub mod Telling
+mod WorkedArguments
 mod WorkedJobs

@@ -10,7 +10,8 @@ use Rattle.mh_link.specs.Made.{edits}
 
 -- what the attempt of a serial number links at a call site of a run; each site of one has a job
 abbrev pub linked_at : Given → ℕ → ℕ → Linked
-linked_at given site serial = option_map_or (λ job. linked given.leaves given.scripts job serial) (slice_get given.jobs site) (Error (bare illegal_argument_class))
+linked_at given site serial =
+    option_map_or (λ job. linked given.leaves given.scripts job serial) (slice_get given.jobs site) (Error (bare illegal_argument_class))
 
 -- the edits of that attempt, where each tree has a recipe
 abbrev pub edits_at : {K : Type 0} → (Tree → List K) → Given → ℕ → ℕ → List (List K)
