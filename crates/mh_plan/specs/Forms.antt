@@ -1,6 +1,6 @@
 -- Which forms a run makes and can need: one for each recipe.
 use Rattle.std.specs.Prelude.{ℕ, if◌then◌else◌, List, [], ◌∷◌, ◌++◌, Ok, Err}
-use Rattle.std.specs.List.{flat_map}
+use Rattle.std.specs.List.{flat_map, range_with_len}
 use Rattle.std.specs.Set.{distinct_count}
 use Rattle.mh_values.specs.declared.types.MethodTy.{MethodTy}
 use Rattle.mh_values.specs.Same.{is_same_method_type}
@@ -11,10 +11,13 @@ use Rattle.mh_tree.specs.Rows.{TypeOrRefusal}
 use Rattle.mh_tree.specs.Typing.{type_of}
 use Rattle.mh_edit.specs.declared.key.Key.{Key}
 use Rattle.mh_handle.specs.Recipe.{recipe}
+use Rattle.mh_handle.specs.SameRecipes.{same_recipe}
+use Rattle.mh_jobs.specs.Given.{Given}
+use Rattle.mh_link.specs.Sites.{edits_at}
 use Rattle.mh_plan.specs.declared.attempt.Attempt.{Attempt}
 use Rattle.mh_plan.specs.declared.call.Call.{Call}
-use Rattle.mh_plan.specs.declared.call.Call.TheVariants.{Exact, Generic}
-use Rattle.mh_handle.specs.SameRecipes.{same_recipe}
+use Rattle.mh_plan.specs.declared.call.Call.TheVariants.{Exact, Generic, Indy}
+use Rattle.mh_plan.specs.Naming.{naming_of, pairs_named}
 
 -- edits that depend on a type, none where there is none
 abbrev pub at_type : TypeOrRefusal → (MethodTy → List (List Key)) → List (List Key)
@@ -28,10 +31,12 @@ used_edits table t asked =
     if is_same_method_type own asked then []
     else at_type (type_of table (tree.AsType t asked)) (λ _. recipe table (tree.AsType t asked) ∷ []))
 
--- the recipes that a call makes: that of its leaf, whatever its type is, and of a generic one that of the leaf's use as its type
+-- the recipes that a call makes: that of its leaf, whatever its type is, and of a generic one that of the leaf's use as its type; a call of
+-- a site makes none, since the attempt that links it did
 abbrev pub call_edits : LeafTable → Call → List (List Key)
 call_edits table (Exact leaf ty args) = recipe table (tree.Leaf leaf) ∷ []
 call_edits table (Generic leaf ty args) = recipe table (tree.Leaf leaf) ∷ used_edits table (tree.Leaf leaf) ty
+call_edits table (Indy site args) = []
 
 -- the recipes that the calls of one thread make
 abbrev pub thread_edits : LeafTable → List Call → List (List Key)
@@ -41,18 +46,28 @@ thread_edits table calls = flat_map (λ call. call_edits table call) calls
 abbrev pub plan_edits : LeafTable → List (List Call) → List (List Key)
 plan_edits table threads = flat_map (λ calls. thread_edits table calls) threads
 
--- the recipes that an attempt makes; there is no call site yet that one could link, and so there are none
-abbrev pub attempt_edits : Attempt → List (List Key)
-attempt_edits attempt = []
+-- the recipes that an attempt makes
+abbrev pub attempt_edits : Given → Attempt → List (List Key)
+attempt_edits given attempt = edits_at (recipe given.leaves) given attempt.site attempt.serial
 
 -- how many forms a run makes: the number of different recipes that its attempts and its calls make
-abbrev pub forms : LeafTable → List (List Call) → List Attempt → ℕ
-forms table threads attempts = distinct_count same_recipe (flat_map attempt_edits attempts ++ plan_edits table threads)
+abbrev pub forms : Given → List (List Call) → List Attempt → ℕ
+forms given threads attempts = distinct_count same_recipe (flat_map (attempt_edits given) attempts ++ plan_edits given.leaves threads)
 
--- the recipes that a run can make, whichever attempts link its sites; as there are no sites, those of its calls
-abbrev pub all_edits : LeafTable → List (List Call) → List (List Key)
-all_edits table threads = plan_edits table threads
+-- the recipes that attempts to link a site make which have the serials from 1 to a number
+abbrev pub site_edits : Given → ℕ → ℕ → List (List Key)
+site_edits given most site = flat_map (λ serial. edits_at (recipe given.leaves) given site serial) (range_with_len 1 most)
+
+-- the recipes that attempts to link sites make, likewise
+abbrev pub sites_edits : Given → ℕ → List ℕ → List (List Key)
+sites_edits given most sites = flat_map (λ site. site_edits given most site) sites
+
+-- the recipes that a run can make, whichever attempts link its sites: those of its calls, and of attempts to link each site that a call
+-- names. An attempt of a run is one of a thread and a site that the thread names, so that no serial is higher than the number of those
+abbrev pub all_edits : Given → List (List Call) → List (List Key)
+all_edits given threads =
+    plan_edits given.leaves threads ++ flat_map (λ sites. sites_edits given (pairs_named threads) sites) (naming_of threads)
 
 -- how many forms a run can need: the number of different recipes that it can make
-abbrev pub forms_needed : LeafTable → List (List Call) → ℕ
-forms_needed table threads = distinct_count same_recipe (all_edits table threads)
+abbrev pub forms_needed : Given → List (List Call) → ℕ
+forms_needed given threads = distinct_count same_recipe (all_edits given threads)

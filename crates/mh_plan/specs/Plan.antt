@@ -12,14 +12,17 @@ use Rattle.mh_values.specs.declared.value.Value.{Value}
 use Rattle.mh_values.specs.Descriptor.{desc}
 use Rattle.mh_values.specs.HasType.{has_type}
 use Rattle.mh_texts.specs.Literal.{literal_of}
+use Rattle.mh_texts.specs.Number.{unsigned_of}
 use Rattle.mh_leaf.specs.LeafTable.{LeafTable}
 use Rattle.mh_leaves.specs.declared.naming.How.TheVariants.{Any}
 use Rattle.mh_leaves.specs.Find.{find_leaf}
 use Rattle.mh_leaves.specs.Manifest.{type_if_read}
 use Rattle.mh_leaves.specs.Provided.{provided, provided_some}
 use Rattle.mh_leaves.specs.Reference.{Texts, reference_of}
+use Rattle.mh_jobs.specs.declared.job.Job.{Job}
+use Rattle.mh_jobs.specs.Jobs.{params_at}
 use Rattle.mh_plan.specs.declared.call.Call.{Call}
-use Rattle.mh_plan.specs.declared.call.Call.TheVariants.{Exact, Generic}
+use Rattle.mh_plan.specs.declared.call.Call.TheVariants.{Exact, Generic, Indy}
 use Rattle.mh_plan.specs.declared.kinds.PlanKind.{PlanKind}
 use Rattle.mh_plan.specs.declared.kinds.PlanKind.TheVariants.{BadLine, TooMany, NoLeaf, NoSite, BadType, BadArguments}
 use Rattle.mh_plan.specs.declared.counting.Counts.{Counts}
@@ -124,7 +127,7 @@ leaf_if_found (Err e) = None
 
 -- the leaf of a reference, which may have a receiver
 abbrev pub leaf_named : LeafTable → List ℕ → Option LeafId
-leaf_named table token = option_and_then (λ texts. leaf_if_found (find_leaf table texts.owner texts.name texts.descriptor Any)) (leaf_texts token)
+leaf_named leaves token = option_and_then (λ texts. leaf_if_found (find_leaf leaves texts.owner texts.name texts.descriptor Any)) (leaf_texts token)
 
 -- the value of a token, if it has the type
 abbrev pub argument_of : List Class → List ℕ → Ty → Option Value
@@ -141,12 +144,28 @@ arguments_of classes _ _ = None
 abbrev pub call_by : List ℕ → LeafId → MethodTy → List Value → Call
 call_by word leaf t values = if bytes_eq word (codes "exact") then Exact leaf t values else Generic leaf t values
 
--- the call of a leaf by a type, with arguments
-abbrev pub leaf_call : LeafTable → List ℕ → List ℕ → List ℕ → List (List ℕ) → Result Call PlanKind
-leaf_call table word subject asked args =
-    provided_some (leaf_named table subject) NoLeaf (λ leaf.
-    provided_some (type_if_read (desc table.classes asked)) BadType (λ t.
-    provided_some (arguments_of table.classes args t.params) BadArguments (λ values. Ok (call_by word leaf t values))))
+-- the call of a leaf by a type, with arguments; what follows the leaf begins with the type, which a line of the right form has
+abbrev pub leaf_call : LeafTable → List ℕ → List ℕ → List (List ℕ) → Result Call PlanKind
+leaf_call leaves word subject [] = Err BadType
+leaf_call leaves word subject (asked ∷ args) =
+    provided_some (leaf_named leaves subject) NoLeaf (λ leaf.
+    provided_some (type_if_read (desc leaves.classes asked)) BadType (λ t.
+    provided_some (arguments_of leaves.classes args t.params) BadArguments (λ values. Ok (call_by word leaf t values))))
+
+-- the call site of a number, if there are more sites than that, however many digits it has
+abbrev pub site_numbered : List Job → List ℕ → Option ℕ
+site_numbered jobs token = option_and_then (λ n. if nat_lt n (length jobs) then Some n else None) (unsigned_of token)
+
+-- the call of a call site, with arguments of its type; of a site whose type is not readable, without any
+abbrev pub site_call : List Class → List Job → List ℕ → List (List ℕ) → Result Call PlanKind
+site_call classes jobs subject args =
+    provided_some (site_numbered jobs subject) NoSite (λ site.
+    provided_some (arguments_of classes args (params_at jobs site)) BadArguments (λ values. Ok (Indy site values)))
+
+-- the call that a word begins
+abbrev pub call_meaning : LeafTable → List Job → List ℕ → List ℕ → List (List ℕ) → Result Call PlanKind
+call_meaning leaves jobs word subject rest =
+    if bytes_eq word (codes "indy") then site_call leaves.classes jobs subject rest else leaf_call leaves word subject rest
 
 -- a call after those of the last thread
 abbrev pub with_call : List (List Call) → Call → List (List Call)
@@ -159,20 +178,14 @@ abbrev pub call_put : List (List Call) → Result Call PlanKind → Result (List
 call_put threads (Ok call) = Ok (with_call threads call)
 call_put threads (Err kind) = Err kind
 
--- the threads after a call of a leaf; there are no sites that `indy` could call
-abbrev pub call_line : LeafTable → List (List Call) → List ℕ → List ℕ → List ℕ → List (List ℕ) → Result (List (List Call)) PlanKind
-call_line table threads word subject asked args =
-    if bytes_eq word (codes "indy") then Err NoSite else call_put threads (leaf_call table word subject asked args)
-
--- the threads after a line that counts: two tokens are a site's call without arguments, one begins a thread
-abbrev pub tokens_meaning : LeafTable → List (List Call) → List (List ℕ) → Result (List (List Call)) PlanKind
-tokens_meaning table threads (word ∷ subject ∷ asked ∷ args) = call_line table threads word subject asked args
-tokens_meaning table threads (word ∷ subject ∷ []) = Err NoSite
-tokens_meaning table threads _ = Ok (threads ++ [] ∷ [])
+-- the threads after a line that counts: two tokens and more are a call, one begins a thread
+abbrev pub tokens_meaning : LeafTable → List Job → List (List Call) → List (List ℕ) → Result (List (List Call)) PlanKind
+tokens_meaning leaves jobs threads (word ∷ subject ∷ rest) = call_put threads (call_meaning leaves jobs word subject rest)
+tokens_meaning leaves jobs threads _ = Ok (threads ++ [] ∷ [])
 
 -- the threads after a line, or what is wrong with the line
-abbrev pub line_meaning : LeafTable → List (List Call) → List ℕ → Result (List (List Call)) PlanKind
-line_meaning table threads line = if is_passed line then Ok threads else tokens_meaning table threads (tokens_of line)
+abbrev pub line_meaning : LeafTable → List Job → List (List Call) → List ℕ → Result (List (List Call)) PlanKind
+line_meaning leaves jobs threads line = if is_passed line then Ok threads else tokens_meaning leaves jobs threads (tokens_of line)
 
 -- ---- plans
 
@@ -182,10 +195,10 @@ faultless (Ok a) next = next a
 faultless (Err fault) next = Err fault
 
 -- the calls of each thread of a plan of these lines: the form of all lines comes first, then their calls
-abbrev pub plan_of : LeafTable → List (List ℕ) → Result (List (List Call)) (LineFault PlanKind)
-plan_of table lines =
-    faultless (built_from line_counted 1 none_counted lines) (λ counts. built_from (line_meaning table) 1 [] lines)
+abbrev pub plan_of : LeafTable → List Job → List (List ℕ) → Result (List (List Call)) (LineFault PlanKind)
+plan_of leaves jobs lines =
+    faultless (built_from line_counted 1 none_counted lines) (λ counts. built_from (line_meaning leaves jobs) 1 [] lines)
 
 -- the calls of each thread, or the faulty line that counts
-abbrev pub plan : List ℕ → LeafTable → Result (List (List Call)) (LineFault PlanKind)
-plan bytes table = plan_of table (lines_of bytes)
+abbrev pub plan : List ℕ → LeafTable → List Job → Result (List (List Call)) (LineFault PlanKind)
+plan bytes leaves jobs = plan_of leaves jobs (lines_of bytes)

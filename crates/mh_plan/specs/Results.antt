@@ -1,15 +1,21 @@
 -- The result of each call of a plan.
-use Rattle.std.specs.Prelude.{ℕ, ◌<◌, List, length, map, All, Option}
+use Rattle.std.specs.Prelude.{ℕ, ◌<◌, List, length, map, All, Option, option_and_then, slice_get}
+use Rattle.std.specs.Option.{option_map_or}
 use Rattle.mh_values.specs.declared.value.Value.{Value}
-use Rattle.mh_values.specs.Computation.{Ran}
+use Rattle.mh_values.specs.Computation.{Ran, Stuck}
 use Rattle.mh_values.specs.HasType.{HaveTypes}
 use Rattle.mh_leaf.specs.LeafTable.{LeafTable}
 use Rattle.mh_leaf.specs.Outcome.{ran_of}
 use Rattle.mh_tree.specs.Tree as tree
 use Rattle.mh_tree.specs.Meaning.{exact, generic}
 use Rattle.mh_handle.specs.declared.answer.Answer.{Answer}
+use Rattle.mh_jobs.specs.declared.job.Job.{Job}
+use Rattle.mh_jobs.specs.Given.{Given}
+use Rattle.mh_jobs.specs.Jobs.{params_at}
+use Rattle.mh_link.specs.Linked.{site_call}
+use Rattle.mh_link.specs.Sites.{linked_at}
 use Rattle.mh_plan.specs.declared.call.Call.{Call}
-use Rattle.mh_plan.specs.declared.call.Call.TheVariants.{Exact, Generic}
+use Rattle.mh_plan.specs.declared.call.Call.TheVariants.{Exact, Generic, Indy}
 
 -- how a call ended: with what value or exception, and with which leaf calls
 abbrev pub Result : Type 0
@@ -19,27 +25,35 @@ Result = Ran (Option Value)
 abbrev pub Serials : Type 0
 Serials = List (Option ℕ)
 
--- the result of a call where sites are linked by these attempts; a call of a leaf looks at none
-abbrev pub result_of : LeafTable → Serials → Call → Result
-result_of leaves table (Exact leaf ty args) = exact leaves (tree.Leaf leaf) ty args 0
-result_of leaves table (Generic leaf ty args) = generic leaves (tree.Leaf leaf) ty args 0
+-- the serial of the attempt by which a site is linked, where it is
+abbrev pub serial_at : Serials → ℕ → Option ℕ
+serial_at table site = option_and_then (λ serial. serial) (slice_get table site)
 
--- a call that can be made: its leaf is there, and its arguments have the types of its type
-abbrev pub IsCallOf : LeafTable → Call → Type 0
-IsCallOf leaves (Exact leaf ty args) = (leaf.0 < length leaves.leaves) × HaveTypes leaves.classes args ty.params
-IsCallOf leaves (Generic leaf ty args) = (leaf.0 < length leaves.leaves) × HaveTypes leaves.classes args ty.params
+-- the result of a call where sites are linked by these attempts. A call of a leaf looks at none; one of a site that is not linked is stuck,
+-- and a run links each site that its calls name
+abbrev pub result_of : Given → Serials → Call → Result
+result_of given table (Exact leaf ty args) = exact given.leaves (tree.Leaf leaf) ty args 0
+result_of given table (Generic leaf ty args) = generic given.leaves (tree.Leaf leaf) ty args 0
+result_of given table (Indy site args) =
+    option_map_or (λ serial. site_call given.leaves (linked_at given site serial) args) (serial_at table site) Stuck
+
+-- a call that can be made: its leaf or its site is there, and its arguments have the types of its type or of the site's
+abbrev pub IsCallOf : LeafTable → List Job → Call → Type 0
+IsCallOf leaves jobs (Exact leaf ty args) = (leaf.0 < length leaves.leaves) × HaveTypes leaves.classes args ty.params
+IsCallOf leaves jobs (Generic leaf ty args) = (leaf.0 < length leaves.leaves) × HaveTypes leaves.classes args ty.params
+IsCallOf leaves jobs (Indy site args) = (site < length jobs) × HaveTypes leaves.classes args (params_at jobs site)
 
 -- the calls of each thread can be made
-abbrev pub AreCallsOf : LeafTable → List (List Call) → Type 0
-AreCallsOf leaves threads = All (λ calls. All (IsCallOf leaves) calls) threads
+abbrev pub AreCallsOf : LeafTable → List Job → List (List Call) → Type 0
+AreCallsOf leaves jobs threads = All (λ calls. All (IsCallOf leaves jobs) calls) threads
 
 -- the results of one thread's calls, in order
-abbrev pub thread_results : LeafTable → Serials → List Call → List Result
-thread_results leaves table calls = map (λ call. result_of leaves table call) calls
+abbrev pub thread_results : Given → Serials → List Call → List Result
+thread_results given table calls = map (λ call. result_of given table call) calls
 
 -- the results of each thread
-abbrev pub results_of : LeafTable → Serials → List (List Call) → List (List Result)
-results_of leaves table threads = map (λ calls. thread_results leaves table calls) threads
+abbrev pub results_of : Given → Serials → List (List Call) → List (List Result)
+results_of given table threads = map (λ calls. thread_results given table calls) threads
 
 -- what an answer says
 abbrev pub result_said : Answer → Result

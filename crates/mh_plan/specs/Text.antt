@@ -8,12 +8,34 @@ use Rattle.mh_values.specs.declared.value.Outcome.TheVariants.{Return, Throw}
 use Rattle.mh_values.specs.declared.value.Value.{Value}
 use Rattle.mh_values.specs.Computation.{Gave, Threw, Stuck}
 use Rattle.mh_values.specs.declared.class.Class.{Class}
-use Rattle.mh_texts.specs.Printed.{shown_value, shown_exception}
+use Rattle.mh_texts.specs.Printed.{shown_value, shown_type, shown_exception}
+use Rattle.mh_plan.specs.declared.table.Recorded.{Recorded}
+use Rattle.mh_plan.specs.declared.table.Shown.{Shown}
+use Rattle.mh_plan.specs.declared.table.Shown.TheVariants as shown
 use Rattle.mh_plan.specs.Results.{Result}
 
 -- the byte that ends a line
 abbrev pub lf : List ℕ
 lf = 10 ∷ []
+
+-- what was linked at a site: the target's type, or the error
+abbrev pub shown_text : List Class → Shown → List ℕ
+shown_text classes (shown.Linked t) = codes "linked " ++ shown_type classes t
+shown_text classes (shown.Error e) = codes "error " ++ shown_exception classes e
+
+-- what is recorded at a site, or `none`
+abbrev pub recorded_text : List Class → Option Recorded → List ℕ
+recorded_text classes None = codes "none"
+recorded_text classes (Some r) = codes "serial " ++ decimal r.serial ++ codes " " ++ shown_text classes r.shown
+
+-- the line of a site
+abbrev pub site_text : List Class → ℕ → Option Recorded → List ℕ
+site_text classes site entry = codes "site " ++ decimal site ++ codes " " ++ recorded_text classes entry ++ lf
+
+-- the lines of sites that are counted from a number
+abbrev pub sites_text : List Class → ℕ → List (Option Recorded) → List ℕ
+sites_text classes site [] = []
+sites_text classes site (entry ∷ table) = site_text classes site entry ++ sites_text classes (site + 1) table
 
 -- the value that was returned, or `void`
 abbrev pub returned_text : List Class → Option Value → List ℕ
@@ -53,6 +75,7 @@ threads_text classes n (results ∷ threads) = thread_text classes n results ++ 
 abbrev pub summary_text : ℕ → ℕ → ℕ → List ℕ
 summary_text attempts forms types = codes "attempts " ++ decimal attempts ++ codes " forms " ++ decimal forms ++ codes " types " ++ decimal types ++ lf
 
--- the report
-abbrev pub report_text : List Class → List (List Result) → ℕ → ℕ → ℕ → List ℕ
-report_text classes threads attempts forms types = threads_text classes 0 threads ++ summary_text attempts forms types
+-- the report: the sites, the threads, and the last line
+abbrev pub report_text : List Class → List (Option Recorded) → List (List Result) → ℕ → ℕ → ℕ → List ℕ
+report_text classes table threads attempts forms types =
+    sites_text classes 0 table ++ threads_text classes 0 threads ++ summary_text attempts forms types

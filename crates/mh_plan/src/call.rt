@@ -10,6 +10,9 @@ pub enum Call {
     /// A call of a leaf as `MethodHandle.invoke` makes it: by the type of the call, as which the leaf
     /// is used, and with arguments of that type's parameters.
     Generic(LeafId, MethodTy, Items),
+    /// A call of a call site, as `invokedynamic` makes it: the site's number, and arguments of the
+    /// parameters of the site's type; none where that type cannot be read.
+    Indy(u32, Items),
 }
 
 /// The calls of one thread, in order.

@@ -1,6 +1,7 @@
-ghost use Rattle.std.specs.Prelude.{◌≡◌, [], ◌∷◌, ◌++◌, map, OnOk};
+ghost use Rattle.std.specs.Prelude.{◌≡◌, ◌<◌, [], ◌∷◌, ◌++◌, map, length, OnOk};
 ghost use Rattle.mh_base.specs.Lines.{TakesLine, TellsLine, built_from};
-ghost use Rattle.mh_plan.specs.Plan.{leaf_named, call_by, leaf_call, with_call, call_line, tokens_meaning, line_meaning};
+ghost use Rattle.mh_jobs.specs.Jobs.{params_at};
+ghost use Rattle.mh_plan.specs.Plan.{leaf_named, call_by, leaf_call, site_numbered, site_call, call_meaning, with_call, tokens_meaning, line_meaning};
 ghost use Rattle.mh_plan.specs.Fault.{TellsLines};
 
 use crate::arguments::read_arguments;
@@ -8,17 +9,24 @@ use crate::grammar::leaf_texts;
 use crate::kinds::LineResult;
 use crate::{Call, PlanError, PlanKind, ThreadCalls};
 use mh_base::{LineError, LineFault, NoMemory, Seq, is_passed, split_at_byte};
+use mh_jobs::Jobs;
 use mh_leaves::{How, Leaves, type_of};
-use mh_values::{Items, LeafId, MethodTy};
+use mh_texts::read_unsigned;
+use mh_values::{Classes, Items, LeafId, MethodTy, Ty};
 use std::alloc::Global;
 
-// The tokens of a call of a leaf.
+/// What the calls of a plan may be of.
+pub(crate) struct Callees<'a> {
+    pub leaves: &'a Leaves,
+    pub jobs: &'a Jobs,
+}
+
+// The tokens of a call.
 #[derive(Clone, Copy)]
 struct CallTokens<'b> {
     word: &'b [u8],
     subject: &'b [u8],
-    asked: &'b [u8],
-    args: &'b [&'b [u8]],
+    rest: &'b [&'b [u8]],
 }
 
 // The leaf of a reference.
@@ -43,25 +51,87 @@ fn call_by(word: &[u8], leaf: LeafId, ty: MethodTy, values: Items) -> Call
 }
 
 // The call of a leaf by a type.
-fn read_call(
+fn read_leaf_call(
     alloc: Global,
     leaves: &Leaves,
     line: CallTokens<'_>,
 ) -> Result<Call, LineError<PlanKind>>
     ensures { TellsLine result (leaf_call leaves.now line.entry.word.now line.entry.subject.now
-        line.entry.asked.now (map (λ t. t.now) line.entry.args.now)) }
+        (map (λ t. t.now) line.entry.rest.now)) }
 {
+    let [asked, args @ ..] = line.rest else {
+        return Err(LineError::Kind(PlanKind::BadType));
+    };
     let Some(leaf) = leaf_named(leaves, line.subject) else {
         return Err(LineError::Kind(PlanKind::NoLeaf));
     };
-    let Some(ty) = type_of(alloc, leaves.classes(), line.asked)? else {
+    let Some(ty) = type_of(alloc, leaves.classes(), asked)? else {
         return Err(LineError::Kind(PlanKind::BadType));
     };
     let params = ty.params.as_slice();
-    let Some(values) = read_arguments(alloc, leaves.classes(), line.args, params)? else {
+    let Some(values) = read_arguments(alloc, leaves.classes(), args, params)? else {
         return Err(LineError::Kind(PlanKind::BadArguments));
     };
     Ok(call_by(line.word, leaf, ty, values))
+}
+
+// The call site of a number.
+fn site_numbered(jobs: &Jobs, token: &[u8]) -> Option<u32>
+    ensures { result ≡ site_numbered jobs.now token.now }
+{
+    let number = read_unsigned(token)?;
+    if (number as usize) < jobs.len() {
+        Some(number)
+    } else {
+        None
+    }
+}
+
+// The types of the arguments that a call of a site takes.
+fn params_at(jobs: &Jobs, site: u32) -> &[Ty]
+    requires { site < length jobs.now }
+    ensures { result.now ≡ params_at jobs.now site }
+{
+    match jobs.get(site).ty() {
+        Some(ty) => ty.params.as_slice(),
+        None => &[],
+    }
+}
+
+// The call of a call site.
+fn read_site_call(
+    alloc: Global,
+    classes: &Classes,
+    jobs: &Jobs,
+    line: CallTokens<'_>,
+) -> Result<Call, LineError<PlanKind>>
+    ensures { TellsLine result (site_call classes.now jobs.now line.entry.subject.now
+        (map (λ t. t.now) line.entry.rest.now)) }
+{
+    let Some(site) = site_numbered(jobs, line.subject) else {
+        return Err(LineError::Kind(PlanKind::NoSite));
+    };
+    let params = params_at(jobs, site);
+    let Some(values) = read_arguments(alloc, classes, line.rest, params)? else {
+        return Err(LineError::Kind(PlanKind::BadArguments));
+    };
+    Ok(Call::Indy(site, values))
+}
+
+// The call that a word begins.
+fn read_call(
+    alloc: Global,
+    of: &Callees<'_>,
+    line: CallTokens<'_>,
+) -> Result<Call, LineError<PlanKind>>
+    ensures { TellsLine result (call_meaning of.now.leaves.now of.now.jobs.now
+        line.entry.word.now line.entry.subject.now (map (λ t. t.now) line.entry.rest.now)) }
+{
+    if line.word == b"indy".as_slice() {
+        read_site_call(alloc, of.leaves.classes(), of.jobs, line)
+    } else {
+        read_leaf_call(alloc, of.leaves, line)
+    }
 }
 
 // Begins a thread after the others, without calls.
@@ -84,83 +154,60 @@ fn add_call(threads: &mut Vec<ThreadCalls>, call: Call) -> Result<(), NoMemory>
     Ok(())
 }
 
-// Takes a call.
-fn read_call_line(
-    alloc: Global,
-    leaves: &Leaves,
-    threads: &mut Vec<ThreadCalls>,
-    line: CallTokens<'_>,
-) -> LineResult
-    ensures { TakesLine threads.new.items result
-        (call_line leaves.now threads.old.items line.entry.word.now line.entry.subject.now
-        line.entry.asked.now (map (λ t. t.now) line.entry.args.now)) }
-{
-    if line.word == b"indy".as_slice() {
-        return Err(LineError::Kind(PlanKind::NoSite));
-    }
-    let call = read_call(alloc, leaves, line)?;
-    add_call(threads, call)?;
-    Ok(())
-}
-
 // Takes the tokens of a line.
 fn read_tokens(
     alloc: Global,
-    leaves: &Leaves,
+    of: &Callees<'_>,
     threads: &mut Vec<ThreadCalls>,
     tokens: &[&[u8]],
 ) -> LineResult
-    ensures { TakesLine threads.new.items result
-        (tokens_meaning leaves.now threads.old.items (map (λ t. t.now) tokens.now)) }
+    ensures { TakesLine threads.new.items result (tokens_meaning of.now.leaves.now
+        of.now.jobs.now threads.old.items (map (λ t. t.now) tokens.now)) }
 {
-    match tokens {
-        [word, subject, asked, args @ ..] => {
-            let line = CallTokens {
-                word: *word,
-                subject: *subject,
-                asked: *asked,
-                args,
-            };
-            read_call_line(alloc, leaves, threads, line)
-        }
-        [_, _] => Err(LineError::Kind(PlanKind::NoSite)),
-        _ => {
-            add_thread(alloc, threads)?;
-            Ok(())
-        }
-    }
+    let [word, subject, rest @ ..] = tokens else {
+        add_thread(alloc, threads)?;
+        return Ok(());
+    };
+    let line = CallTokens {
+        word: *word,
+        subject: *subject,
+        rest,
+    };
+    let call = read_call(alloc, of, line)?;
+    add_call(threads, call)?;
+    Ok(())
 }
 
 // Takes a line.
 fn read_line(
     alloc: Global,
-    leaves: &Leaves,
+    of: &Callees<'_>,
     threads: &mut Vec<ThreadCalls>,
     line: &[u8],
 ) -> LineResult
     ensures { TakesLine threads.new.items result
-        (line_meaning leaves.now threads.old.items line.now) }
+        (line_meaning of.now.leaves.now of.now.jobs.now threads.old.items line.now) }
 {
     if is_passed(line) {
         return Ok(());
     }
     let tokens = split_at_byte(alloc, line, b' ')?;
-    read_tokens(alloc, leaves, threads, &tokens)
+    read_tokens(alloc, of, threads, &tokens)
 }
 
 /// The calls of lines whose form is good.
 pub(crate) fn read_lines(
     alloc: Global,
-    leaves: &Leaves,
+    of: &Callees<'_>,
     lines: &[&[u8]],
 ) -> Result<Seq<ThreadCalls>, PlanError>
-    ensures { TellsLines result
-        (built_from (line_meaning leaves.now) 1 [] (map (λ l. l.now) lines.now)) }
+    ensures { TellsLines result (built_from (line_meaning of.now.leaves.now of.now.jobs.now)
+        1 [] (map (λ l. l.now) lines.now)) }
 {
     let mut threads = Vec::new(alloc);
     let mut number = 1u32;
     for line in lines {
-        match read_line(alloc, leaves, &mut threads, line) {
+        match read_line(alloc, of, &mut threads, line) {
             Ok(()) => {}
             Err(LineError::NoMemory) => return Err(PlanError::NoMemory),
             Err(LineError::Kind(kind)) => {

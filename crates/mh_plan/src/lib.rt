@@ -11,10 +11,12 @@ mod grammar;
 mod kinds;
 mod printing;
 mod reading;
+mod table;
 
 pub use answer::{Answers, ThreadAnswers};
 pub use attempt::{Attempt, Attempts, Serials};
 pub use call::{Call, Plan, ThreadCalls};
 pub use kinds::{PlanError, PlanFault, PlanKind};
-pub use printing::report;
+pub use printing::{Summary, report};
 pub use reading::read_plan;
+pub use table::{Recorded, Shown, Table};

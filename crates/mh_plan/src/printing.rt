@@ -1,14 +1,14 @@
 ghost use Rattle.std.specs.Prelude.{◌≡◌, ◌+◌, ◌++◌, ◌<◌, ◌≤◌, ◌^◌, length, IfOk, OnOk, List};
 ghost use Rattle.std.specs.Fmt.{decimal};
 ghost use Rattle.mh_values.specs.declared.class.Class.{Class};
-ghost use Rattle.mh_plan.specs.Text.{outcome_text, returned_text, calls_text, result_line, results_text, thread_text, threads_text, summary_text, report_text};
+ghost use Rattle.mh_plan.specs.Text.{shown_text, recorded_text, site_text, sites_text, outcome_text, returned_text, calls_text, result_line, results_text, thread_text, threads_text, summary_text, report_text};
 ghost use Rattle.mh_plan.specs.Results.{result_said, thread_said, results_said};
 
-use crate::ThreadAnswers;
+use crate::{Recorded, Shown, Table, ThreadAnswers};
 use itoa::Buffer;
 use mh_base::NoMemory;
 use mh_handle::Answer;
-use mh_texts::{show_exc, show_value};
+use mh_texts::{show_exc, show_type, show_value};
 use mh_values::{Classes, LeafCall, Outcome, Value};
 use std::alloc::Global;
 
@@ -23,6 +23,80 @@ fn push_number(text: &mut Vec<u8>, number: u64) -> Result<(), NoMemory>
     ensures { OnOk result (text.new.items ≡ text.old.items ++ decimal number) }
 {
     push(text, Buffer::new().format(number).as_bytes())
+}
+
+// What was linked at a site.
+fn push_shown(
+    alloc: Global,
+    text: &mut Vec<u8>,
+    shown: &Shown,
+    classes: &Classes,
+) -> Result<(), NoMemory>
+    ensures { OnOk result (text.new.items ≡ text.old.items ++ shown_text classes.now shown.now) }
+{
+    match shown {
+        Shown::Linked(ty) => {
+            push(text, b"linked ")?;
+            push(text, &show_type(alloc, ty, classes)?)
+        }
+        Shown::Error(exc) => {
+            push(text, b"error ")?;
+            push(text, &show_exc(alloc, exc, classes)?)
+        }
+    }
+}
+
+// What is recorded at a site.
+fn push_recorded(
+    alloc: Global,
+    text: &mut Vec<u8>,
+    entry: &Option<Recorded>,
+    classes: &Classes,
+) -> Result<(), NoMemory>
+    ensures { OnOk result
+        (text.new.items ≡ text.old.items ++ recorded_text classes.now entry.now) }
+{
+    let Some(recorded) = entry else {
+        return push(text, b"none");
+    };
+    push(text, b"serial ")?;
+    push_number(text, recorded.serial)?;
+    push(text, b" ")?;
+    push_shown(alloc, text, &recorded.shown, classes)
+}
+
+// The line of a site.
+fn push_site(
+    alloc: Global,
+    text: &mut Vec<u8>,
+    number: usize,
+    entry: &Option<Recorded>,
+    classes: &Classes,
+) -> Result<(), NoMemory>
+    ensures { OnOk result
+        (text.new.items ≡ text.old.items ++ site_text classes.now number entry.now) }
+{
+    push(text, b"site ")?;
+    push_number(text, number as u64)?;
+    push(text, b" ")?;
+    push_recorded(alloc, text, entry, classes)?;
+    push(text, b"\n")
+}
+
+// The lines of all sites.
+fn push_sites(
+    alloc: Global,
+    text: &mut Vec<u8>,
+    table: &Table,
+    classes: &Classes,
+) -> Result<(), NoMemory>
+    ensures { OnOk result
+        (text.new.items ≡ text.old.items ++ sites_text classes.now 0 table.now) }
+{
+    for number in 0..table.len() {
+        push_site(alloc, text, number, table.get(number), classes)?;
+    }
+    Ok(())
 }
 
 // The value that was returned, or `void`.
@@ -143,33 +217,46 @@ fn push_threads(
 }
 
 // The last line.
-fn push_summary(text: &mut Vec<u8>, attempts: u32, forms: u32, types: u32) -> Result<(), NoMemory>
-    ensures { OnOk result (text.new.items ≡ text.old.items ++ summary_text attempts forms types) }
+fn push_summary(text: &mut Vec<u8>, summary: Summary) -> Result<(), NoMemory>
+    ensures { OnOk result (text.new.items
+        ≡ text.old.items ++ summary_text summary.attempts summary.forms summary.types) }
 {
     push(text, b"attempts ")?;
-    push_number(text, u64::from(attempts))?;
+    push_number(text, u64::from(summary.attempts))?;
     push(text, b" forms ")?;
-    push_number(text, u64::from(forms))?;
+    push_number(text, u64::from(summary.forms))?;
     push(text, b" types ")?;
-    push_number(text, u64::from(types))?;
+    push_number(text, u64::from(summary.types))?;
     push(text, b"\n")
 }
 
-/// The report on a run: for each thread its number and a line for each of its calls, and then how many
-/// attempts were made, how many forms there are, and how many types the targets of sites hold.
+/// What the last line of a report counts.
+#[derive(Clone, Copy, Debug, PartialEq, Eq)]
+pub struct Summary {
+    /// How many attempts to link call sites were made.
+    pub attempts: u32,
+    /// How many forms there are.
+    pub forms: u32,
+    /// How many different types the targets of call sites hold.
+    pub types: u32,
+}
+
+/// The report on a run: a line for each call site with what is recorded there, for each thread its
+/// number and a line for each of its calls, and the line that counts.
 pub fn report(
     alloc: Global,
     threads: &ThreadAnswers,
-    attempts: u32,
-    forms: u32,
-    types: u32,
+    table: &Table,
+    summary: Summary,
     classes: &Classes,
 ) -> Result<Vec<u8>, NoMemory>
     ensures { IfOk result (λ text. text.items
-        ≡ report_text classes.now (results_said threads.now) attempts forms types) }
+        ≡ report_text classes.now table.now (results_said threads.now)
+        summary.attempts summary.forms summary.types) }
 {
     let mut text = Vec::new(alloc);
+    push_sites(alloc, &mut text, table, classes)?;
     push_threads(alloc, &mut text, threads, classes)?;
-    push_summary(&mut text, attempts, forms, types)?;
+    push_summary(&mut text, summary)?;
     Ok(text)
 }

@@ -4,29 +4,36 @@ ghost use Rattle.mh_plan.specs.Fault.{TellsLines, TellsPlan};
 ghost use Rattle.mh_plan.specs.Limits.{IsWithinLimits};
 ghost use Rattle.mh_plan.specs.Results.{AreCallsOf};
 
-use crate::calls::read_lines;
+use crate::calls::{Callees, read_lines};
 use crate::counting::check_lines;
 use crate::{Plan, PlanError};
 use mh_base::split_at_byte;
+use mh_jobs::Jobs;
 use mh_leaves::Leaves;
 use std::alloc::Global;
 
 // The calls of a plan's lines.
-fn read_all(alloc: Global, leaves: &Leaves, lines: &[&[u8]]) -> Result<Plan, PlanError>
-    ensures { TellsLines result (plan_of leaves.now (map (λ l. l.now) lines.now)) }
+fn read_all(alloc: Global, of: &Callees<'_>, lines: &[&[u8]]) -> Result<Plan, PlanError>
+    ensures { TellsLines result
+        (plan_of of.now.leaves.now of.now.jobs.now (map (λ l. l.now) lines.now)) }
 {
     check_lines(alloc, lines)?;
-    read_lines(alloc, leaves, lines)
+    read_lines(alloc, of, lines)
 }
 
-/// Reads a plan of calls of these leaves, or gives the faulty line that counts. Its calls can then
-/// be made: nothing of them has to be tested when they run. It has at most 64 threads and 10,000
-/// calls. A line that no `u32` can number is want of memory.
-pub fn read_plan(alloc: Global, bytes: &[u8], leaves: &Leaves) -> Result<Plan, PlanError>
-    ensures meaning { TellsPlan result (plan bytes.now leaves.now) }
-    ensures calls { IfOk result (AreCallsOf leaves.now) }
+/// Reads a plan of calls of these leaves and of the call sites of these jobs, or gives the faulty
+/// line that counts. Its calls can then be made: nothing of them has to be tested when they run. It
+/// has at most 64 threads and 10,000 calls. A line that no `u32` can number is want of memory.
+pub fn read_plan(
+    alloc: Global,
+    bytes: &[u8],
+    leaves: &Leaves,
+    jobs: &Jobs,
+) -> Result<Plan, PlanError>
+    ensures meaning { TellsPlan result (plan bytes.now leaves.now jobs.now) }
+    ensures calls { IfOk result (AreCallsOf leaves.now jobs.now) }
     ensures limits { IfOk result IsWithinLimits }
 {
     let lines = split_at_byte(alloc, bytes, b'\n')?;
-    read_all(alloc, leaves, &lines)
+    read_all(alloc, &Callees { leaves, jobs }, &lines)
 }

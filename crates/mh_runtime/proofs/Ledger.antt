@@ -1,7 +1,8 @@
 -- The ledger of a run that has no sites.
 use Rattle.std.proofs.Common.{◌≡◌, refl, sym, ℕ, false, List, [], ◌∷◌, arith}
 use Rattle.std.specs.Prelude.{filter}
-use Rattle.mh_runtime.specs.Ledger.{Ledger, Naming, first_places}
+use Rattle.mh_plan.specs.Naming.{Naming, first_places}
+use Rattle.mh_runtime.specs.Ledger.{Ledger}
 
 -- nothing passes a test that nothing passes
 filter-none : (xs : List ℕ) → filter (λ _. false) xs ≡ []

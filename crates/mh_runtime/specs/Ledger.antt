@@ -1,28 +1,9 @@
 -- By which attempt each site of a run is linked.
-use Rattle.std.specs.Prelude.{◌≡◌, ◌≢◌, ℕ, ◌==◌, ◌↔◌, List, [], ◌∷◌, if◌then◌else◌, Option, Some, IsSome, length, map, filter, slice_get, Contains, AllPairs}
-use Rattle.std.specs.List.{flat_map, range_with_len, list_any}
+use Rattle.std.specs.Prelude.{◌≡◌, ◌≢◌, ℕ, ◌==◌, ◌↔◌, List, [], Option, Some, IsSome, length, map, filter, slice_get, Contains, AllPairs}
+use Rattle.std.specs.List.{range_with_len, list_any}
 use Rattle.mh_plan.specs.declared.attempt.Attempt.{Attempt}
-use Rattle.mh_plan.specs.declared.call.Call.{Call}
-use Rattle.mh_plan.specs.declared.call.Call.TheVariants.{Exact, Generic}
+use Rattle.mh_plan.specs.Naming.{Naming, first_places}
 use Rattle.mh_plan.specs.Results.{Serials}
-
--- for each thread the sites that its calls name, in the order of the calls
-abbrev pub Naming : Type 0
-Naming = List (List ℕ)
-
--- the sites that a call names: a call of a leaf names none
-abbrev pub sites_named : Call → List ℕ
-sites_named (Exact leaf ty args) = []
-sites_named (Generic leaf ty args) = []
-
--- the sites that the calls of each thread name
-abbrev pub naming_of : List (List Call) → Naming
-naming_of threads = map (λ calls. flat_map sites_named calls) threads
-
--- each number where it first stands, but for those that were seen before
-abbrev pub first_places : List ℕ → List ℕ → List ℕ
-first_places seen [] = []
-first_places seen (k ∷ ks) = if list_any (λ s. s == k) seen then first_places seen ks else k ∷ first_places (k ∷ seen) ks
 
 -- some thread's calls name the site
 abbrev pub IsNamed : Naming → ℕ → Type 0

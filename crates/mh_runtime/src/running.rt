@@ -3,10 +3,11 @@ ghost use Rattle.mh_handle.specs.Passes.{seat_at};
 ghost use Rattle.mh_handle.specs.Works.{GoesOn, IsReady, leaves_of};
 ghost use Rattle.mh_plan.specs.Forms.{thread_edits, plan_edits, forms, forms_needed};
 ghost use Rattle.mh_plan.specs.Limits.{IsWithinLimits};
+ghost use Rattle.mh_plan.specs.Naming.{naming_of};
 ghost use Rattle.mh_plan.specs.Results.{IsCallOf, AreCallsOf, Serials, thread_results, results_of, thread_said, results_said, thread_keys_said, keys_said};
 ghost use Rattle.mh_runtime.specs.Asking.{Asks, IfFull, KeepsHandles, KeepsOrder, plan_draws, thread_draws};
 ghost use Rattle.mh_runtime.specs.Keys.{thread_keys, plan_keys};
-ghost use Rattle.mh_runtime.specs.Ledger.{Ledger, naming_of};
+ghost use Rattle.mh_runtime.specs.Ledger.{Ledger};
 
 use crate::calls::{WorkError, call};
 use mh_base::Seq;

@@ -8,4 +8,5 @@ mod printed;
 mod shown;
 
 pub use literal::{LiteralError, read_literal};
+pub use number::read_unsigned;
 pub use shown::{show_exc, show_name, show_text, show_type, show_value};

@@ -29,8 +29,9 @@ pub(crate) fn read_int(bytes: &[u8]) -> Option<i32>
     i32::try_from(number).ok()
 }
 
-/// The number of 32 bits without a sign that a text writes.
-pub(crate) fn read_unsigned(bytes: &[u8]) -> Option<u32>
+/// The number from 0 to 4,294,967,295 that a text writes in decimal, without a sign or a needless
+/// zero.
+pub fn read_unsigned(bytes: &[u8]) -> Option<u32>
     ensures { result ≡ unsigned_of bytes.now }
 {
     let Ok(text) = str::from_utf8(bytes) else {

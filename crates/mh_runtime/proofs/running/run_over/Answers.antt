@@ -1,6 +1,6 @@
 use Rattle.std.proofs.Common.{◌∙◌, []}
 use Rattle.mh_plan.specs.Forms.{plan_edits}
-use Rattle.mh_runtime.specs.Ledger.{naming_of}
+use Rattle.mh_plan.specs.Naming.{naming_of}
 use Rattle.mh_runtime.proofs.Ledger.{no_attempts}
 use Rattle.mh_runtime.proofs.Repeating.{asked-count, first-in_order, full-run, none-asked}
 use Rattle.mh_runtime.proofs.running.run_over.Goals as goal
