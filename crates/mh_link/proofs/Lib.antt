@@ -1,5 +1,5 @@
 pub mod Attempts
-mod CallsOfSites
+pub mod CallsOfSites
 pub mod Host
 pub mod HostLeaves
 pub mod Leaves

@@ -21,6 +21,7 @@ use Rattle.mh_leaves.specs.Manifest.{type_if_read}
 use Rattle.mh_leaves.specs.Provided.{provided_some}
 use Rattle.mh_leaves.specs.Reference.{Texts}
 use Rattle.mh_leaves.proofs.Once.{position-within}
+use Rattle.mh_jobs.specs.declared.job.Job.{Job}
 use Rattle.mh_plan.specs.declared.call.Call.{Call}
 use Rattle.mh_plan.specs.declared.call.Call.TheVariants.{Exact, Generic}
 use Rattle.mh_plan.specs.declared.kinds.PlanKind.TheVariants.{NoLeaf, BadType, BadArguments}
@@ -68,8 +69,8 @@ first_and_others None others values is = cc
 first_and_others (Some v) None values is = cc
 first_and_others (Some v) (Some vs) values is = (v, vs, refl, refl, cc)
 
-arguments-typed : (classes : List Class) (tokens : List (List ℕ)) (types : List Ty) (values : List Value) → arguments_of classes tokens types ≡ Some values →
-    HaveTypes classes values types
+pub arguments-typed : (classes : List Class) (tokens : List (List ℕ)) (types : List Ty) (values : List Value) →
+    arguments_of classes tokens types ≡ Some values → HaveTypes classes values types
 arguments-typed classes [] [] values is = let none : [] ≡ values = cc in subst (λ vs. HaveTypes classes vs []) none tt
 arguments-typed classes [] (t ∷ types) values is = cc
 arguments-typed classes (token ∷ tokens) [] values is = cc
@@ -80,33 +81,37 @@ arguments-typed classes (token ∷ tokens) (t ∷ types) values is =
 
 -- ---- one call
 
-called-fits : (table : LeafTable) (is_exact : Bool) (leaf : LeafId) (t : MethodTy) (values : List Value) → leaf.0 < length table.leaves →
-    HaveTypes table.classes values t.params → IsCallOf table (if is_exact then Exact leaf t values else Generic leaf t values)
-called-fits table true leaf t values within typed = (within, typed)
-called-fits table false leaf t values within typed = (within, typed)
+called-fits : (table : LeafTable) (jobs : List Job) (is_exact : Bool) (leaf : LeafId) (t : MethodTy) (values : List Value) → leaf.0 < length table.leaves →
+    HaveTypes table.classes values t.params → IsCallOf table jobs (if is_exact then Exact leaf t values else Generic leaf t values)
+called-fits table jobs true leaf t values within typed = (within, typed)
+called-fits table jobs false leaf t values within typed = (within, typed)
 
-with_values : (table : LeafTable) (word : List ℕ) (leaf : LeafId) (t : MethodTy) (args : List (List ℕ)) (o : Option (List Value)) (call : Call) →
-    leaf.0 < length table.leaves → o ≡ arguments_of table.classes args t.params → provided_some o BadArguments (λ values. Ok (call_by word leaf t values)) ≡ Ok
-    call → IsCallOf table call
-with_values table word leaf t args None call within read is = cc
-with_values table word leaf t args (Some values) call within read is =
+with_values : (table : LeafTable) (jobs : List Job) (word : List ℕ) (leaf : LeafId) (t : MethodTy) (args : List (List ℕ)) (o : Option (List Value))
+    (call : Call) → leaf.0 < length table.leaves → o ≡ arguments_of table.classes args t.params →
+    provided_some o BadArguments (λ values. Ok (call_by word leaf t values)) ≡ Ok call → IsCallOf table jobs call
+with_values table jobs word leaf t args None call within read is = cc
+with_values table jobs word leaf t args (Some values) call within read is =
     let same : call_by word leaf t values ≡ call = cc in
-    subst (IsCallOf table) same
-    (called-fits table (bytes_eq word (codes "exact")) leaf t values within (arguments-typed table.classes args t.params values (sym read)))
+    subst (IsCallOf table jobs) same
+    (called-fits table jobs (bytes_eq word (codes "exact")) leaf t values within (arguments-typed table.classes args t.params values (sym read)))
 
-with_type : (table : LeafTable) (word : List ℕ) (leaf : LeafId) (args : List (List ℕ)) (o : Option MethodTy) (call : Call) → leaf.0 < length table.leaves →
+with_type : (table : LeafTable) (jobs : List Job) (word : List ℕ) (leaf : LeafId) (args : List (List ℕ)) (o : Option MethodTy) (call : Call) →
+    leaf.0 < length table.leaves →
     provided_some o BadType (λ t. provided_some (arguments_of table.classes args t.params) BadArguments (λ values. Ok (call_by word leaf t values))) ≡ Ok call →
-    IsCallOf table call
-with_type table word leaf args None call within is = cc
-with_type table word leaf args (Some t) call within is = with_values table word leaf t args (arguments_of table.classes args t.params) call within refl is
+    IsCallOf table jobs call
+with_type table jobs word leaf args None call within is = cc
+with_type table jobs word leaf args (Some t) call within is =
+    with_values table jobs word leaf t args (arguments_of table.classes args t.params) call within refl is
 
-with_leaf : (table : LeafTable) (word token asked : List ℕ) (args : List (List ℕ)) (o : Option LeafId) (call : Call) → o ≡ leaf_named table token →
-    provided_some o NoLeaf (λ leaf. provided_some (type_if_read (desc table.classes asked)) BadType
-    (λ t. provided_some (arguments_of table.classes args t.params) BadArguments (λ values. Ok (call_by word leaf t values)))) ≡ Ok call → IsCallOf table call
-with_leaf table word token asked args None call found is = cc
-with_leaf table word token asked args (Some leaf) call found is =
-    with_type table word leaf args (type_if_read (desc table.classes asked)) call (named-within table (leaf_texts token) leaf (sym found)) is
+with_leaf : (table : LeafTable) (jobs : List Job) (word token asked : List ℕ) (args : List (List ℕ)) (o : Option LeafId) (call : Call) →
+    o ≡ leaf_named table token → provided_some o NoLeaf (λ leaf. provided_some (type_if_read (desc table.classes asked)) BadType
+    (λ t. provided_some (arguments_of table.classes args t.params) BadArguments (λ values. Ok (call_by word leaf t values)))) ≡ Ok call →
+    IsCallOf table jobs call
+with_leaf table jobs word token asked args None call found is = cc
+with_leaf table jobs word token asked args (Some leaf) call found is =
+    with_type table jobs word leaf args (type_if_read (desc table.classes asked)) call (named-within table (leaf_texts token) leaf (sym found)) is
 
-pub leaf_call-fits : (table : LeafTable) (word token asked : List ℕ) (args : List (List ℕ)) (call : Call) → leaf_call table word token asked args ≡ Ok call →
-    IsCallOf table call
-leaf_call-fits table word token asked args call is = with_leaf table word token asked args (leaf_named table token) call refl is
+pub leaf_call-fits : (table : LeafTable) (jobs : List Job) (word token : List ℕ) (rest : List (List ℕ)) (call : Call) →
+    leaf_call table word token rest ≡ Ok call → IsCallOf table jobs call
+leaf_call-fits table jobs word token [] call is = cc
+leaf_call-fits table jobs word token (asked ∷ args) call is = with_leaf table jobs word token asked args (leaf_named table token) call refl is

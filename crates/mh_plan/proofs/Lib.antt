@@ -4,5 +4,11 @@ pub mod ReadOn
 pub mod Threads
 pub mod Fitting
 pub mod FoundCalls
+pub mod FoundSites
 pub mod Counted
+pub mod Host
 pub mod Limits
+pub mod TableSerials
+mod WorkedPlans
+mod WorkedReports
+mod WorkedRuns

@@ -1,12 +1,13 @@
--- Lines of a report and results of calls, thread by thread.
-use Rattle.std.proofs.Common.{◌≡◌, refl, sym, ◌∙◌, ap, ℕ, ◌+◌, ◌<◌, ◌≤◌, List, [], ◌∷◌, ◌++◌, take, drop, length, slice_get, Some, append_assoc}
+-- Lines of a report, site by site, and results of calls, thread by thread.
+use Rattle.std.proofs.Common.{◌≡◌, refl, sym, ◌∙◌, ap, ℕ, ◌+◌, ◌<◌, ◌≤◌, List, [], ◌∷◌, ◌++◌, take, drop, length, slice_get, Option, Some, append_assoc}
 use Rattle.std.specs.List.{flat_map}
 use Rattle.std.proofs.lemmas.List.{drop_more, take_all}
 use Rattle.std.proofs.lemmas.Option.{get_or_from_slice_get}
 use Rattle.mh_values.specs.declared.class.Class.{Class}
 use Rattle.mh_handle.specs.declared.answer.Answer.{Answer}
+use Rattle.mh_plan.specs.declared.table.Recorded.{Recorded}
 use Rattle.mh_plan.specs.Results.{result_said, thread_said, results_said}
-use Rattle.mh_plan.specs.Text.{result_line, results_text, thread_text, threads_text}
+use Rattle.mh_plan.specs.Text.{result_line, results_text, site_text, sites_text, thread_text, threads_text}
 
 pub threads_text-more : (classes : List Class) (threads : List (List Answer)) (n : ℕ) (item : List Answer) (old new all : List ℕ) → n < length threads →
     slice_get threads n ≡ Some item → new ≡ old ++ thread_text classes n (thread_said item) →
@@ -29,3 +30,13 @@ pub results_text-whole : (classes : List Class) (answers : List Answer) (i : ℕ
 results_text-whole classes answers i old new all is =
     is ∙ ap (λ xs. old ++ flat_map (λ answer. result_line classes (result_said answer)) xs) (take_all i answers all) ∙
     ap (λ x. old ++ x) (lines-said classes answers)
+
+pub sites_text-more : (classes : List Class) (table : List (Option Recorded)) (n : ℕ) (entry : Option Recorded) (old new all : List ℕ) → n < length table →
+    slice_get table n ≡ Some entry → new ≡ old ++ site_text classes n entry → old ++ sites_text classes n (drop n table) ≡ all →
+    new ++ sites_text classes (n + 1) (drop (n + 1) table) ≡ all
+sites_text-more classes table n entry old new all in_range is new_is before =
+    let cut : drop n table ≡ entry ∷ drop (n + 1) table = drop_more table n entry in_range ∙ ap (λ x. x ∷ drop (n + 1) table)
+    (get_or_from_slice_get table n entry entry is) in
+    ap (λ x. x ++ sites_text classes (n + 1) (drop (n + 1) table)) new_is
+    ∙ append_assoc old (site_text classes n entry) (sites_text classes (n + 1) (drop (n + 1) table))
+    ∙ ap (λ x. old ++ sites_text classes n x) (sym cut) ∙ before

@@ -1,6 +1,6 @@
 -- The result of each call of a plan.
-use Rattle.std.specs.Prelude.{ℕ, ◌<◌, List, length, map, All, Option, option_and_then, slice_get}
-use Rattle.std.specs.Option.{option_map_or}
+use Rattle.std.specs.Prelude.{ℕ, ◌<◌, List, length, map, All, Option, slice_get}
+use Rattle.std.specs.Option.{option_flatten, option_map_or}
 use Rattle.mh_values.specs.declared.value.Value.{Value}
 use Rattle.mh_values.specs.Computation.{Ran, Stuck}
 use Rattle.mh_values.specs.HasType.{HaveTypes}
@@ -27,7 +27,7 @@ Serials = List (Option ℕ)
 
 -- the serial of the attempt by which a site is linked, where it is
 abbrev pub serial_at : Serials → ℕ → Option ℕ
-serial_at table site = option_and_then (λ serial. serial) (slice_get table site)
+serial_at table site = option_flatten (slice_get table site)
 
 -- the result of a call where sites are linked by these attempts. A call of a leaf looks at none; one of a site that is not linked is stuck,
 -- and a run links each site that its calls name

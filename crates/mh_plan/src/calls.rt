@@ -16,6 +16,7 @@ use mh_values::{Classes, Items, LeafId, MethodTy, Ty};
 use std::alloc::Global;
 
 /// What the calls of a plan may be of.
+#[derive(Clone, Copy)]
 pub(crate) struct Callees<'a> {
     pub leaves: &'a Leaves,
     pub jobs: &'a Jobs,

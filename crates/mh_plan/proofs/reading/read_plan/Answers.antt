@@ -5,8 +5,8 @@ use Rattle.mh_plan.proofs.reading.read_plan.Goals as goal
 
 pub returns-clause-calls : goal.returns-clause-calls
 returns-clause-calls c =
-    told-calls c.args.leaves.now (map (λ (line : Bor (List ℕ)). line.now) c.deref.result.now) c.read_all.result c.read_all.ensures
+    told-calls c.args.leaves.now c.args.jobs.now (map (λ (line : Bor (List ℕ)). line.now) c.deref.result.now) c.read_all.result c.read_all.ensures
 
 pub returns-clause-limits : goal.returns-clause-limits
 returns-clause-limits c =
-    told-limits c.args.leaves.now (map (λ (line : Bor (List ℕ)). line.now) c.deref.result.now) c.read_all.result c.read_all.ensures
+    told-limits c.args.leaves.now c.args.jobs.now (map (λ (line : Bor (List ℕ)). line.now) c.deref.result.now) c.read_all.result c.read_all.ensures

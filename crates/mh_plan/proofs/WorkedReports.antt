@@ -1,0 +1,42 @@
+-- Worked examples of reports with call sites: what the checker computes of the definitions.
+use Rattle.std.specs.Prelude.{◌≡◌, refl, ℕ, List, [], ◌∷◌, ◌++◌, codes, Some, None, length}
+use Rattle.std.specs.Int.{int_wrap}
+use Rattle.mh_class_bytes.specs.Chars.{chars_from, units_from, shown}
+use Rattle.mh_class_bytes.specs.Mutf8.{sound_from, unit_len}
+use Rattle.mh_jobs.specs.Given.{Given}
+use Rattle.mh_link.proofs.Host.{host}
+use Rattle.mh_plan.specs.declared.call.Call.{Call}
+use Rattle.mh_plan.specs.declared.call.Call.TheVariants.{Indy}
+use Rattle.mh_plan.specs.Recorded.{recorded, serials_of}
+use Rattle.mh_plan.specs.Results.{Serials, results_of}
+use Rattle.mh_plan.specs.Text.{lf, report_text, sites_text}
+use Rattle.mh_plan.proofs.Host.{adding_later, given_with, int}
+
+-- three sites that only attempts with even numbers link
+abbrev evens : Given
+evens = given_with adding_later (codes "(II)I" ∷ codes "(II)I" ∷ codes "(II)I" ∷ [])
+
+-- no call names the second site
+abbrev table : Serials
+table = Some 2 ∷ None ∷ Some 1 ∷ []
+
+-- the calls
+abbrev plan : List (List Call)
+plan = (Indy 2 (int 1 ∷ int 2 ∷ []) ∷ Indy 0 (int 1 ∷ int 2 ∷ []) ∷ []) ∷ []
+
+a_report_begins_with_the_sites :
+    report_text host.classes (recorded evens table) (results_of evens table plan) 2 1 1
+    ≡ codes "site 0 serial 2 linked (II)I" ++ lf
+    ++ codes "site 1 none" ++ lf
+    ++ codes "site 2 serial 1 error java/lang/BootstrapMethodError s: cause java/lang/RuntimeException s:failmod" ++ lf
+    ++ codes "thread 0" ++ lf
+    ++ codes "throws java/lang/BootstrapMethodError s: cause java/lang/RuntimeException s:failmod calls -" ++ lf
+    ++ codes "returns i:3 calls 0" ++ lf
+    ++ codes "attempts 2 forms 1 types 1" ++ lf
+unfolding chars_from units_from unit_len sound_from shown int_wrap
+a_report_begins_with_the_sites = refl
+
+the_serials_are_those_of_the_attempts :
+    serials_of (recorded evens table)
+    ≡ table
+the_serials_are_those_of_the_attempts = refl

@@ -1,0 +1,9 @@
+use Rattle.std.proofs.Common.{◌<◌, length, arith}
+use Rattle.mh_plan.proofs.Running.{sites_text-more}
+use Rattle.mh_plan.proofs.printing.push_sites.Goals as goal
+
+pub loop-number-preserved : goal.loop-number-preserved
+loop-number-preserved c =
+    let in_range : c.loop-number.number < length c.args.table.now = omega arith in
+    sites_text-more c.args.classes.now c.args.table.now c.loop-number.number c.get.result.now _ _ _ in_range c.get.ensures c.in_ok-push_site.ensures
+    c.loop-number.invariant
