@@ -1,7 +1,7 @@
-//! Jobs of call sites: each thing that may be wrong with one, and the numbers of sites.
+//! Jobs of call sites: each thing that may be wrong with one, and the numbers of sites. The class
+//! files are for other crates of tests too.
 #![tactic(auto)]
 
-#[cfg(test)]
-mod files;
+pub mod files;
 #[cfg(test)]
 mod resolved;

@@ -1,5 +1,5 @@
 -- The calls of a plan can be made.
-use Rattle.std.proofs.Common.{◌≡◌, refl, sym, ◌∙◌, ap, subst, inl, inr, ℕ, ◌+◌, if◌then◌else◌, List, [], ◌∷◌, ◌++◌, Result, Ok, Err, IfOk}
+use Rattle.std.proofs.Common.{◌≡◌, refl, sym, ◌∙◌, ap, subst, inl, inr, ℕ, ◌+◌, Bool, if◌then◌else◌, List, [], ◌∷◌, ◌++◌, Result, Ok, Err, IfOk}
 use Rattle.std.specs.List.{All}
 use Rattle.std.proofs.lemmas.Bool.{cases_Bool}
 use Rattle.std.proofs.lemmas.List.Elements.{All-nil, All-cons, All-head, All-tail, All-push}
@@ -48,7 +48,7 @@ tokens-fit leaves jobs threads next (word ∷ subject ∷ rest) all is =
 line-fits : (leaves : LeafTable) (jobs : List Job) (threads next : List (List Call)) (line : List ℕ) → AreCallsOf leaves jobs threads →
     line_meaning leaves jobs threads line ≡ Ok next → AreCallsOf leaves jobs next
 line-fits leaves jobs threads next line all is =
-    let split = λ b. if b then Ok threads else tokens_meaning leaves jobs threads (tokens_of line) in
+    let split : Bool → Result (List (List Call)) PlanKind = λ b. if b then Ok threads else tokens_meaning leaves jobs threads (tokens_of line) in
     elim (cases_Bool (is_passed line)) [
       | inl e ↦
           let whole : Ok threads ≡ Ok next = sym (ap split e) ∙ is in

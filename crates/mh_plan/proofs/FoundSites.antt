@@ -1,5 +1,5 @@
 -- A call that is read can be made: one of a call site, and so any.
-use Rattle.std.proofs.Common.{◌≡◌, refl, sym, ◌∙◌, ap, subst, inl, inr, ℕ, ◌<◌, if◌then◌else◌, List, length, codes, Option, None, Some, option_and_then, Ok, arith}
+use Rattle.std.proofs.Common.{◌≡◌, refl, sym, ◌∙◌, ap, subst, inl, inr, ℕ, ◌<◌, Bool, if◌then◌else◌, List, length, codes, Option, None, Some, option_and_then, Result, Ok, arith}
 use Rattle.std.specs.Prelude.{nat_lt}
 use Rattle.std.specs.Str.{bytes_eq}
 use Rattle.std.proofs.lemmas.Bool.{cases_Bool}
@@ -12,8 +12,9 @@ use Rattle.mh_jobs.specs.declared.job.Job.{Job}
 use Rattle.mh_jobs.specs.Jobs.{params_at}
 use Rattle.mh_plan.specs.declared.call.Call.{Call}
 use Rattle.mh_plan.specs.declared.call.Call.TheVariants.{Indy}
+use Rattle.mh_plan.specs.declared.kinds.PlanKind.{PlanKind}
 use Rattle.mh_plan.specs.declared.kinds.PlanKind.TheVariants.{NoSite, BadArguments}
-use Rattle.mh_plan.specs.Plan.{arguments_of, call_meaning, leaf_call, site_call, site_numbered}
+use Rattle.mh_plan.specs.Plan.{arguments_of, call_meaning, leaf_call, indy_call, site_numbered}
 use Rattle.mh_plan.specs.Results.{IsCallOf}
 use Rattle.mh_plan.proofs.FoundCalls.{arguments-typed, leaf_call-fits}
 
@@ -46,16 +47,16 @@ with_site leaves jobs token args (Some site) call found is =
     with_values leaves jobs site args (arguments_of leaves.classes args (params_at jobs site)) call
     (numbered-within jobs (unsigned_of token) site (sym found)) refl is
 
-site_call-fits : (leaves : LeafTable) (jobs : List Job) (token : List ℕ) (args : List (List ℕ)) (call : Call) →
-    site_call leaves.classes jobs token args ≡ Ok call → IsCallOf leaves jobs call
-site_call-fits leaves jobs token args call is = with_site leaves jobs token args (site_numbered jobs token) call refl is
+indy_call-fits : (leaves : LeafTable) (jobs : List Job) (token : List ℕ) (args : List (List ℕ)) (call : Call) →
+    indy_call leaves.classes jobs token args ≡ Ok call → IsCallOf leaves jobs call
+indy_call-fits leaves jobs token args call is = with_site leaves jobs token args (site_numbered jobs token) call refl is
 
 -- a call of a leaf or of a call site
 pub call_meaning-fits : (leaves : LeafTable) (jobs : List Job) (word token : List ℕ) (rest : List (List ℕ)) (call : Call) →
     call_meaning leaves jobs word token rest ≡ Ok call → IsCallOf leaves jobs call
 call_meaning-fits leaves jobs word token rest call is =
-    let split = λ b. if b then site_call leaves.classes jobs token rest else leaf_call leaves word token rest in
+    let split : Bool → Result Call PlanKind = λ b. if b then indy_call leaves.classes jobs token rest else leaf_call leaves word token rest in
     elim (cases_Bool (bytes_eq word (codes "indy"))) [
-      | inl e ↦ site_call-fits leaves jobs token rest call (sym (ap split e) ∙ is)
+      | inl e ↦ indy_call-fits leaves jobs token rest call (sym (ap split e) ∙ is)
       | inr e ↦ leaf_call-fits leaves jobs word token rest call (sym (ap split e) ∙ is)
     ]

@@ -1,11 +1,10 @@
 -- Runs of the worked examples: call sites of one class, which one script links, over the leaves of `demo/Host`.
-use Rattle.std.specs.Prelude.{ℕ, ℤ, List, [], ◌∷◌, codes, map, pos}
+use Rattle.std.specs.Prelude.{ℕ, List, [], ◌∷◌, codes, map, pos, Some}
+use Rattle.mh_values.specs.declared.types.MethodTy.{MethodTy}
+use Rattle.mh_values.specs.declared.value.LeafId.{LeafId}
 use Rattle.mh_values.specs.declared.value.Num.TheVariants as num
 use Rattle.mh_values.specs.declared.value.Value.{Value}
 use Rattle.mh_values.specs.declared.value.Value.TheVariants as value
-use Rattle.mh_values.specs.declared.types.MethodTy.{MethodTy}
-use Rattle.mh_values.specs.declared.value.LeafId.{LeafId}
-use Rattle.std.specs.Prelude.{Some}
 use Rattle.mh_leaf.specs.Outcome.{int_type}
 use Rattle.mh_classfile.specs.Class as class_file
 use Rattle.mh_script.specs.declared.operand.ValueOperand.TheVariants as of_value

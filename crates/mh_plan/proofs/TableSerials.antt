@@ -1,5 +1,5 @@
 -- What is recorded at sites tells by which attempts they are linked.
-use Rattle.std.proofs.Common.{◌≡◌, refl, ap, ◌∙◌, ℕ, ◌+◌, List, [], ◌∷◌, Option, None, Some, option_map}
+use Rattle.std.proofs.Common.{◌≡◌, refl, ap, ◌∙◌, ℕ, ◌+◌, [], ◌∷◌, Option, None, Some, option_map}
 use Rattle.mh_jobs.specs.Given.{Given}
 use Rattle.mh_plan.specs.declared.table.Recorded.{Recorded}
 use Rattle.mh_plan.specs.Recorded.{recorded, recorded_at, recorded_from, serials_of}

@@ -1,5 +1,6 @@
 -- Worked examples of reports with call sites: what the checker computes of the definitions.
-use Rattle.std.specs.Prelude.{◌≡◌, refl, ℕ, List, [], ◌∷◌, ◌++◌, codes, Some, None, length}
+use Rattle.std.specs.Prelude.{◌≡◌, refl, List, [], ◌∷◌, ◌++◌, codes, Some, None}
+use Rattle.std.specs.Fmt.{digits}
 use Rattle.std.specs.Int.{int_wrap}
 use Rattle.mh_class_bytes.specs.Chars.{chars_from, units_from, shown}
 use Rattle.mh_class_bytes.specs.Mutf8.{sound_from, unit_len}
@@ -9,7 +10,7 @@ use Rattle.mh_plan.specs.declared.call.Call.{Call}
 use Rattle.mh_plan.specs.declared.call.Call.TheVariants.{Indy}
 use Rattle.mh_plan.specs.Recorded.{recorded, serials_of}
 use Rattle.mh_plan.specs.Results.{Serials, results_of}
-use Rattle.mh_plan.specs.Text.{lf, report_text, sites_text}
+use Rattle.mh_plan.specs.Text.{lf, report_text}
 use Rattle.mh_plan.proofs.Host.{adding_later, given_with, int}
 
 -- three sites that only attempts with even numbers link
@@ -33,7 +34,7 @@ a_report_begins_with_the_sites :
     ++ codes "throws java/lang/BootstrapMethodError s: cause java/lang/RuntimeException s:failmod calls -" ++ lf
     ++ codes "returns i:3 calls 0" ++ lf
     ++ codes "attempts 2 forms 1 types 1" ++ lf
-unfolding chars_from units_from unit_len sound_from shown int_wrap
+unfolding chars_from units_from unit_len sound_from shown int_wrap digits
 a_report_begins_with_the_sites = refl
 
 the_serials_are_those_of_the_attempts :

@@ -1,5 +1,5 @@
 -- Worked examples of runs with call sites: what the checker computes of the definitions.
-use Rattle.std.specs.Prelude.{◌≡◌, refl, ℕ, List, [], ◌∷◌, codes, Some, None, Ok, Err, pos}
+use Rattle.std.specs.Prelude.{◌≡◌, refl, ℕ, List, [], ◌∷◌, codes, Some, None, Ok, Err}
 use Rattle.std.specs.Int.{int_wrap}
 use Rattle.mh_values.specs.Computation.{Stuck}
 use Rattle.mh_values.specs.Exception.{saying}
@@ -13,7 +13,7 @@ use Rattle.mh_plan.specs.declared.call.Call.{Call}
 use Rattle.mh_plan.specs.declared.call.Call.TheVariants.{Exact, Indy}
 use Rattle.mh_plan.specs.Forms.{forms, forms_needed}
 use Rattle.mh_plan.specs.Naming.{naming_of, pairs_named}
-use Rattle.mh_plan.specs.Recorded.{recorded, types}
+use Rattle.mh_plan.specs.Recorded.{types}
 use Rattle.mh_plan.specs.Results.{result_of}
 use Rattle.mh_plan.proofs.Host.{add_leaf, adding_later, adding_ten, adds, given_with, int}
 

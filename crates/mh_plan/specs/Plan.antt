@@ -157,15 +157,15 @@ abbrev pub site_numbered : List Job → List ℕ → Option ℕ
 site_numbered jobs token = option_and_then (λ n. if nat_lt n (length jobs) then Some n else None) (unsigned_of token)
 
 -- the call of a call site, with arguments of its type; of a site whose type is not readable, without any
-abbrev pub site_call : List Class → List Job → List ℕ → List (List ℕ) → Result Call PlanKind
-site_call classes jobs subject args =
+abbrev pub indy_call : List Class → List Job → List ℕ → List (List ℕ) → Result Call PlanKind
+indy_call classes jobs subject args =
     provided_some (site_numbered jobs subject) NoSite (λ site.
     provided_some (arguments_of classes args (params_at jobs site)) BadArguments (λ values. Ok (Indy site values)))
 
 -- the call that a word begins
 abbrev pub call_meaning : LeafTable → List Job → List ℕ → List ℕ → List (List ℕ) → Result Call PlanKind
 call_meaning leaves jobs word subject rest =
-    if bytes_eq word (codes "indy") then site_call leaves.classes jobs subject rest else leaf_call leaves word subject rest
+    if bytes_eq word (codes "indy") then indy_call leaves.classes jobs subject rest else leaf_call leaves word subject rest
 
 -- a call after those of the last thread
 abbrev pub with_call : List (List Call) → Call → List (List Call)

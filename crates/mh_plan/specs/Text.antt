@@ -19,14 +19,14 @@ abbrev pub lf : List ℕ
 lf = 10 ∷ []
 
 -- what was linked at a site: the target's type, or the error
-abbrev pub shown_text : List Class → Shown → List ℕ
-shown_text classes (shown.Linked t) = codes "linked " ++ shown_type classes t
-shown_text classes (shown.Error e) = codes "error " ++ shown_exception classes e
+abbrev pub linked_text : List Class → Shown → List ℕ
+linked_text classes (shown.Linked t) = codes "linked " ++ shown_type classes t
+linked_text classes (shown.Error e) = codes "error " ++ shown_exception classes e
 
 -- what is recorded at a site, or `none`
 abbrev pub recorded_text : List Class → Option Recorded → List ℕ
 recorded_text classes None = codes "none"
-recorded_text classes (Some r) = codes "serial " ++ decimal r.serial ++ codes " " ++ shown_text classes r.shown
+recorded_text classes (Some r) = codes "serial " ++ decimal r.serial ++ codes " " ++ linked_text classes r.shown
 
 -- the line of a site
 abbrev pub site_text : List Class → ℕ → Option Recorded → List ℕ

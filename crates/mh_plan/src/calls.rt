@@ -1,7 +1,7 @@
 ghost use Rattle.std.specs.Prelude.{◌≡◌, ◌<◌, [], ◌∷◌, ◌++◌, map, length, OnOk};
 ghost use Rattle.mh_base.specs.Lines.{TakesLine, TellsLine, built_from};
 ghost use Rattle.mh_jobs.specs.Jobs.{params_at};
-ghost use Rattle.mh_plan.specs.Plan.{leaf_named, call_by, leaf_call, site_numbered, site_call, call_meaning, with_call, tokens_meaning, line_meaning};
+ghost use Rattle.mh_plan.specs.Plan.{leaf_named, call_by, leaf_call, site_numbered, indy_call, call_meaning, with_call, tokens_meaning, line_meaning};
 ghost use Rattle.mh_plan.specs.Fault.{TellsLines};
 
 use crate::arguments::read_arguments;
@@ -106,7 +106,7 @@ fn read_site_call(
     jobs: &Jobs,
     line: CallTokens<'_>,
 ) -> Result<Call, LineError<PlanKind>>
-    ensures { TellsLine result (site_call classes.now jobs.now line.entry.subject.now
+    ensures { TellsLine result (indy_call classes.now jobs.now line.entry.subject.now
         (map (λ t. t.now) line.entry.rest.now)) }
 {
     let Some(site) = site_numbered(jobs, line.subject) else {

@@ -1,7 +1,7 @@
 ghost use Rattle.std.specs.Prelude.{◌≡◌, ◌+◌, ◌++◌, ◌<◌, ◌≤◌, ◌^◌, length, IfOk, OnOk, List};
 ghost use Rattle.std.specs.Fmt.{decimal};
 ghost use Rattle.mh_values.specs.declared.class.Class.{Class};
-ghost use Rattle.mh_plan.specs.Text.{shown_text, recorded_text, site_text, sites_text, outcome_text, returned_text, calls_text, result_line, results_text, thread_text, threads_text, summary_text, report_text};
+ghost use Rattle.mh_plan.specs.Text.{linked_text, recorded_text, site_text, sites_text, outcome_text, returned_text, calls_text, result_line, results_text, thread_text, threads_text, summary_text, report_text};
 ghost use Rattle.mh_plan.specs.Results.{result_said, thread_said, results_said};
 
 use crate::{Recorded, Shown, Table, ThreadAnswers};
@@ -26,13 +26,13 @@ fn push_number(text: &mut Vec<u8>, number: u64) -> Result<(), NoMemory>
 }
 
 // What was linked at a site.
-fn push_shown(
+fn push_linked(
     alloc: Global,
     text: &mut Vec<u8>,
     shown: &Shown,
     classes: &Classes,
 ) -> Result<(), NoMemory>
-    ensures { OnOk result (text.new.items ≡ text.old.items ++ shown_text classes.now shown.now) }
+    ensures { OnOk result (text.new.items ≡ text.old.items ++ linked_text classes.now shown.now) }
 {
     match shown {
         Shown::Linked(ty) => {
@@ -62,7 +62,7 @@ fn push_recorded(
     push(text, b"serial ")?;
     push_number(text, recorded.serial)?;
     push(text, b" ")?;
-    push_shown(alloc, text, &recorded.shown, classes)
+    push_linked(alloc, text, &recorded.shown, classes)
 }
 
 // The line of a site.

@@ -1,12 +1,8 @@
-ghost use Rattle.std.specs.Prelude.{◌≡◌, [], length, IfOk};
-ghost use Rattle.mh_made_class.specs.Sites.{AreMakeable};
-
-use mh_base::{NoMemory, Seq};
-use mh_class_tests::sites::text;
+use mh_base::NoMemory;
 use mh_classfile::read;
 use mh_jobs::{Jobs, push_jobs};
+use mh_jobs_tests::files::{LINKED, Site, class_file};
 use mh_leaves::{Leaves, read_manifest};
-use mh_made_class::{MadeSite, MadeSites, make_class};
 use mh_script::read_scripts;
 use std::alloc::Global;
 
@@ -17,30 +13,23 @@ pub fn host(alloc: Global) -> Result<Leaves, NoMemory> {
     read_manifest(alloc, manifest).map_err(|_| NoMemory)
 }
 
-/// Two call sites; the type of the second has an unknown class.
-fn two_sites(alloc: Global) -> Result<MadeSites, NoMemory>
-    ensures { IfOk result (λ sites. AreMakeable sites) }
-{
-    let mut sites = Seq::new(alloc);
-    sites.push(MadeSite {
-        script: text(alloc, b"link")?,
-        ty: text(alloc, b"(I)I")?,
-        args: Seq::new(alloc),
-    })?;
-    sites.push(MadeSite {
-        script: text(alloc, b"link")?,
-        ty: text(alloc, b"(Lno/Such;)V")?,
-        args: Seq::new(alloc),
-    })?;
-    Ok(sites)
-}
-
-/// The jobs of the two sites, with no script to link them.
-pub fn two_jobs(alloc: Global, leaves: &Leaves) -> Result<Jobs, NoMemory> {
-    let file = make_class(alloc, &two_sites(alloc)?)?;
+/// These jobs, and that of a call site of this type, which no script links.
+fn with_site(
+    alloc: Global,
+    jobs: Jobs,
+    leaves: &Leaves,
+    ty: &'static str,
+) -> Result<Jobs, NoMemory> {
+    let file = class_file(alloc, Site { ty, ..LINKED })?;
     let scripts = read_scripts(alloc, b"".as_slice()).map_err(|_| NoMemory)?;
-    let Ok(view) = read(alloc, &file, 2) else {
+    let Ok(view) = read(alloc, &file, 1) else {
         return Err(NoMemory);
     };
-    push_jobs(alloc, Jobs::new(alloc), &view, &scripts, leaves)
+    push_jobs(alloc, jobs, &view, &scripts, leaves)
+}
+
+/// The jobs of two call sites; the type of the second has an unknown class.
+pub fn two_jobs(alloc: Global, leaves: &Leaves) -> Result<Jobs, NoMemory> {
+    let first = with_site(alloc, Jobs::new(alloc), leaves, "(I)I")?;
+    with_site(alloc, first, leaves, "(Lno/Such;)V")
 }

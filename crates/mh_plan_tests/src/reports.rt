@@ -1,27 +1,15 @@
 use crate::host::host;
-use mh_base::{Frozen, NoMemory, Seq};
-use mh_class_tests::sites::text;
+use mh_base::{NoMemory, Seq};
 use mh_handle::Answer;
 use mh_leaves::{Leaves, type_of};
 use mh_plan::{Recorded, Shown, Summary, Table, ThreadAnswers, report};
-use mh_values::{Cause, ClassId, Exc, ExcParts};
+use mh_values::{ClassId, Exc};
 use std::alloc::Global;
 use std::test::Fail;
 
-/// An error with a cause.
-fn failed(alloc: Global) -> Result<Exc, NoMemory> {
-    let cause = Cause {
-        class: ClassId::ARITHMETIC,
-        message: text(alloc, b"/ by zero")?,
-    };
-    Exc::of(
-        alloc,
-        ExcParts {
-            class: ClassId::BOOTSTRAP_METHOD_ERROR,
-            message: Frozen::new(),
-            cause: Some(cause),
-        },
-    )
+/// An error.
+fn deep(alloc: Global) -> Result<Exc, NoMemory> {
+    Exc::saying(alloc, ClassId::STACK_OVERFLOW, b"so deep")
 }
 
 /// A site that no call names, one that is linked, and one with an error.
@@ -37,7 +25,7 @@ fn three_sites(alloc: Global, leaves: &Leaves) -> Result<Table, NoMemory> {
     }))?;
     table.push(Some(Recorded {
         serial: 18_446_744_073_709_551_615,
-        shown: Shown::Error(failed(alloc)?),
+        shown: Shown::Error(deep(alloc)?),
     }))?;
     Ok(table)
 }
@@ -45,7 +33,7 @@ fn three_sites(alloc: Global, leaves: &Leaves) -> Result<Table, NoMemory> {
 /// A thread without calls, and one whose call throws the error.
 fn two_threads(alloc: Global) -> Result<ThreadAnswers, NoMemory> {
     let mut answers = Seq::new(alloc);
-    answers.push(Answer::thrown(alloc, failed(alloc)?))?;
+    answers.push(Answer::thrown(alloc, deep(alloc)?))?;
     let mut threads = Seq::new(alloc);
     threads.push(Seq::new(alloc))?;
     threads.push(answers)?;
@@ -55,12 +43,10 @@ fn two_threads(alloc: Global) -> Result<ThreadAnswers, NoMemory> {
 const TEXT: &str = "\
     site 0 none\n\
     site 1 serial 2 linked (ILdemo/Host;)[J\n\
-    site 2 serial 18446744073709551615 error java/lang/BootstrapMethodError s: cause java/lang/\
-    ArithmeticException s:/\\sby\\szero\n\
+    site 2 serial 18446744073709551615 error java/lang/StackOverflowError s:so\\sdeep\n\
     thread 0\n\
     thread 1\n\
-    throws java/lang/BootstrapMethodError s: cause java/lang/ArithmeticException s:/\\sby\\szero \
-    calls -\n\
+    throws java/lang/StackOverflowError s:so\\sdeep calls -\n\
     attempts 2 forms 3 types 1\n";
 
 #[test]
