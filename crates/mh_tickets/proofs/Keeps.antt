@@ -76,7 +76,7 @@ looks_allowed slots id me s k _ at _ = (
   keeps,
   tt,
   subst (λ (z : List ℕ × List Drawn). Kept record { words = z.0; homes = s.homes; views = z.1 })
-  (λ i. (sym (set_word s.words) i, sym (set_again s.views id me.0 at) i)) k,
+      (λ i. (sym (set_word s.words) i, sym (set_again s.views id me.0 at) i)) k,
   (record { same = refl; all = has_all s k id me.0 at }, refl),
 )
 
