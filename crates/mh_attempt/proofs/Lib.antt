@@ -1,7 +1,9 @@
+pub mod AskedAfter
 pub mod Asking
 pub mod Counting
 pub mod Endings
 pub mod LineNodes
+pub mod RecipeCounts
 pub mod RegisterContents
 pub mod Rooms
 pub mod Rules
