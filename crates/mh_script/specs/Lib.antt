@@ -3,6 +3,7 @@ pub mod Find
 pub mod Forms
 pub mod Index
 pub mod Kinds
+pub mod Limits
 pub mod Lines
 pub mod Numbers
 pub mod Scripts

@@ -2,6 +2,7 @@ ghost use Rattle.std.specs.Prelude.{◌≡◌, ◌<◌, drop, length, map, IfOk}
 ghost use Rattle.std.specs.List.{list_all};
 ghost use Rattle.mh_base.specs.Lines.{TellsLine};
 ghost use Rattle.mh_leaves.specs.Reference.{texts_of};
+ghost use Rattle.mh_script.specs.Limits.{AreBegun, AreRunnable, MayStand};
 ghost use Rattle.mh_script.specs.Scripts.{is_full, following, is_ending, is_end_line, standing_fault, body_line, with_line, within_line, header_line, outside_line, ended_line, counting_line, line_meaning, scripts_from, scripts};
 ghost use Rattle.mh_script.specs.Told.{TellsReading, TellsScripts};
 
@@ -150,6 +151,7 @@ fn body_line(
 
 // Puts a line after those of its script.
 fn with_line(alloc: Global, scripts: Scripts, begun: Begun, line: Line) -> Result<Reading, NoMemory>
+    requires { AreRunnable begun.steps }
     ensures { IfOk result (λ reading. reading ≡ with_line scripts begun line) }
 {
     let Begun { method, mut steps } = begun;
@@ -176,6 +178,7 @@ fn read_within(
     begun: Begun,
     line: Counting<'_>,
 ) -> After
+    requires { AreBegun begun.steps }
     ensures { TellsLine result (within_line classes.now scripts begun
         (map (λ t. t.now) line.entry.tokens.now) line.entry.following) }
 {
@@ -251,6 +254,7 @@ fn read_ended(scripts: Scripts, tokens: &[&[u8]]) -> After
 
 // Takes a line that counts.
 fn read_counting(alloc: Global, classes: &Classes, reading: Reading, line: Counting<'_>) -> After
+    requires { MayStand reading.stage }
     ensures { TellsLine result (counting_line classes.now reading
         (map (λ t. t.now) line.entry.tokens.now) line.entry.following) }
 {
@@ -273,6 +277,7 @@ fn read_line(
     line: &[u8],
     rest: &[&[u8]],
 ) -> After
+    requires { MayStand reading.stage }
     ensures { TellsLine result
         (line_meaning classes.now (map (λ l. l.now) rest.now) reading line.now) }
 {
@@ -297,6 +302,7 @@ fn read_lines(
     start: Reading,
     lines: &[&[u8]],
 ) -> Result<Reading, ScriptError>
+    requires { MayStand start.stage }
     ensures { TellsReading result
         (scripts_from classes.now 1 start (map (λ l. l.now) lines.now)) }
 {

@@ -1,5 +1,6 @@
 ghost use Rattle.std.specs.Prelude.{◌≡◌, ◌<◌, [], ◌∷◌, ◌++◌, length, slice_get, Some, IfOk, IfSome};
 ghost use Rattle.mh_script.specs.Find.{script_named, has_owner};
+ghost use Rattle.mh_script.specs.Limits.{CanRun};
 
 use crate::Script;
 use crate::index::{ByOwner, owned, with_number};
@@ -13,7 +14,7 @@ use std::marker::Model;
 #[derive(Clone, Copy, Debug, PartialEq, Eq)]
 pub struct ScriptId(pub u32);
 
-/// The scripts of a file, in their order. Contracts see the list of them.
+/// The scripts of a file, in their order. Contracts see the list of them, each of which can run.
 #[derive(Drop)]
 pub struct Scripts {
     scripts: Vec<Script>,
@@ -21,15 +22,16 @@ pub struct Scripts {
 }
 
 impl Model for Scripts {
-    ghost use Rattle.std.specs.Prelude.{List};
+    ghost use Rattle.std.specs.Prelude.{List, All};
     ghost use Rattle.mh_script.specs.declared.script.Script.{Script as OneScript};
     ghost use Rattle.mh_script.specs.Find.{ArePlaces};
+    ghost use Rattle.mh_script.specs.Limits.{CanRun};
 
     ghost Value = { List OneScript };
 
     ghost view = { λ s. s.scripts.items };
 
-    ghost invariant = { λ s. ArePlaces s.places s.scripts.items };
+    ghost invariant = { λ s. ArePlaces s.places s.scripts.items × All CanRun s.scripts.items };
 }
 
 // The number of a script after so many others.
@@ -52,6 +54,7 @@ impl Scripts {
 
     /// These scripts and one more. A script that no `u32` can number is want of memory.
     pub(crate) fn with(self, alloc: Global, script: Script) -> Result<Scripts, NoMemory>
+        requires { CanRun script }
         ensures { IfOk result (λ more. more ≡ self ++ script ∷ []) }
     {
         let Scripts {
@@ -79,7 +82,8 @@ impl Scripts {
     /// The script of a number.
     pub fn get(&self, id: ScriptId) -> &Script
         requires { id.0 < length self.now }
-        ensures { slice_get self.now id.0 ≡ Some result.now }
+        ensures script { slice_get self.now id.0 ≡ Some result.now }
+        ensures runs { CanRun result.now }
     {
         &self.scripts[id.0 as usize]
     }

@@ -1,5 +1,9 @@
-use Rattle.std.proofs.Common.{◌≡◌, subst, ℕ, List, length, arith}
+use Rattle.std.proofs.Common.{◌≡◌, sym, subst, ℕ, List, [], ◌∷◌, length, arith}
+use Rattle.std.specs.Prelude.{All}
+use Rattle.std.proofs.lemmas.List.Elements.{All-append, All-cons, All-nil}
+use Rattle.mh_script.specs.declared.script.Script.{Script}
 use Rattle.mh_script.specs.Index.{FindsFirst, KnowsOneMore}
+use Rattle.mh_script.specs.Limits.{CanRun}
 use Rattle.mh_script.proofs.Places.{places-more}
 use Rattle.mh_script.proofs.scripts.Scripts.with.Goals as goal
 
@@ -15,4 +19,8 @@ invariant_of-result c =
     (subst (λ (m : List ℕ). FindsFirst old new c.as_slice.result.now m method.descriptor number) c.as_slice-2.ensures
     (subst (λ (d : List ℕ). FindsFirst old new c.as_slice.result.now c.as_slice-2.result.now d number) c.as_slice-3.ensures c.in_ok-places.ensures.found)) in
     let knows : KnowsOneMore old new method.owner = subst (λ (o : List ℕ). KnowsOneMore old new o) c.as_slice.ensures c.in_ok-places.ensures.owners in
-    places-more old new c.self.inside.scripts.items c.push.new.self.items c.args.script number c.self.invariant here first knows c.in_ok-push.ensures.items
+    let one : List Script = c.args.script ∷ [] in (
+      places-more old new c.self.inside.scripts.items c.push.new.self.items c.args.script number c.self.invariant.0 here first knows c.in_ok-push.ensures.items,
+      subst (All CanRun) (sym c.in_ok-push.ensures.items) (All-append CanRun c.self.inside.scripts.items one c.self.invariant.1
+          (All-cons CanRun c.args.script [] c.requires (All-nil CanRun))),
+    )

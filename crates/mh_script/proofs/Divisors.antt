@@ -1,0 +1,91 @@
+-- No line of a script that is read divides by 0.
+use Rattle.std.proofs.Common.{◌≡◌, refl, subst, ℕ, Bool, true, false, ◌&&◌, List, [], ◌∷◌, length, Option, None, Some, Result, Ok, Err, nat_le, nat_lt, codes}
+use Rattle.std.specs.Prelude.{◌==◌, if◌then◌else◌, option_and_then}
+use Rattle.std.specs.Str.{bytes_eq}
+use Rattle.std.proofs.lemmas.Bool.{and_parts, leb-true}
+use Rattle.mh_values.specs.declared.class.Class.{Class}
+use Rattle.mh_leaves.specs.Provided.{provided_some}
+use Rattle.mh_script.specs.declared.kinds.ScriptKind.{ScriptKind}
+use Rattle.mh_script.specs.declared.kinds.ScriptKind.TheVariants.{BadLine, BadLiteral}
+use Rattle.mh_script.specs.declared.line.Line.{Line}
+use Rattle.mh_script.specs.declared.line.Line.TheVariants as line
+use Rattle.mh_script.specs.declared.script.End.{End}
+use Rattle.mh_script.specs.declared.script.End.TheVariants as end
+use Rattle.mh_script.specs.declared.script.Step.{Step}
+use Rattle.mh_script.specs.declared.script.Step.TheVariants as step
+use Rattle.mh_script.specs.Limits.{CanDivide}
+use Rattle.mh_script.specs.Lines.{said_then, let_line, line_of, operation_of, pair_line}
+use Rattle.mh_script.specs.Numbers.{fail_of, if_fail, number_of}
+use Rattle.mh_script.specs.Tokens.{text_literal}
+
+some-then : {A B : Type 0} (o : Option A) (next : A → Option B) (b : B) → option_and_then next o ≡ Some b → (a : A) × (next a ≡ Some b)
+some-then (Some a) next b h = (a, h)
+some-then None next b h = absurd cc
+
+there-then : {A B : Type 0} (o : Option A) (kind : ScriptKind) (next : A → Result B ScriptKind) (b : B) → provided_some o kind next ≡ Ok b →
+    (a : A) × (o ≡ Some a) × (next a ≡ Ok b)
+there-then (Some a) kind next b h = (a, refl, h)
+there-then None kind next b h = absurd cc
+
+-- what goes on with what was said
+pub said-parts : {A B : Type 0} (r : Result A ScriptKind) (next : A → Result B ScriptKind) (b : B) → said_then r next ≡ Ok b →
+    (a : A) × (r ≡ Ok a) × (next a ≡ Ok b)
+said-parts (Ok a) next b h = (a, refl, h)
+said-parts (Err kind) next b h = absurd cc
+
+same_step : (s t : Step) → ◌≡◌ {A = Result Line ScriptKind} (Ok (line.Step s)) (Ok (line.Step t)) → s ≡ t
+same_step s t h = cc
+
+no_step : (e : End) (s : Step) → ◌≡◌ {A = Result Line ScriptKind} (Ok (line.End e)) (Ok (line.Step s)) → ⊥
+no_step e s h = absurd cc
+
+-- a step that was read
+divides-by : (t s : Step) → CanDivide t → ◌≡◌ {A = Result Line ScriptKind} (Ok (line.Step t)) (Ok (line.Step s)) → CanDivide s
+divides-by t s can h = subst CanDivide (same_step t s h) can
+
+fail-divides : (m r : ℕ) (s : Step) → if_fail m r ≡ Some s → CanDivide s
+fail-divides m r s h = cases ((nat_le 1 m && nat_le m 1000000) && nat_lt r m) refl h
+  where
+    same : (t : Step) → ◌≡◌ {A = Option Step} (Some t) (Some s) → t ≡ s
+    same t k = cc
+
+    cases : (b : Bool) → ((nat_le 1 m && nat_le m 1000000) && nat_lt r m) ≡ b → (if b then Some (step.FailMod m r) else None) ≡ Some s → CanDivide s
+    cases true is k =
+        let big = leb-true 1 m (and_parts (nat_le 1 m) _ (and_parts _ (nat_lt r m) is).0).0 in subst CanDivide (same (step.FailMod m r) k) big
+    cases false is k = absurd cc
+
+pair-divides : (classes : List Class) (word first second : List ℕ) (s : Step) → pair_line classes word first second ≡ Ok (line.Step s) → CanDivide s
+pair-divides classes word first second s h = cases (bytes_eq word (codes "failmod")) h
+  where
+    cases : (b : Bool) → (if b then provided_some (fail_of first second) BadLine (λ t. Ok (line.Step t))
+        else provided_some (text_literal classes second) BadLiteral (λ message. Ok (line.End (end.Raise first message)))) ≡ Ok (line.Step s) → CanDivide s
+    cases true k =
+        let made = there-then (fail_of first second) BadLine (λ t. Ok (line.Step t)) (line.Step s) k in
+        let modulus = some-then (number_of first) (λ m. option_and_then (if_fail m) (number_of second)) made.0 made.1 in
+        let remainder = some-then (number_of second) (if_fail modulus.0) made.0 modulus.1 in
+        divides-by made.0 s (fail-divides modulus.0 remainder.0 made.0 remainder.1) made.2
+    cases false k =
+        let made = there-then (text_literal classes second) BadLiteral (λ message. Ok (line.End (end.Raise first message))) (line.Step s) k in
+        absurd (no_step (end.Raise first made.0) s made.2)
+
+let-divides : (classes : List Class) (target word : List ℕ) (operands : List (List ℕ)) (s : Step) →
+    let_line classes target word operands ≡ Ok (line.Step s) → CanDivide s
+let-divides classes target word operands s h = cases (length operands == 0) h
+  where
+    cases : (b : Bool) → (if b then Ok (line.Step (step.Serial target))
+        else said_then (operation_of classes word operands) (λ op. Ok (line.Step (step.Let target op)))) ≡ Ok (line.Step s) → CanDivide s
+    cases true k = divides-by (step.Serial target) s tt k
+    cases false k =
+        let made = said-parts (operation_of classes word operands) (λ op. Ok (line.Step (step.Let target op))) (line.Step s) k in
+        divides-by (step.Let target made.0) s tt made.2
+
+-- a line before the last one
+pub line-divides : (classes : List Class) (tokens : List (List ℕ)) (s : Step) → line_of classes tokens ≡ Ok (line.Step s) → CanDivide s
+line-divides classes [] s h = absurd cc
+line-divides classes (a ∷ []) s h = absurd cc
+line-divides classes (a ∷ b ∷ []) s h = absurd cc
+line-divides classes (a ∷ b ∷ c ∷ rest) s h = cases (bytes_eq a (codes "let")) h
+  where
+    cases : (t : Bool) → (if t then let_line classes b c rest else pair_line classes a b c) ≡ Ok (line.Step s) → CanDivide s
+    cases true k = let-divides classes b c rest s k
+    cases false k = pair-divides classes a b c s k
