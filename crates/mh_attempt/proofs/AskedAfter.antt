@@ -1,8 +1,8 @@
 -- What is left of a pass by calls that ask for forms, one after the other.
-use Rattle.std.proofs.Common.{◌≡◌, sym, subst, List, [], ◌++◌, append-nil, append_assoc}
+use Rattle.std.proofs.Common.{sym, subst, List, [], ◌++◌, append-nil, append_assoc}
 use Rattle.mh_edit.specs.declared.key.Key.{Key}
 use Rattle.mh_handle.specs.Passes.{PassView}
-use Rattle.mh_attempt.specs.Asked.{AreTooMany, DrawsInOrder, HasAsked, HasAskedMore, IsFull}
+use Rattle.mh_attempt.specs.Asked.{AreTooMany, HasAsked, HasAskedMore, IsFull}
 use Rattle.mh_attempt.proofs.RecipeCounts.{too_many-more}
 
 -- nothing is asked for

@@ -1,4 +1,9 @@
 pub mod AskedAfter
+pub mod AskedForms
+pub mod AskedOperands
+pub mod AskedNodes
+pub mod AskedOperations
+pub mod AskedUses
 pub mod Asking
 pub mod Counting
 pub mod Endings

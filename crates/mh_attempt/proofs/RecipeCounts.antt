@@ -76,9 +76,14 @@ once-distinct (r ∷ recipes) = cases (is_one recipes r) refl (once-distinct rec
 in-front : (recipes more : List (List Key)) (q : List Key) → is_one recipes q ≡ true → is_one (recipes ++ more) q ≡ true
 in-front recipes more q there = list_any-append (same_recipe q) recipes more ∙ ap (λ b. b || is_one more q) there
 
-pub too_many-more : (recipes more : List (List Key)) → AreTooMany recipes → AreTooMany (recipes ++ more)
-too_many-more recipes more many =
-    let few : length (unique_keys same_recipe recipes) ≤ length (unique_keys same_recipe (recipes ++ more)) =
-    length-le_from_is_member same_recipe-equivalence (unique_keys same_recipe recipes) (unique_keys same_recipe (recipes ++ more)) (once-distinct recipes)
-    (λ q there. once-member (recipes ++ more) q ∙ in-front recipes more q (sym (once-member recipes q) ∙ there)) in
+-- more recipes differ of a list that has the recipes of another one
+pub too_many-within : (recipes more : List (List Key)) → ((q : List Key) → is_one recipes q ≡ true → is_one more q ≡ true) → AreTooMany recipes →
+    AreTooMany more
+too_many-within recipes more within many =
+    let few : length (unique_keys same_recipe recipes) ≤ length (unique_keys same_recipe more) =
+    length-le_from_is_member same_recipe-equivalence (unique_keys same_recipe recipes) (unique_keys same_recipe more) (once-distinct recipes)
+    (λ q there. once-member more q ∙ within q (sym (once-member recipes q) ∙ there)) in
     omega (arith, many, few)
+
+pub too_many-more : (recipes more : List (List Key)) → AreTooMany recipes → AreTooMany (recipes ++ more)
+too_many-more recipes more many = too_many-within recipes (recipes ++ more) (in-front recipes more) many

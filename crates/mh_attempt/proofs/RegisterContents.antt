@@ -76,7 +76,8 @@ pub last-found : (leaves : LeafTable) (name : List ℕ) (assigned : List (List �
 last-found leaves name [] last a some named are = absurd (is_there a (sym are ∙ some))
 last-found leaves name (c ∷ cs) last a some named are =
     let same = same_assignment are.0 a (sym are.1 ∙ some) in
-    let is : bytes_eq c.0 name ≡ true = ap (λ n. bytes_eq n name) (sym are.2) ∙ (ap (λ (b : Bor Assignment). bytes_eq (out-Assignment b.now).name.now name) same ∙ named) in
+    let is : bytes_eq c.0 name ≡ true = ap (λ n. bytes_eq n name) (sym are.2) ∙
+    (ap (λ (b : Bor Assignment). bytes_eq (out-Assignment b.now).name.now name) same ∙ named) in
     subst (λ t. HoldsLast leaves (Some (out-Assignment a.now).held) (if t then Some c.1 else last_assigned name cs)) (sym is)
     (subst (λ (b : Bor Assignment). Holds leaves (out-Assignment b.now).held c.1) same are.3)
 
@@ -89,6 +90,7 @@ pub last-before : (leaves : LeafTable) (name : List ℕ) (assigned : List (List 
 last-before leaves name [] last a r some named rest are = absurd (is_there a (sym are ∙ some))
 last-before leaves name (c ∷ cs) last a r some named rest are =
     let same = same_assignment are.0 a (sym are.1 ∙ some) in
-    let is : bytes_eq c.0 name ≡ false = ap (λ n. bytes_eq n name) (sym are.2) ∙ (ap (λ (b : Bor Assignment). bytes_eq (out-Assignment b.now).name.now name) same ∙ named) in
+    let is : bytes_eq c.0 name ≡ false = ap (λ n. bytes_eq n name) (sym are.2) ∙
+    (ap (λ (b : Bor Assignment). bytes_eq (out-Assignment b.now).name.now name) same ∙ named) in
     subst (λ t. HoldsLast leaves r (if t then Some c.1 else last_assigned name cs)) (sym is)
     (rest cs (subst (λ (b : Bor Assignment). AreAssigned leaves (out-Assignment b.now).before cs) same are.4))

@@ -1,5 +1,5 @@
 -- What is left of a thread's work by calls that ask for forms, by the recipes of those forms.
-use Rattle.std.specs.Prelude.{◌≡◌, ◌+◌, ◌^◌, ◌<◌, ◌≤◌, ℕ, List, ◌++◌, length, map, Result, Ok, Err}
+use Rattle.std.specs.Prelude.{◌≡◌, ◌+◌, ◌^◌, ◌<◌, ◌≤◌, List, ◌++◌, length, map, Result, Ok, Err}
 use Rattle.std.specs.List.{list_any, IsDistinct}
 use Rattle.std.specs.Set.{distinct_count}
 use Rattle.mh_edit.specs.declared.key.Key.{Key}
@@ -51,3 +51,13 @@ AsksOrThrows recipes old new (Ok a) = HasAskedMore recipes old.pass.now new.pass
 AsksOrThrows recipes old new (Err (handle.Refused e)) = HasAskedMore recipes old.pass.now new.pass.now
 AsksOrThrows recipes old new (Err (handle.FormsFull drawn)) = IsFull recipes old.pass.now
 AsksOrThrows recipes old new (Err handle.NoMemory) = Unit {0}
+
+-- a call has stopped that asks for forms of these recipes; where it was refused, another clause says that it leaves the pass as it was
+abbrev pub HasStopped : List (List Key) → PassView → HandleError → Type 0
+HasStopped recipes old (handle.FormsFull drawn) = IsFull recipes old
+HasStopped recipes old error = Unit {0}
+
+-- what a call leaves that asks for forms of these recipes, and for none where it is refused
+abbrev pub AsksIfMade : {A : Type 0} → List (List Key) → Work → Work → Result A HandleError → Type 0
+AsksIfMade recipes old new (Ok a) = HasAskedMore recipes old.pass.now new.pass.now
+AsksIfMade recipes old new (Err error) = HasStopped recipes old.pass.now error

@@ -85,6 +85,20 @@ IsContent leaves (found.Value v) c = c ≡ value v
 IsContent leaves (found.MethodType t) c = c ≡ method_type t.now
 IsContent leaves (found.Class t) c = c ≡ class t
 
+-- ---- nodes that uses make
+
+-- the node that the use of an operand makes: that of a leaf, of which a handle is made only then
+abbrev pub node_made : HandleOperand → List Tree
+node_made (operand.Leaf l) = tree.Leaf l ∷ []
+node_made (operand.Held h) = []
+
+-- the same of what a register holds
+abbrev pub node_held : Found → List Tree
+node_held (found.Handle o) = node_made o
+node_held other = []
+
+-- ---- classes
+
 -- the class of a register
 abbrev pub class_in : Frame → Register → OrThrown Ty
 class_in frame r = content frame r >>= as_class

@@ -1,10 +1,12 @@
 //! Method handles as operands.
 
-ghost use Rattle.std.specs.Prelude.{◌≡◌, ◌≤◌, Ok, IfOk};
+ghost use Rattle.std.specs.Prelude.{◌≡◌, ◌≤◌, [], ◌∷◌, Ok, IfOk};
 ghost use Rattle.mh_leaf.specs.LeafTable.{LeafTable};
 ghost use Rattle.mh_tree.specs.Tree.{Tree, weight};
 ghost use Rattle.mh_tree.specs.Typing.{type_of};
 ghost use Rattle.mh_handle.specs.Works.{CountsHandles, IsReady, GoesOn, IsAccepted, StandsIn, leaves_of};
+ghost use Rattle.mh_attempt.specs.Asked.{AsksIfMade};
+ghost use Rattle.mh_attempt.specs.Recipes.{recipes_made};
 ghost use Rattle.mh_attempt.specs.Registers.{StandsFor, StandsForSome};
 
 use mh_handle::{Handle, HandleError, Work, leaf};
@@ -52,6 +54,8 @@ impl<'f, 't> HandleOperand<'f, 't> {
         ensures goes_on { GoesOn 1 w.old w.new }
         ensures accepted { IsAccepted result }
         ensures handles { CountsHandles 0 w.old w.new result }
+        ensures asks { AsksIfMade (recipes_made (leaves_of w.old) (self.now ∷ []) [])
+            w.old w.new result }
         ensures stands { (t : Tree) → StandsFor (leaves_of w.old) self.now t
             → IfOk result (λ h. StandsIn w.old h t) }
     {

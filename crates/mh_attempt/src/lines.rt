@@ -1,9 +1,11 @@
 //! The lines of a script that make method handles.
 
 ghost use Rattle.mh_handle.specs.Works.{CountsHandles, GoesOn, IsReady, leaves_of};
+ghost use Rattle.mh_attempt.specs.Asked.{AsksOrThrows};
 ghost use Rattle.mh_attempt.specs.Lines.{MakesNode};
 ghost use Rattle.mh_link.specs.Operands.{Frame};
 ghost use Rattle.mh_link.specs.Operations.{node_of};
+ghost use Rattle.mh_attempt.specs.Recipes.{line_recipes};
 ghost use Rattle.mh_attempt.specs.Registers.{Hold, HoldSome};
 
 mod arrays;
@@ -39,6 +41,8 @@ pub(crate) fn node<'t, R: Wait>(
     ensures handles { CountsHandles 0 w.old w.new result }
     ensures node { (frame : Frame) → Hold (leaves_of w.old) registers.now frame → MakesNode
         (node_of (leaves_of w.old) frame operation.now) w.old w.new result }
+    ensures asks { (frame : Frame) → Hold (leaves_of w.old) registers.now frame → AsksOrThrows
+        (line_recipes (leaves_of w.old) frame operation.now) w.old w.new result }
 {
     match operation {
         Operation::Leaf(method) => leaf_line(w, rt, method),

@@ -1,14 +1,15 @@
 //! What a run of a script holds, and what its registers stand for.
 
-ghost use Rattle.std.specs.Prelude.{◌≡◌, ◌<◌, ℕ, List, Some, IfOk, codes};
+ghost use Rattle.std.specs.Prelude.{◌≡◌, ◌<◌, ℕ, List, [], Some, IfOk, codes};
 ghost use Rattle.mh_values.specs.Class.{class_cast_class};
 ghost use Rattle.mh_values.specs.Exception.{saying};
 ghost use Rattle.mh_leaf.specs.LeafTable.{LeafTable};
 ghost use Rattle.mh_jobs.specs.declared.job.Argument.TheVariants as argument;
 ghost use Rattle.mh_script.specs.declared.operand.Register.TheVariants as register;
+ghost use Rattle.mh_link.specs.Made.{leaf_among, node_of_use};
 ghost use Rattle.mh_link.specs.Operands as operands;
 ghost use Rattle.mh_link.specs.Operands.{Frame, content, content_of, no_argument, as_handle, as_value, as_method_type, as_class, handle_in, value_in, type_in, method_type_in, last_assigned};
-ghost use Rattle.mh_attempt.specs.Registers.{Hold, Holds, AreAssigned, IsContent, HoldsLast, StandsFor, IsLeafOf, class_in};
+ghost use Rattle.mh_attempt.specs.Registers.{Hold, Holds, AreAssigned, IsContent, HoldsLast, StandsFor, IsLeafOf, class_in, node_held, node_made};
 ghost use Rattle.mh_attempt.specs.Told.{Tells, TellsBy, Throws};
 
 use crate::handle::HandleOperand;
@@ -72,8 +73,9 @@ fn last_assigned<'f, 't>(last: &'f Assignment<'f, 't>, name: &[u8]) -> Option<He
 
 // What a line assigned as what a register holds.
 fn content_held<'f, 't>(held: Held<'f, 't>) -> Content<'f, 't>
-    ensures { (leaves : LeafTable) (meant : operands.Content) → Holds leaves held.entry meant
+    ensures holds { (leaves : LeafTable) (meant : operands.Content) → Holds leaves held.entry meant
         → IsContent leaves result meant }
+    ensures makes { node_held result ≡ [] }
 {
     match held {
         Held::Handle(handle) => Content::Handle(HandleOperand::Held(handle)),
@@ -83,8 +85,9 @@ fn content_held<'f, 't>(held: Held<'f, 't>) -> Content<'f, 't>
 
 // A static argument as what a register holds.
 fn content_of<'f, 't>(alloc: Global, argument: &'f Argument) -> Result<Content<'f, 't>, NoMemory>
-    ensures { (leaves : LeafTable) → IsLeafOf leaves argument.now
+    ensures holds { (leaves : LeafTable) → IsLeafOf leaves argument.now
         → IfOk result (λ found. IsContent leaves found (content_of argument.now)) }
+    ensures makes { IfOk result (λ found. node_held found ≡ leaf_among (Some argument.now)) }
 {
     Ok(match argument {
         Argument::Value(value) => Content::Value(value.copy(alloc)?),
@@ -113,8 +116,10 @@ fn as_handle<'f, 't>(
     alloc: Global,
     held: Content<'f, 't>,
 ) -> Result<HandleOperand<'f, 't>, CheckError>
-    ensures { (leaves : LeafTable) (meant : operands.Content) → IsContent leaves held.entry meant
+    ensures holds { (leaves : LeafTable) (meant : operands.Content)
+        → IsContent leaves held.entry meant
         → TellsBy (StandsFor leaves) result (as_handle meant) }
+    ensures makes { IfOk result (λ operand. node_made operand ≡ node_held held.entry) }
 {
     match held {
         Content::Handle(operand) => Ok(operand),
@@ -158,8 +163,11 @@ fn as_class(alloc: Global, held: Content<'_, '_>) -> Result<Ty, CheckError>
 impl<'f, 't> Registers<'f, 't> {
     // What the register of a static argument holds.
     fn argument(&self, alloc: Global, number: u64) -> Result<Content<'f, 't>, CheckError>
-        ensures { (leaves : LeafTable) (frame : Frame) → Hold leaves self.now frame
+        ensures holds { (leaves : LeafTable) (frame : Frame) → Hold leaves self.now frame
             → TellsBy (IsContent leaves) result (content frame (register.Argument number)) }
+        ensures makes { (leaves : LeafTable) (frame : Frame) → Hold leaves self.now frame
+            → IfOk result
+            (λ found. node_held found ≡ node_of_use frame (register.Argument number)) }
     {
         match self.call.arguments.as_slice().get(number as usize) {
             Some(argument) => {
@@ -183,8 +191,9 @@ impl<'f, 't> Registers<'f, 't> {
 
     // What a register that a line assigned holds.
     fn assigned(&self, alloc: Global, name: &[u8]) -> Result<Content<'f, 't>, CheckError>
-        ensures { (leaves : LeafTable) (frame : Frame) → Hold leaves self.now frame
+        ensures holds { (leaves : LeafTable) (frame : Frame) → Hold leaves self.now frame
             → TellsBy (IsContent leaves) result (content frame (register.Assigned name.now)) }
+        ensures makes { IfOk result (λ found. node_held found ≡ []) }
     {
         match self.held(name) {
             Some(held) => Ok(content_held(held)),
@@ -192,11 +201,13 @@ impl<'f, 't> Registers<'f, 't> {
         }
     }
 
-    // What a register holds; of those that a script may name, only the register of a static argument
-    // may hold nothing.
+    // What a register holds; of those that a script may name, only the register of a static
+    // argument may hold nothing.
     fn content(&self, alloc: Global, register: &Register) -> Result<Content<'f, 't>, CheckError>
-        ensures { (leaves : LeafTable) (frame : Frame) → Hold leaves self.now frame
+        ensures holds { (leaves : LeafTable) (frame : Frame) → Hold leaves self.now frame
             → TellsBy (IsContent leaves) result (content frame register.now) }
+        ensures makes { (leaves : LeafTable) (frame : Frame) → Hold leaves self.now frame
+            → IfOk result (λ found. node_held found ≡ node_of_use frame register.now) }
     {
         match register {
             Register::SiteType => Ok(Content::MethodType(&self.call.ty)),
@@ -212,8 +223,10 @@ impl<'f, 't> Registers<'f, 't> {
         alloc: Global,
         register: &Register,
     ) -> Result<HandleOperand<'f, 't>, CheckError>
-        ensures { (leaves : LeafTable) (frame : Frame) → Hold leaves self.now frame
+        ensures stands { (leaves : LeafTable) (frame : Frame) → Hold leaves self.now frame
             → TellsBy (StandsFor leaves) result (handle_in frame register.now) }
+        ensures makes { (leaves : LeafTable) (frame : Frame) → Hold leaves self.now frame
+            → IfOk result (λ operand. node_made operand ≡ node_of_use frame register.now) }
     {
         let held = self.content(alloc, register)?;
         as_handle(alloc, held)

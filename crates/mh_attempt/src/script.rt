@@ -3,9 +3,11 @@
 ghost use Rattle.std.specs.Prelude.{◌≤◌};
 ghost use Rattle.mh_script.specs.declared.script.End.TheVariants as end;
 ghost use Rattle.mh_handle.specs.Works.{CountsHandles, IsReady, GoesOn, leaves_of};
+ghost use Rattle.mh_attempt.specs.Asked.{AsksOrThrows};
 ghost use Rattle.mh_attempt.specs.Lines.{MakesNode, passes, raised};
 ghost use Rattle.mh_link.specs.Linked.{ended};
 ghost use Rattle.mh_link.specs.Operands.{Frame};
+ghost use Rattle.mh_attempt.specs.Recipes.{end_recipes};
 ghost use Rattle.mh_attempt.specs.Registers.{Hold, HoldSome};
 ghost use Rattle.mh_attempt.specs.Told.{Tells};
 
@@ -60,6 +62,8 @@ fn returned<'t, R: Wait>(
     ensures handles { CountsHandles 0 w.old w.new result }
     ensures node { (frame : Frame) → Hold (leaves_of w.old) registers.now frame
         → MakesNode (ended (leaves_of w.old) (end.Return register.now) frame) w.old w.new result }
+    ensures asks { (frame : Frame) → Hold (leaves_of w.old) registers.now frame → AsksOrThrows
+        (end_recipes (leaves_of w.old) (end.Return register.now) frame) w.old w.new result }
 {
     let target = registers.handle(w.alloc, register)?;
     let (own, asked) = (target.ty(w.leaves), registers.call.ty.get());
@@ -82,6 +86,8 @@ fn ended<'t, R: Wait>(
     ensures handles { CountsHandles 0 w.old w.new result }
     ensures node { (frame : Frame) → Hold (leaves_of w.old) registers.now frame
         → MakesNode (ended (leaves_of w.old) end.now frame) w.old w.new result }
+    ensures asks { (frame : Frame) → Hold (leaves_of w.old) registers.now frame → AsksOrThrows
+        (end_recipes (leaves_of w.old) end.now frame) w.old w.new result }
 {
     match end {
         End::Return(register) => returned(w, rt, registers, register),

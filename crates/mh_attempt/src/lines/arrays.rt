@@ -1,12 +1,15 @@
 //! Lines that pass arguments in arrays: `gather` and `spread`.
 
+ghost use Rattle.std.specs.Prelude.{◌≡◌, [], ◌∷◌, Ok};
 ghost use Rattle.mh_tree.specs.Tree.{Tree};
 ghost use Rattle.mh_tree.specs.Tree as tree;
 ghost use Rattle.mh_script.specs.declared.script.Operation.TheVariants as operation;
 ghost use Rattle.mh_handle.specs.Works.{CountsHandles, GoesOn, IsReady, leaves_of};
+ghost use Rattle.mh_attempt.specs.Asked.{AsksIfMade, AsksOrThrows};
 ghost use Rattle.mh_attempt.specs.Lines.{MakesNode, typed};
 ghost use Rattle.mh_link.specs.Operands.{Frame};
-ghost use Rattle.mh_link.specs.Operations.{node_of};
+ghost use Rattle.mh_link.specs.Operations.{node_of, spread_of};
+ghost use Rattle.mh_attempt.specs.Recipes.{line_recipes, recipes_made, spread_asked};
 ghost use Rattle.mh_attempt.specs.Registers.{Hold, HoldSome, StandsFor, StandsForSome};
 ghost use Rattle.mh_attempt.specs.Uses.{typed_spread};
 
@@ -33,6 +36,9 @@ fn gathered<'t, R: Wait>(
     ensures handles { CountsHandles 0 w.old w.new result }
     ensures node { (t : Tree) → StandsFor (leaves_of w.old) target.now t → MakesNode
         (typed (leaves_of w.old) (tree.Gather t array count)) w.old w.new result }
+    ensures asks { (t : Tree) → StandsFor (leaves_of w.old) target.now t
+        → AsksIfMade (recipes_made (leaves_of w.old) (target.now ∷ [])
+        (tree.Gather t array count ∷ [])) w.old w.new result }
 {
     let ty = target.ty(w.leaves);
     check_gather(w.alloc, ty, target.weight(), array, count, w.classes())?;
@@ -54,7 +60,11 @@ pub(crate) fn gather_line<'t, R: Wait>(
     ensures goes_on { GoesOn 4 w.old w.new }
     ensures handles { CountsHandles 0 w.old w.new result }
     ensures node { (frame : Frame) → Hold (leaves_of w.old) registers.now frame → MakesNode
-        (node_of (leaves_of w.old) frame (operation.Gather target.now array.now count)) w.old w.new result }
+        (node_of (leaves_of w.old) frame (operation.Gather target.now array.now count))
+        w.old w.new result }
+    ensures asks { (frame : Frame) → Hold (leaves_of w.old) registers.now frame → AsksOrThrows
+        (line_recipes (leaves_of w.old) frame (operation.Gather target.now array.now count))
+        w.old w.new result }
 {
     let target = registers.handle(w.alloc, target)?;
     let array = registers.ty(w.alloc, w.classes(), array)?;
@@ -75,6 +85,10 @@ fn spread_out<'t, R: Wait>(
     ensures handles { CountsHandles 0 w.old w.new result }
     ensures node { (t : Tree) → StandsFor (leaves_of w.old) target.now t → MakesNode
         (typed_spread (leaves_of w.old) t array count) w.old w.new result }
+    ensures asks { (t s : Tree) → StandsFor (leaves_of w.old) target.now t
+        → spread_of (leaves_of w.old) t array count ≡ Ok s
+        → AsksIfMade (recipes_made (leaves_of w.old) (target.now ∷ [])
+        (spread_asked (leaves_of w.old) t s)) w.old w.new result }
 {
     let ty = target.ty(w.leaves);
     check_spread_use(w.alloc, ty, target.weight(), array, count, w.classes())?;
@@ -96,8 +110,11 @@ pub(crate) fn spread_line<'t, R: Wait>(
     ensures goes_on { GoesOn 4 w.old w.new }
     ensures handles { CountsHandles 0 w.old w.new result }
     ensures node { (frame : Frame) → Hold (leaves_of w.old) registers.now frame → MakesNode
-        (node_of (leaves_of w.old) frame (operation.Spread target.now array.now count)) w.old w.new
-        result }
+        (node_of (leaves_of w.old) frame (operation.Spread target.now array.now count))
+        w.old w.new result }
+    ensures asks { (frame : Frame) → Hold (leaves_of w.old) registers.now frame → AsksOrThrows
+        (line_recipes (leaves_of w.old) frame (operation.Spread target.now array.now count))
+        w.old w.new result }
 {
     let target = registers.handle(w.alloc, target)?;
     let array = registers.ty(w.alloc, w.classes(), array)?;

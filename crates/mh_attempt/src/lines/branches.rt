@@ -1,12 +1,15 @@
 //! Lines that make a handle of branches: `guard` and `catch`.
 
+ghost use Rattle.std.specs.Prelude.{[], ◌∷◌};
 ghost use Rattle.mh_tree.specs.Tree.{Tree};
 ghost use Rattle.mh_tree.specs.Tree as tree;
 ghost use Rattle.mh_script.specs.declared.script.Operation.TheVariants as operation;
 ghost use Rattle.mh_handle.specs.Works.{CountsHandles, GoesOn, IsReady, leaves_of};
+ghost use Rattle.mh_attempt.specs.Asked.{AsksIfMade, AsksOrThrows};
 ghost use Rattle.mh_attempt.specs.Lines.{MakesNode, typed};
 ghost use Rattle.mh_link.specs.Operands.{Frame};
 ghost use Rattle.mh_link.specs.Operations.{node_of};
+ghost use Rattle.mh_attempt.specs.Recipes.{line_recipes, recipes_made};
 ghost use Rattle.mh_attempt.specs.Registers.{Hold, HoldSome, StandsFor, StandsForSome};
 
 use crate::handle::HandleOperand;
@@ -37,6 +40,10 @@ fn guarded<'t, R: Wait>(
     ensures node { (c t e : Tree) → StandsFor (leaves_of w.old) test.now c
         → StandsFor (leaves_of w.old) target.now t → StandsFor (leaves_of w.old) fallback.now e
         → MakesNode (typed (leaves_of w.old) (tree.Guard c t e)) w.old w.new result }
+    ensures asks { (c t e : Tree) → StandsFor (leaves_of w.old) test.now c
+        → StandsFor (leaves_of w.old) target.now t → StandsFor (leaves_of w.old) fallback.now e
+        → AsksIfMade (recipes_made (leaves_of w.old) (test.now ∷ target.now ∷ fallback.now ∷ [])
+        (tree.Guard c t e ∷ [])) w.old w.new result }
 {
     let test_ty = test.ty(w.leaves);
     let ty = target.ty(w.leaves);
@@ -72,7 +79,11 @@ pub(crate) fn guard_line<'t, R: Wait>(
     ensures goes_on { GoesOn 4 w.old w.new }
     ensures handles { CountsHandles 0 w.old w.new result }
     ensures node { (frame : Frame) → Hold (leaves_of w.old) registers.now frame → MakesNode
-        (node_of (leaves_of w.old) frame (operation.Guard test.now target.now fallback.now)) w.old w.new result }
+        (node_of (leaves_of w.old) frame (operation.Guard test.now target.now fallback.now))
+        w.old w.new result }
+    ensures asks { (frame : Frame) → Hold (leaves_of w.old) registers.now frame → AsksOrThrows
+        (line_recipes (leaves_of w.old) frame (operation.Guard test.now target.now fallback.now))
+        w.old w.new result }
 {
     let test = registers.handle(w.alloc, test)?;
     let target = registers.handle(w.alloc, target)?;
@@ -96,6 +107,10 @@ fn caught<'t, R: Wait>(
     ensures node { (t p : Tree) → StandsFor (leaves_of w.old) target.now t
         → StandsFor (leaves_of w.old) handler.now p → MakesNode
         (typed (leaves_of w.old) (tree.Catch t class p)) w.old w.new result }
+    ensures asks { (t p : Tree) → StandsFor (leaves_of w.old) target.now t
+        → StandsFor (leaves_of w.old) handler.now p
+        → AsksIfMade (recipes_made (leaves_of w.old) (target.now ∷ handler.now ∷ [])
+        (tree.Catch t class p ∷ [])) w.old w.new result }
 {
     let ty = target.ty(w.leaves);
     let part_ty = handler.ty(w.leaves);
@@ -128,7 +143,11 @@ pub(crate) fn catch_line<'t, R: Wait>(
     ensures goes_on { GoesOn 4 w.old w.new }
     ensures handles { CountsHandles 0 w.old w.new result }
     ensures node { (frame : Frame) → Hold (leaves_of w.old) registers.now frame → MakesNode
-        (node_of (leaves_of w.old) frame (operation.Catch target.now class.now handler.now)) w.old w.new result }
+        (node_of (leaves_of w.old) frame (operation.Catch target.now class.now handler.now))
+        w.old w.new result }
+    ensures asks { (frame : Frame) → Hold (leaves_of w.old) registers.now frame → AsksOrThrows
+        (line_recipes (leaves_of w.old) frame (operation.Catch target.now class.now handler.now))
+        w.old w.new result }
 {
     let target = registers.handle(w.alloc, target)?;
     let class = class_of(w.alloc, w.classes(), class)?;

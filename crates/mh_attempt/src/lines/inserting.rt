@@ -1,12 +1,15 @@
 //! Lines that adapt one handle by other arguments: `bind`, `drop` and `permute`.
 
+ghost use Rattle.std.specs.Prelude.{[], ◌∷◌};
 ghost use Rattle.mh_tree.specs.Tree.{Tree};
 ghost use Rattle.mh_tree.specs.Tree as tree;
 ghost use Rattle.mh_script.specs.declared.script.Operation.TheVariants as operation;
 ghost use Rattle.mh_handle.specs.Works.{CountsHandles, GoesOn, IsReady, leaves_of};
+ghost use Rattle.mh_attempt.specs.Asked.{AsksIfMade, AsksOrThrows};
 ghost use Rattle.mh_attempt.specs.Lines.{MakesNode, typed};
 ghost use Rattle.mh_link.specs.Operands.{Frame};
 ghost use Rattle.mh_link.specs.Operations.{node_of};
+ghost use Rattle.mh_attempt.specs.Recipes.{line_recipes, recipes_made};
 ghost use Rattle.mh_attempt.specs.Registers.{Hold, HoldSome, StandsFor, StandsForSome};
 
 use crate::handle::HandleOperand;
@@ -33,6 +36,9 @@ fn bound<'t, R: Wait>(
     ensures handles { CountsHandles 0 w.old w.new result }
     ensures node { (t : Tree) → StandsFor (leaves_of w.old) target.now t → MakesNode
         (typed (leaves_of w.old) (tree.Bind t position value)) w.old w.new result }
+    ensures asks { (t : Tree) → StandsFor (leaves_of w.old) target.now t
+        → AsksIfMade (recipes_made (leaves_of w.old) (target.now ∷ [])
+        (tree.Bind t position value ∷ [])) w.old w.new result }
 {
     let ty = target.ty(w.leaves);
     check_bind(w.alloc, ty, target.weight(), position, &value, w.classes())?;
@@ -54,7 +60,11 @@ pub(crate) fn bind_line<'t, R: Wait>(
     ensures goes_on { GoesOn 4 w.old w.new }
     ensures handles { CountsHandles 0 w.old w.new result }
     ensures node { (frame : Frame) → Hold (leaves_of w.old) registers.now frame → MakesNode
-        (node_of (leaves_of w.old) frame (operation.Bind target.now position value.now)) w.old w.new result }
+        (node_of (leaves_of w.old) frame (operation.Bind target.now position value.now))
+        w.old w.new result }
+    ensures asks { (frame : Frame) → Hold (leaves_of w.old) registers.now frame → AsksOrThrows
+        (line_recipes (leaves_of w.old) frame (operation.Bind target.now position value.now))
+        w.old w.new result }
 {
     let target = registers.handle(w.alloc, target)?;
     let value = registers.value(w.alloc, value)?;
@@ -75,6 +85,9 @@ fn dropped<'t, R: Wait>(
     ensures handles { CountsHandles 0 w.old w.new result }
     ensures node { (t : Tree) → StandsFor (leaves_of w.old) target.now t → MakesNode
         (typed (leaves_of w.old) (tree.Drop t position types.now)) w.old w.new result }
+    ensures asks { (t : Tree) → StandsFor (leaves_of w.old) target.now t
+        → AsksIfMade (recipes_made (leaves_of w.old) (target.now ∷ [])
+        (tree.Drop t position types.now ∷ [])) w.old w.new result }
 {
     let ty = target.ty(w.leaves);
     check_drop(w.alloc, ty, target.weight(), position, types, w.classes())?;
@@ -96,7 +109,11 @@ pub(crate) fn drop_line<'t, R: Wait>(
     ensures goes_on { GoesOn 4 w.old w.new }
     ensures handles { CountsHandles 0 w.old w.new result }
     ensures node { (frame : Frame) → Hold (leaves_of w.old) registers.now frame → MakesNode
-        (node_of (leaves_of w.old) frame (operation.Drop target.now position types.now)) w.old w.new result }
+        (node_of (leaves_of w.old) frame (operation.Drop target.now position types.now))
+        w.old w.new result }
+    ensures asks { (frame : Frame) → Hold (leaves_of w.old) registers.now frame → AsksOrThrows
+        (line_recipes (leaves_of w.old) frame (operation.Drop target.now position types.now))
+        w.old w.new result }
 {
     let target = registers.handle(w.alloc, target)?;
     let types = types_of_text(w.alloc, w.classes(), types)?;
@@ -117,6 +134,9 @@ fn permuted<'t, R: Wait>(
     ensures handles { CountsHandles 0 w.old w.new result }
     ensures node { (t : Tree) → StandsFor (leaves_of w.old) target.now t → MakesNode
         (typed (leaves_of w.old) (tree.Permute t asked.now order.now)) w.old w.new result }
+    ensures asks { (t : Tree) → StandsFor (leaves_of w.old) target.now t
+        → AsksIfMade (recipes_made (leaves_of w.old) (target.now ∷ [])
+        (tree.Permute t asked.now order.now ∷ [])) w.old w.new result }
 {
     let ty = target.ty(w.leaves);
     check_permute(w.alloc, ty, target.weight(), asked, order, w.classes())?;
@@ -138,7 +158,11 @@ pub(crate) fn permute_line<'t, R: Wait>(
     ensures goes_on { GoesOn 4 w.old w.new }
     ensures handles { CountsHandles 0 w.old w.new result }
     ensures node { (frame : Frame) → Hold (leaves_of w.old) registers.now frame → MakesNode
-        (node_of (leaves_of w.old) frame (operation.Permute target.now asked.now order.now)) w.old w.new result }
+        (node_of (leaves_of w.old) frame (operation.Permute target.now asked.now order.now))
+        w.old w.new result }
+    ensures asks { (frame : Frame) → Hold (leaves_of w.old) registers.now frame → AsksOrThrows
+        (line_recipes (leaves_of w.old) frame (operation.Permute target.now asked.now order.now))
+        w.old w.new result }
 {
     let target = registers.handle(w.alloc, target)?;
     let asked = registers.method_type(w.alloc, w.classes(), asked)?;

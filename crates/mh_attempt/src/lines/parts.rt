@@ -1,13 +1,16 @@
 //! Lines that adapt a handle by another one, which runs before or after it: `filter`,
 //! `filterret`, `fold` and `collect`.
 
+ghost use Rattle.std.specs.Prelude.{[], ◌∷◌};
 ghost use Rattle.mh_tree.specs.Tree.{Tree};
 ghost use Rattle.mh_tree.specs.Tree as tree;
 ghost use Rattle.mh_script.specs.declared.script.Operation.TheVariants as operation;
 ghost use Rattle.mh_handle.specs.Works.{CountsHandles, GoesOn, IsReady, leaves_of};
+ghost use Rattle.mh_attempt.specs.Asked.{AsksIfMade, AsksOrThrows};
 ghost use Rattle.mh_attempt.specs.Lines.{MakesNode, typed};
 ghost use Rattle.mh_link.specs.Operands.{Frame};
 ghost use Rattle.mh_link.specs.Operations.{node_of};
+ghost use Rattle.mh_attempt.specs.Recipes.{line_recipes, recipes_made};
 ghost use Rattle.mh_attempt.specs.Registers.{Hold, HoldSome, StandsFor, StandsForSome};
 
 use crate::handle::HandleOperand;
@@ -35,6 +38,10 @@ fn filtered<'t, R: Wait>(
     ensures node { (t p : Tree) → StandsFor (leaves_of w.old) target.now t
         → StandsFor (leaves_of w.old) part.now p → MakesNode
         (typed (leaves_of w.old) (tree.FilterArg t position p)) w.old w.new result }
+    ensures asks { (t p : Tree) → StandsFor (leaves_of w.old) target.now t
+        → StandsFor (leaves_of w.old) part.now p
+        → AsksIfMade (recipes_made (leaves_of w.old) (target.now ∷ part.now ∷ [])
+        (tree.FilterArg t position p ∷ [])) w.old w.new result }
 {
     let ty = target.ty(w.leaves);
     let part_ty = part.ty(w.leaves);
@@ -67,7 +74,11 @@ pub(crate) fn filter_line<'t, R: Wait>(
     ensures goes_on { GoesOn 4 w.old w.new }
     ensures handles { CountsHandles 0 w.old w.new result }
     ensures node { (frame : Frame) → Hold (leaves_of w.old) registers.now frame → MakesNode
-        (node_of (leaves_of w.old) frame (operation.Filter target.now position part.now)) w.old w.new result }
+        (node_of (leaves_of w.old) frame (operation.Filter target.now position part.now))
+        w.old w.new result }
+    ensures asks { (frame : Frame) → Hold (leaves_of w.old) registers.now frame → AsksOrThrows
+        (line_recipes (leaves_of w.old) frame (operation.Filter target.now position part.now))
+        w.old w.new result }
 {
     let target = registers.handle(w.alloc, target)?;
     let part = registers.handle(w.alloc, part)?;
@@ -89,6 +100,10 @@ fn return_filtered<'t, R: Wait>(
     ensures node { (t p : Tree) → StandsFor (leaves_of w.old) target.now t
         → StandsFor (leaves_of w.old) filter.now p → MakesNode
         (typed (leaves_of w.old) (tree.FilterRet t p)) w.old w.new result }
+    ensures asks { (t p : Tree) → StandsFor (leaves_of w.old) target.now t
+        → StandsFor (leaves_of w.old) filter.now p
+        → AsksIfMade (recipes_made (leaves_of w.old) (target.now ∷ filter.now ∷ [])
+        (tree.FilterRet t p ∷ [])) w.old w.new result }
 {
     let ty = target.ty(w.leaves);
     let part_ty = filter.ty(w.leaves);
@@ -112,7 +127,11 @@ pub(crate) fn filterret_line<'t, R: Wait>(
     ensures goes_on { GoesOn 4 w.old w.new }
     ensures handles { CountsHandles 0 w.old w.new result }
     ensures node { (frame : Frame) → Hold (leaves_of w.old) registers.now frame → MakesNode
-        (node_of (leaves_of w.old) frame (operation.FilterReturn target.now filter.now)) w.old w.new result }
+        (node_of (leaves_of w.old) frame (operation.FilterReturn target.now filter.now))
+        w.old w.new result }
+    ensures asks { (frame : Frame) → Hold (leaves_of w.old) registers.now frame → AsksOrThrows
+        (line_recipes (leaves_of w.old) frame (operation.FilterReturn target.now filter.now))
+        w.old w.new result }
 {
     let target = registers.handle(w.alloc, target)?;
     let filter = registers.handle(w.alloc, filter)?;
@@ -135,6 +154,10 @@ fn folded<'t, R: Wait>(
     ensures node { (t p : Tree) → StandsFor (leaves_of w.old) target.now t
         → StandsFor (leaves_of w.old) combiner.now p → MakesNode
         (typed (leaves_of w.old) (tree.Fold t position p)) w.old w.new result }
+    ensures asks { (t p : Tree) → StandsFor (leaves_of w.old) target.now t
+        → StandsFor (leaves_of w.old) combiner.now p
+        → AsksIfMade (recipes_made (leaves_of w.old) (target.now ∷ combiner.now ∷ [])
+        (tree.Fold t position p ∷ [])) w.old w.new result }
 {
     let ty = target.ty(w.leaves);
     let part_ty = combiner.ty(w.leaves);
@@ -167,7 +190,11 @@ pub(crate) fn fold_line<'t, R: Wait>(
     ensures goes_on { GoesOn 4 w.old w.new }
     ensures handles { CountsHandles 0 w.old w.new result }
     ensures node { (frame : Frame) → Hold (leaves_of w.old) registers.now frame → MakesNode
-        (node_of (leaves_of w.old) frame (operation.Fold target.now position combiner.now)) w.old w.new result }
+        (node_of (leaves_of w.old) frame (operation.Fold target.now position combiner.now))
+        w.old w.new result }
+    ensures asks { (frame : Frame) → Hold (leaves_of w.old) registers.now frame → AsksOrThrows
+        (line_recipes (leaves_of w.old) frame (operation.Fold target.now position combiner.now))
+        w.old w.new result }
 {
     let target = registers.handle(w.alloc, target)?;
     let combiner = registers.handle(w.alloc, combiner)?;
@@ -190,6 +217,10 @@ fn collected<'t, R: Wait>(
     ensures node { (t p : Tree) → StandsFor (leaves_of w.old) target.now t
         → StandsFor (leaves_of w.old) filter.now p → MakesNode
         (typed (leaves_of w.old) (tree.Collect t position p)) w.old w.new result }
+    ensures asks { (t p : Tree) → StandsFor (leaves_of w.old) target.now t
+        → StandsFor (leaves_of w.old) filter.now p
+        → AsksIfMade (recipes_made (leaves_of w.old) (target.now ∷ filter.now ∷ [])
+        (tree.Collect t position p ∷ [])) w.old w.new result }
 {
     let ty = target.ty(w.leaves);
     let part_ty = filter.ty(w.leaves);
@@ -222,7 +253,11 @@ pub(crate) fn collect_line<'t, R: Wait>(
     ensures goes_on { GoesOn 4 w.old w.new }
     ensures handles { CountsHandles 0 w.old w.new result }
     ensures node { (frame : Frame) → Hold (leaves_of w.old) registers.now frame → MakesNode
-        (node_of (leaves_of w.old) frame (operation.Collect target.now position filter.now)) w.old w.new result }
+        (node_of (leaves_of w.old) frame (operation.Collect target.now position filter.now))
+        w.old w.new result }
+    ensures asks { (frame : Frame) → Hold (leaves_of w.old) registers.now frame → AsksOrThrows
+        (line_recipes (leaves_of w.old) frame (operation.Collect target.now position filter.now))
+        w.old w.new result }
 {
     let target = registers.handle(w.alloc, target)?;
     let filter = registers.handle(w.alloc, filter)?;

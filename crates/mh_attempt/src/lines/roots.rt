@@ -2,9 +2,11 @@
 
 ghost use Rattle.mh_script.specs.declared.script.Operation.TheVariants as operation;
 ghost use Rattle.mh_handle.specs.Works.{CountsHandles, GoesOn, IsReady, leaves_of};
+ghost use Rattle.mh_attempt.specs.Asked.{AsksOrThrows};
 ghost use Rattle.mh_attempt.specs.Lines.{MakesNode};
 ghost use Rattle.mh_link.specs.Operands.{Frame};
 ghost use Rattle.mh_link.specs.Operations.{node_of};
+ghost use Rattle.mh_attempt.specs.Recipes.{line_recipes};
 ghost use Rattle.mh_attempt.specs.Registers.{Hold, HoldSome};
 
 use crate::names::{class_of, leaf_named};
@@ -25,6 +27,9 @@ pub(crate) fn leaf_line<'t, R: Wait>(
     ensures handles { CountsHandles 0 w.old w.new result }
     ensures node { (frame : Frame) → MakesNode
         (node_of (leaves_of w.old) frame (operation.Leaf method.now)) w.old w.new result }
+    ensures asks { (frame : Frame) → AsksOrThrows
+        (line_recipes (leaves_of w.old) frame (operation.Leaf method.now))
+        w.old w.new result }
 {
     let id = leaf_named(w.alloc, w.leaves, method)?;
     leaf(w, rt, id)
@@ -43,8 +48,11 @@ pub(crate) fn constant_line<'t, R: Wait>(
     ensures goes_on { GoesOn 4 w.old w.new }
     ensures handles { CountsHandles 0 w.old w.new result }
     ensures node { (frame : Frame) → Hold (leaves_of w.old) registers.now frame → MakesNode
-        (node_of (leaves_of w.old) frame (operation.Constant ty.now value.now)) w.old w.new
-        result }
+        (node_of (leaves_of w.old) frame (operation.Constant ty.now value.now))
+        w.old w.new result }
+    ensures asks { (frame : Frame) → Hold (leaves_of w.old) registers.now frame → AsksOrThrows
+        (line_recipes (leaves_of w.old) frame (operation.Constant ty.now value.now))
+        w.old w.new result }
 {
     let ty = registers.ty(w.alloc, w.classes(), ty)?;
     let value = registers.value(w.alloc, value)?;
@@ -64,6 +72,9 @@ pub(crate) fn identity_line<'t, R: Wait>(
     ensures handles { CountsHandles 0 w.old w.new result }
     ensures node { (frame : Frame) → Hold (leaves_of w.old) registers.now frame → MakesNode
         (node_of (leaves_of w.old) frame (operation.Identity ty.now)) w.old w.new result }
+    ensures asks { (frame : Frame) → Hold (leaves_of w.old) registers.now frame → AsksOrThrows
+        (line_recipes (leaves_of w.old) frame (operation.Identity ty.now))
+        w.old w.new result }
 {
     let ty = registers.ty(w.alloc, w.classes(), ty)?;
     identity(w, rt, ty)
@@ -83,6 +94,9 @@ pub(crate) fn throw_line<'t, R: Wait>(
     ensures handles { CountsHandles 0 w.old w.new result }
     ensures node { (frame : Frame) → Hold (leaves_of w.old) registers.now frame → MakesNode
         (node_of (leaves_of w.old) frame (operation.Throw ret.now class.now)) w.old w.new result }
+    ensures asks { (frame : Frame) → Hold (leaves_of w.old) registers.now frame → AsksOrThrows
+        (line_recipes (leaves_of w.old) frame (operation.Throw ret.now class.now))
+        w.old w.new result }
 {
     let classes = w.classes();
     let ret = registers.ty(w.alloc, classes, ret)?;

@@ -1,8 +1,10 @@
 //! Handles of several operands: all of them, or none.
 
-ghost use Rattle.std.specs.Prelude.{IfOk};
+ghost use Rattle.std.specs.Prelude.{[], ◌∷◌, IfOk};
 ghost use Rattle.mh_tree.specs.Tree.{Tree};
 ghost use Rattle.mh_handle.specs.Works.{GoesOn, IsReady, StandsIn, leaves_of};
+ghost use Rattle.mh_attempt.specs.Asked.{AsksIfMade};
+ghost use Rattle.mh_attempt.specs.Recipes.{recipes_made};
 ghost use Rattle.mh_attempt.specs.Registers.{StandsFor, StandsForSome};
 ghost use Rattle.mh_attempt.specs.Several.{AreAccepted, CountsMade};
 
@@ -23,6 +25,8 @@ pub(crate) fn both_made<'t, R: Wait>(
     ensures goes_on { GoesOn 2 w.old w.new }
     ensures accepted { AreAccepted result }
     ensures handles { CountsMade 2 w.old w.new result }
+    ensures asks { AsksIfMade (recipes_made (leaves_of w.old) (first.now ∷ second.now ∷ []) [])
+        w.old w.new result }
     ensures first { (t : Tree) → StandsFor (leaves_of w.old) first.now t
         → IfOk result (λ made. StandsIn w.old made.0 t) }
     ensures second { (t : Tree) → StandsFor (leaves_of w.old) second.now t
@@ -53,6 +57,8 @@ pub(crate) fn three_made<'t, R: Wait>(
     ensures goes_on { GoesOn 3 w.old w.new }
     ensures accepted { AreAccepted result }
     ensures handles { CountsMade 3 w.old w.new result }
+    ensures asks { AsksIfMade (recipes_made (leaves_of w.old)
+        (first.now ∷ second.now ∷ third.now ∷ []) []) w.old w.new result }
     ensures first { (t : Tree) → StandsFor (leaves_of w.old) first.now t
         → IfOk result (λ made. StandsIn w.old made.0 t) }
     ensures second { (t : Tree) → StandsFor (leaves_of w.old) second.now t

@@ -1,13 +1,16 @@
 //! Lines that use a handle as another type: `astype`.
 
+ghost use Rattle.std.specs.Prelude.{◌≡◌, [], ◌∷◌, Ok};
 ghost use Rattle.mh_tree.specs.Check.{Tells};
 ghost use Rattle.mh_tree.specs.Tree.{Tree};
 ghost use Rattle.mh_tree.specs.Use.{use_row};
 ghost use Rattle.mh_script.specs.declared.script.Operation.TheVariants as operation;
 ghost use Rattle.mh_handle.specs.Works.{CountsHandles, GoesOn, IsReady, leaves_of};
+ghost use Rattle.mh_attempt.specs.Asked.{AsksIfMade, AsksOrThrows};
 ghost use Rattle.mh_attempt.specs.Lines.{MakesNode};
 ghost use Rattle.mh_link.specs.Operands.{Frame};
-ghost use Rattle.mh_link.specs.Operations.{node_of};
+ghost use Rattle.mh_link.specs.Operations.{node_of, use_of};
+ghost use Rattle.mh_attempt.specs.Recipes.{line_recipes, recipes_made, use_asked};
 ghost use Rattle.mh_attempt.specs.Registers.{Hold, HoldSome, StandsFor, StandsForSome};
 ghost use Rattle.mh_attempt.specs.Uses.{typed_use};
 
@@ -52,6 +55,10 @@ fn used<'t, R: Wait>(
     ensures handles { CountsHandles 0 w.old w.new result }
     ensures node { (t : Tree) → StandsFor (leaves_of w.old) target.now t → MakesNode
         (typed_use (leaves_of w.old) t asked.now) w.old w.new result }
+    ensures asks { (t u : Tree) → StandsFor (leaves_of w.old) target.now t
+        → use_of (leaves_of w.old) t asked.now ≡ Ok u
+        → AsksIfMade (recipes_made (leaves_of w.old) (target.now ∷ [])
+        (use_asked (leaves_of w.old) t u)) w.old w.new result }
 {
     let ty = target.ty(w.leaves);
     check_use(w.alloc, ty, target.weight(), asked, w.classes())?;
@@ -72,7 +79,11 @@ pub(crate) fn astype_line<'t, R: Wait>(
     ensures goes_on { GoesOn 4 w.old w.new }
     ensures handles { CountsHandles 0 w.old w.new result }
     ensures node { (frame : Frame) → Hold (leaves_of w.old) registers.now frame → MakesNode
-        (node_of (leaves_of w.old) frame (operation.AsType target.now asked.now)) w.old w.new result }
+        (node_of (leaves_of w.old) frame (operation.AsType target.now asked.now))
+        w.old w.new result }
+    ensures asks { (frame : Frame) → Hold (leaves_of w.old) registers.now frame → AsksOrThrows
+        (line_recipes (leaves_of w.old) frame (operation.AsType target.now asked.now))
+        w.old w.new result }
 {
     let target = registers.handle(w.alloc, target)?;
     let asked = registers.method_type(w.alloc, w.classes(), asked)?;

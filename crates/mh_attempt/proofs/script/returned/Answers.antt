@@ -1,16 +1,34 @@
-use Rattle.std.proofs.Common.{ap, sym, ◌∙◌}
+use Rattle.std.proofs.Common.{ap, sym, ◌∙◌, [], ◌∷◌}
 use Rattle.mh_jobs.specs.declared.job.BootstrapCall.{BootstrapCall}
 use Rattle.mh_tree.specs.Rows.{mismatch}
+use Rattle.mh_script.specs.declared.script.End.TheVariants as end
+use Rattle.mh_link.specs.Linked.{ended}
+use Rattle.mh_link.specs.Made.{nodes_of_uses}
 use Rattle.mh_handle.specs.Works.{leaves_of}
-use Rattle.mh_attempt.proofs.Endings.{mismatched-node}
+use Rattle.mh_attempt.proofs.AskedOperations.{alone-asks, asks-node}
+use Rattle.mh_attempt.proofs.Endings.{mismatched-node, returned-node}
 use Rattle.mh_attempt.proofs.script.returned.Goals as goal
 
 pub returns-then-not-is_same_method_type-clause-node : goal.returns-then-not-is_same_method_type-clause-node
 returns-then-not-is_same_method_type-clause-node g c frame hold =
     let own = c.ty-own.result.now in
     let asked = c.get-asked.result.now in
-    let target = c.in_ok-target.ensures (leaves_of c.args.w.now) frame hold in
+    let target = c.in_ok-target.ensures.stands (leaves_of c.args.w.now) frame hold in
     mismatched-node c.args.w.now c.args.register.now frame target.0 own asked c.in_ok-mismatch.field-0 target.1 (c.ty-own.ensures target.0 target.2)
     (ap (λ (call : BootstrapCall). call.ty) hold.call ∙ sym c.get-asked.ensures)
     (sym c.is_same_method_type.ensures ∙ c.if-not-is_same_method_type.true)
     (c.in_ok-mismatch.ensures ∙ ap (λ classes. mismatch classes own asked) c.classes.ensures.classes)
+
+-- ---- what is asked for
+
+pub returns-clause-asks : goal.returns-clause-asks
+returns-clause-asks g c frame hold =
+    let w = c.args.w.now in
+    let r = c.args.register.now in
+    let target = c.in_ok-target.ensures.stands w.leaves.now frame hold in
+    let made = c.made.ensures in
+    asks-node w.leaves.now (ended w.leaves.now (end.Return r) frame) (λ t. nodes_of_uses frame (r ∷ [])) w c.made.new.w c.made.result
+    (returned-node w c.made.new.w r frame target.0 c.ty-own.result.now c.get-asked.result.now c.made.result target.1 (c.ty-own.ensures target.0 target.2)
+    (ap (λ (call : BootstrapCall). call.ty) hold.call ∙ sym c.get-asked.ensures)
+    (sym c.is_same_method_type.ensures ∙ c.if-not-is_same_method_type.false) made.accepted (made.stands target.0 target.2))
+    (λ t _. alone-asks w.leaves.now frame c.in_ok-target.target r w c.made.new.w c.made.result (c.in_ok-target.ensures.makes w.leaves.now frame hold) made.asks)

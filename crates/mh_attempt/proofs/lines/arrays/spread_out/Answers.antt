@@ -1,4 +1,4 @@
-use Rattle.std.proofs.Common.{ap, ◌∙◌, arith, Err}
+use Rattle.std.proofs.Common.{ap, ◌∙◌, arith, Err, [], ◌∷◌}
 use Rattle.mh_tree.specs.Tree as tree
 use Rattle.mh_tree.specs.Use.{items_used_as}
 use Rattle.mh_handle.specs.Errors.{of_check}
@@ -8,6 +8,10 @@ use Rattle.mh_attempt.proofs.Asking.{error-node}
 use Rattle.mh_attempt.proofs.LineNodes.{same-node, unmade-node}
 use Rattle.mh_attempt.proofs.Rooms.{goes_on-sum}
 use Rattle.mh_attempt.proofs.SpreadNodes.{node-of-spread, refused-spread, spread-is, spread-rule}
+use Rattle.mh_attempt.proofs.AskedOperands.{asks-unmade}
+use Rattle.mh_attempt.proofs.AskedNodes.{asks-refused}
+use Rattle.mh_attempt.proofs.AskedUses.{asks-spread}
+use Rattle.mh_attempt.specs.Recipes.{spread_asked}
 use Rattle.mh_attempt.proofs.lines.arrays.spread_out.Goals as goal
 
 pub returns-in_err-check_spread_use-clause-node : goal.returns-in_err-check_spread_use-clause-node
@@ -42,3 +46,20 @@ returns-clause-node g c t stands =
     node-of-spread c.args.w.now c.made.new.w c.spread.new.w t c.in_ok-target.target c.args.array c.args.count _ c.spread.result
     c.made.ensures.goes_on.leaves (c.in_ok-target.ensures.stands t stands) (rule ∙ c.in_ok-check_spread_use.ensures) c.spread.ensures.obeys
     (c.spread.ensures.stands t)
+
+-- ---- what is asked for
+
+pub returns-in_err-check_spread_use-clause-asks : goal.returns-in_err-check_spread_use-clause-asks
+returns-in_err-check_spread_use-clause-asks g c t s stands is =
+    asks-refused _ c.args.w.now c.args.w.now c.in_err-check_spread_use.field-0.0 c.from_residual.result c.from_residual.ensures.1
+
+pub returns-in_err-target-clause-asks : goal.returns-in_err-target-clause-asks
+returns-in_err-target-clause-asks g c t s stands is =
+    let w = c.args.w.now in
+    asks-unmade w.leaves.now (c.args.target.now ∷ []) (spread_asked w.leaves.now t s) w c.made.new.w
+    c.in_err-target.field-0.0 c.from_residual-in_err-target.result c.from_residual-in_err-target.ensures.1 c.in_err-target.ensures.asks
+
+pub returns-clause-asks : goal.returns-clause-asks
+returns-clause-asks g c t s stands is =
+    asks-spread (c.args.target.now ∷ []) c.args.w.now c.made.new.w c.spread.new.w t c.in_ok-target.target c.spread.result
+    c.made.ensures.goes_on.leaves c.in_ok-target.ensures.asks (c.in_ok-target.ensures.stands t stands) c.args.array c.args.count s is (c.spread.ensures.makes t)

@@ -1,4 +1,4 @@
-use Rattle.std.proofs.Common.{refl, arith}
+use Rattle.std.proofs.Common.{refl, arith, [], ◌∷◌}
 use Rattle.mh_tree.specs.Rows.{catch_row}
 use Rattle.mh_tree.specs.Tree as tree
 use Rattle.mh_handle.proofs.Going.{goes_on-more}
@@ -7,6 +7,8 @@ use Rattle.mh_attempt.proofs.Counting.{counts-several, counts-unmade}
 use Rattle.mh_attempt.proofs.LineNodes.{unmade-node}
 use Rattle.mh_attempt.proofs.Rooms.{goes_on-sum}
 use Rattle.mh_attempt.proofs.Rules.{checked-two, node-of-two}
+use Rattle.mh_attempt.proofs.AskedOperands.{asks-two, asks-unmade}
+use Rattle.mh_attempt.proofs.AskedNodes.{asks-refused}
 use Rattle.mh_attempt.proofs.lines.branches.caught.Goals as goal
 
 pub returns-in_err-made-clause-goes_on : goal.returns-in_err-made-clause-goes_on
@@ -43,3 +45,22 @@ returns-clause-node g c t p stands others =
     (tree.Catch t c.args.class p) c.in_ok-made.made.0 c.in_ok-made.made.1 _ c.catch.result
     c.both_made.ensures.goes_on.leaves (c.in_ok-made.ensures.first t stands) (c.in_ok-made.ensures.second p others) refl checked
     c.catch.ensures.obeys (c.catch.ensures.stands t p)
+
+-- ---- what is asked for
+
+pub returns-in_err-check_catch-clause-asks : goal.returns-in_err-check_catch-clause-asks
+returns-in_err-check_catch-clause-asks g c t p stands others =
+    asks-refused _ c.args.w.now c.args.w.now c.in_err-check_catch.field-0.0 c.from_residual.result c.from_residual.ensures.1
+
+pub returns-in_err-made-clause-asks : goal.returns-in_err-made-clause-asks
+returns-in_err-made-clause-asks g c t p stands others =
+    let w = c.args.w.now in
+    asks-unmade w.leaves.now (c.args.target.now ∷ c.args.handler.now ∷ []) (tree.Catch t c.args.class p ∷ []) w c.both_made.new.w
+    c.in_err-made.field-0.0 c.from_residual-in_err-made.result c.from_residual-in_err-made.ensures.1 c.in_err-made.ensures.asks
+
+pub returns-clause-asks : goal.returns-clause-asks
+returns-clause-asks g c t p stands others =
+    asks-two (c.args.target.now ∷ c.args.handler.now ∷ []) c.args.w.now c.both_made.new.w c.catch.new.w t p (tree.Catch t c.args.class p) c.in_ok-made.made.0
+    c.in_ok-made.made.1 c.catch.result
+    c.both_made.ensures.goes_on.leaves c.in_ok-made.ensures.asks (c.in_ok-made.ensures.first t stands) (c.in_ok-made.ensures.second p others)
+    (c.catch.ensures.makes t p)

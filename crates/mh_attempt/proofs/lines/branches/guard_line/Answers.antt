@@ -1,45 +1,83 @@
 use Rattle.mh_tree.specs.Tree as tree
+use Rattle.mh_script.specs.declared.script.Operation.TheVariants as operation
 use Rattle.mh_attempt.specs.Registers.{StandsFor}
 use Rattle.mh_attempt.proofs.Asking.{asked-three, thrown-first, thrown-second, thrown-third, told-by}
 use Rattle.mh_attempt.proofs.LineNodes.{same-node}
+use Rattle.std.proofs.Common.{[], ◌∷◌}
+use Rattle.mh_attempt.proofs.AskedOperations.{line-makes, line-thrown, three-uses}
 use Rattle.mh_attempt.proofs.lines.branches.guard_line.Goals as goal
 
 pub returns-in_err-test-clause-node : goal.returns-in_err-test-clause-node
 returns-in_err-test-clause-node g c frame hold =
     thrown-first c.args.w.now c.in_err-test.field-0.0 c.from_residual.result c.from_residual.ensures.1
-    _ _ (told-by (StandsFor c.args.w.now.leaves.now) c.in_err-test.field-0.0 _ (c.in_err-test.ensures c.args.w.now.leaves.now frame hold))
+    _ _ (told-by (StandsFor c.args.w.now.leaves.now) c.in_err-test.field-0.0 _ (c.in_err-test.ensures.stands c.args.w.now.leaves.now frame hold))
 
 pub returns-in_err-target-clause-node : goal.returns-in_err-target-clause-node
 returns-in_err-target-clause-node g c frame hold =
-    let test = c.in_ok-test.ensures c.args.w.now.leaves.now frame hold in
+    let test = c.in_ok-test.ensures.stands c.args.w.now.leaves.now frame hold in
     thrown-second c.args.w.now c.in_err-target.field-0.0 c.from_residual-in_err-target.result c.from_residual-in_err-target.ensures.1
-    _ _ _ test.0 test.1 (told-by (StandsFor c.args.w.now.leaves.now) c.in_err-target.field-0.0 _ (c.in_err-target.ensures c.args.w.now.leaves.now frame hold))
+    _ _ _ test.0 test.1 (told-by (StandsFor c.args.w.now.leaves.now) c.in_err-target.field-0.0 _
+    (c.in_err-target.ensures.stands c.args.w.now.leaves.now frame hold))
 
 pub returns-in_err-fallback-clause-node : goal.returns-in_err-fallback-clause-node
 returns-in_err-fallback-clause-node g c frame hold =
-    let test = c.in_ok-test.ensures c.args.w.now.leaves.now frame hold in
-    let target = c.in_ok-target.ensures c.args.w.now.leaves.now frame hold in
+    let test = c.in_ok-test.ensures.stands c.args.w.now.leaves.now frame hold in
+    let target = c.in_ok-target.ensures.stands c.args.w.now.leaves.now frame hold in
     thrown-third c.args.w.now c.in_err-fallback.field-0.0 c.from_residual-in_err-fallback.result c.from_residual-in_err-fallback.ensures.1
     _ _ _ _ test.0 target.0 test.1 target.1 (told-by (StandsFor c.args.w.now.leaves.now) c.in_err-fallback.field-0.0 _
-    (c.in_err-fallback.ensures c.args.w.now.leaves.now frame hold))
+    (c.in_err-fallback.ensures.stands c.args.w.now.leaves.now frame hold))
 
 pub guarded-requires-clause-test : goal.guarded-requires-clause-test
 guarded-requires-clause-test g c =
-    let found = c.in_ok-test.ensures c.args.w.now.leaves.now c.requires.registers.0 c.requires.registers.1 in (found.0, found.2)
+    let found = c.in_ok-test.ensures.stands c.args.w.now.leaves.now c.requires.registers.0 c.requires.registers.1 in (found.0, found.2)
 
 pub guarded-requires-clause-target : goal.guarded-requires-clause-target
 guarded-requires-clause-target g c =
-    let found = c.in_ok-target.ensures c.args.w.now.leaves.now c.requires.registers.0 c.requires.registers.1 in (found.0, found.2)
+    let found = c.in_ok-target.ensures.stands c.args.w.now.leaves.now c.requires.registers.0 c.requires.registers.1 in (found.0, found.2)
 
 pub guarded-requires-clause-fallback : goal.guarded-requires-clause-fallback
 guarded-requires-clause-fallback g c =
-    let found = c.in_ok-fallback.ensures c.args.w.now.leaves.now c.requires.registers.0 c.requires.registers.1 in (found.0, found.2)
+    let found = c.in_ok-fallback.ensures.stands c.args.w.now.leaves.now c.requires.registers.0 c.requires.registers.1 in (found.0, found.2)
 
 pub returns-clause-node : goal.returns-clause-node
 returns-clause-node g c frame hold =
-    let test = c.in_ok-test.ensures c.args.w.now.leaves.now frame hold in
-    let target = c.in_ok-target.ensures c.args.w.now.leaves.now frame hold in
-    let fallback = c.in_ok-fallback.ensures c.args.w.now.leaves.now frame hold in
+    let test = c.in_ok-test.ensures.stands c.args.w.now.leaves.now frame hold in
+    let target = c.in_ok-target.ensures.stands c.args.w.now.leaves.now frame hold in
+    let fallback = c.in_ok-fallback.ensures.stands c.args.w.now.leaves.now frame hold in
     same-node _ _ c.args.w.now c.guarded.new.w c.guarded.result
     (asked-three c.args.w.now.leaves.now _ _ _ (λ f t e. tree.Guard f t e) test.0 target.0 fallback.0 test.1 target.1 fallback.1)
     (c.guarded.ensures.node test.0 target.0 fallback.0 test.2 target.2 fallback.2)
+
+-- ---- what is asked for
+
+pub returns-in_err-test-clause-asks : goal.returns-in_err-test-clause-asks
+returns-in_err-test-clause-asks g c frame hold =
+    let w = c.args.w.now in
+    line-thrown w.leaves.now frame (operation.Guard c.args.test.now c.args.target.now c.args.fallback.now) w w c.from_residual.result
+    (returns-in_err-test-clause-node g c frame hold) c.in_err-test.field-0.0 c.from_residual.ensures.1
+
+pub returns-in_err-target-clause-asks : goal.returns-in_err-target-clause-asks
+returns-in_err-target-clause-asks g c frame hold =
+    let w = c.args.w.now in
+    line-thrown w.leaves.now frame (operation.Guard c.args.test.now c.args.target.now c.args.fallback.now) w w c.from_residual-in_err-target.result
+    (returns-in_err-target-clause-node g c frame hold) c.in_err-target.field-0.0 c.from_residual-in_err-target.ensures.1
+
+pub returns-in_err-fallback-clause-asks : goal.returns-in_err-fallback-clause-asks
+returns-in_err-fallback-clause-asks g c frame hold =
+    let w = c.args.w.now in
+    line-thrown w.leaves.now frame (operation.Guard c.args.test.now c.args.target.now c.args.fallback.now) w w c.from_residual-in_err-fallback.result
+    (returns-in_err-fallback-clause-node g c frame hold) c.in_err-fallback.field-0.0 c.from_residual-in_err-fallback.ensures.1
+
+pub returns-clause-asks : goal.returns-clause-asks
+returns-clause-asks g c frame hold =
+    let w = c.args.w.now in
+    let test = c.in_ok-test.ensures.stands w.leaves.now frame hold in
+    let target = c.in_ok-target.ensures.stands w.leaves.now frame hold in
+    let fallback = c.in_ok-fallback.ensures.stands w.leaves.now frame hold in
+    line-makes w.leaves.now frame (operation.Guard c.args.test.now c.args.target.now c.args.fallback.now) w c.guarded.new.w c.guarded.result
+    (returns-clause-node g c frame hold) (c.in_ok-test.test ∷ c.in_ok-target.target ∷ c.in_ok-fallback.fallback ∷ []) _
+    (three-uses frame c.in_ok-test.test c.in_ok-target.target c.in_ok-fallback.fallback c.args.test.now c.args.target.now c.args.fallback.now
+    (c.in_ok-test.ensures.makes w.leaves.now frame hold) (c.in_ok-target.ensures.makes w.leaves.now frame hold)
+    (c.in_ok-fallback.ensures.makes w.leaves.now frame hold))
+    (asked-three w.leaves.now _ _ _ (λ f t e. tree.Guard f t e) test.0 target.0 fallback.0 test.1 target.1 fallback.1)
+    (c.guarded.ensures.asks test.0 target.0 fallback.0 test.2 target.2 fallback.2)

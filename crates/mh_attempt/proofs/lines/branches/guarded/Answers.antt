@@ -1,4 +1,4 @@
-use Rattle.std.proofs.Common.{refl, arith, ◌∙◌}
+use Rattle.std.proofs.Common.{refl, arith, ◌∙◌, [], ◌∷◌}
 use Rattle.mh_tree.specs.Rows.{guard_row}
 use Rattle.mh_tree.specs.Tree as tree
 use Rattle.mh_handle.proofs.Going.{goes_on-more}
@@ -7,6 +7,8 @@ use Rattle.mh_attempt.proofs.Counting.{counts-several, counts-unmade}
 use Rattle.mh_attempt.proofs.LineNodes.{unmade-node}
 use Rattle.mh_attempt.proofs.Rooms.{goes_on-sum}
 use Rattle.mh_attempt.proofs.Rules.{node-of-three, rule-of-three}
+use Rattle.mh_attempt.proofs.AskedOperands.{asks-three, asks-unmade}
+use Rattle.mh_attempt.proofs.AskedNodes.{asks-refused}
 use Rattle.mh_attempt.proofs.lines.branches.guarded.Goals as goal
 
 pub returns-in_err-made-clause-goes_on : goal.returns-in_err-made-clause-goes_on
@@ -48,3 +50,22 @@ returns-clause-node g c f t e tests stands others =
     c.in_ok-made.made.0 c.in_ok-made.made.1 c.in_ok-made.made.2 _ c.guard.result c.three_made.ensures.goes_on.leaves
     (c.in_ok-made.ensures.first f tests) (c.in_ok-made.ensures.second t stands) (c.in_ok-made.ensures.third e others) refl checked
     c.guard.ensures.obeys (c.guard.ensures.stands f t e)
+
+-- ---- what is asked for
+
+pub returns-in_err-check_guard-clause-asks : goal.returns-in_err-check_guard-clause-asks
+returns-in_err-check_guard-clause-asks g c f t e tests stands others =
+    asks-refused _ c.args.w.now c.args.w.now c.in_err-check_guard.field-0.0 c.from_residual.result c.from_residual.ensures.1
+
+pub returns-in_err-made-clause-asks : goal.returns-in_err-made-clause-asks
+returns-in_err-made-clause-asks g c f t e tests stands others =
+    let w = c.args.w.now in
+    asks-unmade w.leaves.now (c.args.test.now ∷ c.args.target.now ∷ c.args.fallback.now ∷ []) (tree.Guard f t e ∷ []) w c.three_made.new.w
+    c.in_err-made.field-0.0 c.from_residual-in_err-made.result c.from_residual-in_err-made.ensures.1 c.in_err-made.ensures.asks
+
+pub returns-clause-asks : goal.returns-clause-asks
+returns-clause-asks g c f t e tests stands others =
+    asks-three (c.args.test.now ∷ c.args.target.now ∷ c.args.fallback.now ∷ []) c.args.w.now c.three_made.new.w c.guard.new.w f t e (tree.Guard f t e)
+    c.in_ok-made.made.0 c.in_ok-made.made.1 c.in_ok-made.made.2 c.guard.result
+    c.three_made.ensures.goes_on.leaves c.in_ok-made.ensures.asks (c.in_ok-made.ensures.first f tests) (c.in_ok-made.ensures.second t stands)
+    (c.in_ok-made.ensures.third e others) (c.guard.ensures.makes f t e)

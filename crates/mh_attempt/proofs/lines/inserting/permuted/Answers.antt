@@ -1,10 +1,12 @@
-use Rattle.std.proofs.Common.{refl, arith}
+use Rattle.std.proofs.Common.{refl, arith, [], ◌∷◌}
 use Rattle.mh_tree.specs.Rows.{permute_row}
 use Rattle.mh_tree.specs.Tree as tree
 use Rattle.mh_attempt.proofs.Asking.{error-node}
 use Rattle.mh_attempt.proofs.LineNodes.{unmade-node}
 use Rattle.mh_attempt.proofs.Rooms.{goes_on-sum}
 use Rattle.mh_attempt.proofs.Rules.{checked-one, node-of-one}
+use Rattle.mh_attempt.proofs.AskedOperands.{asks-one, asks-unmade}
+use Rattle.mh_attempt.proofs.AskedNodes.{asks-refused}
 use Rattle.mh_attempt.proofs.lines.inserting.permuted.Goals as goal
 
 pub returns-in_err-target-clause-node : goal.returns-in_err-target-clause-node
@@ -28,3 +30,21 @@ returns-clause-node g c t stands =
     node-of-one (λ classes ty n. permute_row ty n c.args.asked.now c.args.order.now) c.args.w.now c.made.new.w c.permute.new.w t
     (tree.Permute t c.args.asked.now c.args.order.now) c.in_ok-target.target _ c.permute.result
     c.made.ensures.goes_on.leaves (c.in_ok-target.ensures.stands t stands) refl checked c.permute.ensures.obeys (c.permute.ensures.stands t)
+
+-- ---- what is asked for
+
+pub returns-in_err-check_permute-clause-asks : goal.returns-in_err-check_permute-clause-asks
+returns-in_err-check_permute-clause-asks g c t stands =
+    asks-refused _ c.args.w.now c.args.w.now c.in_err-check_permute.field-0.0 c.from_residual.result c.from_residual.ensures.1
+
+pub returns-in_err-target-clause-asks : goal.returns-in_err-target-clause-asks
+returns-in_err-target-clause-asks g c t stands =
+    let w = c.args.w.now in
+    asks-unmade w.leaves.now (c.args.target.now ∷ []) (tree.Permute t c.args.asked.now c.args.order.now ∷ []) w c.made.new.w
+    c.in_err-target.field-0.0 c.from_residual-in_err-target.result c.from_residual-in_err-target.ensures.1 c.in_err-target.ensures.asks
+
+pub returns-clause-asks : goal.returns-clause-asks
+returns-clause-asks g c t stands =
+    asks-one (c.args.target.now ∷ []) c.args.w.now c.made.new.w c.permute.new.w t (tree.Permute t c.args.asked.now c.args.order.now) c.in_ok-target.target
+    c.permute.result
+    c.made.ensures.goes_on.leaves c.in_ok-target.ensures.asks (c.in_ok-target.ensures.stands t stands) (c.permute.ensures.makes t)

@@ -1,4 +1,4 @@
-use Rattle.std.proofs.Common.{refl, arith}
+use Rattle.std.proofs.Common.{refl, arith, [], ◌∷◌}
 use Rattle.mh_tree.specs.Rows.{collect_row}
 use Rattle.mh_tree.specs.Tree as tree
 use Rattle.mh_handle.proofs.Going.{goes_on-more}
@@ -7,6 +7,8 @@ use Rattle.mh_attempt.proofs.Counting.{counts-several, counts-unmade}
 use Rattle.mh_attempt.proofs.LineNodes.{unmade-node}
 use Rattle.mh_attempt.proofs.Rooms.{goes_on-sum}
 use Rattle.mh_attempt.proofs.Rules.{checked-two, node-of-two}
+use Rattle.mh_attempt.proofs.AskedOperands.{asks-two, asks-unmade}
+use Rattle.mh_attempt.proofs.AskedNodes.{asks-refused}
 use Rattle.mh_attempt.proofs.lines.parts.collected.Goals as goal
 
 pub returns-in_err-made-clause-goes_on : goal.returns-in_err-made-clause-goes_on
@@ -43,3 +45,22 @@ returns-clause-node g c t p stands others =
     (tree.Collect t c.args.position p) c.in_ok-made.made.0 c.in_ok-made.made.1 _ c.collect.result
     c.both_made.ensures.goes_on.leaves (c.in_ok-made.ensures.first t stands) (c.in_ok-made.ensures.second p others) refl checked
     c.collect.ensures.obeys (c.collect.ensures.stands t p)
+
+-- ---- what is asked for
+
+pub returns-in_err-check_collect-clause-asks : goal.returns-in_err-check_collect-clause-asks
+returns-in_err-check_collect-clause-asks g c t p stands others =
+    asks-refused _ c.args.w.now c.args.w.now c.in_err-check_collect.field-0.0 c.from_residual.result c.from_residual.ensures.1
+
+pub returns-in_err-made-clause-asks : goal.returns-in_err-made-clause-asks
+returns-in_err-made-clause-asks g c t p stands others =
+    let w = c.args.w.now in
+    asks-unmade w.leaves.now (c.args.target.now ∷ c.args.filter.now ∷ []) (tree.Collect t c.args.position p ∷ []) w c.both_made.new.w
+    c.in_err-made.field-0.0 c.from_residual-in_err-made.result c.from_residual-in_err-made.ensures.1 c.in_err-made.ensures.asks
+
+pub returns-clause-asks : goal.returns-clause-asks
+returns-clause-asks g c t p stands others =
+    asks-two (c.args.target.now ∷ c.args.filter.now ∷ []) c.args.w.now c.both_made.new.w c.collect.new.w t p (tree.Collect t c.args.position p)
+    c.in_ok-made.made.0 c.in_ok-made.made.1 c.collect.result
+    c.both_made.ensures.goes_on.leaves c.in_ok-made.ensures.asks (c.in_ok-made.ensures.first t stands) (c.in_ok-made.ensures.second p others)
+    (c.collect.ensures.makes t p)

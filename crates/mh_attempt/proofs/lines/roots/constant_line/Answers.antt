@@ -1,11 +1,14 @@
-use Rattle.std.proofs.Common.{arith, sym, ap, ◌∙◌, subst, Err}
+use Rattle.std.proofs.Common.{arith, sym, ap, ◌∙◌, subst, Err, [], refl}
 use Rattle.mh_tree.specs.Tree as tree
 use Rattle.mh_handle.proofs.Going.{goes_on-more}
 use Rattle.mh_link.specs.Operands.{type_in}
+use Rattle.mh_script.specs.declared.script.Operation.TheVariants as operation
 use Rattle.mh_attempt.specs.Told.{Tells}
 use Rattle.mh_attempt.proofs.Asking.{asked-two, thrown-first, thrown-second}
 use Rattle.mh_attempt.proofs.LineNodes.{same-node}
 use Rattle.mh_attempt.proofs.Rules.{node-of-root}
+use Rattle.mh_attempt.proofs.AskedNodes.{asks-made}
+use Rattle.mh_attempt.proofs.AskedOperations.{line-makes, line-thrown}
 use Rattle.mh_attempt.proofs.lines.roots.constant_line.Goals as goal
 
 pub returns-in_err-ty-clause-node : goal.returns-in_err-ty-clause-node
@@ -30,3 +33,28 @@ returns-clause-node g c frame hold =
     same-node _ _ c.args.w.now c.constant.new.w c.constant.result
     (asked-two c.args.w.now.leaves.now _ _ (λ t v. tree.Constant t v) c.in_ok-ty.ty c.in_ok-value.value ty value)
     (node-of-root c.args.w.now c.constant.new.w _ _ c.constant.result c.constant.ensures.obeys c.constant.ensures.makes c.constant.ensures.stands)
+
+-- ---- what is asked for
+
+pub returns-in_err-ty-clause-asks : goal.returns-in_err-ty-clause-asks
+returns-in_err-ty-clause-asks g c frame hold =
+    let w = c.args.w.now in
+    line-thrown w.leaves.now frame (operation.Constant c.args.ty.now c.args.value.now) w w c.from_residual.result
+    (returns-in_err-ty-clause-node g c frame hold) c.in_err-ty.field-0.0 c.from_residual.ensures.1
+
+pub returns-in_err-value-clause-asks : goal.returns-in_err-value-clause-asks
+returns-in_err-value-clause-asks g c frame hold =
+    let w = c.args.w.now in
+    line-thrown w.leaves.now frame (operation.Constant c.args.ty.now c.args.value.now) w w c.from_residual-in_err-value.result
+    (returns-in_err-value-clause-node g c frame hold) c.in_err-value.field-0.0 c.from_residual-in_err-value.ensures.1
+
+pub returns-clause-asks : goal.returns-clause-asks
+returns-clause-asks g c frame hold =
+    let w = c.args.w.now in
+    let ty = ap (λ classes. type_in classes frame c.args.ty.now) (sym c.classes.ensures.classes) ∙ c.in_ok-ty.ensures w.leaves.now frame hold in
+    let value = c.in_ok-value.ensures w.leaves.now frame hold in
+    line-makes w.leaves.now frame (operation.Constant c.args.ty.now c.args.value.now) w c.constant.new.w c.constant.result
+    (returns-clause-node g c frame hold) []
+    (tree.Constant c.in_ok-ty.ty c.in_ok-value.value) refl
+    (asked-two w.leaves.now _ _ (λ t v. tree.Constant t v) c.in_ok-ty.ty c.in_ok-value.value ty value)
+    (asks-made _ w c.constant.new.w c.constant.result c.constant.ensures.makes)

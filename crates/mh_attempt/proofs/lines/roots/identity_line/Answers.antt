@@ -1,11 +1,14 @@
-use Rattle.std.proofs.Common.{arith, sym, ap, ◌∙◌, subst, Err}
+use Rattle.std.proofs.Common.{arith, sym, ap, ◌∙◌, subst, Err, [], refl}
 use Rattle.mh_tree.specs.Tree as tree
 use Rattle.mh_handle.proofs.Going.{goes_on-more}
 use Rattle.mh_link.specs.Operands.{type_in}
+use Rattle.mh_script.specs.declared.script.Operation.TheVariants as operation
 use Rattle.mh_attempt.specs.Told.{Tells}
 use Rattle.mh_attempt.proofs.Asking.{asked-one, thrown-first}
 use Rattle.mh_attempt.proofs.LineNodes.{same-node}
 use Rattle.mh_attempt.proofs.Rules.{node-of-root}
+use Rattle.mh_attempt.proofs.AskedNodes.{asks-made}
+use Rattle.mh_attempt.proofs.AskedOperations.{line-makes, line-thrown}
 use Rattle.mh_attempt.proofs.lines.roots.identity_line.Goals as goal
 
 pub returns-in_err-ty-clause-node : goal.returns-in_err-ty-clause-node
@@ -23,3 +26,21 @@ returns-clause-node g c frame hold =
     same-node _ _ c.args.w.now c.identity.new.w c.identity.result
     (asked-one c.args.w.now.leaves.now _ (λ t. tree.Identity t) c.in_ok-ty.ty ty)
     (node-of-root c.args.w.now c.identity.new.w _ _ c.identity.result c.identity.ensures.obeys c.identity.ensures.makes c.identity.ensures.stands)
+
+-- ---- what is asked for
+
+pub returns-in_err-ty-clause-asks : goal.returns-in_err-ty-clause-asks
+returns-in_err-ty-clause-asks g c frame hold =
+    let w = c.args.w.now in
+    line-thrown w.leaves.now frame (operation.Identity c.args.ty.now) w w c.from_residual.result
+    (returns-in_err-ty-clause-node g c frame hold) c.in_err-ty.field-0.0 c.from_residual.ensures.1
+
+pub returns-clause-asks : goal.returns-clause-asks
+returns-clause-asks g c frame hold =
+    let w = c.args.w.now in
+    let ty = ap (λ classes. type_in classes frame c.args.ty.now) (sym c.classes.ensures.classes) ∙ c.in_ok-ty.ensures w.leaves.now frame hold in
+    line-makes w.leaves.now frame (operation.Identity c.args.ty.now) w c.identity.new.w c.identity.result
+    (returns-clause-node g c frame hold) []
+    (tree.Identity c.in_ok-ty.ty) refl
+    (asked-one w.leaves.now _ (λ t. tree.Identity t) c.in_ok-ty.ty ty)
+    (asks-made _ w c.identity.new.w c.identity.result c.identity.ensures.makes)

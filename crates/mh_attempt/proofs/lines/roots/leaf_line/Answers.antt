@@ -1,10 +1,13 @@
-use Rattle.std.proofs.Common.{arith}
+use Rattle.std.proofs.Common.{arith, [], refl}
 use Rattle.mh_tree.specs.Tree as tree
 use Rattle.mh_handle.proofs.Going.{goes_on-more}
+use Rattle.mh_script.specs.declared.script.Operation.TheVariants as operation
 use Rattle.mh_attempt.proofs.Asking.{asked-one, thrown-first}
 use Rattle.mh_link.proofs.Leaves.{leaf-typed}
 use Rattle.mh_attempt.proofs.LineNodes.{same-node}
 use Rattle.mh_attempt.proofs.Rules.{node-of-leaf}
+use Rattle.mh_attempt.proofs.AskedNodes.{asks-made}
+use Rattle.mh_attempt.proofs.AskedOperations.{line-makes, line-thrown}
 use Rattle.mh_attempt.proofs.lines.roots.leaf_line.Goals as goal
 
 pub returns-in_err-id-clause-node : goal.returns-in_err-id-clause-node
@@ -20,3 +23,20 @@ returns-clause-node g c frame =
     same-node _ _ c.args.w.now c.leaf.new.w c.leaf.result
     (asked-one c.args.w.now.leaves.now _ (λ l. tree.Leaf l) c.in_ok-id.id c.in_ok-id.ensures.found)
     (node-of-leaf c.args.w.now c.leaf.new.w (tree.Leaf c.in_ok-id.id) own.0 c.leaf.result own.1 c.leaf.ensures.accepted c.leaf.ensures.stands)
+
+-- ---- what is asked for
+
+pub returns-in_err-id-clause-asks : goal.returns-in_err-id-clause-asks
+returns-in_err-id-clause-asks g c frame =
+    let w = c.args.w.now in
+    line-thrown w.leaves.now frame (operation.Leaf c.args.method.now) w w c.from_residual.result
+    (returns-in_err-id-clause-node g c frame) c.in_err-id.field-0.0 c.from_residual.ensures.1
+
+pub returns-clause-asks : goal.returns-clause-asks
+returns-clause-asks g c frame =
+    let w = c.args.w.now in
+    line-makes w.leaves.now frame (operation.Leaf c.args.method.now) w c.leaf.new.w c.leaf.result
+    (returns-clause-node g c frame) []
+    (tree.Leaf c.in_ok-id.id) refl
+    (asked-one w.leaves.now _ (λ l. tree.Leaf l) c.in_ok-id.id c.in_ok-id.ensures.found)
+    (asks-made _ w c.leaf.new.w c.leaf.result c.leaf.ensures.makes)

@@ -1,13 +1,16 @@
-use Rattle.std.proofs.Common.{arith, sym, ap, ◌∙◌, subst, Err}
+use Rattle.std.proofs.Common.{arith, sym, ap, ◌∙◌, subst, Err, [], refl}
 use Rattle.mh_tree.specs.Tree as tree
 use Rattle.mh_handle.proofs.Going.{goes_on-more}
 use Rattle.mh_jobs.specs.Names.{class_of}
 use Rattle.mh_jobs.specs.Thrown.{plainly}
 use Rattle.mh_link.specs.Operands.{type_in}
+use Rattle.mh_script.specs.declared.script.Operation.TheVariants as operation
 use Rattle.mh_attempt.specs.Told.{Tells}
 use Rattle.mh_attempt.proofs.Asking.{asked-two, thrown-first, thrown-second}
 use Rattle.mh_attempt.proofs.LineNodes.{same-node}
 use Rattle.mh_attempt.proofs.Rules.{node-of-root}
+use Rattle.mh_attempt.proofs.AskedNodes.{asks-made}
+use Rattle.mh_attempt.proofs.AskedOperations.{line-makes, line-thrown}
 use Rattle.mh_attempt.proofs.lines.roots.throw_line.Goals as goal
 
 pub returns-in_err-ret-clause-node : goal.returns-in_err-ret-clause-node
@@ -35,3 +38,29 @@ returns-clause-node g c frame hold =
     same-node _ _ c.args.w.now c.throw.new.w c.throw.result
     (asked-two c.args.w.now.leaves.now _ _ (λ t class. tree.Throw t class) c.in_ok-ret.ret c.in_ok-class.class ret class)
     (node-of-root c.args.w.now c.throw.new.w _ _ c.throw.result c.throw.ensures.obeys c.throw.ensures.makes c.throw.ensures.stands)
+
+-- ---- what is asked for
+
+pub returns-in_err-ret-clause-asks : goal.returns-in_err-ret-clause-asks
+returns-in_err-ret-clause-asks g c frame hold =
+    let w = c.args.w.now in
+    line-thrown w.leaves.now frame (operation.Throw c.args.ret.now c.args.class.now) w w c.from_residual.result
+    (returns-in_err-ret-clause-node g c frame hold) c.in_err-ret.field-0.0 c.from_residual.ensures.1
+
+pub returns-in_err-class-clause-asks : goal.returns-in_err-class-clause-asks
+returns-in_err-class-clause-asks g c frame hold =
+    let w = c.args.w.now in
+    line-thrown w.leaves.now frame (operation.Throw c.args.ret.now c.args.class.now) w w c.from_residual-in_err-class.result
+    (returns-in_err-class-clause-node g c frame hold) c.in_err-class.field-0.0 c.from_residual-in_err-class.ensures.1
+
+pub returns-clause-asks : goal.returns-clause-asks
+returns-clause-asks g c frame hold =
+    let w = c.args.w.now in
+    let ret = ap (λ classes. type_in classes frame c.args.ret.now)
+    (sym c.classes-classes.ensures.classes) ∙ c.in_ok-ret.ensures w.leaves.now frame hold in
+    let class = ap (λ classes. class_of plainly classes c.args.class.now) (sym c.classes-classes.ensures.classes) ∙ c.in_ok-class.ensures in
+    line-makes w.leaves.now frame (operation.Throw c.args.ret.now c.args.class.now) w c.throw.new.w c.throw.result
+    (returns-clause-node g c frame hold) []
+    (tree.Throw c.in_ok-ret.ret c.in_ok-class.class) refl
+    (asked-two w.leaves.now _ _ (λ t class. tree.Throw t class) c.in_ok-ret.ret c.in_ok-class.class ret class)
+    (asks-made _ w c.throw.new.w c.throw.result c.throw.ensures.makes)

@@ -1,5 +1,7 @@
-use Rattle.std.proofs.Common.{arith}
+use Rattle.std.proofs.Common.{arith, [], ◌∷◌, Ok, Err}
 use Rattle.mh_handle.proofs.Going.{goes_on-before}
+use Rattle.mh_handle.specs.declared.handle.Handle.{Handle}
+use Rattle.mh_attempt.proofs.AskedOperands.{asks-more, asks-unmade-both}
 use Rattle.mh_attempt.proofs.Rooms.{goes_on-sum}
 use Rattle.mh_attempt.proofs.lines.several.three_made.Goals as goal
 
@@ -12,3 +14,21 @@ returns-in-Err-clause-goes_on g c =
     let made = goes_on-sum 2 1 3 c.args.w.now c.both_made.new.w c.made.new.w (omega arith) c.both_made.ensures.goes_on c.made.ensures.goes_on in
     let first = goes_on-before 3 c.args.w.now c.made.new.w c.give_back.new.w made c.give_back.ensures.unchanged in
     goes_on-before 3 c.args.w.now c.give_back.new.w c.give_back-in-Err.new.w first c.give_back-in-Err.ensures.unchanged
+
+-- ---- what is asked for
+
+pub returns-in_err-first-clause-asks : goal.returns-in_err-first-clause-asks
+returns-in_err-first-clause-asks g c =
+    let w = c.args.w.now in
+    asks-unmade-both w.leaves.now (c.args.first.now ∷ c.args.second.now ∷ []) (c.args.third.now ∷ []) w c.both_made.new.w
+    c.in_err-first.field-0.0 c.from_residual.result c.from_residual.ensures.1 c.in_err-first.ensures.asks
+
+pub returns-in-Ok-clause-asks : goal.returns-in-Ok-clause-asks
+returns-in-Ok-clause-asks g c =
+    asks-more (c.args.first.now ∷ c.args.second.now ∷ []) (c.args.third.now ∷ []) c.args.w.now c.both_made.new.w c.made.new.w (Ok c.in-Ok.third)
+    c.both_made.ensures.goes_on.leaves c.in_ok-first.ensures.asks c.in-Ok.ensures.asks
+
+pub returns-in-Err-clause-asks : goal.returns-in-Err-clause-asks
+returns-in-Err-clause-asks g c =
+    asks-more {A = Handle} (c.args.first.now ∷ c.args.second.now ∷ []) (c.args.third.now ∷ []) c.args.w.now c.both_made.new.w c.made.new.w (Err c.in-Err.error)
+    c.both_made.ensures.goes_on.leaves c.in_ok-first.ensures.asks c.in-Err.ensures.asks

@@ -1,10 +1,14 @@
-use Rattle.std.proofs.Common.{◌∙◌, arith, Err}
+use Rattle.std.proofs.Common.{◌∙◌, arith, Err, [], ◌∷◌}
 use Rattle.mh_tree.specs.Use.{used_as}
 use Rattle.mh_handle.specs.Errors.{of_check}
 use Rattle.mh_attempt.proofs.Asking.{error-node}
 use Rattle.mh_attempt.proofs.LineNodes.{refused-node, same-node, unmade-node}
 use Rattle.mh_attempt.proofs.Rooms.{goes_on-sum}
 use Rattle.mh_attempt.proofs.UsedNodes.{node-of-use, use-is, use-rule}
+use Rattle.mh_attempt.proofs.AskedOperands.{asks-unmade}
+use Rattle.mh_attempt.proofs.AskedNodes.{asks-refused}
+use Rattle.mh_attempt.proofs.AskedUses.{asks-use}
+use Rattle.mh_attempt.specs.Recipes.{use_asked}
 use Rattle.mh_attempt.proofs.lines.uses.used.Goals as goal
 
 pub returns-in_err-check_use-clause-node : goal.returns-in_err-check_use-clause-node
@@ -39,3 +43,20 @@ returns-clause-node g c t stands =
     node-of-use c.args.w.now c.made.new.w c.as_type.new.w t c.in_ok-target.target c.ty-ty.result.now c.args.asked.now _ c.as_type.result
     c.made.ensures.goes_on.leaves (c.in_ok-target.ensures.stands t stands) typed (rule ∙ c.in_ok-check_use.ensures) c.as_type.ensures.obeys
     (c.as_type.ensures.stands t)
+
+-- ---- what is asked for
+
+pub returns-in_err-check_use-clause-asks : goal.returns-in_err-check_use-clause-asks
+returns-in_err-check_use-clause-asks g c t u stands is =
+    asks-refused _ c.args.w.now c.args.w.now c.in_err-check_use.field-0.0 c.from_residual.result c.from_residual.ensures.1
+
+pub returns-in_err-target-clause-asks : goal.returns-in_err-target-clause-asks
+returns-in_err-target-clause-asks g c t u stands is =
+    let w = c.args.w.now in
+    asks-unmade w.leaves.now (c.args.target.now ∷ []) (use_asked w.leaves.now t u) w c.made.new.w
+    c.in_err-target.field-0.0 c.from_residual-in_err-target.result c.from_residual-in_err-target.ensures.1 c.in_err-target.ensures.asks
+
+pub returns-clause-asks : goal.returns-clause-asks
+returns-clause-asks g c t u stands is =
+    asks-use (c.args.target.now ∷ []) c.args.w.now c.made.new.w c.as_type.new.w t c.in_ok-target.target c.as_type.result
+    c.made.ensures.goes_on.leaves c.in_ok-target.ensures.asks (c.in_ok-target.ensures.stands t stands) c.args.asked.now u is (c.as_type.ensures.makes t)

@@ -7,16 +7,17 @@ use Rattle.mh_attempt.proofs.RegisterContents.{argument-content, argument-none}
 use Rattle.mh_attempt.proofs.Telling.{throws-tells-by}
 use Rattle.mh_attempt.proofs.registers.Registers.argument.Goals as goal
 
-pub returns-in_ok-held-in-Some : goal.returns-in_ok-held-in-Some
-returns-in_ok-held-in-Some c leaves frame hold =
+pub returns-in_ok-held-in-Some-clause-holds : goal.returns-in_ok-held-in-Some-clause-holds
+returns-in_ok-held-in-Some-clause-holds c leaves frame hold =
     let n = c.args.number in
     let a = c.in-Some.argument.now in
     argument-content leaves c.args.self.now frame hold n a c.in_ok-held-in-Some.held
     (subst (λ (xs : List Argument). n < length xs) c.as_slice.ensures c.in-Some.ensures.lookup.3.0)
-    (subst (λ (xs : List Argument). (d : Argument) → a ≡ get_or xs n d) c.as_slice.ensures c.in-Some.ensures.lookup.3.1) (c.in_ok-held-in-Some.ensures leaves)
+    (subst (λ (xs : List Argument). (d : Argument) → a ≡ get_or xs n d) c.as_slice.ensures c.in-Some.ensures.lookup.3.1)
+    (c.in_ok-held-in-Some.ensures.holds leaves)
 
-pub returns-in-None : goal.returns-in-None
-returns-in-None c leaves frame hold =
+pub returns-in-None-clause-holds : goal.returns-in-None-clause-holds
+returns-in-None-clause-holds c leaves frame hold =
     let n = c.args.number in
     throws-tells-by (IsContent leaves) c.no_argument.result no_argument (content frame (register.Argument n))
     (argument-none leaves c.args.self.now frame hold n

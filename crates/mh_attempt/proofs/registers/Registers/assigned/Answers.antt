@@ -4,8 +4,8 @@ use Rattle.mh_attempt.specs.Registers.{HoldsLast}
 use Rattle.mh_attempt.proofs.RegisterContents.{last-content}
 use Rattle.mh_attempt.proofs.registers.Registers.assigned.Goals as goal
 
-pub returns-in-Some : goal.returns-in-Some
-returns-in-Some c leaves frame hold =
+pub returns-in-Some-clause-holds : goal.returns-in-Some-clause-holds
+returns-in-Some-clause-holds c leaves frame hold =
     let last = last_assigned c.args.name.now frame.assigned in
     last-content leaves c.in-Some.held c.content_held.result last
-    (subst (λ r. HoldsLast leaves r last) c.in-Some.is (c.held.ensures leaves frame hold)) (c.content_held.ensures leaves)
+    (subst (λ r. HoldsLast leaves r last) c.in-Some.is (c.held.ensures leaves frame hold)) (c.content_held.ensures.holds leaves)
