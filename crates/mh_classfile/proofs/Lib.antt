@@ -4,4 +4,8 @@ pub mod FileLaw
 pub mod NamedBootstraps
 pub mod SitesLoop
 pub mod Spans
+pub mod FileLaw
+pub mod Examples
+pub mod FoundSites
+pub mod NamedBootstraps
 mod Spelled

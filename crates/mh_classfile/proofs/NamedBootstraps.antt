@@ -1,5 +1,5 @@
--- The call sites of a class file name bootstrap methods that are there (JVMS SE 17, 4.4.10 and 4.7.23).
-use Rattle.std.proofs.Common.{◌≡◌, refl, sym, subst, ◌∙◌, ℕ, zero, suc, ◌<◌, Bool, true, false, List, [], ◌∷◌, length, Option, Some, None, Result, Ok, Err, arith}
+-- The class of a class file has the bootstrap methods that its call sites name (JVMS SE 17, 4.7.23), and no more call sites than there is room for.
+use Rattle.std.proofs.Common.{◌≡◌, refl, sym, subst, ◌∙◌, ℕ, zero, suc, ◌<◌, ◌≤◌, Bool, true, false, List, [], ◌∷◌, length, Option, Some, None, Result, Ok, Err, arith}
 use Rattle.std.specs.Prelude.{All, slice_get, slice_index_or, option_map, nat_lt, IfOk}
 use Rattle.std.proofs.lemmas.Bool.Decides.{nat_tests}
 use Rattle.std.proofs.lemmas.List.Elements.{All-get_or}
@@ -16,7 +16,7 @@ use Rattle.mh_classfile.specs.Class.{HasBootstraps}
 use Rattle.mh_classfile.specs.File.{has_bootstrap, rows_or_none, class_end, class_file as whole_file, IsClassFile}
 use Rattle.mh_classfile.specs.Rows.{Row}
 use Rattle.mh_classfile.proofs.Spelled.{Gives, value-gives, verdict-gives, both-give, later-gives}
-use Rattle.mh_classfile.proofs.CallingSites.{IsCalling, AreCalling, members-call}
+use Rattle.mh_classfile.proofs.FoundSites.{IsCalling, AreCalling, AreFound, members-call}
 
 first : (v : Verdict) (next : Unit {0} → Verdict) → (v >>= next) ≡ Ok tt → v ≡ Ok tt
 first (Ok u) next h = refl
@@ -61,26 +61,40 @@ have pool sites rows are known k site at =
     subst (λ n. site.bootstrap < n) (sym (length-map rows (class_file.bootstrap_of pool)))
     (subst (λ (v : SiteView). v.bootstrap < length rows) there.2 within)
 
-end-has : (pool : List Slot) (sites : List Site) (rows : List Row) (total : ℕ) → AreCalling pool sites →
-    Gives HasBootstraps (class_end pool sites rows total)
-end-has pool sites rows total are =
-    later-gives HasBootstraps _ _ (λ _. later-gives HasBootstraps _ _ (λ _.
-    both-give (λ _. each (has_bootstrap (length rows)) pool ≡ Ok tt) HasBootstraps _ _ (verdict-gives _)
-    (λ _ known. value-gives HasBootstraps (class_file.class_of pool sites rows) (have pool sites rows are known))))
+-- the class has the bootstrap methods that its call sites name, and no more call sites than there is room for
+abbrev IsSound : ℕ → class_file.Class → Type 0
+IsSound room class = HasBootstraps class × (length class.sites ≤ room)
 
-file-has : (room total : ℕ) → Gives HasBootstraps (whole_file room total)
+sound : (pool : List Slot) (room : ℕ) (sites : List Site) (rows : List Row) → AreFound pool room sites →
+    each (has_bootstrap (length rows)) pool ≡ Ok tt → IsSound room (class_file.class_of pool sites rows)
+sound pool room sites rows are known =
+    (have pool sites rows are.0 known, subst (λ n. n ≤ room) (sym (length-map sites (class_file.site_view pool))) are.1)
+
+end-has : (pool : List Slot) (room : ℕ) (sites : List Site) (rows : List Row) (total : ℕ) → AreFound pool room sites →
+    Gives (IsSound room) (class_end pool sites rows total)
+end-has pool room sites rows total are =
+    later-gives (IsSound room) _ _ (λ _. later-gives (IsSound room) _ _ (λ _.
+    both-give (λ _. each (has_bootstrap (length rows)) pool ≡ Ok tt) (IsSound room) _ _ (verdict-gives _)
+    (λ _ known. value-gives (IsSound room) (class_file.class_of pool sites rows) (sound pool room sites rows are known))))
+
+file-has : (room total : ℕ) → Gives (IsSound room) (whole_file room total)
 unfolding whole_file
 file-has room total =
-    later-gives HasBootstraps _ _ (λ count. later-gives HasBootstraps _ _ (λ pool. later-gives HasBootstraps _ _ (λ _.
-    later-gives HasBootstraps _ _ (λ _. both-give (AreCalling pool) HasBootstraps _ _ (members-call pool room) (λ sites calls.
-    later-gives HasBootstraps _ _ (λ found. end-has pool sites (rows_or_none found) total calls))))))
+    later-gives (IsSound room) _ _ (λ count. later-gives (IsSound room) _ _ (λ pool. later-gives (IsSound room) _ _ (λ _.
+    later-gives (IsSound room) _ _ (λ _. both-give (AreFound pool room) (IsSound room) _ _ (members-call pool room) (λ sites calls.
+    later-gives (IsSound room) _ _ (λ found. end-has pool room sites (rows_or_none found) total calls))))))
 
--- the class of a class file has the bootstrap methods that its call sites name
-pub file-have : (room : ℕ) (bytes : List ℕ) (class : class_file.Class) → IsClassFile room bytes class → HasBootstraps class
-file-have room bytes class is = (file-has room (length bytes)).each 0 bytes class is
+file-sound : (room : ℕ) (bytes : List ℕ) (class : class_file.Class) → IsClassFile room bytes class → IsSound room class
+file-sound room bytes class is = (file-has room (length bytes)).each 0 bytes class is
 
--- likewise what was read
+-- what was read has the bootstrap methods that its call sites name
 pub found-have : {V : Type 0} (view : V → class_file.Class) (room : ℕ) (bytes : List ℕ) (r : Result V ClassError) →
     IfOk r (λ v. IsClassFile room bytes (view v)) → IfOk r (λ v. HasBootstraps (view v))
-found-have view room bytes (Ok v) h = file-have room bytes (view v) h
+found-have view room bytes (Ok v) h = (file-sound room bytes (view v) h).0
 found-have view room bytes (Err e) h = tt
+
+-- and no more call sites than there is room for
+pub found-few : {V : Type 0} (view : V → class_file.Class) (room : ℕ) (bytes : List ℕ) (r : Result V ClassError) →
+    IfOk r (λ v. IsClassFile room bytes (view v)) → IfOk r (λ v. length (view v).sites ≤ room)
+found-few view room bytes (Ok v) h = (file-sound room bytes (view v) h).1
+found-few view room bytes (Err e) h = tt

@@ -1,6 +1,6 @@
 -- What holds of each value that a part of a class file spells, by the parts of that part.
 use Rattle.std.proofs.Common.{◌≡◌, sym, subst, zero, suc, ℕ, ◌+◌, Bool, true, false, List, length, Ok}
-use Rattle.mh_class_bytes.specs.Format.{verdict, done, choose, part, ◌>>=◌, repeated, Spells}
+use Rattle.mh_class_bytes.specs.Format.{verdict, check, done, choose, part, ◌>>=◌, repeated, Spells}
 use Rattle.mh_class_pool.specs.declared.fault.ClassKind.{ClassKind}
 use Rattle.mh_class_pool.specs.Entries.{ClassPart}
 use Rattle.mh_class_pool.specs.References.{Verdict}
@@ -16,6 +16,10 @@ value-gives P y p = record { each = λ at bytes x h. subst P (sym h.1) p }
 -- a condition
 pub verdict-gives : (v : Verdict) → Gives (λ _. v ≡ Ok tt) (verdict v)
 verdict-gives v = record { each = λ at bytes x h. h.1 }
+
+-- likewise one that is tested
+pub check-gives : (holds : Bool) (place : ℕ) (kind : ClassKind) → Gives (λ _. holds ≡ true) (check holds place kind)
+check-gives holds place kind = record { each = λ at bytes x h. h.1 }
 
 -- either of two
 pub choice-gives : {A : Type 0} (P : A → Type 0) (b : Bool) (f g : ClassPart A) → Gives P f → Gives P g → Gives P (choose b f g)

@@ -1,4 +1,4 @@
-ghost use Rattle.std.specs.Prelude.{◌≡◌, ◌<◌, OnOk, IfOk, Ok};
+ghost use Rattle.std.specs.Prelude.{◌≡◌, ◌<◌, ◌≤◌, length, OnOk, IfOk, Ok};
 ghost use Rattle.mh_class_bytes.specs.Format.{Judges, Reads};
 ghost use Rattle.mh_class_pool.specs.Answers.{Yields};
 ghost use Rattle.mh_class_pool.specs.Entries.{slot};
@@ -165,6 +165,9 @@ pub fn read<'b>(alloc: Global, bytes: &'b [u8], room: u32) -> Result<ClassView<'
 
     // Each of its call sites has its bootstrap method.
     ensures bootstraps { IfOk result (λ v. HasBootstraps v) }
+
+    // They are no more than there is room for.
+    ensures few { IfOk result (λ v. length v.sites ≤ room) }
 
     // A class file is accepted, unless memory runs out.
     ensures only { (c : Class) → IsClassFile room bytes.now c → Yields (λ v. v) result (Ok c) }
