@@ -2,6 +2,7 @@ pub mod Arguments
 pub mod Bootstraps
 pub mod Host
 pub mod Numbering
+pub mod OfClasses
 pub mod Parts
 pub mod ReadOnce
 pub mod Recorded
