@@ -1,5 +1,6 @@
 -- The jobs of classes are the jobs of their call sites.
 use Rattle.std.proofs.Common.{◌≡◌, ◌⊎◌, refl, sym, ◌∙◌, ap, inl, inr, ℕ, zero, suc, ◌+◌, List, [], ◌∷◌, ◌++◌, length, Some}
+use Rattle.std.proofs.lemmas.List.{length-append}
 use Rattle.std.specs.Prelude.{fold, option_map, slice_get}
 use Rattle.mh_leaf.specs.LeafTable.{LeafTable}
 use Rattle.mh_classfile.specs.declared.constant.SiteView.{SiteView}
@@ -61,3 +62,15 @@ none-are leaves scripts at job h = absurd cc
 pub are_jobs : (leaves : LeafTable) (scripts : List Script) (classes : List class_file.Class) →
     AreJobs (record { leaves = leaves; scripts = scripts; jobs = jobs_of leaves scripts classes })
 are_jobs leaves scripts classes = with-more leaves scripts [] classes (none-are leaves scripts)
+
+jobs_from-length : (leaves : LeafTable) (scripts : List Script) (class : class_file.Class) (number : ℕ) (sites : List SiteView) →
+    length (jobs_from leaves scripts class number sites) ≡ length sites
+jobs_from-length leaves scripts class number [] = refl
+jobs_from-length leaves scripts class number (site ∷ sites) = ap suc (jobs_from-length leaves scripts class (number + 1) sites)
+
+-- a class has a job for each of its call sites
+pub with_class-length : (leaves : LeafTable) (scripts : List Script) (jobs : List Job) (class : class_file.Class) →
+    length (with_class leaves scripts jobs class) ≡ length jobs + length class.sites
+with_class-length leaves scripts jobs class =
+    length-append jobs (jobs_from leaves scripts class (length jobs) class.sites)
+    ∙ ap (λ n. length jobs + n) (jobs_from-length leaves scripts class (length jobs) class.sites)
