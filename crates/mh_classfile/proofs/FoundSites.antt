@@ -77,7 +77,8 @@ code-calls pool m room start end so_far are =
     (both-give (AreFound pool (more (nat_lt (length before) room))) Found _ _ (instruction-calls pool m _ start)
     (λ found also. value-gives Found (before ++ found) (found-more pool room before found calls also))))) (end - start) so_far are
 
-bytes-call : (pool : List Slot) (m : Method) (room : ℕ) (so_far : List Site) → AreFound pool room so_far → Gives (AreFound pool room) (code_bytes pool m room so_far)
+bytes-call : (pool : List Slot) (m : Method) (room : ℕ) (so_far : List Site) → AreFound pool room so_far →
+    Gives (AreFound pool room) (code_bytes pool m room so_far)
 unfolding code_bytes
 bytes-call pool m room so_far are =
     later-gives (AreFound pool room) _ _ (λ _. later-gives (AreFound pool room) _ _ (λ len. later-gives (AreFound pool room) _ _ (λ _.

@@ -9,7 +9,7 @@ use Rattle.mh_main.specs.declared.stop.Stop.TheVariants.{NoMemory, ReadFault, To
 use Rattle.mh_main.specs.declared.program.Program.{Program}
 use Rattle.mh_main.specs.Words.{Command, Named, command_of, run, sites}
 use Rattle.mh_main.specs.Input.{Accepted, AreListed, IfAccepted, IfRefused, Input, accepted, command_input, fault_line, input_of, listed, listing_input, missing, most_sites, named_input, place_line, program, refused, too_long_line, untold, usage}
-use Rattle.mh_main.specs.Status.{no_memory, refused as refusal}
+use Rattle.mh_main.specs.Status.{no_memory, refused as refusal, unread}
 use Rattle.mh_main.specs.Stops.{Refuses, IsStopAmong, IsReachedInput, stop_line, stop_status, unread_line}
 use Rattle.mh_main.specs.Due.{FailsToRead, IsDue, IsDueOf, IsIdle, IsOutputOf, NeedsManyForms, RefusesInput}
 
@@ -33,6 +33,21 @@ refused-at-stop words files before now command (Place at place kind) asked is st
     let P : Option Command → Type 0 = λ o. IfRefused (input_of o files) (λ line. line ≡ place_line at.now place kind.now) in
     (subst P asked refuses, stops)
 
+-- a stop that comes with a read fault has the line of the input that could not be read
+pub unread-at-stop :
+    (words : List (List ℕ)) (files : List ℕ → Told) (before now : List ℕ → ℕ) (command : Command) (stop : Stop) →
+    Some command ≡ command_of words →
+    stop_status stop ≡ unread →
+    IsStopAmong (IsReachedInput command files) before now stop →
+    FailsToRead (command_of words) files before now (stop_line stop)
+unread-at-stop words files before now command NoMemory asked is stops = absurd (omega (arith, is))
+unread-at-stop words files before now command (ReadFault at) asked is stops =
+    let P : Option Command → Type 0 = λ o. FailsToRead o files before now (unread_line at.now) in
+    subst P asked (at.now, stops.0, stops.1, refl)
+unread-at-stop words files before now command (TooLong at) asked is stops = absurd (omega (arith, is))
+unread-at-stop words files before now command (Fault at number kind) asked is stops = absurd (omega (arith, is))
+unread-at-stop words files before now command (Place at place kind) asked is stops = absurd (omega (arith, is))
+
 -- a stop that is no want of memory has a line that is due
 pub due-at-stop :
     (words : List (List ℕ)) (files : List ℕ → Told) (before now : List ℕ → ℕ) (answer : TopAnswer) (command : Command) (stop : Stop) →
@@ -44,8 +59,7 @@ pub due-at-stop :
     IsDue words files before now answer (stop_line stop)
 due-at-stop words files before now answer command NoMemory asked idle spoken stops refuses = absurd (spoken refl)
 due-at-stop words files before now answer command (ReadFault at) asked idle spoken stops refuses =
-    let P : Option Command → Type 0 = λ o. FailsToRead o files before now (unread_line at.now) in
-    inr (idle, inr (inr (inl (subst P asked (at.now, stops.0, stops.1, refl)))))
+    inr (idle, inr (inr (inl (unread-at-stop words files before now command (ReadFault at) asked refl stops))))
 due-at-stop words files before now answer command (TooLong at) asked idle spoken stops refuses =
     inr (idle, inr (inl (refused-at-stop words files before now command (TooLong at) asked refl stops refuses)))
 due-at-stop words files before now answer command (Fault at number kind) asked idle spoken stops refuses =

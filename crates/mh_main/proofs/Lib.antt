@@ -1,7 +1,11 @@
-mod Stilled
+pub mod ClassJobs
 pub mod ClassListing
 pub mod Endings
 pub mod Pieces
+pub mod Programs
+pub mod ReadOn
 pub mod Reaching
 pub mod Refusals
+pub mod Stilled
+pub mod Taken
 pub mod Unread

@@ -1,56 +1,74 @@
--- Class files that are reached after the first.
-use Rattle.std.proofs.Common.{◌≡◌, sym, subst, inr, ℕ, ◌+◌, ◌-◌, List, [], ◌∷◌, length, Result, Ok, Err, IfErr, replicate, arith}
-use Rattle.std.proofs.lemmas.List.{length-replicate}
-use Rattle.mh_outside.specs.Told.{Told, nothing, absent, file}
+-- Stops at inputs that are reached after others.
+use Rattle.std.proofs.Common.{◌≡◌, refl, sym, subst, inl, inr, ℕ, ◌-◌, List, ◌∷◌, length, Result, Ok, Err, IfErr}
+use Rattle.std.specs.Result.{IsErrAnd}
+use Rattle.mh_outside.specs.Told.{Told}
 use Rattle.mh_outside.specs.Causes.{Rose, AreSame}
-use Rattle.mh_classfile.specs.declared.constant.SiteView.{SiteView}
 use Rattle.mh_classfile.specs.Class.{Class}
 use Rattle.mh_classfile.specs.File.{class_or_fault}
 use Rattle.mh_main.specs.declared.stop.Stop.{Stop}
 use Rattle.mh_main.specs.declared.stop.Stop.TheVariants.{NoMemory, ReadFault, TooLong, Fault, Place}
 use Rattle.mh_main.specs.Input.{HasMeaning, class_limit}
-use Rattle.mh_main.specs.Classes.{ListsClass}
-use Rattle.mh_main.specs.Stops.{ReachesClass, IsStopAmong}
+use Rattle.mh_main.specs.Stops.{IsStopAmong, IsStopOf, ReachesClass, Refuses, StopsClass, StopsClasses}
+use Rattle.mh_main.proofs.ReadOn.{class-stopped, first-read, refuses-untold}
 
--- some site
-abbrev some_site : SiteView
-some_site = record { method = []; method_descriptor = []; pc = 0; bootstrap = 0; name = []; descriptor = [] }
+-- a stop that is handed on
+pub handed : {T : Type 0} (r : Result T Stop) (stop : Stop) (P : Stop → Type 0) → IsErrAnd r (λ s. s ≡ stop) → P stop → IfErr r P
+handed (Ok t) stop P given is = absurd given
+handed (Err s) stop P given is = subst P (sym given) is
 
--- some class of so many sites
-abbrev some_class : ℕ → Class
-some_class n = record { constants = []; sites = replicate n some_site; bootstraps = [] }
+-- a stop of an input that is reached
+pub stops-at : (Reaches : List ℕ → Type 0) (name : List ℕ) (before now : List ℕ → ℕ) (stop : Stop) → Reaches name → IsStopOf name before now stop →
+    IsStopAmong Reaches before now stop
+stops-at Reaches name before now NoMemory there is = is
+stops-at Reaches name before now (ReadFault at) there is =
+    subst (λ (n : List ℕ). Reaches n × Rose (before n) (now n)) (sym is.0) (there, is.1)
+stops-at Reaches name before now (TooLong at) there is = is.1
+stops-at Reaches name before now (Fault at line kind) there is = is.1
+stops-at Reaches name before now (Place at place kind) there is = is.1
 
--- a class that the first file means, with the sites that were counted
-meant-class : (t : Told) (room first next : ℕ) (old mid : List ℕ) → ListsClass room t first next old mid →
-    (c : Class) × HasMeaning class_limit (class_or_fault room) t c × (next - first ≡ length c.sites)
-meant-class nothing room first next old mid l = (some_class (next - first), tt, sym (length-replicate (next - first) some_site))
-meant-class absent room first next old mid l = absurd l
-meant-class (file bytes) room first next old mid l = let n : next ≡ first + length l.0.sites = l.3 in (l.0, (l.1, l.2), omega (arith, n))
+-- a stop of inputs that are reached after others, whose reading left all counts
+pub stops-later : (Reaches Reaches' : List ℕ → Type 0) (before before' now : List ℕ → ℕ) (stop : Stop) →
+    ((name : List ℕ) → Reaches' name → Reaches name) → AreSame before before' →
+    IsStopAmong Reaches' before' now stop → IsStopAmong Reaches before now stop
+stops-later Reaches Reaches' before before' now NoMemory there same is = subst (λ (b : List ℕ → ℕ). AreSame b now) (λ i n. same n i) is
+stops-later Reaches Reaches' before before' now (ReadFault at) there same is =
+    (there at.now is.0, subst (λ n. Rose n (now at.now)) (same at.now) is.1)
+stops-later Reaches Reaches' before before' now (TooLong at) there same is = subst (λ (b : List ℕ → ℕ). AreSame b now) (λ i n. same n i) is
+stops-later Reaches Reaches' before before' now (Fault at line kind) there same is = subst (λ (b : List ℕ → ℕ). AreSame b now) (λ i n. same n i) is
+stops-later Reaches Reaches' before before' now (Place at place kind) there same is = subst (λ (b : List ℕ → ℕ). AreSame b now) (λ i n. same n i) is
 
-reached-after : (room first next : ℕ) (name : List ℕ) (names : List (List ℕ)) (files : List ℕ → Told) (old mid : List ℕ) (at : List ℕ) →
-    ListsClass room (files name) first next old mid → ReachesClass (room - (next - first)) names files at → ReachesClass room (name ∷ names) files at
-reached-after room first next name names files old mid at l h =
-    let c = meant-class (files name) room first next old mid l in
-    inr (c.0, c.1, subst (λ n. ReachesClass (room - n) names files at) c.2 h)
+-- ---- class files
 
-stops-after : (room first next : ℕ) (name : List ℕ) (names : List (List ℕ)) (files : List ℕ → Told) (before before' now : List ℕ → ℕ) (old mid : List ℕ)
-    (stop : Stop) → AreSame before before' → ListsClass room (files name) first next old mid →
-    IsStopAmong (ReachesClass (room - (next - first)) names files) before' now stop → IsStopAmong (ReachesClass room (name ∷ names) files) before now stop
-stops-after room first next name names files before before' now old mid NoMemory same l h = subst (λ (b : List ℕ → ℕ). AreSame b now) (λ i n. same n i) h
-stops-after room first next name names files before before' now old mid (ReadFault at) same l h =
-    (reached-after room first next name names files old mid at.now l h.0, subst (λ n. Rose n (now at.now)) (same at.now) h.1)
-stops-after room first next name names files before before' now old mid (TooLong at) same l h = subst (λ (b : List ℕ → ℕ). AreSame b now) (λ i n. same n i) h
-stops-after room first next name names files before before' now old mid (Fault at line kind) same l h =
-    subst (λ (b : List ℕ → ℕ). AreSame b now) (λ i n. same n i) h
-stops-after room first next name names files before before' now old mid (Place at place kind) same l h =
-    subst (λ (b : List ℕ → ℕ). AreSame b now) (λ i n. same n i) h
+-- the first class file stops the reading
+pub first-among : (room : ℕ) (name : List ℕ) (names : List (List ℕ)) (files : List ℕ → Told) (before now : List ℕ → ℕ) (stop : Stop) →
+    IsStopOf name before now stop → IsStopAmong (ReachesClass room (name ∷ names) files) before now stop
+first-among room name names files before now stop is = stops-at (ReachesClass room (name ∷ names) files) name before now stop (inl refl) is
 
-pub stops-all : {T : Type 0} (r : Result T Stop) (room first next : ℕ) (name : List ℕ) (names : List (List ℕ)) (files files' : List ℕ →
-    Told) (before before' now : List ℕ → ℕ) (old mid : List ℕ) → ((n : List ℕ) → files' n ≡ files n) → AreSame before before' →
-    ListsClass room (files name) first next old mid → IfErr r (λ stop. IsStopAmong (ReachesClass (room - (next - first)) names files') before' now stop) →
+-- and is what the class files say
+pub first-stops : (room : ℕ) (name : List ℕ) (names : List (List ℕ)) (files : List ℕ → Told) (before now : List ℕ → ℕ) (stop : Stop) →
+    IsStopOf name before now stop → StopsClass room (files name) stop → StopsClasses room (name ∷ names) files stop
+first-stops room name names files before now stop is stops next = class-stopped room name (files name) _ before now stop is stops
+
+-- one of the others stops the reading
+pub others-among : {T : Type 0} (r : Result T Stop) (room room' : ℕ) (name : List ℕ) (names : List (List ℕ)) (files files' : List ℕ → Told)
+    (before before' now : List ℕ → ℕ) (c : Class) → ((n : List ℕ) → files' n ≡ files n) → AreSame before before' →
+    HasMeaning class_limit (class_or_fault room) (files name) c → room' ≡ room - length c.sites →
+    IfErr r (λ stop. IsStopAmong (ReachesClass room' names files') before' now stop) →
     IfErr r (λ stop. IsStopAmong (ReachesClass room (name ∷ names) files) before now stop)
-stops-all (Ok u) room first next name names files files' before before' now old mid told same l h = tt
-stops-all (Err stop) room first next name names files files' before before' now old mid told same l h =
+others-among (Ok t) room room' name names files files' before before' now c told same is left h = tt
+others-among (Err stop) room room' name names files files' before before' now c told same is left h =
     let e : files' ≡ files = λ i n. told n i in
-    stops-after room first next name names files before before' now old mid stop same l
-    (subst (λ (f : List ℕ → Told). IsStopAmong (ReachesClass (room - (next - first)) names f) before' now stop) e h)
+    stops-later (ReachesClass room (name ∷ names) files) (ReachesClass room' names files') before before' now stop
+    (λ at reached. inr (c, is, subst (λ n. ReachesClass n names files at) left (subst (λ (f : List ℕ → Told). ReachesClass room' names f at) e reached)))
+    same h
+
+-- and is what the class files say
+pub others-stop : {T : Type 0} (r : Result T Stop) (room room' : ℕ) (name : List ℕ) (names : List (List ℕ)) (files files' : List ℕ → Told) (c : Class) →
+    ((n : List ℕ) → files' n ≡ files n) → HasMeaning class_limit (class_or_fault room) (files name) c → room' ≡ room - length c.sites →
+    IfErr r (λ stop. StopsClasses room' names files' stop) → IfErr r (λ stop. StopsClasses room (name ∷ names) files stop)
+others-stop (Ok t) room room' name names files files' c told is left h = tt
+others-stop (Err stop) room room' name names files files' c told is left h =
+    let e : files' ≡ files = λ i n. told n i in
+    let stops : StopsClasses (room - length c.sites) names files stop =
+    subst (λ n. StopsClasses n names files stop) left (subst (λ (f : List ℕ → Told). StopsClasses room' names f stop) e h) in
+    λ next. first-read (λ i. Refuses i stop) room name names files c next (refuses-untold stop) is (stops (λ classes. next (c ∷ classes)))

@@ -1,15 +1,37 @@
--- What the listing of one class file tells.
-use Rattle.std.specs.Prelude.{◌≡◌, ℕ, ◌+◌, ◌≤◌, List, ◌++◌, length, Ok}
-use Rattle.mh_outside.specs.Told.{Told, nothing, absent, file}
+-- What is made of class files that are read one after the other.
+use Rattle.std.specs.Prelude.{◌≡◌, ℕ, ◌+◌, List, ◌++◌, fold, length}
+use Rattle.mh_outside.specs.Told.{Told}
+use Rattle.mh_leaf.specs.LeafTable.{LeafTable}
 use Rattle.mh_classfile.specs.Class.{Class}
 use Rattle.mh_classfile.specs.File.{class_or_fault}
-use Rattle.mh_listing.specs.Listing.{lines_from}
-use Rattle.mh_main.specs.Input.{class_limit}
+use Rattle.mh_listing.specs.Listing.{lines_from, listing_from}
+use Rattle.mh_script.specs.declared.script.Script.{Script}
+use Rattle.mh_jobs.specs.declared.job.Job.{Job}
+use Rattle.mh_jobs.specs.Jobs.{jobs_of, with_class}
+use Rattle.mh_main.specs.Input.{HasMeaning, class_limit, most_sites}
+use Rattle.mh_main.specs.Stops.{AreClassesOf}
 
--- the file is of a class whose sites were listed from a number to another one, where it is told
+-- the file is of a class, as far as it is told, whose sites were listed from a number to another one
 abbrev pub ListsClass : ℕ → Told → ℕ → ℕ → List ℕ → List ℕ → Type 0
-ListsClass room (file bytes) first next old new =
-    (c : Class) × (class_or_fault room bytes ≡ Ok c) × (length bytes ≤ class_limit) × (next ≡ first + length c.sites)
-    × (new ≡ old ++ lines_from first c c.sites)
-ListsClass room nothing first next old new = first ≤ next
-ListsClass room absent first next old new = ⊥
+ListsClass room told first next old new =
+    (c : Class) × HasMeaning class_limit (class_or_fault room) told c × (next ≡ first + length c.sites) × (new ≡ old ++ lines_from first c c.sites)
+
+-- the files are of classes, as far as they are told, whose sites were listed from a number on
+abbrev pub ListsClasses : ℕ → List (List ℕ) → (List ℕ → Told) → ℕ → List ℕ → List ℕ → Type 0
+ListsClasses room names files first old new =
+    (classes : List Class) × AreClassesOf room names files classes × (new ≡ old ++ listing_from first classes)
+
+-- the file is of a class, as far as it is told, the jobs of whose sites stand after those before
+abbrev pub MakesJobs : LeafTable → List Script → ℕ → Told → List Job → List Job → Type 0
+MakesJobs leaves scripts room told before all =
+    (c : Class) × HasMeaning class_limit (class_or_fault room) told c × (all ≡ with_class leaves scripts before c)
+
+-- the files are of classes, as far as they are told, the jobs of whose sites stand after those before
+abbrev pub MakesAllJobs : LeafTable → List Script → ℕ → List (List ℕ) → (List ℕ → Told) → List Job → List Job → Type 0
+MakesAllJobs leaves scripts room names files before all =
+    (classes : List Class) × AreClassesOf room names files classes × (all ≡ fold (with_class leaves scripts) before classes)
+
+-- the jobs are those of the classes that the files are of, as far as they are told
+abbrev pub HasJobs : LeafTable → List Script → List (List ℕ) → (List ℕ → Told) → List Job → Type 0
+HasJobs leaves scripts names files jobs =
+    (classes : List Class) × AreClassesOf most_sites names files classes × (jobs ≡ jobs_of leaves scripts classes)

@@ -1,5 +1,5 @@
 -- What a run has to write, and why.
-use Rattle.std.specs.Prelude.{◌≡◌, ◌⊎◌, ℕ, ◌<◌, List, [], codes, Option, None, Some}
+use Rattle.std.specs.Prelude.{◌≡◌, ◌⊎◌, ℕ, ◌<◌, List, [], codes, length, Option, None, Some}
 use Rattle.std.specs.Io.KnownBytes.{Appends}
 use Rattle.mh_outside.specs.Causes.{Rose, AreSame, AppendsPart}
 use Rattle.mh_outside.specs.Told.{Told}
@@ -7,13 +7,14 @@ use Rattle.mh_classfile.specs.Class.{Class}
 use Rattle.mh_listing.specs.Listing.{listing}
 use Rattle.mh_handle.specs.declared.answer.Answer.{Answer}
 use Rattle.mh_plan.specs.Forms.{forms_needed}
+use Rattle.mh_plan.specs.Naming.{naming_of}
 use Rattle.mh_plan.specs.Results.{Serials, results_of, results_said, keys_said}
 use Rattle.mh_runtime.specs.Keys.{plan_keys}
-use Rattle.mh_runtime.specs.Ledger.{Ledger, naming_of}
+use Rattle.mh_runtime.specs.Ledger.{Ledger}
 use Rattle.mh_main.specs.declared.answer.TopAnswer.{TopAnswer}
 use Rattle.mh_main.specs.declared.program.Program.{Program}
 use Rattle.mh_main.specs.Words.{Command, command_of}
-use Rattle.mh_main.specs.Program.{text}
+use Rattle.mh_main.specs.Program.{given_of, text}
 use Rattle.mh_main.specs.Input.{Accepted, program, listed, input, IfAccepted, IfRefused, most_forms}
 use Rattle.mh_main.specs.Stops.{IsReachedInput, unread_line}
 
@@ -32,13 +33,13 @@ IsIdle answer = (answer.table ≡ []) × (answer.attempts ≡ []) × (answer.thr
 -- the answers of a program's calls under a table: the result of each, and how many keys the form has that it ran
 abbrev pub AreAnswersOf : Program → Serials → List (List Answer) → Type 0
 AreAnswersOf p table threads =
-    (results_said threads ≡ results_of p.leaves table p.plan) × (keys_said threads ≡ plan_keys p.leaves table p.plan)
+    (results_said threads ≡ results_of (given_of p) table p.plan) × (keys_said threads ≡ plan_keys (given_of p) table p.plan)
 
 -- the report on a program: the answer's table and attempts are a ledger of it, its answers are those of the calls under
 -- the table, and the bytes are the text of all
 abbrev pub IsReportOf : Program → TopAnswer → List ℕ → Type 0
 IsReportOf p answer bytes =
-    Ledger (naming_of p.plan) 0 answer.table answer.attempts
+    Ledger (naming_of p.plan) (length p.jobs) answer.table answer.attempts
     × AreAnswersOf p answer.table answer.threads
     × (bytes ≡ text p answer.table answer.attempts)
 
@@ -57,7 +58,7 @@ Reports words files answer bytes = IfAccepted (input words files) (λ a. IsOutpu
 
 -- the line of a program whose calls need more forms than there are numbers for
 abbrev pub IsFullOf : Program → List ℕ → Type 0
-IsFullOf p bytes = (most_forms < forms_needed p.leaves p.plan) × (bytes ≡ full_line)
+IsFullOf p bytes = (most_forms < forms_needed (given_of p) p.plan) × (bytes ≡ full_line)
 
 -- what is due of a program: its report, or that it needs too many forms, and then nothing is answered
 abbrev pub IsDueOf : Program → TopAnswer → List ℕ → Type 0
@@ -74,7 +75,7 @@ AnswersCalls words files answer = IfAccepted (input words files) (λ a. AreAnswe
 
 -- a run of the program can need more forms than there are numbers for; a listing needs none
 abbrev pub NeedsManyForms : Accepted → Type 0
-NeedsManyForms (program p) = most_forms < forms_needed p.leaves p.plan
+NeedsManyForms (program p) = most_forms < forms_needed (given_of p) p.plan
 NeedsManyForms (listed classes) = ⊥
 
 -- the line of a program that the words and the files give and whose calls need more forms than there are numbers for

@@ -8,12 +8,15 @@ use Rattle.mh_class_pool.specs.declared.fault.ClassKind.{ClassKind}
 use Rattle.mh_classfile.specs.Class.{Class}
 use Rattle.mh_classfile.specs.File.{class_or_fault}
 use Rattle.mh_leaves.specs.Manifest.{manifest, kind_word as manifest_word}
+use Rattle.mh_script.specs.Kinds.{kind_word as script_word}
+use Rattle.mh_script.specs.Scripts.{scripts}
+use Rattle.mh_jobs.specs.Given.{Given}
+use Rattle.mh_jobs.specs.Jobs.{jobs_of}
 use Rattle.mh_plan.specs.Forms.{forms_needed}
 use Rattle.mh_plan.specs.Plan.{plan, kind_word as plan_word}
 use Rattle.mh_main.specs.declared.program.Program.{Program}
-use Rattle.mh_main.specs.declared.stop.ScriptsKind.{ScriptsKind}
-use Rattle.mh_main.specs.declared.stop.ScriptsKind.TheVariants.{NotBuilt}
 use Rattle.mh_main.specs.Kinds.{class_word}
+use Rattle.mh_main.specs.Program.{given_of}
 use Rattle.mh_main.specs.Words.{Named, Command, run, sites, command_of}
 
 -- what is accepted: a program to run, or classes whose call sites are listed
@@ -61,23 +64,6 @@ leaves_limit = 262144
 abbrev pub plan_limit : ℕ
 plan_limit = 1048576
 
--- the name of the fault of scripts
-abbrev pub scripts_word : ScriptsKind → List ℕ
-scripts_word NotBuilt = codes "NotBuilt"
-
--- scripts must have no bytes yet
-abbrev pub scripts : List ℕ → Result (Unit {0}) (LineFault ScriptsKind)
-scripts [] = Ok tt
-scripts (b ∷ bs) = Err (record { line = 1; kind = NotBuilt })
-
--- what the inputs of these names say, taken in the order manifest, scripts, plan
-abbrev pub named_input : Named → (List ℕ → Told) → Input
-named_input names files =
-    within names.leaves leaves_limit (files names.leaves) (λ leaves_bytes. meant names.leaves manifest_word (manifest leaves_bytes) (λ leaves.
-    within names.scripts leaves_limit (files names.scripts) (λ scripts_bytes. meant names.scripts scripts_word (scripts scripts_bytes) (λ _.
-    within names.plan plan_limit (files names.plan) (λ plan_bytes. meant names.plan plan_word (plan plan_bytes leaves) (λ threads.
-    accepted (program (record { leaves = leaves; plan = threads }))))))))
-
 -- how many bytes a class file may have
 abbrev pub class_limit : ℕ
 class_limit = 1048576
@@ -97,6 +83,20 @@ classes_input room [] files next = next []
 classes_input room (name ∷ names) files next =
     within name class_limit (files name) (λ bytes. class_meant name (class_or_fault room bytes) (λ c.
     classes_input (room - length c.sites) names files (λ classes. next (c ∷ classes))))
+
+-- what the plan of a run says, over what the run is given
+abbrev pub plan_input : Given → List ℕ → (List ℕ → Told) → Input
+plan_input given name files =
+    within name plan_limit (files name) (λ bytes. meant name plan_word (plan bytes given.leaves given.jobs) (λ threads.
+    accepted (program (record { leaves = given.leaves; scripts = given.scripts; jobs = given.jobs; plan = threads }))))
+
+-- what the inputs of these names say, taken in the order manifest, scripts, class files, plan
+abbrev pub named_input : Named → (List ℕ → Told) → Input
+named_input names files =
+    within names.leaves leaves_limit (files names.leaves) (λ leaves_bytes. meant names.leaves manifest_word (manifest leaves_bytes) (λ leaves.
+    within names.scripts leaves_limit (files names.scripts) (λ scripts_bytes. meant names.scripts script_word (scripts scripts_bytes) (λ scripts.
+    classes_input most_sites names.classes files (λ classes.
+    plan_input (record { leaves = leaves; scripts = scripts; jobs = jobs_of leaves scripts classes }) names.plan files)))))
 
 -- classes are accepted to be listed
 abbrev pub to_list : List Class → Input
@@ -171,7 +171,7 @@ most_forms = 16384
 
 -- a run of the program can need at most as many forms as there are numbers; a listing needs none
 abbrev pub NeedsFewForms : Accepted → Type 0
-NeedsFewForms (program p) = forms_needed p.leaves p.plan ≤ most_forms
+NeedsFewForms (program p) = forms_needed (given_of p) p.plan ≤ most_forms
 NeedsFewForms (listed classes) = Unit {0}
 
 -- where they are told, the inputs are accepted, and what they give can need at most as many forms as there are numbers

@@ -6,6 +6,8 @@ use Rattle.mh_outside.specs.Causes.{Rose, IsStill, AreSame}
 use Rattle.mh_outside.specs.Told.{Told, nothing, absent, file, MayBeLonger}
 use Rattle.mh_leaf.specs.LeafTable.{LeafTable}
 use Rattle.mh_leaves.specs.Manifest.{manifest}
+use Rattle.mh_script.specs.declared.script.Script.{Script}
+use Rattle.mh_script.specs.Scripts.{scripts}
 use Rattle.mh_main.specs.declared.stop.Stop.{Stop}
 use Rattle.mh_main.specs.declared.stop.Stop.TheVariants.{NoMemory, ReadFault, TooLong, Fault, Place}
 use Rattle.mh_class_bytes.specs.declared.fault.Fault.{Fault as Fault'}
@@ -15,7 +17,7 @@ use Rattle.mh_classfile.specs.File.{class_or_fault}
 use Rattle.mh_main.specs.Kinds.{class_word}
 use Rattle.mh_main.specs.Status.{refused, no_memory, unread}
 use Rattle.mh_main.specs.Words.{Named, Command, run, sites}
-use Rattle.mh_main.specs.Input.{Input, IfRefused, HasMeaning, too_long_line, fault_line, place_line, leaves_limit, class_limit, most_sites, scripts}
+use Rattle.mh_main.specs.Input.{Input, IfRefused, HasMeaning, too_long_line, fault_line, place_line, leaves_limit, class_limit, classes_input, most_sites}
 
 -- the line for an input that could not be read
 abbrev pub unread_line : List ℕ → List ℕ
@@ -60,11 +62,20 @@ StopsText limit word meaning told (TooLong at) = MayBeLonger told limit
 StopsText limit word meaning told (Fault at line kind) = HasLineFault limit word meaning told line kind.now
 StopsText limit word meaning told (Place at place kind) = ⊥
 
--- where it is told, a class file that may have so many call sites has the fault at this place, of the kind that has this word
+-- the bytes of a class file that may have so many call sites have the fault at this place, of the kind that has this word
+abbrev pub IsClassFault : ℕ → List ℕ → ℕ → List ℕ → Type 0
+IsClassFault room bytes place kind =
+    (fault : Fault' ClassKind) × (class_or_fault room bytes ≡ Err fault) × (place ≡ fault.at) × (kind ≡ class_word fault.kind)
+
+-- this stops the reading of a class from the bytes of the file of this name: no memory is left, or they have a fault
+abbrev pub StopsBytes : List ℕ → ℕ → List ℕ → Stop → Type 0
+StopsBytes name room bytes NoMemory = Unit {0}
+StopsBytes name room bytes (Place at place kind) = (at.now ≡ name) × IsClassFault room bytes place kind.now
+StopsBytes name room bytes _ = ⊥
+
+-- the same where it is told, of a file of at most so many bytes as a class file may have
 abbrev pub HasClassFault : ℕ → Told → ℕ → List ℕ → Type 0
-HasClassFault room (file bytes) place kind =
-    (length bytes ≤ class_limit)
-    × ((fault : Fault' ClassKind) × (class_or_fault room bytes ≡ Err fault) × (place ≡ fault.at) × (kind ≡ class_word fault.kind))
+HasClassFault room (file bytes) place kind = (length bytes ≤ class_limit) × IsClassFault room bytes place kind
 HasClassFault room nothing place kind = Unit {0}
 HasClassFault room absent place kind = ⊥
 
@@ -76,20 +87,33 @@ StopsClass room told (TooLong at) = MayBeLonger told class_limit
 StopsClass room told (Fault at line kind) = ⊥
 StopsClass room told (Place at place kind) = HasClassFault room told place kind.now
 
--- the input is one of a run's, and each before it was accepted, as far as it is told
-abbrev pub ReachesInput : Named → (List ℕ → Told) → List ℕ → Type 0
-ReachesInput names files name =
-    (name ≡ names.leaves)
-    ⊎ ((leaves : LeafTable) × (name ≡ names.scripts) × HasMeaning leaves_limit manifest (files names.leaves) leaves)
-    ⊎ ((leaves : LeafTable) × (name ≡ names.plan) × HasMeaning leaves_limit manifest (files names.leaves) leaves
-    × HasMeaning leaves_limit scripts (files names.scripts) tt)
-
 -- the class file is one of those named, and each before it was accepted, as far as it is told
 abbrev pub ReachesClass : ℕ → List (List ℕ) → (List ℕ → Told) → List ℕ → Type 0
 ReachesClass room [] files name = ⊥
 ReachesClass room (first ∷ names) files name =
     (name ≡ first)
     ⊎ ((c : Class) × HasMeaning class_limit (class_or_fault room) (files first) c × ReachesClass (room - length c.sites) names files name)
+
+-- the class files are of these classes, which have at most so many call sites together, as far as they are told
+abbrev pub AreClassesOf : ℕ → List (List ℕ) → (List ℕ → Told) → List Class → Type 0
+AreClassesOf room [] files classes = classes ≡ []
+AreClassesOf room (name ∷ names) files [] = ⊥
+AreClassesOf room (name ∷ names) files (c ∷ classes) =
+    HasMeaning class_limit (class_or_fault room) (files name) c × AreClassesOf (room - length c.sites) names files classes
+
+-- the manifest and the scripts of a run were accepted, as far as they are told
+abbrev pub TextsMean : Named → (List ℕ → Told) → LeafTable → List Script → Type 0
+TextsMean names files leaves all =
+    HasMeaning leaves_limit manifest (files names.leaves) leaves × HasMeaning leaves_limit scripts (files names.scripts) all
+
+-- the input is one of a run's, and each before it was accepted, as far as it is told
+abbrev pub ReachesInput : Named → (List ℕ → Told) → List ℕ → Type 0
+ReachesInput names files name =
+    (name ≡ names.leaves)
+    ⊎ ((leaves : LeafTable) × (name ≡ names.scripts) × HasMeaning leaves_limit manifest (files names.leaves) leaves)
+    ⊎ ((leaves : LeafTable) × (all : List Script) × TextsMean names files leaves all × ReachesClass most_sites names.classes files name)
+    ⊎ ((leaves : LeafTable) × (all : List Script) × (classes : List Class) × (name ≡ names.plan) × TextsMean names files leaves all
+    × AreClassesOf most_sites names.classes files classes)
 
 -- the input is one of the command's, and each before it was accepted, as far as it is told
 abbrev pub IsReachedInput : Command → (List ℕ → Told) → List ℕ → Type 0
@@ -112,6 +136,10 @@ Refuses said (TooLong at) = IfRefused said (λ line. line ≡ too_long_line at.n
 Refuses said (Fault at number kind) = IfRefused said (λ line. line ≡ fault_line at.now number kind.now)
 Refuses said (Place at place kind) = IfRefused said (λ line. line ≡ place_line at.now place kind.now)
 
+-- whatever follows the class files, the stop is of what they say
+abbrev pub StopsClasses : ℕ → List (List ℕ) → (List ℕ → Told) → Stop → Type 0
+StopsClasses room names files stop = (next : List Class → Input) → Refuses (classes_input room names files next) stop
+
 -- the status that a stop comes with
 abbrev pub stop_status : Stop → ℕ
 stop_status NoMemory = no_memory
@@ -122,7 +150,7 @@ stop_status (Place at place kind) = refused
 
 -- the name is one of the command's inputs
 abbrev pub IsInput : Command → List ℕ → Type 0
-IsInput (run names) name = (name ≡ names.leaves) ⊎ ((name ≡ names.scripts) ⊎ (name ≡ names.plan))
+IsInput (run names) name = (name ≡ names.leaves) ⊎ ((name ≡ names.scripts) ⊎ (Contains names.classes name ⊎ (name ≡ names.plan)))
 IsInput (sites names) name = Contains names name
 
 -- no count of an input of the command rose

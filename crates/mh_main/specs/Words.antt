@@ -1,5 +1,5 @@
 -- The words of the command line.
-use Rattle.std.specs.Prelude.{ℕ, List, [], ◌∷◌, codes, ◌&&◌, if◌then◌else◌, nat_le, length, Option, None, Some, map}
+use Rattle.std.specs.Prelude.{ℕ, Bool, List, ◌∷◌, codes, ◌&&◌, if◌then◌else◌, nat_le, length, Option, None, Some, map}
 use denote.Ref.{Bor}
 use Rattle.std.specs.Str.{bytes_eq}
 use Rattle.mh_main.specs.declared.words.Names.{Names}
@@ -15,22 +15,27 @@ pub record Named : Type 0 where
   pub leaves : List ℕ
   pub scripts : List ℕ
   pub plan : List ℕ
+  pub classes : List (List ℕ)
 
 -- a run of named inputs, or the listing of the call sites of named class files
 pub data Command : Type 0 where
   run : Named → Command
   sites : List (List ℕ) → Command
 
--- the words of a run after its mode: `--leaves F --scripts F --plan F`, in this order
-abbrev pub run_words : List (List ℕ) → Option Command
-run_words (leaves_word ∷ leaves ∷ scripts_word ∷ scripts ∷ plan_word ∷ plan ∷ []) =
-    if bytes_eq leaves_word (codes "--leaves") && bytes_eq scripts_word (codes "--scripts") && bytes_eq plan_word (codes "--plan")
-    then Some (run (record { leaves = leaves; scripts = scripts; plan = plan })) else None
-run_words _ = None
-
 -- how many class files may be named
 abbrev pub most_classes : ℕ
 most_classes = 64
+
+-- the options of a run, in this order
+abbrev pub are_options : List ℕ → List ℕ → List ℕ → Bool
+are_options leaves scripts plan = bytes_eq leaves (codes "--leaves") && bytes_eq scripts (codes "--scripts") && bytes_eq plan (codes "--plan")
+
+-- the words of a run after its mode: `--leaves F --scripts F --plan F`, in this order, and names of class files, at most so many
+abbrev pub run_words : List (List ℕ) → Option Command
+run_words (leaves_word ∷ leaves ∷ scripts_word ∷ scripts ∷ plan_word ∷ plan ∷ classes) =
+    if are_options leaves_word scripts_word plan_word && nat_le (length classes) most_classes
+    then Some (run (record { leaves = leaves; scripts = scripts; plan = plan; classes = classes })) else None
+run_words _ = None
 
 -- names of class files, at most so many
 abbrev pub sites_words : List (List ℕ) → Option Command
@@ -55,7 +60,7 @@ IsListing (Some (sites names)) = Unit {0}
 
 -- the names that a value of the program holds
 abbrev pub held_names : Names → Named
-held_names names = record { leaves = names.leaves.now; scripts = names.scripts.now; plan = names.plan.now }
+held_names names = record { leaves = names.leaves.now; scripts = names.scripts.now; plan = names.plan.now; classes = said names.classes.now }
 
 -- the command that a value of the program holds
 abbrev pub held_command : Held → Command

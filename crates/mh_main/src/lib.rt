@@ -2,10 +2,13 @@
 #![tactic(auto)]
 
 mod answer;
+mod classes;
+mod jobs;
 mod lines;
 mod listing;
 mod program;
 mod reading;
+mod reporting;
 mod running;
 pub mod status;
 mod stop;

@@ -3,19 +3,26 @@ ghost use Rattle.mh_outside.specs.Causes.{AreSame};
 ghost use Rattle.mh_outside.specs.Kept.{KeepsInputs};
 ghost use Rattle.mh_outside.specs.Told.{IsWhole};
 ghost use Rattle.mh_leaves.specs.Manifest.{manifest, kind_word as manifest_word};
+ghost use Rattle.mh_script.specs.Kinds.{kind_word as script_word};
+ghost use Rattle.mh_script.specs.Scripts.{scripts};
+ghost use Rattle.mh_jobs.specs.Given.{AreJobs};
 ghost use Rattle.mh_plan.specs.Limits.{IsWithinLimits};
 ghost use Rattle.mh_plan.specs.Results.{AreCallsOf};
 ghost use Rattle.mh_plan.specs.Plan.{plan, kind_word as plan_word};
 ghost use Rattle.mh_main.specs.Words.{held_names};
-ghost use Rattle.mh_main.specs.Input.{HasMeaning, IfAccepted, named_input, program, scripts, scripts_word, leaves_limit, plan_limit};
+ghost use Rattle.mh_main.specs.Program.{given_of};
+ghost use Rattle.mh_main.specs.Input.{HasMeaning, IfAccepted, named_input, program, leaves_limit, plan_limit, most_sites};
 ghost use Rattle.mh_main.specs.Stops.{IsStopAmong, IsStopOf, ReachesInput, Refuses, StopsFile, StopsText};
 
 use crate::Program;
-use crate::stop::{Stop, no_scripts};
+use crate::jobs::read_jobs;
+use crate::stop::Stop;
 use crate::words::Names;
+use mh_jobs::Jobs;
 use mh_leaves::{Leaves, ManifestError, read_manifest};
 use mh_outside::{Inputs, ReadWhole, read_whole};
 use mh_plan::{Plan, PlanError, read_plan};
+use mh_script::{ScriptError, Scripts};
 use std::alloc::Global;
 
 /// How many bytes a manifest may have, and likewise the scripts.
@@ -73,20 +80,26 @@ fn read_leaves<'a, I: Inputs>(
 }
 
 #[tactic(auto, using(crate::proofs::Unread::unread_text))]
-fn read_scripts<'a, I: Inputs>(alloc: Global, inputs: &mut I, name: &'a str) -> Result<(), Stop<'a>>
+fn read_scripts<'a, I: Inputs>(
+    alloc: Global,
+    inputs: &mut I,
+    name: &'a str,
+) -> Result<Scripts, Stop<'a>>
     ensures keeps { KeepsInputs (I.told inputs.old) (I.told inputs.new)
         (I.faults inputs.old) (I.faults inputs.new) }
     ensures no_fault { OnOk result (AreSame (I.faults inputs.old) (I.faults inputs.new)) }
     ensures stop { IfErr result
         (λ stop. IsStopOf name.now (I.faults inputs.old) (I.faults inputs.new) stop) }
     ensures refuses { IfErr result
-        (λ stop. StopsText leaves_limit scripts_word scripts (I.told inputs.old name.now) stop) }
-    ensures ok { OnOk result (HasMeaning leaves_limit scripts (I.told inputs.old name.now) tt) }
+        (λ stop. StopsText leaves_limit script_word scripts (I.told inputs.old name.now) stop) }
+    ensures ok { IfOk result
+        (λ all. HasMeaning leaves_limit scripts (I.told inputs.old name.now) all) }
 {
     let bytes = read_input(alloc, inputs, name, LEAVES_LIMIT)?;
-    match no_scripts(&bytes) {
-        Ok(()) => Ok(()),
-        Err(fault) => Err(Stop::Fault(name, fault.line, fault.kind.word())),
+    match mh_script::read_scripts(alloc, &bytes) {
+        Ok(scripts) => Ok(scripts),
+        Err(ScriptError::NoMemory) => Err(Stop::NoMemory),
+        Err(ScriptError::Fault(fault)) => Err(Stop::Fault(name, fault.line, fault.kind.word())),
     }
 }
 
@@ -96,6 +109,7 @@ fn read_calls<'a, I: Inputs>(
     inputs: &mut I,
     name: &'a str,
     leaves: &Leaves,
+    jobs: &Jobs,
 ) -> Result<Plan, Stop<'a>>
     ensures keeps { KeepsInputs (I.told inputs.old) (I.told inputs.new)
         (I.faults inputs.old) (I.faults inputs.new) }
@@ -103,23 +117,24 @@ fn read_calls<'a, I: Inputs>(
     ensures stop { IfErr result
         (λ stop. IsStopOf name.now (I.faults inputs.old) (I.faults inputs.new) stop) }
     ensures refuses { IfErr result
-        (λ stop. StopsText plan_limit plan_word (λ bytes. plan bytes leaves.now)
+        (λ stop. StopsText plan_limit plan_word (λ bytes. plan bytes leaves.now jobs.now)
         (I.told inputs.old name.now) stop) }
     ensures ok { IfOk result
-        (λ calls. HasMeaning plan_limit (λ bytes. plan bytes leaves.now)
+        (λ calls. HasMeaning plan_limit (λ bytes. plan bytes leaves.now jobs.now)
         (I.told inputs.old name.now) calls) }
-    ensures calls { IfOk result (AreCallsOf leaves.now) }
+    ensures calls { IfOk result (AreCallsOf leaves.now jobs.now) }
     ensures limits { IfOk result IsWithinLimits }
 {
     let bytes = read_input(alloc, inputs, name, PLAN_LIMIT)?;
-    match read_plan(alloc, &bytes, leaves) {
+    match read_plan(alloc, &bytes, leaves, jobs) {
         Ok(plan) => Ok(plan),
         Err(PlanError::NoMemory) => Err(Stop::NoMemory),
         Err(PlanError::Fault(fault)) => Err(Stop::Fault(name, fault.line, fault.kind.word())),
     }
 }
 
-/// Reads the inputs of a run in the order manifest, scripts, plan, up to the first that stops it.
+/// Reads the inputs of a run in the order manifest, scripts, class files, plan, up to the first
+/// that stops it.
 pub fn read_program<'a, I: Inputs>(
     alloc: Global,
     inputs: &mut I,
@@ -136,11 +151,19 @@ pub fn read_program<'a, I: Inputs>(
     ensures ok { IfOk result
         (λ p. IfAccepted (named_input (held_names names.entry) (I.told inputs.old))
         (λ a. a ≡ program p)) }
-    ensures calls { IfOk result (λ p. AreCallsOf p.leaves p.plan) }
+    ensures calls { IfOk result (λ p. AreCallsOf p.leaves p.jobs p.plan) }
     ensures limits { IfOk result (λ p. IsWithinLimits p.plan) }
+    ensures jobs { IfOk result (λ p. AreJobs (given_of p)) }
+    ensures few_sites { IfOk result (λ p. length p.jobs ≤ most_sites) }
 {
     let leaves = read_leaves(alloc, inputs, names.leaves)?;
-    read_scripts(alloc, inputs, names.scripts)?;
-    let plan = read_calls(alloc, inputs, names.plan, &leaves)?;
-    Ok(Program { leaves, plan })
+    let scripts = read_scripts(alloc, inputs, names.scripts)?;
+    let jobs = read_jobs(alloc, inputs, names.classes, &leaves, &scripts)?;
+    let plan = read_calls(alloc, inputs, names.plan, &leaves, &jobs)?;
+    Ok(Program {
+        leaves,
+        scripts,
+        jobs,
+        plan,
+    })
 }

@@ -1,16 +1,14 @@
-ghost use Rattle.std.specs.Prelude.{◌≡◌, ◌≢◌, ◌<◌, [], None, IfOk, length};
+ghost use Rattle.std.specs.Prelude.{◌≡◌, ◌≢◌, [], None};
 ghost use Rattle.std.specs.List.{flat_map};
 ghost use Rattle.std.specs.Io.KnownBytes.{Appends, Keeps};
 ghost use Rattle.mh_outside.specs.Causes.{IsStill, AreSame, AppendsPart};
 ghost use Rattle.mh_outside.specs.Kept.{KeepsInputs};
-ghost use Rattle.mh_plan.specs.Forms.{forms_needed};
+ghost use Rattle.mh_jobs.specs.Given.{AreJobs};
 ghost use Rattle.mh_plan.specs.Limits.{IsWithinLimits};
 ghost use Rattle.mh_plan.specs.Results.{AreCallsOf};
-ghost use Rattle.mh_runtime.specs.Asking.{IfFull};
-ghost use Rattle.mh_runtime.specs.Ledger.{Ledger, naming_of};
 ghost use Rattle.mh_main.specs.Words.{command_of, said, IsListing};
-ghost use Rattle.mh_main.specs.Program.{text};
-ghost use Rattle.mh_main.specs.Input.{input, IsRefused, AreAccepted, IsMissing, FitsForms, most_forms};
+ghost use Rattle.mh_main.specs.Program.{given_of};
+ghost use Rattle.mh_main.specs.Input.{input, IsRefused, AreAccepted, IsMissing, FitsForms};
 ghost use Rattle.mh_main.specs.Stops.{stop_line, stop_status, InputsStill};
 ghost use Rattle.mh_main.specs.Status.{done, refused, usage_wanted, no_memory, forms_full, unread, write_failed, IsStatus, IsRefusedOrWant, IsUnreadOrWant, IsDoneOrWant, IsDoneFullOrWant, FailsWhere};
 ghost use Rattle.mh_main.specs.Due.{AnswersCalls, AreAnswersOf, FailsToRead, FillsForms, IsDue, IsDueOf, IsFullOf, IsIdle, IsListingOf, IsReportOf, RefusesInput, RefusesWords, Reports, Writes, WritesPart};
@@ -18,15 +16,15 @@ ghost use Rattle.mh_main.specs.Due.{AnswersCalls, AreAnswersOf, FailsToRead, Fil
 use crate::lines::{FULL, USAGE, write_pieces};
 use crate::listing::list_sites;
 use crate::reading::read_program;
+use crate::reporting::run_and_report;
 use crate::status::{DONE, FORMS_FULL, NO_MEMORY, REFUSED, UNREAD, USAGE_WANTED, WRITE_FAILED};
 use crate::stop::Stop;
 use crate::words::{Command, read_words};
 use crate::{Program, TopAnswer};
 use itoa::Buffer;
-use mh_base::{NoMemory, Seq};
+use mh_base::Seq;
 use mh_outside::{Failed, Gate, Inputs, Sink, write_whole};
-use mh_plan::{Attempts, report};
-use mh_runtime::{RunReport, WorkError, run_plan};
+use mh_runtime::WorkError;
 use std::alloc::Global;
 use std::sync::Wait;
 use std::thread::Threads;
@@ -61,58 +59,25 @@ fn answer_line<S: Sink>(alloc: Global, sink: &mut S, status: u8, pieces: &[&[u8]
     }
 }
 
-// How many attempts there are. A number that does not fit counts as out of memory.
-fn count(attempts: &Attempts) -> Result<u32, NoMemory>
-    ensures { IfOk result (λ n. n ≡ length attempts.now) }
-{
-    match u32::try_from(attempts.len()) {
-        Ok(count) => Ok(count),
-        Err(_) => Err(NoMemory),
-    }
-}
-
-// What the run of a program's calls gives, and its text.
-fn run_and_report<R: Wait>(
-    rt: &R,
-    alloc: Global,
-    program: &Program,
-) -> Result<(RunReport, Vec<u8>), WorkError>
-    requires calls { AreCallsOf program.now.leaves program.now.plan }
-    requires limits { IsWithinLimits program.now.plan }
-    ensures ledger { IfOk result
-        (λ r. Ledger (naming_of program.now.plan) 0 r.0.table r.0.attempts) }
-    ensures answers { IfOk result (λ r. AreAnswersOf program.now r.0.table r.0.threads) }
-    ensures text { IfOk result (λ r. r.1.items ≡ text program.now r.0.table r.0.attempts) }
-    ensures full { IfFull result
-        (most_forms < forms_needed program.now.leaves program.now.plan) }
-{
-    let run = run_plan(rt, alloc, &program.leaves, &program.plan)?;
-    let attempts = count(&run.attempts)?;
-    let classes = program.leaves.classes();
-    let text = report(alloc, &run.threads, attempts, run.forms, 0, classes)?;
-    Ok((run, text))
-}
-
-// The answer with what a run gave.
-fn answered(status: u8, run: RunReport) -> TopAnswer
-    ensures status { result.status ≡ status }
-    ensures threads { result.threads ≡ run.threads }
-    ensures table { result.table ≡ run.table }
-    ensures attempts { result.attempts ≡ run.attempts }
+// The answer where its report is not written.
+fn unwritten(answer: TopAnswer) -> TopAnswer
+    ensures status { result.status ≡ write_failed }
+    ensures threads { result.threads ≡ answer.threads }
+    ensures table { result.table ≡ answer.table }
+    ensures attempts { result.attempts ≡ answer.attempts }
 {
     TopAnswer {
-        status,
-        table: run.table,
-        attempts: run.attempts,
-        threads: run.threads,
+        status: WRITE_FAILED,
+        ..answer
     }
 }
 
 // Writes the report of a run.
-fn answer_report<S: Sink>(sink: &mut S, run: RunReport, text: &[u8]) -> TopAnswer
-    ensures threads { result.threads ≡ run.threads }
-    ensures table { result.table ≡ run.table }
-    ensures attempts { result.attempts ≡ run.attempts }
+fn answer_report<S: Sink>(sink: &mut S, answer: TopAnswer, text: &[u8]) -> TopAnswer
+    requires { answer.status ≡ done }
+    ensures threads { result.threads ≡ answer.threads }
+    ensures table { result.table ≡ answer.table }
+    ensures attempts { result.attempts ≡ answer.attempts }
     ensures status { result.status ≢ write_failed → result.status ≡ done }
     ensures written { result.status ≢ write_failed
         → Appends (S.taken sink.old) (S.taken sink.new) text.now }
@@ -121,8 +86,8 @@ fn answer_report<S: Sink>(sink: &mut S, run: RunReport, text: &[u8]) -> TopAnswe
     ensures fails { FailsWhere result.status (S.faults sink.old) (S.faults sink.new) }
 {
     match write_whole(sink, text) {
-        Ok(()) => answered(DONE, run),
-        Err(Failed) => answered(WRITE_FAILED, run),
+        Ok(()) => answer,
+        Err(Failed) => unwritten(answer),
     }
 }
 
@@ -133,8 +98,9 @@ fn run_program<R: Wait, S: Sink>(
     sink: &mut S,
     program: &Program,
 ) -> TopAnswer
-    requires calls { AreCallsOf program.now.leaves program.now.plan }
+    requires calls { AreCallsOf program.now.leaves program.now.jobs program.now.plan }
     requires limits { IsWithinLimits program.now.plan }
+    requires jobs { AreJobs (given_of program.now) }
     ensures report { result.status ≡ done
         → Writes (IsReportOf program.now result) (S.taken sink.old) (S.taken sink.new) }
     ensures answers { result.status ≡ done
@@ -149,7 +115,7 @@ fn run_program<R: Wait, S: Sink>(
     ensures fails { FailsWhere result.status (S.faults sink.old) (S.faults sink.new) }
 {
     match run_and_report(rt, alloc, program) {
-        Ok((run, text)) => answer_report(sink, run, &text),
+        Ok((answer, text)) => answer_report(sink, answer, &text),
         Err(WorkError::NoMemory) => nothing_ran(alloc, NO_MEMORY),
         Err(WorkError::FormsFull { drawn: _ }) => {
             answer_line(alloc, sink, FORMS_FULL, &[FULL.as_bytes()])

@@ -1,38 +1,6 @@
 ghost use Rattle.std.specs.Prelude.{◌≡◌};
-ghost use Rattle.mh_main.specs.Input.{scripts, scripts_word};
 
-use mh_base::{LineFault, NoMemory};
-
-/// What is wrong with a line of the scripts.
-#[derive(Clone, Copy, Debug, PartialEq, Eq)]
-pub enum ScriptsKind {
-    /// The line is none that is built.
-    NotBuilt,
-}
-
-impl ScriptsKind {
-    /// The kind's name, as a refusal prints it.
-    pub fn word(self) -> &'static str
-        ensures { result.now ≡ scripts_word self }
-    {
-        match self {
-            ScriptsKind::NotBuilt => "NotBuilt",
-        }
-    }
-}
-
-/// The scripts have no line that is built, so any byte is a fault of line 1.
-pub fn no_scripts(bytes: &[u8]) -> Result<(), LineFault<ScriptsKind>>
-    ensures { result ≡ scripts bytes.now }
-{
-    match bytes {
-        [] => Ok(()),
-        [_, ..] => Err(LineFault {
-            line: 1,
-            kind: ScriptsKind::NotBuilt,
-        }),
-    }
-}
+use mh_base::NoMemory;
 
 /// Why there is no program.
 #[derive(Clone, Copy, Debug)]

@@ -1,5 +1,5 @@
 ghost use Rattle.std.specs.Prelude.{◌≡◌};
-ghost use Rattle.mh_main.specs.Words.{said, command_of, mode_words, run_words, sites_words, commanded};
+ghost use Rattle.mh_main.specs.Words.{said, command_of, are_options, mode_words, run_words, sites_words, commanded};
 
 /// The names of the inputs of a run.
 #[derive(Clone, Copy, Debug)]
@@ -7,6 +7,8 @@ pub struct Names<'a> {
     pub leaves: &'a str,
     pub scripts: &'a str,
     pub plan: &'a str,
+    /// The class files, at most 64.
+    pub classes: &'a [&'a str],
 }
 
 /// What the words ask for.
@@ -21,20 +23,33 @@ pub enum Command<'a> {
 /// How many class files may be named.
 const MOST_CLASSES: usize = 64;
 
-// The words of a run after its mode: its options in order, each with a name.
+// Whether these are the options of a run, in order.
+fn are_options(leaves: &str, scripts: &str, plan: &str) -> bool
+    ensures { result ≡ are_options leaves.now scripts.now plan.now }
+{
+    leaves == "--leaves" && scripts == "--scripts" && plan == "--plan"
+}
+
+// The words of a run after its mode: its options in order, each with a name, and class files.
 fn run_words<'a>(words: &'a [&'a str]) -> Option<Command<'a>>
     ensures { commanded result ≡ run_words (said words.now) }
 {
     match words {
-        [leaves_word, leaves, scripts_word, scripts, plan_word, plan] => {
-            if *leaves_word == "--leaves"
-                && *scripts_word == "--scripts"
-                && *plan_word == "--plan"
-            {
+        [
+            leaves_word,
+            leaves,
+            scripts_word,
+            scripts,
+            plan_word,
+            plan,
+            classes @ ..,
+        ] => {
+            if are_options(leaves_word, scripts_word, plan_word) && classes.len() <= MOST_CLASSES {
                 Some(Command::Run(Names {
                     leaves,
                     scripts,
                     plan,
+                    classes,
                 }))
             } else {
                 None

@@ -1,0 +1,55 @@
+-- Inputs that are accepted, as far as they are told: none is refused or told not to be there, and a program that fits is run to its end.
+use Rattle.std.proofs.Common.{◌≡◌, ◌<◌, ◌≤◌, sym, subst, inl, inr, List, ℕ, Option, Some, arith}
+use Rattle.mh_outside.specs.Told.{Told}
+use Rattle.mh_plan.specs.Forms.{forms_needed}
+use Rattle.mh_main.specs.declared.program.Program.{Program}
+use Rattle.mh_main.specs.Words.{Command, Named, run}
+use Rattle.mh_main.specs.Program.{given_of}
+use Rattle.mh_main.specs.Status.{IsDoneFullOrWant, IsDoneOrWant, forms_full}
+use Rattle.mh_main.specs.Input.{Accepted, AreAccepted, FitsForms, IfAccepted, Input, IsMissing, IsRefused, NeedsFewForms, accepted, command_input, input_of, missing, most_forms, named_input, program, refused, untold, usage}
+
+not-refused : (i : Input) (P : Accepted → Type 0) → IfAccepted i P → IsRefused i → ⊥
+not-refused usage P holds is = is
+not-refused (refused line) P holds is = holds
+not-refused (accepted a) P holds is = is
+not-refused missing P holds is = is
+not-refused untold P holds is = is
+
+not-missing : (i : Input) (P : Accepted → Type 0) → IfAccepted i P → IsMissing i → ⊥
+not-missing usage P holds is = is
+not-missing (refused line) P holds is = is
+not-missing (accepted a) P holds is = is
+not-missing missing P holds is = holds
+not-missing untold P holds is = is
+
+-- none is refused
+pub taken-unrefused : (o : Option Command) (command : Command) (files : List ℕ → Told) (P : Accepted → Type 0) →
+    Some command ≡ o → IfAccepted (command_input command files) P → IsRefused (input_of o files) → ⊥
+taken-unrefused o command files P asked holds is = not-refused (input_of o files) P (subst (λ c. IfAccepted (input_of c files) P) asked holds) is
+
+-- and none is told not to be there
+pub taken-there : (o : Option Command) (command : Command) (files : List ℕ → Told) (P : Accepted → Type 0) →
+    Some command ≡ o → IfAccepted (command_input command files) P → IsMissing (input_of o files) → ⊥
+taken-there o command files P asked holds is = not-missing (input_of o files) P (subst (λ c. IfAccepted (input_of c files) P) asked holds) is
+
+-- ---- programs
+
+fits-few : (i : Input) (p : Program) → IfAccepted i (λ a. a ≡ program p) → AreAccepted i → FitsForms i → forms_needed (given_of p) p.plan ≤ most_forms
+fits-few usage p is so fits = absurd so
+fits-few (refused line) p is so fits = absurd so
+fits-few (accepted a) p is so fits = subst NeedsFewForms is fits
+fits-few missing p is so fits = absurd so
+fits-few untold p is so fits = absurd so
+
+-- a program whose calls need few forms is run to its end, or memory is wanting
+pub run-done : (o : Option Command) (names : Named) (files : List ℕ → Told) (p : Program) (status : ℕ) → Some (run names) ≡ o →
+    IfAccepted (named_input names files) (λ a. a ≡ program p) → AreAccepted (input_of o files) → FitsForms (input_of o files) → IsDoneFullOrWant status →
+    (status ≡ forms_full → most_forms < forms_needed (given_of p) p.plan) → IsDoneOrWant status
+run-done o names files p status asked is so fits (inl done) full = inl done
+run-done o names files p status asked is so fits (inr (inl want)) full = inr want
+run-done o names files p status asked is so fits (inr (inr many)) full =
+    let few : forms_needed (given_of p) p.plan ≤ most_forms =
+    fits-few (named_input names files) p is (subst (λ c. AreAccepted (input_of c files)) (sym asked) so)
+    (subst (λ c. FitsForms (input_of c files)) (sym asked) fits) in
+    let more : most_forms < forms_needed (given_of p) p.plan = full many in
+    absurd (omega arith)

@@ -1,0 +1,108 @@
+ghost use Rattle.std.specs.Prelude.{◌≡◌, ◌≤◌, ◌-◌, List, ℕ, IfOk, IfErr, OnOk, length};
+ghost use Rattle.mh_jobs.specs.Jobs.{jobs_of};
+ghost use Rattle.mh_outside.specs.Causes.{AreSame};
+ghost use Rattle.mh_outside.specs.Kept.{KeepsInputs};
+ghost use Rattle.mh_main.specs.Words.{said};
+ghost use Rattle.mh_main.specs.Input.{most_sites};
+ghost use Rattle.mh_main.specs.Classes.{MakesJobs, MakesAllJobs, HasJobs};
+ghost use Rattle.mh_main.specs.Stops.{IsStopAmong, IsStopOf, ReachesClass, StopsClass, StopsClasses};
+
+use crate::classes::{CLASS_LIMIT, MOST_SITES, class_of};
+use crate::reading::read_input;
+use crate::stop::Stop;
+use mh_jobs::{Jobs, push_jobs};
+use mh_leaves::Leaves;
+use mh_outside::Inputs;
+use mh_script::Scripts;
+use std::alloc::Global;
+
+/// The methods that class files can name.
+#[derive(Clone, Copy)]
+struct Methods<'p> {
+    leaves: &'p Leaves,
+    scripts: &'p Scripts,
+}
+
+// Reads a class file, and puts the jobs of its call sites after the others.
+#[tactic(auto, using(crate::proofs::ClassJobs::few_jobs))]
+fn read_class<'a, I: Inputs>(
+    alloc: Global,
+    inputs: &mut I,
+    name: &'a str,
+    methods: &Methods<'_>,
+    jobs: Jobs,
+) -> Result<Jobs, Stop<'a>>
+    requires { length jobs ≤ most_sites }
+    ensures keeps { KeepsInputs (I.told inputs.old) (I.told inputs.new)
+        (I.faults inputs.old) (I.faults inputs.new) }
+    ensures no_fault { OnOk result (AreSame (I.faults inputs.old) (I.faults inputs.new)) }
+    ensures stop { IfErr result
+        (λ stop. IsStopOf name.now (I.faults inputs.old) (I.faults inputs.new) stop) }
+    ensures refuses { IfErr result
+        (λ stop. StopsClass (most_sites - length jobs) (I.told inputs.old name.now) stop) }
+    ensures ok { IfOk result
+        (MakesJobs methods.now.leaves.now methods.now.scripts.now (most_sites - length jobs)
+        (I.told inputs.old name.now) jobs) }
+    ensures few { IfOk result (λ all. length all ≤ most_sites) }
+{
+    let room = MOST_SITES - jobs.len() as u32;
+    let bytes = read_input(alloc, inputs, name, CLASS_LIMIT)?;
+    let view = class_of(alloc, name, &bytes, room)?;
+    Ok(push_jobs(alloc, jobs, &view, methods.scripts, methods.leaves)?)
+}
+
+// Reads class files in order, and puts the jobs of their call sites after the others.
+fn read_classes<'a, I: Inputs>(
+    alloc: Global,
+    inputs: &mut I,
+    names: &'a [&'a str],
+    methods: &Methods<'_>,
+    jobs: Jobs,
+) -> Result<Jobs, Stop<'a>>
+    requires { length jobs ≤ most_sites }
+    ensures keeps { KeepsInputs (I.told inputs.old) (I.told inputs.new)
+        (I.faults inputs.old) (I.faults inputs.new) }
+    ensures no_fault { OnOk result (AreSame (I.faults inputs.old) (I.faults inputs.new)) }
+    ensures stop { IfErr result
+        (λ stop. IsStopAmong
+        (ReachesClass (most_sites - length jobs) (said names.now) (I.told inputs.old))
+        (I.faults inputs.old) (I.faults inputs.new) stop) }
+    ensures refuses { IfErr result
+        (λ stop. StopsClasses (most_sites - length jobs) (said names.now)
+        (I.told inputs.old) stop) }
+    ensures ok { IfOk result
+        (MakesAllJobs methods.now.leaves.now methods.now.scripts.now (most_sites - length jobs)
+        (said names.now) (I.told inputs.old) jobs) }
+    ensures few { IfOk result (λ all. length all ≤ most_sites) }
+{
+    let Some((name, others)) = names.split_first() else {
+        return Ok(jobs);
+    };
+    let jobs = read_class(alloc, inputs, name, methods, jobs)?;
+    read_classes(alloc, inputs, others, methods, jobs)
+}
+
+/// Reads class files in order, up to the first that stops it, and makes the jobs of their call
+/// sites.
+pub fn read_jobs<'a, I: Inputs>(
+    alloc: Global,
+    inputs: &mut I,
+    names: &'a [&'a str],
+    leaves: &Leaves,
+    scripts: &Scripts,
+) -> Result<Jobs, Stop<'a>>
+    ensures keeps { KeepsInputs (I.told inputs.old) (I.told inputs.new)
+        (I.faults inputs.old) (I.faults inputs.new) }
+    ensures no_fault { OnOk result (AreSame (I.faults inputs.old) (I.faults inputs.new)) }
+    ensures stop { IfErr result
+        (λ stop. IsStopAmong (ReachesClass most_sites (said names.now) (I.told inputs.old))
+        (I.faults inputs.old) (I.faults inputs.new) stop) }
+    ensures refuses { IfErr result
+        (λ stop. StopsClasses most_sites (said names.now) (I.told inputs.old) stop) }
+    ensures ok { IfOk result
+        (HasJobs leaves.now scripts.now (said names.now) (I.told inputs.old)) }
+    ensures few { IfOk result (λ jobs. length jobs ≤ most_sites) }
+{
+    let methods = Methods { leaves, scripts };
+    read_classes(alloc, inputs, names, &methods, Jobs::new(alloc))
+}

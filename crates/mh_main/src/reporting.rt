@@ -1,0 +1,132 @@
+ghost use Rattle.std.specs.Prelude.{◌≡◌, ◌<◌, IfOk, length, option_map};
+ghost use Rattle.mh_jobs.specs.Given.{AreJobs};
+ghost use Rattle.mh_plan.specs.Forms.{forms, forms_needed};
+ghost use Rattle.mh_plan.specs.Limits.{IsWithinLimits};
+ghost use Rattle.mh_plan.specs.Naming.{naming_of};
+ghost use Rattle.mh_plan.specs.Recorded.{recorded, serials_of, types};
+ghost use Rattle.mh_plan.specs.Results.{AreCallsOf, results_said};
+ghost use Rattle.mh_plan.specs.Text.{report_text};
+ghost use Rattle.mh_runtime.specs.Asking.{IfFull};
+ghost use Rattle.mh_runtime.specs.Ledger.{Ledger};
+ghost use Rattle.mh_main.specs.Program.{given_of, text};
+ghost use Rattle.mh_main.specs.Input.{most_forms};
+ghost use Rattle.mh_main.specs.Status.{done};
+ghost use Rattle.mh_main.specs.Due.{AreAnswersOf};
+
+use crate::status::DONE;
+use crate::{Program, TopAnswer};
+use mh_base::{NoMemory, Seq};
+use mh_plan::{Attempts, Recorded, Serials, Summary, Table, report};
+use mh_runtime::{RunInputs, RunReport, WorkError, run_plan};
+use mh_values::Classes;
+use std::alloc::Global;
+use std::sync::Wait;
+
+// How many attempts there are. A number that does not fit counts as out of memory.
+fn count(attempts: &Attempts) -> Result<u32, NoMemory>
+    ensures { IfOk result (λ n. n ≡ length attempts.now) }
+{
+    match u32::try_from(attempts.len()) {
+        Ok(count) => Ok(count),
+        Err(_) => Err(NoMemory),
+    }
+}
+
+// The serial of the attempt by which a site is linked.
+fn serial(entry: &Option<Recorded>) -> Option<u64>
+    ensures { result ≡ option_map (λ r. r.serial) entry.now }
+{
+    match entry {
+        Some(recorded) => Some(recorded.serial),
+        None => None,
+    }
+}
+
+// For each site the serial of the attempt by which it is linked.
+fn serials(alloc: Global, table: &Table) -> Result<Serials, NoMemory>
+    ensures { IfOk result (λ serials. serials ≡ serials_of table.now) }
+{
+    let entries = table.as_slice();
+    let mut serials = Seq::new(alloc);
+    for entry in entries {
+        serials.push(serial(entry))?;
+    }
+    Ok(serials)
+}
+
+// The run of a program's plan.
+fn run<R: Wait>(rt: &R, alloc: Global, program: &Program) -> Result<RunReport, WorkError>
+    requires calls { AreCallsOf program.now.leaves program.now.jobs program.now.plan }
+    requires limits { IsWithinLimits program.now.plan }
+    requires jobs { AreJobs (given_of program.now) }
+    ensures ledger { IfOk result (λ run. Ledger (naming_of program.now.plan)
+        (length program.now.jobs) (serials_of run.table) run.attempts) }
+    ensures answers { IfOk result
+        (λ run. AreAnswersOf program.now (serials_of run.table) run.threads) }
+    ensures table { IfOk result
+        (λ run. run.table ≡ recorded (given_of program.now) (serials_of run.table)) }
+    ensures forms { IfOk result
+        (λ run. run.forms ≡ forms (given_of program.now) program.now.plan run.attempts) }
+    ensures types { IfOk result
+        (λ run. run.types ≡ types (given_of program.now) (serials_of run.table)) }
+    ensures full { IfFull result
+        (most_forms < forms_needed (given_of program.now) program.now.plan) }
+{
+    let given = RunInputs {
+        leaves: &program.leaves,
+        scripts: &program.scripts,
+        jobs: &program.jobs,
+    };
+    run_plan(rt, alloc, &given, &program.plan)
+}
+
+// The text of a run.
+fn text_of(alloc: Global, classes: &Classes, run: &RunReport) -> Result<Vec<u8>, NoMemory>
+    ensures { IfOk result (λ text. text.items ≡ report_text classes.now run.now.table
+        (results_said run.now.threads) (length run.now.attempts) run.now.forms run.now.types) }
+{
+    let summary = Summary {
+        attempts: count(&run.attempts)?,
+        forms: run.forms,
+        types: run.types,
+    };
+    report(alloc, &run.threads, &run.table, summary, classes)
+}
+
+// The answer with what a run gave.
+fn answered(table: Serials, run: RunReport) -> TopAnswer
+    ensures status { result.status ≡ done }
+    ensures threads { result.threads ≡ run.threads }
+    ensures table { result.table ≡ table }
+    ensures attempts { result.attempts ≡ run.attempts }
+{
+    TopAnswer {
+        status: DONE,
+        table,
+        attempts: run.attempts,
+        threads: run.threads,
+    }
+}
+
+/// What the run of a program's calls gives, where it is written, and its text.
+pub fn run_and_report<R: Wait>(
+    rt: &R,
+    alloc: Global,
+    program: &Program,
+) -> Result<(TopAnswer, Vec<u8>), WorkError>
+    requires calls { AreCallsOf program.now.leaves program.now.jobs program.now.plan }
+    requires limits { IsWithinLimits program.now.plan }
+    requires jobs { AreJobs (given_of program.now) }
+    ensures ledger { IfOk result (λ r. Ledger (naming_of program.now.plan)
+        (length program.now.jobs) r.0.table r.0.attempts) }
+    ensures answers { IfOk result (λ r. AreAnswersOf program.now r.0.table r.0.threads) }
+    ensures text { IfOk result (λ r. r.1.items ≡ text program.now r.0.table r.0.attempts) }
+    ensures status { IfOk result (λ r. r.0.status ≡ done) }
+    ensures full { IfFull result
+        (most_forms < forms_needed (given_of program.now) program.now.plan) }
+{
+    let run = run(rt, alloc, program)?;
+    let text = text_of(alloc, program.leaves.classes(), &run)?;
+    let table = serials(alloc, &run.table)?;
+    Ok((answered(table, run), text))
+}
