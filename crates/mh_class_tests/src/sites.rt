@@ -1,6 +1,6 @@
-ghost use Rattle.std.specs.Prelude.{◌≡◌, ◌<◌, sum_by, IfOk};
+ghost use Rattle.std.specs.Prelude.{◌≡◌, ◌≤◌, ◌+◌, ◌<◌, sum_by, IfOk};
 ghost use Rattle.std.specs.List.{AllByRecursion};
-ghost use Rattle.mh_made_class.specs.Sites.{IsMakeableArgument, argument_width, AreMakeable};
+ghost use Rattle.mh_made_class.specs.Sites.{IsMakeableArgument, IsMakeableSite, argument_width, site_width, AreMakeable};
 
 use mh_base::{Frozen, NoMemory, Seq};
 use mh_made_class::{MadeArgs, MadeSite, MadeSites};
@@ -18,6 +18,19 @@ pub fn text(alloc: Global, word: &[u8]) -> Result<Str, NoMemory>
     Frozen::of(alloc, text)
 }
 
+/// A call site of the script `link` and the type `(II)I`.
+fn link_site(alloc: Global, args: MadeArgs) -> Result<MadeSite, NoMemory>
+    requires { AllByRecursion IsMakeableArgument args }
+    ensures makeable { IfOk result (λ site. IsMakeableSite site) }
+    ensures width { IfOk result (λ site. site_width site ≡ 7 + sum_by argument_width args) }
+{
+    Ok(MadeSite {
+        script: text(alloc, b"link")?,
+        ty: text(alloc, b"(II)I")?,
+        args,
+    })
+}
+
 /// One call site of the script `link` and the type `(II)I`.
 pub fn one_site(alloc: Global, args: MadeArgs) -> Result<MadeSites, NoMemory>
     requires makeable { AllByRecursion IsMakeableArgument args }
@@ -25,10 +38,18 @@ pub fn one_site(alloc: Global, args: MadeArgs) -> Result<MadeSites, NoMemory>
     ensures { IfOk result (λ sites. AreMakeable sites) }
 {
     let mut sites = Seq::new(alloc);
-    sites.push(MadeSite {
-        script: text(alloc, b"link")?,
-        ty: text(alloc, b"(II)I")?,
-        args,
-    })?;
+    sites.push(link_site(alloc, args)?)?;
+    Ok(sites)
+}
+
+/// So many call sites of the script `link` and the type `(II)I`, without static arguments.
+pub fn many_sites(alloc: Global, count: u32) -> Result<MadeSites, NoMemory>
+    requires { count ≤ 9000 }
+    ensures { IfOk result (λ sites. AreMakeable sites) }
+{
+    let mut sites = Seq::new(alloc);
+    for _ in 0..count {
+        sites.push(link_site(alloc, Seq::new(alloc))?)?;
+    }
     Ok(sites)
 }
