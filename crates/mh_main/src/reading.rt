@@ -5,13 +5,12 @@ ghost use Rattle.mh_outside.specs.Told.{IsWhole};
 ghost use Rattle.mh_leaves.specs.Manifest.{manifest, kind_word as manifest_word};
 ghost use Rattle.mh_script.specs.Kinds.{kind_word as script_word};
 ghost use Rattle.mh_script.specs.Scripts.{scripts};
-ghost use Rattle.mh_jobs.specs.Given.{AreJobs};
 ghost use Rattle.mh_plan.specs.Limits.{IsWithinLimits};
 ghost use Rattle.mh_plan.specs.Results.{AreCallsOf};
 ghost use Rattle.mh_plan.specs.Plan.{plan, kind_word as plan_word};
 ghost use Rattle.mh_main.specs.Words.{held_names};
-ghost use Rattle.mh_main.specs.Program.{given_of};
-ghost use Rattle.mh_main.specs.Input.{HasMeaning, IfAccepted, named_input, program, leaves_limit, plan_limit, most_sites};
+ghost use Rattle.mh_main.specs.Runnable.{IsRunnable};
+ghost use Rattle.mh_main.specs.Input.{HasMeaning, IfAccepted, named_input, program, leaves_limit, plan_limit};
 ghost use Rattle.mh_main.specs.Stops.{IsStopAmong, IsStopOf, ReachesInput, Refuses, StopsFile, StopsText};
 
 use crate::Program;
@@ -151,10 +150,7 @@ pub fn read_program<'a, I: Inputs>(
     ensures ok { IfOk result
         (λ p. IfAccepted (named_input (held_names names.entry) (I.told inputs.old))
         (λ a. a ≡ program p)) }
-    ensures calls { IfOk result (λ p. AreCallsOf p.leaves p.jobs p.plan) }
-    ensures limits { IfOk result (λ p. IsWithinLimits p.plan) }
-    ensures jobs { IfOk result (λ p. AreJobs (given_of p)) }
-    ensures few_sites { IfOk result (λ p. length p.jobs ≤ most_sites) }
+    ensures runnable { IfOk result IsRunnable }
 {
     let leaves = read_leaves(alloc, inputs, names.leaves)?;
     let scripts = read_scripts(alloc, inputs, names.scripts)?;

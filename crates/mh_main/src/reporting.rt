@@ -1,15 +1,14 @@
 ghost use Rattle.std.specs.Prelude.{◌≡◌, ◌<◌, IfOk, length, option_map};
-ghost use Rattle.mh_jobs.specs.Given.{AreJobs};
 ghost use Rattle.mh_plan.specs.Forms.{forms, forms_needed};
-ghost use Rattle.mh_plan.specs.Limits.{IsWithinLimits};
 ghost use Rattle.mh_plan.specs.Naming.{naming_of};
 ghost use Rattle.mh_plan.specs.Recorded.{recorded, serials_of, types};
-ghost use Rattle.mh_plan.specs.Results.{AreCallsOf, results_said};
+ghost use Rattle.mh_plan.specs.Results.{results_said};
 ghost use Rattle.mh_plan.specs.Text.{report_text};
 ghost use Rattle.mh_runtime.specs.Asking.{IfFull};
 ghost use Rattle.mh_runtime.specs.Ledger.{Ledger};
 ghost use Rattle.mh_main.specs.Program.{given_of, text};
 ghost use Rattle.mh_main.specs.Input.{most_forms};
+ghost use Rattle.mh_main.specs.Runnable.{IsRunnable};
 ghost use Rattle.mh_main.specs.Status.{done};
 ghost use Rattle.mh_main.specs.Due.{AreAnswersOf};
 
@@ -17,7 +16,7 @@ use crate::status::DONE;
 use crate::{Program, TopAnswer};
 use mh_base::{NoMemory, Seq};
 use mh_plan::{Attempts, Recorded, Serials, Summary, Table, report};
-use mh_runtime::{RunInputs, RunReport, WorkError, run_plan};
+use mh_runtime::{RunInput, RunReport, WorkError, run_plan};
 use mh_values::Classes;
 use std::alloc::Global;
 use std::sync::Wait;
@@ -56,9 +55,7 @@ fn serials(alloc: Global, table: &Table) -> Result<Serials, NoMemory>
 
 // The run of a program's plan.
 fn run<R: Wait>(rt: &R, alloc: Global, program: &Program) -> Result<RunReport, WorkError>
-    requires calls { AreCallsOf program.now.leaves program.now.jobs program.now.plan }
-    requires limits { IsWithinLimits program.now.plan }
-    requires jobs { AreJobs (given_of program.now) }
+    requires { IsRunnable program.now }
     ensures ledger { IfOk result (λ run. Ledger (naming_of program.now.plan)
         (length program.now.jobs) (serials_of run.table) run.attempts) }
     ensures answers { IfOk result
@@ -72,12 +69,12 @@ fn run<R: Wait>(rt: &R, alloc: Global, program: &Program) -> Result<RunReport, W
     ensures full { IfFull result
         (most_forms < forms_needed (given_of program.now) program.now.plan) }
 {
-    let given = RunInputs {
+    let input = RunInput {
         leaves: &program.leaves,
         scripts: &program.scripts,
         jobs: &program.jobs,
     };
-    run_plan(rt, alloc, &given, &program.plan)
+    run_plan(rt, alloc, &input, &program.plan)
 }
 
 // The text of a run.
@@ -114,9 +111,7 @@ pub fn run_and_report<R: Wait>(
     alloc: Global,
     program: &Program,
 ) -> Result<(TopAnswer, Vec<u8>), WorkError>
-    requires calls { AreCallsOf program.now.leaves program.now.jobs program.now.plan }
-    requires limits { IsWithinLimits program.now.plan }
-    requires jobs { AreJobs (given_of program.now) }
+    requires { IsRunnable program.now }
     ensures ledger { IfOk result (λ r. Ledger (naming_of program.now.plan)
         (length program.now.jobs) r.0.table r.0.attempts) }
     ensures answers { IfOk result (λ r. AreAnswersOf program.now r.0.table r.0.threads) }

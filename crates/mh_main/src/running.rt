@@ -3,11 +3,8 @@ ghost use Rattle.std.specs.List.{flat_map};
 ghost use Rattle.std.specs.Io.KnownBytes.{Appends, Keeps};
 ghost use Rattle.mh_outside.specs.Causes.{IsStill, AreSame, AppendsPart};
 ghost use Rattle.mh_outside.specs.Kept.{KeepsInputs};
-ghost use Rattle.mh_jobs.specs.Given.{AreJobs};
-ghost use Rattle.mh_plan.specs.Limits.{IsWithinLimits};
-ghost use Rattle.mh_plan.specs.Results.{AreCallsOf};
 ghost use Rattle.mh_main.specs.Words.{command_of, said, IsListing};
-ghost use Rattle.mh_main.specs.Program.{given_of};
+ghost use Rattle.mh_main.specs.Runnable.{IsRunnable};
 ghost use Rattle.mh_main.specs.Input.{input, IsRefused, AreAccepted, IsMissing, FitsForms};
 ghost use Rattle.mh_main.specs.Stops.{stop_line, stop_status, InputsStill};
 ghost use Rattle.mh_main.specs.Status.{done, refused, usage_wanted, no_memory, forms_full, unread, write_failed, IsStatus, IsRefusedOrWant, IsUnreadOrWant, IsDoneOrWant, IsDoneFullOrWant, FailsWhere};
@@ -98,9 +95,7 @@ fn run_program<R: Wait, S: Sink>(
     sink: &mut S,
     program: &Program,
 ) -> TopAnswer
-    requires calls { AreCallsOf program.now.leaves program.now.jobs program.now.plan }
-    requires limits { IsWithinLimits program.now.plan }
-    requires jobs { AreJobs (given_of program.now) }
+    requires { IsRunnable program.now }
     ensures report { result.status ≡ done
         → Writes (IsReportOf program.now result) (S.taken sink.old) (S.taken sink.new) }
     ensures answers { result.status ≡ done

@@ -80,7 +80,11 @@ returns-clause-ok g c =
     (record { leaves = c.in_ok-leaves.leaves; scripts = c.in_ok-scripts.scripts; jobs = c.in_ok-jobs.jobs; plan = c.in_ok-plan.plan })
     (λ n. three.keeps.told n ∙ two.keeps.told n ∙ one.keeps.told n) mean has c.in_ok-plan.ensures.ok
 
-pub returns-clause-jobs : goal.returns-clause-jobs
-returns-clause-jobs g c =
-    jobs-are c.in_ok-leaves.leaves c.in_ok-scripts.scripts (said c.args.names.classes.now) (g.I.Inputs.told c.read_scripts.new.inputs) c.in_ok-jobs.jobs
-    c.in_ok-jobs.ensures.ok
+pub returns-clause-runnable : goal.returns-clause-runnable
+returns-clause-runnable g c = record {
+  calls = c.in_ok-plan.ensures.calls;
+  limits = c.in_ok-plan.ensures.limits;
+  jobs = jobs-are c.in_ok-leaves.leaves c.in_ok-scripts.scripts (said c.args.names.classes.now) (g.I.Inputs.told c.read_scripts.new.inputs) c.in_ok-jobs.jobs
+      c.in_ok-jobs.ensures.ok;
+  few_sites = c.in_ok-jobs.ensures.few;
+}

@@ -1,0 +1,15 @@
+-- What is known of a program that was read.
+use Rattle.std.specs.Prelude.{◌≤◌, length}
+use Rattle.mh_jobs.specs.Given.{AreJobs}
+use Rattle.mh_plan.specs.Limits.{IsWithinLimits}
+use Rattle.mh_plan.specs.Results.{AreCallsOf}
+use Rattle.mh_main.specs.declared.program.Program.{Program}
+use Rattle.mh_main.specs.Program.{given_of}
+use Rattle.mh_main.specs.Input.{most_sites}
+
+-- the calls of the plan can be made, they are within the limits, and the jobs are those of call sites, of which there are no more than there may be
+pub record IsRunnable (p : Program) : Type 0 where
+  pub calls : AreCallsOf p.leaves p.jobs p.plan
+  pub limits : IsWithinLimits p.plan
+  pub jobs : AreJobs (given_of p)
+  pub few_sites : length p.jobs ≤ most_sites
