@@ -7,8 +7,8 @@ use Rattle.mh_handle.specs.declared.work.Work.{Work}
 use Rattle.mh_handle.specs.Works.{CountsHandles}
 use Rattle.mh_attempt.specs.Several.{CountsMade}
 
-pub counts-several : {A : Type 0} (number : ℕ) (old mid new : Work) (made : A) (r : Result Handle HandleError) → CountsMade number old mid (Ok made) →
-    CountsHandles number mid new r → CountsHandles 0 old new r
+pub counts-several : {A : Type 0} (number : ℕ) (old mid new : Work) (made : A) (r : Result Handle HandleError) →
+    CountsMade {E = HandleError} number old mid (Ok made) → CountsHandles number mid new r → CountsHandles 0 old new r
 counts-several number old mid new made (Ok h) first second = omega (arith, first, second)
 counts-several number old mid new made (Err e) first second = omega (arith, first, second)
 

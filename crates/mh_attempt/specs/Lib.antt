@@ -1,7 +1,9 @@
 pub mod Asked
 pub mod Lines
+pub mod Linkage
 pub mod Recipes
 pub mod Registers
+pub mod Runs
 pub mod Several
 pub mod Told
 pub mod Uses

@@ -10,6 +10,6 @@ AreAccepted (Err (Refused e)) = ⊥
 AreAccepted made = Unit {0}
 
 -- so many handles more, or none where one of them cannot be made
-abbrev pub CountsMade : {A : Type 0} → ℕ → Work → Work → Result A HandleError → Type 0
+abbrev pub CountsMade : {A E : Type 0} → ℕ → Work → Work → Result A E → Type 0
 CountsMade number old new (Ok made) = new.handles.now ≡ number + old.handles.now
 CountsMade number old new (Err error) = new.handles.now ≡ old.handles.now

@@ -1,9 +1,14 @@
 //! Attempts: a script is carried out over method handles, and gives what is linked at a call site.
 #![tactic(auto)]
 
+mod attempts;
 mod handle;
 mod lines;
+mod linkage;
 mod names;
 mod registers;
 mod script;
 mod thrown;
+
+pub use attempts::attempt;
+pub use linkage::{Linkage, Linked};

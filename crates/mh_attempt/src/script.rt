@@ -9,13 +9,15 @@ ghost use Rattle.mh_link.specs.Linked.{ended};
 ghost use Rattle.mh_link.specs.Operands.{Frame};
 ghost use Rattle.mh_attempt.specs.Recipes.{end_recipes};
 ghost use Rattle.mh_attempt.specs.Registers.{Hold, HoldSome};
+ghost use Rattle.mh_attempt.specs.Runs.{MayRun, Runs};
 ghost use Rattle.mh_attempt.specs.Told.{Tells};
 
+use crate::lines::node;
 use crate::names::class_of;
-use crate::registers::Registers;
+use crate::registers::{Assignment, Held, Registers};
 use crate::thrown::thrown;
 use mh_handle::{Handle, HandleError, Work};
-use mh_script::{End, Register};
+use mh_script::{End, Register, Step};
 use mh_tree::{CheckError, mismatch};
 use mh_values::{ClassId, Classes, Exc, ExcParts, Str, is_same_method_type};
 use std::alloc::Global;
@@ -94,6 +96,56 @@ fn ended<'t, R: Wait>(
         End::Raise { class, message } => {
             let exc = raised(w.alloc, w.classes(), class.as_slice(), message)?;
             Err(HandleError::Refused(exc))
+        }
+    }
+}
+
+/// The lines from where a script stands, up to the first that throws. A handle that a line makes is
+/// given back once the lines after it have run.
+pub(crate) fn ran<'f, 't, R: Wait>(
+    w: &mut Work<'_, 't>,
+    rt: &R,
+    registers: &Registers<'f, 't>,
+    steps: &'f [Step],
+    end: &End,
+) -> Result<Handle<'t>, HandleError>
+    requires { MayRun steps.now registers.now w.old }
+    ensures { Runs steps.now end.now registers.now w.old w.new result }
+{
+    let Some((step, rest)) = steps.split_first() else {
+        return ended(w, rt, registers, end);
+    };
+    match step {
+        Step::Let(name, operation) => {
+            let handle = node(w, rt, registers, operation)?;
+            let last = Assignment {
+                name: name.as_slice(),
+                held: Held::Handle(&handle),
+                before: registers.assigned,
+            };
+            let next = Registers {
+                assigned: Some(&last),
+                ..*registers
+            };
+            let target = ran(w, rt, &next, rest, end);
+            handle.give_back(w);
+            target
+        }
+        Step::Serial(name) => {
+            let last = Assignment {
+                name: name.as_slice(),
+                held: Held::Number(registers.serial as i64),
+                before: registers.assigned,
+            };
+            let next = Registers {
+                assigned: Some(&last),
+                ..*registers
+            };
+            ran(w, rt, &next, rest, end)
+        }
+        Step::FailMod { modulus, remainder } => {
+            pass(w.alloc, registers.serial, *modulus, *remainder)?;
+            ran(w, rt, registers, rest, end)
         }
     }
 }

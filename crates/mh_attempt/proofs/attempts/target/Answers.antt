@@ -1,0 +1,20 @@
+use Rattle.mh_attempt.specs.Linkage.{target_recipes}
+use Rattle.mh_attempt.specs.Recipes.{attempt_recipes}
+use Rattle.mh_attempt.proofs.AskedLines.{same-asks}
+use Rattle.mh_attempt.proofs.JobCalls.{job-leaves, job-script}
+use Rattle.mh_attempt.proofs.Outcomes.{job-asked}
+use Rattle.mh_attempt.proofs.attempts.target.Goals as goal
+
+pub called-requires-clause-script : goal.called-requires-clause-script
+called-requires-clause-script g c =
+    job-script c.args.w.now.leaves.now c.args.scripts.now c.args.job.now c.in-Ok.call c.requires.job c.in-Ok.is
+
+pub called-requires-clause-leaves : goal.called-requires-clause-leaves
+called-requires-clause-leaves g c =
+    job-leaves c.args.w.now.leaves.now c.args.scripts.now c.args.job.now c.in-Ok.call c.requires.job c.in-Ok.is
+
+pub returns-in-Ok-clause-asks : goal.returns-in-Ok-clause-asks
+returns-in-Ok-clause-asks g c =
+    let leaves = c.args.w.now.leaves.now in
+    same-asks (attempt_recipes leaves c.args.scripts.now c.args.job.now c.args.serial) (target_recipes leaves c.args.scripts.now c.args.serial c.in-Ok.call)
+    c.args.w.now c.called.new.w c.called.result (job-asked leaves c.args.scripts.now c.args.job.now c.args.serial c.in-Ok.call c.in-Ok.is) c.called.ensures.asks

@@ -1,0 +1,65 @@
+-- What an attempt records at a call site, and what it answers to calls.
+use Rattle.std.specs.Prelude.{◌≡◌, ℕ, List, map, length, Some, slice_get}
+use Rattle.mh_leaf.specs.LeafTable.{LeafTable}
+use Rattle.mh_tree.specs.Tree.{Tree}
+use Rattle.mh_edit.specs.declared.key.Key.{Key}
+use Rattle.mh_handle.specs.Recipe.{recipe}
+use Rattle.mh_handle.specs.Stands.{Stands}
+use Rattle.mh_jobs.specs.declared.job.BootstrapCall.{BootstrapCall}
+use Rattle.mh_jobs.specs.declared.job.Job.{Job}
+use Rattle.mh_script.specs.declared.script.Script.{Script}
+use Rattle.mh_jobs.specs.Given.{Given, IsJob}
+use Rattle.mh_jobs.specs.Thrown.{OrThrown, ◌>>=◌}
+use Rattle.mh_link.specs.Linked as meant
+use Rattle.mh_link.specs.Linked.{Target, Error, at_start, called_script, linked, ran}
+use Rattle.mh_link.specs.Made.{unless_thrown}
+use Rattle.mh_link.specs.Sites.{linked_at}
+use Rattle.mh_attempt.specs.Recipes.{script_asked}
+use Rattle.mh_attempt.specs.declared.linkage.Linked.{Linked}
+use Rattle.mh_attempt.specs.declared.linkage.Linked.TheVariants as held
+
+-- ---- attempts
+
+-- the target of a call of a bootstrap method, in the attempt of a serial number, or what is thrown
+abbrev pub target_of : LeafTable → List Script → ℕ → BootstrapCall → OrThrown Tree
+target_of leaves scripts serial call = do
+  script ← called_script scripts call
+  ran leaves script.steps script.end (at_start call serial)
+
+-- the recipes of the forms that such a call asks for
+abbrev pub target_recipes : LeafTable → List Script → ℕ → BootstrapCall → List (List Key)
+target_recipes leaves scripts serial call =
+    map (recipe leaves) (unless_thrown (called_script scripts call) (λ script. script_asked leaves script.steps script.end (at_start call serial)))
+
+-- ---- linkages
+
+-- a linkage: the job of its call site, and the number of the attempt
+pub record LinkageView : Type 0 where
+  pub job : Job
+  pub serial : ℕ
+
+-- what is held is what is linked: a handle that stands for the target, or the error
+abbrev pub IsLinkedBy : LeafTable → Linked → meant.Linked → Type 0
+IsLinkedBy leaves (held.Target h) (Target t) = Stands leaves h t
+IsLinkedBy leaves (held.Error e) (Error f) = e ≡ f
+IsLinkedBy leaves _ _ = ⊥
+
+-- the job is one of the run's, and what is held is what the attempt of that number links at its site
+pub record IsLinkage (given : Given) (job : Job) (serial : ℕ) (recorded : Linked) : Type 0 where
+  pub named : slice_get given.jobs job.site ≡ Some job
+  pub is_job : IsJob given.leaves given.scripts job
+  pub right : IsLinkedBy given.leaves recorded (linked given.leaves given.scripts job serial)
+
+-- how many handles a linkage holds
+abbrev pub target_count : meant.Linked → ℕ
+target_count (Target t) = 1
+target_count (Error e) = 0
+
+-- how many keys the form has that a call runs: none runs where an error is recorded
+abbrev pub keys_of : LeafTable → meant.Linked → ℕ
+keys_of leaves (Target t) = length (recipe leaves t)
+keys_of leaves (Error e) = 0
+
+-- the keys of a call of a run's site, which an attempt has linked
+abbrev pub site_keys : Given → ℕ → ℕ → ℕ
+site_keys given site serial = keys_of given.leaves (linked_at given site serial)

@@ -1,0 +1,166 @@
+//! Attempts to link call sites.
+
+ghost use Rattle.std.specs.Prelude.{◌≡◌, ◌≤◌, ◌<◌, ◌^◌, length, slice_get, Some, IfOk};
+ghost use Rattle.mh_handle.specs.Recipe.{recipe};
+ghost use Rattle.mh_handle.specs.Works.{CountsHandles, GoesOn, IsReady, leaves_of};
+ghost use Rattle.mh_jobs.specs.Given.{IsJob};
+ghost use Rattle.mh_jobs.specs.Thrown.{caused, recorded};
+ghost use Rattle.mh_link.specs.Linked.{linked, outcome};
+ghost use Rattle.mh_link.specs.Sites.{edits_at, linked_at};
+ghost use Rattle.mh_attempt.specs.Asked.{Asks, AsksOrThrows};
+ghost use Rattle.mh_attempt.specs.Linkage.{IsLinkedBy, target_count, target_of, target_recipes};
+ghost use Rattle.mh_attempt.specs.Lines.{TellsTarget};
+ghost use Rattle.mh_attempt.specs.Recipes.{attempt_recipes};
+ghost use Rattle.mh_attempt.specs.Registers.{HasLeaves};
+ghost use Rattle.mh_attempt.specs.Several.{CountsMade};
+
+use crate::linkage::{Linkage, Linked};
+use crate::registers::Registers;
+use crate::script::ran;
+use mh_base::{Copied, Frozen, NoMemory, Seq};
+use mh_handle::{EditError, Handle, HandleError, Work};
+use mh_jobs::{BootstrapCall, Job, Run};
+use mh_script::Scripts;
+use mh_values::{Cause, ClassId, Classes, Exc, ExcParts};
+use std::alloc::Global;
+use std::sync::Wait;
+
+/// An exception as the cause of a `BootstrapMethodError`.
+fn caused(alloc: Global, exc: &Exc) -> Result<Exc, NoMemory>
+    ensures { IfOk result (λ error. error ≡ caused exc.now) }
+{
+    let message = Seq::from_vec(Vec::from_slice(alloc, exc.message())?);
+    let cause = Cause {
+        class: exc.class(),
+        message: Frozen::of(alloc, message)?,
+    };
+    let parts = ExcParts {
+        class: ClassId::BOOTSTRAP_METHOD_ERROR,
+        message: Frozen::new(),
+        cause: Some(cause),
+    };
+    Exc::of(alloc, parts)
+}
+
+/// What is recorded where an exception is thrown: itself, if it is an `Error`, and else a
+/// `BootstrapMethodError` that it caused.
+fn recorded(alloc: Global, classes: &Classes, exc: Exc) -> Result<Exc, NoMemory>
+    ensures { IfOk result (λ error. error ≡ recorded classes.now exc) }
+{
+    if classes.subclass(exc.class(), ClassId::ERROR) {
+        Ok(exc)
+    } else {
+        caused(alloc, &exc)
+    }
+}
+
+/// The target that a call of a bootstrap method gives, in the attempt of a serial number.
+fn called<'f, 't: 'f, R: Wait>(
+    w: &mut Work<'_, 't>,
+    rt: &R,
+    scripts: &'f Scripts,
+    call: &'f BootstrapCall,
+    serial: u64,
+) -> Result<Handle<'t>, HandleError>
+    requires ready { IsReady w.old 256 }
+    requires script { call.now.script.0 < length scripts.now }
+    requires leaves { HasLeaves (leaves_of w.old) call.now }
+    requires serial { serial < 2 ^ 63 }
+    ensures goes_on { GoesOn 256 w.old w.new }
+    ensures handles { CountsHandles 0 w.old w.new result }
+    ensures target { TellsTarget (target_of (leaves_of w.old) scripts.now serial call.now)
+        w.old result }
+    ensures asks { AsksOrThrows (target_recipes (leaves_of w.old) scripts.now serial call.now)
+        w.old w.new result }
+{
+    let script = scripts.get(call.script);
+    let registers: Registers<'f, 't> = Registers {
+        call,
+        serial,
+        assigned: None,
+    };
+    ran(w, rt, &registers, script.steps.as_slice(), &script.end)
+}
+
+/// The target that a job gives, in the attempt of a serial number. What the job throws is thrown
+/// before a script runs.
+fn target<'t, R: Wait>(
+    w: &mut Work<'_, 't>,
+    rt: &R,
+    scripts: &Scripts,
+    job: &Job,
+    serial: u64,
+) -> Result<Handle<'t>, HandleError>
+    requires ready { IsReady w.old 256 }
+    requires job { IsJob (leaves_of w.old) scripts.now job.now }
+    requires serial { serial < 2 ^ 63 }
+    ensures goes_on { GoesOn 256 w.old w.new }
+    ensures handles { CountsHandles 0 w.old w.new result }
+    ensures target { TellsTarget (outcome (leaves_of w.old) scripts.now job.now serial)
+        w.old result }
+    ensures asks { AsksOrThrows (attempt_recipes (leaves_of w.old) scripts.now job.now serial)
+        w.old w.new result }
+{
+    match &job.call {
+        Ok(call) => called(w, rt, scripts, call, serial),
+        Err(exc) => Err(HandleError::Refused(exc.copy(w.alloc)?)),
+    }
+}
+
+/// What is linked for a job, in the attempt of a serial number.
+fn link<'t, R: Wait>(
+    w: &mut Work<'_, 't>,
+    rt: &R,
+    scripts: &Scripts,
+    job: &Job,
+    serial: u64,
+) -> Result<Linked<'t>, EditError>
+    requires ready { IsReady w.old 256 }
+    requires job { IsJob (leaves_of w.old) scripts.now job.now }
+    requires serial { serial < 2 ^ 63 }
+    ensures goes_on { GoesOn 256 w.old w.new }
+    ensures handles { CountsMade
+        (target_count (linked (leaves_of w.old) scripts.now job.now serial)) w.old w.new result }
+    ensures linked { IfOk result (λ made. IsLinkedBy (leaves_of w.old) made
+        (linked (leaves_of w.old) scripts.now job.now serial)) }
+    ensures asks { Asks (attempt_recipes (leaves_of w.old) scripts.now job.now serial)
+        w.old w.new result }
+{
+    match target(w, rt, scripts, job, serial) {
+        Ok(target) => Ok(Linked::Target(target)),
+        Err(HandleError::Refused(exc)) => {
+            let error = recorded(w.alloc, w.classes(), exc)?;
+            Ok(Linked::Error(error))
+        }
+        Err(HandleError::NoMemory) => Err(EditError::NoMemory),
+        Err(HandleError::FormsFull { drawn }) => Err(EditError::FormsFull { drawn }),
+    }
+}
+
+/// Attempts to link the call site of a job, with a serial number that no other attempt of the run
+/// has: the script's lines are carried out, and what comes of them is recorded, an exception as an
+/// error. It answers `FormsFull` where no number is left for a form that the script asks for; that
+/// records nothing. The handles that the lines made are given back, but for the target.
+pub fn attempt<'t, J: Run, R: Wait>(
+    w: &mut Work<'_, 't>,
+    rt: &R,
+    scripts: &Scripts,
+    job: &'t Job,
+    serial: u64,
+) -> Result<Linkage<'t, J>, EditError>
+    requires named { slice_get J.given.jobs job.now.site ≡ Some job.now }
+    requires scripts { scripts.now ≡ J.given.scripts }
+    requires leaves { leaves_of w.old ≡ J.given.leaves }
+    requires job { IsJob J.given.leaves J.given.scripts job.now }
+    requires serial { (1 ≤ serial) × (serial ≤ 2 ^ 62) }
+    requires ready { IsReady w.old 256 }
+    ensures of { IfOk result (λ l. (l.job ≡ job.now) × (l.serial ≡ serial)) }
+    ensures goes_on { GoesOn 256 w.old w.new }
+    ensures handles { CountsMade (target_count (linked_at J.given job.now.site serial))
+        w.old w.new result }
+    ensures asks { Asks (edits_at (recipe J.given.leaves) J.given job.now.site serial)
+        w.old w.new result }
+{
+    let linked = link(w, rt, scripts, job, serial)?;
+    Ok(Linkage::new(job, serial, linked))
+}

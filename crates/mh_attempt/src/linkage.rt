@@ -1,0 +1,117 @@
+//! What an attempt records at a call site, and the calls of the site.
+
+ghost use Rattle.std.specs.Prelude.{◌≡◌, ◌-◌, IfOk};
+ghost use Rattle.mh_values.specs.HasType.{HaveTypes};
+ghost use Rattle.mh_handle.specs.Answers.{IsAnswer};
+ghost use Rattle.mh_handle.specs.Works.{IsUnchanged};
+ghost use Rattle.mh_jobs.specs.Jobs.{params_at};
+ghost use Rattle.mh_link.specs.Linked.{site_call};
+ghost use Rattle.mh_link.specs.Sites.{linked_at};
+ghost use Rattle.mh_attempt.specs.Linkage.{IsLinkage, IsLinkedBy, site_keys, target_count};
+
+use mh_base::{Copied, NoMemory};
+use mh_handle::{Answer, Handle, Work};
+use mh_jobs::{Job, Run};
+use mh_leaves::Leaves;
+use mh_values::{Exc, Items};
+use std::alloc::Global;
+use std::marker::{Model, PhantomData};
+
+/// What is linked at a call site: the target of all its calls, or the error that all of them throw
+/// (JVMS SE 17, 5.4.3.6).
+#[derive(Drop)]
+pub enum Linked<'t> {
+    Target(Handle<'t>),
+    Error(Exc),
+}
+
+/// What an attempt recorded at a call site of the run that `J` names: what the site's script links
+/// in the attempt of that serial number. Contracts see the job of the site and the number.
+#[derive(Drop)]
+pub struct Linkage<'t, J: Run> {
+    job: &'t Job,
+    serial: u64,
+    linked: Linked<'t>,
+    of: PhantomData<J>,
+}
+
+impl<'t, J: Run> Model for Linkage<'t, J> {
+    ghost use Rattle.mh_attempt.specs.Linkage.{LinkageView, IsLinkage};
+
+    ghost Value = { LinkageView };
+
+    ghost view = { λ l. record { job = l.job.now; serial = l.serial } };
+
+    ghost invariant = { λ l. IsLinkage J.given l.job.now l.serial l.linked };
+}
+
+impl<'t, J: Run> Linkage<'t, J> {
+    /// What was linked for a job.
+    pub(crate) fn new(job: &'t Job, serial: u64, linked: Linked<'t>) -> Linkage<'t, J>
+        requires { IsLinkage J.given job.now serial linked }
+        ensures { (result.job ≡ job.now) × (result.serial ≡ serial) }
+    {
+        Linkage {
+            job,
+            serial,
+            linked,
+            of: PhantomData,
+        }
+    }
+
+    /// The job of the call site.
+    pub fn job(&self) -> &'t Job
+        ensures { result.now ≡ self.now.job }
+    {
+        self.job
+    }
+
+    /// The number of the call site in the run.
+    pub fn site(&self) -> u32
+        ensures { result ≡ self.now.job.site }
+    {
+        self.job.site
+    }
+
+    /// The serial number of the attempt.
+    pub fn serial(&self) -> u64
+        ensures { result ≡ self.now.serial }
+    {
+        self.serial
+    }
+
+    /// The target, or the error.
+    pub fn linked(&self) -> &Linked<'t>
+        ensures { IsLinkedBy J.given.leaves result.now
+            (linked_at J.given self.now.job.site self.now.serial) }
+    {
+        &self.linked
+    }
+
+    /// Calls the site on arguments of its type: the target is called, or the error is thrown before
+    /// any form runs.
+    pub fn call(&self, alloc: Global, leaves: &Leaves, args: &Items) -> Result<Answer, NoMemory>
+        requires leaves { leaves.now ≡ J.given.leaves }
+        requires typed { HaveTypes J.given.leaves.classes args.now
+            (params_at J.given.jobs self.now.job.site) }
+        ensures { IfOk result (IsAnswer (site_call J.given.leaves
+            (linked_at J.given self.now.job.site self.now.serial) args.now)
+            (site_keys J.given self.now.job.site self.now.serial)) }
+    {
+        match &self.linked {
+            Linked::Target(target) => target.invoke(alloc, leaves, args, 0),
+            Linked::Error(exc) => Ok(Answer::thrown(alloc, exc.copy(alloc)?)),
+        }
+    }
+
+    /// Gives up the linkage: the handle of the target is counted no more. It takes no memory.
+    pub fn give_back(self, w: &mut Work<'_, 't>)
+        ensures unchanged { IsUnchanged w.old w.new }
+        ensures handles { w.new.handles.now ≡ w.old.handles.now
+            - target_count (linked_at J.given self.entry.job.site self.entry.serial) }
+    {
+        if let Linked::Target(target) = self.linked {
+            target.give_back(w);
+        }
+    }
+}
