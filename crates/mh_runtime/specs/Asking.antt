@@ -1,24 +1,23 @@
--- What calls leave of a thread's work, by the recipes that they make.
-use Rattle.std.specs.Prelude.{◌≡◌, ◌+◌, ◌*◌, ◌^◌, ◌<◌, ◌≤◌, ℕ, List, ◌++◌, length, map, Result, Ok, Err, OnOk}
-use Rattle.std.specs.List.{list_any, IsDistinct}
-use Rattle.std.specs.Set.{distinct_count}
+-- What the calls of a run leave of its work, by the recipes that its attempts and its calls make.
+use Rattle.std.specs.Prelude.{ℕ, ◌+◌, ◌*◌, List, ◌++◌, length, Result, Ok, Err}
+use Rattle.std.specs.List.{flat_map}
 use Rattle.mh_edit.specs.declared.key.Key.{Key}
 use Rattle.mh_handle.specs.declared.error.EditError.{EditError}
 use Rattle.mh_handle.specs.declared.error.EditError.TheVariants.{NoMemory, FormsFull}
 use Rattle.mh_handle.specs.declared.work.Work.{Work}
-use Rattle.mh_handle.specs.Index.{recipe_of}
 use Rattle.mh_handle.specs.Passes.{PassView}
-use Rattle.mh_handle.specs.SameRecipes.{same_recipe}
+use Rattle.mh_jobs.specs.Given.{Given}
+use Rattle.mh_attempt.specs.Asked.{AreTooMany, DrawsInOrder, HasAsked}
+use Rattle.mh_plan.specs.declared.attempt.Attempt.{Attempt}
 use Rattle.mh_plan.specs.declared.call.Call.{Call}
+use Rattle.mh_plan.specs.Forms.{attempt_edits}
 use Rattle.mh_plan.specs.Limits.{calls_in}
 
--- the recipes of the forms that a pass has asked for
-abbrev pub asked_recipes : PassView → List (List Key)
-asked_recipes pass = map recipe_of pass.asked
+-- ---- how many numbers are drawn
 
--- how many numbers a call may draw: one for the form of its leaf, and one for that of the leaf's use as another type
+-- how many numbers a call may draw: those of an attempt, if it is the first of its site
 abbrev pub call_draws : ℕ
-call_draws = 2
+call_draws = 256
 
 -- how many numbers the calls of a thread may draw
 abbrev pub thread_draws : List Call → ℕ
@@ -28,38 +27,32 @@ thread_draws calls = call_draws * length calls
 abbrev pub plan_draws : List (List Call) → ℕ
 plan_draws threads = call_draws * calls_in threads
 
--- the pass has drawn no more numbers than it has asked for forms; they and its room are 2^62 together, so that each number drawn is the next one
-pub record DrawsInOrder (pass : PassView) : Type 0 where
-  pub few : length pass.seat.numbers ≤ length pass.asked
-  pub room : length pass.seat.numbers + pass.seat.room ≡ 2 ^ 62
+-- ---- which forms are asked for
 
--- a pass that draws its numbers in order still does, where the call was not refused
-abbrev pub KeepsOrder : {A E : Type 0} → Work → Work → Result A E → Type 0
-KeepsOrder old new result = DrawsInOrder old.pass.now → OnOk result (DrawsInOrder new.pass.now)
+-- the recipes that attempts make, and those of calls
+abbrev pub run_edits : Given → List Attempt → List (List Key) → List (List Key)
+run_edits given attempts edits = flat_map (attempt_edits given) attempts ++ edits
 
--- as many handles are made and not given back as before
-abbrev pub KeepsHandles : Work → Work → Type 0
-KeepsHandles old new = new.handles.now ≡ old.handles.now
+-- where the recipes were asked for of the attempts before and of calls, whichever, those of the attempts after and of more calls are now, and numbers are
+-- still drawn in order
+pub record HasRunOn (given : Given) (before after : List Attempt) (more : List (List Key)) (old new : PassView) : Type 0 where
+  pub asked : (edits : List (List Key)) → HasAsked (run_edits given before edits) old → HasAsked (run_edits given after (edits ++ more)) new
+  pub in_order : DrawsInOrder old → DrawsInOrder new
 
--- the pass has asked for forms of these recipes and of no others, and for none twice
-pub record HasAsked (recipes : List (List Key)) (pass : PassView) : Type 0 where
-  pub once : IsDistinct same_recipe (asked_recipes pass)
-  pub same : (recipe : List Key) → list_any (same_recipe recipe) (asked_recipes pass) ≡ list_any (same_recipe recipe) recipes
+-- no number was left for a form: where numbers are drawn in order, only if the recipes of the attempts after and of all those calls are too many
+abbrev pub HasRunFull : Given → List Attempt → List Attempt → List (List Key) → PassView → Type 0
+HasRunFull given before after more old =
+    DrawsInOrder old → (edits : List (List Key)) → HasAsked (run_edits given before edits) old → AreTooMany (run_edits given after (edits ++ more))
 
--- more recipes differ than there are numbers of forms
-abbrev pub AreTooMany : List (List Key) → Type 0
-AreTooMany recipes = 16384 < distinct_count same_recipe recipes
+-- what is known where calls stopped: for want of forms only in that case
+abbrev pub RunStops : Given → List Attempt → List Attempt → List (List Key) → PassView → EditError → Type 0
+RunStops given before after more old (FormsFull drawn) = HasRunFull given before after more old
+RunStops given before after more old NoMemory = Unit {0}
 
--- what is known of a call that stopped, and that makes these recipes: for want of forms, where numbers are drawn in order, only if the
--- recipes are too many with those before
-abbrev pub Stopped : List (List Key) → PassView → EditError → Type 0
-Stopped recipes old (FormsFull drawn) = DrawsInOrder old → (before : List (List Key)) → HasAsked before old → AreTooMany (before ++ recipes)
-Stopped recipes old NoMemory = Unit {0}
-
--- what a call leaves of the work that makes these recipes: a form of each was asked for, whichever were made before
-abbrev pub Asks : {A : Type 0} → List (List Key) → Work → Work → Result A EditError → Type 0
-Asks recipes old new (Ok a) = (before : List (List Key)) → HasAsked before old.pass.now → HasAsked (before ++ recipes) new.pass.now
-Asks recipes old new (Err e) = Stopped recipes old.pass.now e
+-- what calls leave that make these recipes, and with which the attempts before become those after
+abbrev pub RunsOn : {A : Type 0} → Given → List Attempt → List Attempt → List (List Key) → Work → Work → Result A EditError → Type 0
+RunsOn given before after more old new (Ok a) = HasRunOn given before after more old.pass.now new.pass.now
+RunsOn given before after more old new (Err e) = RunStops given before after more old.pass.now e
 
 -- P holds where no number was left for a form
 abbrev pub IfFull : {A : Type 0} → Result A EditError → Type 0 → Type 0

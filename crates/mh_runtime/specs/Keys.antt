@@ -1,22 +1,25 @@
 -- How many keys the forms have that calls run.
 use Rattle.std.specs.Prelude.{ℕ, List, map}
-use Rattle.mh_leaf.specs.LeafTable.{LeafTable}
+use Rattle.std.specs.Option.{option_map_or}
 use Rattle.mh_tree.specs.Tree as tree
 use Rattle.mh_astype.specs.Calls.{exact_keys, generic_keys}
+use Rattle.mh_jobs.specs.Given.{Given}
+use Rattle.mh_attempt.specs.Linkage.{site_keys}
 use Rattle.mh_plan.specs.declared.call.Call.{Call}
-use Rattle.mh_plan.specs.declared.call.Call.TheVariants.{Exact, Generic}
-use Rattle.mh_plan.specs.Results.{Serials}
+use Rattle.mh_plan.specs.declared.call.Call.TheVariants.{Exact, Generic, Indy}
+use Rattle.mh_plan.specs.Results.{Serials, serial_at}
 
--- the keys of the form that a call runs where sites are linked by these attempts: those of the leaf, or of its use as the type of a generic
--- call; none where the call throws before it runs either. A call of a leaf looks at no site
-abbrev pub keys_of : LeafTable → Serials → Call → ℕ
-keys_of leaves table (Exact leaf ty args) = exact_keys leaves (tree.Leaf leaf) ty
-keys_of leaves table (Generic leaf ty args) = generic_keys leaves (tree.Leaf leaf) ty
+-- the keys of the form that a call runs where sites are linked by these attempts: those of the leaf, of its use as the type of a generic
+-- call, or of the site's target; none where the call throws before it runs either
+abbrev pub keys_of : Given → Serials → Call → ℕ
+keys_of given table (Exact leaf ty args) = exact_keys given.leaves (tree.Leaf leaf) ty
+keys_of given table (Generic leaf ty args) = generic_keys given.leaves (tree.Leaf leaf) ty
+keys_of given table (Indy site args) = option_map_or (λ serial. site_keys given site serial) (serial_at table site) 0
 
 -- the same of the calls of one thread, in order
-abbrev pub thread_keys : LeafTable → Serials → List Call → List ℕ
-thread_keys leaves table calls = map (λ call. keys_of leaves table call) calls
+abbrev pub thread_keys : Given → Serials → List Call → List ℕ
+thread_keys given table calls = map (λ call. keys_of given table call) calls
 
 -- the same of the calls of each thread
-abbrev pub plan_keys : LeafTable → Serials → List (List Call) → List (List ℕ)
-plan_keys leaves table threads = map (λ calls. thread_keys leaves table calls) threads
+abbrev pub plan_keys : Given → Serials → List (List Call) → List (List ℕ)
+plan_keys given table threads = map (λ calls. thread_keys given table calls) threads

@@ -1,4 +1,4 @@
-ghost use Rattle.std.specs.Prelude.{◌<◌, ◌∷◌, [], length, IfOk};
+ghost use Rattle.std.specs.Prelude.{◌≡◌, ◌<◌, ◌∷◌, [], length, IfOk, OnOk};
 ghost use Rattle.mh_values.specs.HasType.{HaveTypes};
 ghost use Rattle.mh_tree.specs.Meaning.{exact, generic};
 ghost use Rattle.mh_tree.specs.Tree as tree;
@@ -6,13 +6,19 @@ ghost use Rattle.mh_handle.specs.Answers.{IsAnswer};
 ghost use Rattle.mh_handle.specs.Recipe.{recipe};
 ghost use Rattle.mh_handle.specs.Works.{CountsHandles, GoesOn, IsReady, StandsIn, classes_of, leaves_of};
 ghost use Rattle.mh_astype.specs.Calls.{exact_keys, generic_keys};
+ghost use Rattle.mh_attempt.specs.Asked.{Asks};
 ghost use Rattle.mh_plan.specs.Forms.{used_edits, call_edits};
+ghost use Rattle.mh_plan.specs.Naming.{sites_named};
 ghost use Rattle.mh_plan.specs.Results.{IsCallOf, Serials, result_of};
-ghost use Rattle.mh_runtime.specs.Asking.{Asks, KeepsHandles, KeepsOrder, call_draws};
+ghost use Rattle.mh_runtime.specs.Asking.{RunsOn, call_draws};
+ghost use Rattle.mh_runtime.specs.Attempts.{HasSerials, after_sites};
 ghost use Rattle.mh_runtime.specs.Keys.{keys_of};
+ghost use Rattle.mh_runtime.specs.Linking.{KeepsHandles, KeepsOthers};
 
+use crate::linker::Linker;
 use mh_astype::{invoke_exact, invoke_generic};
 use mh_handle::{Answer, EditError, Handle, HandleError, Work, leaf};
+use mh_jobs::Run;
 use mh_plan::Call;
 use mh_values::{Items, LeafId, MethodTy};
 use std::sync::Wait;
@@ -32,7 +38,6 @@ fn leaf_handle<'t, R: Wait>(
     ensures handles { CountsHandles 0 w.old w.new result }
     ensures stands { IfOk result (λ h. StandsIn w.old h (tree.Leaf id)) }
     ensures asks { Asks (recipe (leaves_of w.old) (tree.Leaf id) ∷ []) w.old w.new result }
-    ensures in_order { KeepsOrder w.old w.new result }
 {
     match leaf(w, rt, id) {
         Ok(handle) => Ok(handle),
@@ -59,7 +64,6 @@ fn call_exact<'t, R: Wait>(
         (IsAnswer (exact (leaves_of w.old) (tree.Leaf id) ty.now args.now 0)
         (exact_keys (leaves_of w.old) (tree.Leaf id) ty.now)) }
     ensures asks { Asks (recipe (leaves_of w.old) (tree.Leaf id) ∷ []) w.old w.new result }
-    ensures in_order { KeepsOrder w.old w.new result }
 {
     let handle = leaf_handle(w, rt, id)?;
     let answer = invoke_exact(w.alloc, &handle, w.leaves, ty, args, 0);
@@ -85,7 +89,6 @@ fn call_generic<'t, R: Wait>(
         (generic_keys (leaves_of w.old) (tree.Leaf id) ty.now)) }
     ensures asks { Asks (recipe (leaves_of w.old) (tree.Leaf id)
         ∷ used_edits (leaves_of w.old) (tree.Leaf id) ty.now) w.old w.new result }
-    ensures in_order { KeepsOrder w.old w.new result }
 {
     let handle = leaf_handle(w, rt, id)?;
     let answer = invoke_generic(w, rt, &handle, ty, args, 0);
@@ -93,21 +96,34 @@ fn call_generic<'t, R: Wait>(
     answer
 }
 
-/// Makes a call: by a handle of its leaf, as the first of its invocation. At most it draws a number
-/// for the form of the leaf and one for that of its use. Each handle that it makes is given back,
-/// also where no memory or no form was left.
-pub fn call<'t, R: Wait>(w: &mut Work<'_, 't>, rt: &R, call: &Call) -> Result<Answer, WorkError>
-    requires call { IsCallOf (leaves_of w.old) call.now }
+/// Makes a call of a thread: of a leaf by a handle of it, as the first of its invocation, or of a
+/// call site by what is linked there, which is attempted now where no call before did. Each handle
+/// that is made is given back, also where no memory or no form was left, but for those of the
+/// linker's targets.
+pub(crate) fn call<'t, J: Run, R: Wait>(
+    w: &mut Work<'_, 't>,
+    rt: &R,
+    linker: &mut Linker<'t, J>,
+    thread: u32,
+    call: &Call,
+) -> Result<Answer, WorkError>
+    requires leaves { leaves_of w.old ≡ J.given.leaves }
+    requires call { IsCallOf J.given.leaves J.given.jobs call.now }
     requires ready { IsReady w.old call_draws }
     ensures goes_on { GoesOn call_draws w.old w.new }
-    ensures handles { KeepsHandles w.old w.new }
-    ensures answer { (table : Serials) → IfOk result (IsAnswer
-        (result_of (leaves_of w.old) table call.now) (keys_of (leaves_of w.old) table call.now)) }
-    ensures asks { Asks (call_edits (leaves_of w.old) call.now) w.old w.new result }
-    ensures in_order { KeepsOrder w.old w.new result }
+    ensures attempts { OnOk result
+        (linker.new ≡ after_sites thread linker.old (sites_named call.now)) }
+    ensures handles { KeepsOthers J.given linker.old linker.new w.old w.new }
+
+    // The answer is right under each table that has the serials of the attempts so far.
+    ensures answer { (table : Serials) → HasSerials linker.new table → IfOk result
+        (IsAnswer (result_of J.given table call.now) (keys_of J.given table call.now)) }
+    ensures runs { RunsOn J.given linker.old (after_sites thread linker.old (sites_named call.now))
+        (call_edits J.given.leaves call.now) w.old w.new result }
 {
     match call {
         Call::Exact(id, ty, args) => call_exact(w, rt, *id, ty, args),
         Call::Generic(id, ty, args) => call_generic(w, rt, *id, ty, args),
+        Call::Indy(site, args) => linker.call_site(w, rt, thread, *site, args),
     }
 }

@@ -1,8 +1,13 @@
-//! Runs of plans: each call by a handle of its leaf, over one table of forms.
+//! Runs of plans: each call by a handle, over one table of forms; each call site is linked once.
 #![tactic(auto)]
 
 mod calls;
+mod input;
+mod linker;
+mod recording;
 mod running;
+mod types;
 
-pub use calls::{WorkError, call};
+pub use calls::WorkError;
+pub use input::RunInput;
 pub use running::{RunReport, run_plan};

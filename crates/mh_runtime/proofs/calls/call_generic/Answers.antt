@@ -3,26 +3,20 @@ use Rattle.mh_leaf.specs.LeafTable.{LeafTable}
 use Rattle.mh_tree.specs.Meaning.{generic}
 use Rattle.mh_tree.specs.Tree.{Tree}
 use Rattle.mh_tree.specs.Tree as tree
+use Rattle.mh_handle.specs.declared.handle.Handle.{Handle}
 use Rattle.mh_handle.specs.Answers.{IsAnswer}
 use Rattle.mh_handle.specs.Recipe.{recipe}
 use Rattle.mh_handle.proofs.Going.{goes_on-before, goes_on-both}
 use Rattle.mh_astype.specs.Calls.{generic_keys}
 use Rattle.mh_plan.specs.Forms.{used_edits}
-use Rattle.mh_runtime.proofs.Calling.{asks-generic, moved, stopped-early, stops}
-use Rattle.mh_runtime.proofs.Drawing.{kept-by-both}
+use Rattle.mh_runtime.proofs.Calling.{asks-generic, moved, stopped-early}
 use Rattle.mh_runtime.proofs.calls.call_generic.Goals as goal
 
 pub returns-in_err-handle-clause-asks : goal.returns-in_err-handle-clause-asks
 returns-in_err-handle-clause-asks g c =
-    stops _ c.args.w.now c.leaf_handle.new.w c.in_err-handle.field-0.0 c.from_residual.result c.from_residual.ensures.1
-    (stopped-early (recipe c.args.w.now.leaves.now (tree.Leaf c.args.id)) (used_edits c.args.w.now.leaves.now (tree.Leaf c.args.id) c.args.ty.now)
-    c.args.w.now.pass.now c.in_err-handle.field-0.0 c.in_err-handle.ensures.asks)
-
-pub returns-clause-in_order : goal.returns-clause-in_order
-returns-clause-in_order g c =
-    kept-by-both c.in_ok-handle.handle.form.recipe _ c.args.w.now c.leaf_handle.new.w c.invoke_generic-answer.new.w
-    c.give_back.new.w
-    c.invoke_generic-answer.result c.in_ok-handle.ensures.in_order c.give_back.ensures.unchanged.pass c.invoke_generic-answer.ensures.asks
+    stopped-early Handle (recipe c.args.w.now.leaves.now (tree.Leaf c.args.id)) (used_edits c.args.w.now.leaves.now (tree.Leaf c.args.id) c.args.ty.now)
+    c.args.w.now c.leaf_handle.new.w c.leaf_handle.new.w c.in_err-handle.field-0.0 c.from_residual.result c.from_residual.ensures.1
+    c.in_err-handle.ensures.asks
 
 pub returns-clause-answer : goal.returns-clause-answer
 returns-clause-answer g c =
@@ -36,7 +30,7 @@ returns-clause-asks g c =
     asks-generic c.args.w.now.leaves.now c.leaf_handle.new.w.leaves.now (tree.Leaf c.args.id) c.in_ok-handle.handle c.args.ty.now
     c.args.w.now c.leaf_handle.new.w c.invoke_generic-answer.new.w c.give_back.new.w c.invoke_generic-answer.result
     (ap (λ leaves. leaves.now) c.in_ok-handle.ensures.goes_on.leaves) c.give_back.ensures.unchanged.pass c.in_ok-handle.ensures.stands
-    c.in_ok-handle.ensures.in_order c.in_ok-handle.ensures.asks c.invoke_generic-answer.ensures.asks
+    c.in_ok-handle.ensures.asks c.invoke_generic-answer.ensures.asks
 
 pub returns-clause-goes_on : goal.returns-clause-goes_on
 returns-clause-goes_on g c =
