@@ -8,27 +8,13 @@ use Rattle.mh_handle.specs.Passes.{PassView}
 use Rattle.mh_handle.specs.SameRecipes.{same_recipe}
 use Rattle.mh_jobs.specs.Given.{Given}
 use Rattle.mh_attempt.specs.Asked.{AreTooMany, DrawsInOrder, HasAsked, HasAskedMore, IsFull}
-use Rattle.mh_attempt.proofs.RecipeCounts.{is_one, too_many-more}
+use Rattle.mh_attempt.proofs.RecipeCounts.{too_many-within}
 use Rattle.mh_attempt.proofs.RecipeSets.{AreAmong, among-among, among-first, among-last, among-same, both-among, each-among, is-one, same-among}
 use Rattle.mh_plan.specs.declared.attempt.Attempt.{Attempt}
 use Rattle.mh_plan.specs.Forms.{attempt_edits}
 use Rattle.mh_runtime.specs.Asking.{HasRunFull, HasRunOn, run_edits}
 
 -- ---- recipes as sets
-
--- recipes in front of those among which they are add none
-once-again : (xs ys : List (List Key)) → AreAmong xs ys → unique_keys same_recipe (xs ++ ys) ≡ unique_keys same_recipe ys
-once-again [] ys among = refl
-once-again (x ∷ xs) ys among =
-    let there : is_one (xs ++ ys) x ≡ true = among-last xs ys x (among x (is-one x xs)) in
-    ap (λ b. cond b (unique_keys same_recipe (xs ++ ys)) (x ∷ unique_keys same_recipe (xs ++ ys))) there
-    ∙ once-again xs ys (λ q h. among q (among-last (x ∷ []) xs q h))
-
-pub too_many-among : (xs ys : List (List Key)) → AreAmong xs ys → AreTooMany xs → AreTooMany ys
-too_many-among xs ys among many =
-    let more : AreTooMany (xs ++ ys) = too_many-more xs ys many in
-    let same = ap length (once-again xs ys among) in
-    omega (arith, more, same)
 
 pub asked-same : (xs ys : List (List Key)) (pass : PassView) → AreAmong xs ys → AreAmong ys xs → HasAsked xs pass → HasAsked ys pass
 asked-same xs ys pass h k has = record { once = has.once; same = λ q. has.same q ∙ among-same xs ys h k q }
@@ -95,7 +81,7 @@ module _ (given : Given) where
   pub full-attempt : (attempts : List Attempt) (a : Attempt) (old : PassView) → IsFull (attempt_edits given a) old →
       HasRunFull given attempts (attempts ++ a ∷ []) [] old
   full-attempt attempts a old full = λ in_order edits has.
-      too_many-among (run_edits given attempts edits ++ attempt_edits given a) (run_edits given (attempts ++ a ∷ []) (edits ++ []))
+      too_many-within (run_edits given attempts edits ++ attempt_edits given a) (run_edits given (attempts ++ a ∷ []) (edits ++ []))
       (attempt-last attempts a edits) (full in_order (run_edits given attempts edits) has)
 
   -- a call that attempts nothing

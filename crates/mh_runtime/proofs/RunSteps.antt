@@ -4,10 +4,11 @@ use Rattle.mh_edit.specs.declared.key.Key.{Key}
 use Rattle.mh_handle.specs.Passes.{PassView}
 use Rattle.mh_jobs.specs.Given.{Given}
 use Rattle.mh_attempt.specs.Asked.{AreTooMany, HasAsked}
+use Rattle.mh_attempt.proofs.RecipeCounts.{too_many-within}
 use Rattle.mh_attempt.proofs.RecipeSets.{AreAmong, among-first}
 use Rattle.mh_plan.specs.declared.attempt.Attempt.{Attempt}
 use Rattle.mh_runtime.specs.Asking.{HasRunFull, HasRunOn, run_edits}
-use Rattle.mh_runtime.proofs.RunRecipes.{edits-among, too_many-among}
+use Rattle.mh_runtime.proofs.RunRecipes.{edits-among}
 
 module _ (given : Given) where
   -- no step
@@ -36,7 +37,7 @@ module _ (given : Given) where
     pub full-first : (more : List Attempt) → c ≡ b ++ more → HasRunFull given a b first old → HasRunFull given a c (first ++ second) old
     full-first more grown full = λ in_order edits has.
         subst (λ attempts. AreTooMany (run_edits given attempts (edits ++ (first ++ second)))) (sym grown)
-        (too_many-among (run_edits given b (edits ++ first)) (run_edits given (b ++ more) (edits ++ (first ++ second)))
+        (too_many-within (run_edits given b (edits ++ first)) (run_edits given (b ++ more) (edits ++ (first ++ second)))
         (edits-among given b more (edits ++ first) (edits ++ (first ++ second))
         (subst (λ rs. AreAmong (edits ++ first) rs) (append_assoc edits first second) (among-first (edits ++ first) second)))
         (full in_order edits has))

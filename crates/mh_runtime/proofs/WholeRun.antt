@@ -19,6 +19,7 @@ use Rattle.mh_handle.proofs.SameRecipes.{same_recipe-equivalence}
 use Rattle.mh_jobs.specs.Given.{Given}
 use Rattle.mh_link.specs.Sites.{edits_at}
 use Rattle.mh_attempt.specs.Asked.{DrawsInOrder, HasAsked, asked_recipes}
+use Rattle.mh_attempt.proofs.RecipeCounts.{too_many-within}
 use Rattle.mh_attempt.proofs.RecipeSets.{AreAmong, among-first, among-last, both-among}
 use Rattle.mh_plan.specs.declared.attempt.Attempt.{Attempt}
 use Rattle.mh_plan.specs.declared.call.Call.{Call}
@@ -30,7 +31,6 @@ use Rattle.mh_runtime.specs.Attempts.{HasSerials, attempts_of, serial_of, table_
 use Rattle.mh_runtime.proofs.Ledger.{own-serial}
 use Rattle.mh_runtime.proofs.Places.{length-range, range-from}
 use Rattle.mh_runtime.proofs.Reaching.{among-named, few-threads}
-use Rattle.mh_runtime.proofs.RunRecipes.{too_many-among}
 use Rattle.mh_runtime.proofs.Runs.{all-run}
 
 -- ---- the first pass
@@ -66,7 +66,7 @@ stopped-full : (A : Type 0) (given : Given) (threads : List (List Call)) (pass :
     IfFull {A = A} (Err e) (16384 < forms_needed given threads)
 stopped-full A given threads pass NoMemory none in_order stopped = tt
 stopped-full A given threads pass (FormsFull drawn) none in_order full =
-    too_many-among (run_edits given (attempts_of (naming_of threads)) (plan_edits given.leaves threads)) (all_edits given threads) (all-among given threads)
+    too_many-within (run_edits given (attempts_of (naming_of threads)) (plan_edits given.leaves threads)) (all_edits given threads) (all-among given threads)
     (full in_order [] none)
 
 -- a run that stopped

@@ -4,6 +4,7 @@ use mh_script::Scripts;
 
 /// What a run is given beside its plan: the leaves with their classes, the scripts, and the jobs of
 /// its call sites.
+#[derive(Clone, Copy)]
 pub struct RunInput<'t> {
     pub leaves: &'t Leaves,
     pub scripts: &'t Scripts,
