@@ -24,7 +24,7 @@ use Rattle.mh_attempt.specs.Lines.{MakesNode, passes}
 use Rattle.mh_attempt.specs.Recipes.{line_recipes, script_asked, script_recipes, step_asked}
 use Rattle.mh_attempt.specs.Registers.{Hold}
 use Rattle.mh_attempt.specs.declared.registers.Registers.{Registers}
-use Rattle.mh_attempt.proofs.Running.{pass-stepped, pass-thrown}
+use Rattle.mh_attempt.proofs.Running.{pass-stepped}
 use Rattle.mh_attempt.proofs.AskedAfter.{asked_more-both, full-after, full-first}
 
 -- ---- the recipes of lines
@@ -130,9 +130,3 @@ pub pass-recipes : (leaves : LeafTable) (modulus remainder serial : ℕ) (steps 
     script_recipes leaves (step.FailMod modulus remainder ∷ steps) e frame ≡ script_recipes leaves steps e frame
 pass-recipes leaves modulus remainder serial steps e frame u same passed =
     ap (λ m. map (recipe leaves) (unless_thrown m (script_asked leaves steps e))) (pass-stepped leaves modulus remainder serial frame u same passed)
-
--- none where it has this one
-pub thrown-recipes : (leaves : LeafTable) (modulus remainder serial : ℕ) (steps : List Step) (e : End) (frame : Frame) (exc : Exc) → frame.serial ≡ serial →
-    passes serial modulus remainder ≡ Err exc → script_recipes leaves (step.FailMod modulus remainder ∷ steps) e frame ≡ []
-thrown-recipes leaves modulus remainder serial steps e frame exc same thrown =
-    ap (λ m. map (recipe leaves) (unless_thrown m (script_asked leaves steps e))) (pass-thrown leaves modulus remainder serial frame exc same thrown)

@@ -1,9 +1,8 @@
 -- Runs of scripts: what a line needs of what comes before it, and what it leaves with the lines that follow.
 use denote.Ref.{Bor}
-use Rattle.std.proofs.Common.{◌≡◌, refl, sym, ◌∙◌, ap, subst, ℕ, ◌-◌, List, [], ◌∷◌, Some, Result, Ok, Err, arith}
+use Rattle.std.proofs.Common.{◌≡◌, sym, subst, ℕ, ◌-◌, List, ◌∷◌, Result, Ok, Err, arith}
 use Rattle.std.specs.Prelude.{IsErrAnd}
 use Rattle.std.proofs.lemmas.List.Elements.{All-tail}
-use Rattle.mh_leaf.specs.LeafTable.{LeafTable}
 use Rattle.mh_tree.specs.Tree.{Tree}
 use Rattle.mh_handle.specs.declared.error.HandleError.{HandleError}
 use Rattle.mh_handle.specs.declared.handle.Handle.{Handle}
@@ -18,18 +17,18 @@ use Rattle.mh_script.specs.declared.script.Step.TheVariants as step
 use Rattle.mh_script.specs.Limits.{CanDivide}
 use Rattle.mh_attempt.specs.declared.registers.Assignment.{Assignment, out-Assignment}
 use Rattle.mh_attempt.specs.declared.registers.Registers.{Registers}
-use Rattle.mh_link.specs.Linked.{assigning, ended, ran}
+use Rattle.mh_link.specs.Linked.{assigning, ran}
 use Rattle.mh_link.specs.Operands.{Content, Frame, handle}
 use Rattle.mh_link.specs.Operations.{node_of}
 use Rattle.mh_attempt.specs.Asked.{AsksOrThrows}
 use Rattle.mh_attempt.specs.Lines.{MakesNode}
-use Rattle.mh_attempt.specs.Recipes.{end_recipes, line_recipes, script_recipes}
+use Rattle.mh_attempt.specs.Recipes.{line_recipes, script_recipes}
 use Rattle.mh_attempt.specs.Registers.{Hold, Holds, HoldSome}
 use Rattle.mh_attempt.specs.Runs.{MayRun, Runs, draws}
 use Rattle.mh_attempt.proofs.AskedLines.{asks-given_back, let-asks, let-unasked, rest-asks}
 use Rattle.mh_attempt.proofs.Rooms.{goes_on-sum, ready-after, ready-less}
 use Rattle.mh_attempt.proofs.RunRegisters.{Follows, follows-hold, with_last}
-use Rattle.mh_attempt.proofs.Running.{ended-target, let-made, let-untold, rest-target, same-target}
+use Rattle.mh_attempt.proofs.Running.{let-made, let-untold, rest-target, same-target}
 
 -- what the operation of a line leaves
 pub record MakesLine (registers : Registers) (op : Operation) (old new : Work) (r : Result Handle HandleError) : Type 0 where

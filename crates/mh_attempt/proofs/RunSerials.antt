@@ -1,38 +1,25 @@
 -- Runs of scripts: lines that look at the number of the attempt.
 use denote.Ref.{Bor}
-use Rattle.std.proofs.Common.{◌≡◌, sym, ◌∙◌, ap, subst, ℕ, ◌<◌, ◌^◌, List, [], ◌∷◌, pos, to_z, w64, Result, Ok, Err, arith}
-use Rattle.std.specs.Prelude.{IsErrAnd}
-use Rattle.std.proofs.lemmas.Int.{to_z_pos}
-use Rattle.mh_values.specs.declared.value.Num.TheVariants as num
-use Rattle.mh_values.specs.declared.value.Value.TheVariants as values
-use Rattle.mh_leaf.specs.LeafTable.{LeafTable}
-use Rattle.mh_tree.specs.declared.error.CheckError.{CheckError}
-use Rattle.mh_tree.specs.declared.error.CheckError.TheVariants as check
+use Rattle.std.proofs.Common.{◌≡◌, sym, ap, subst, ℕ, List, ◌∷◌, Result, Ok, arith}
 use Rattle.mh_handle.specs.declared.error.HandleError.{HandleError}
-use Rattle.mh_handle.specs.declared.error.HandleError.TheVariants.{Refused}
 use Rattle.mh_handle.specs.declared.handle.Handle.{Handle}
 use Rattle.mh_handle.specs.declared.work.Work.{Work}
-use Rattle.mh_handle.specs.Errors.{of_check}
 use Rattle.mh_handle.proofs.Going.{goes_on-more}
 use Rattle.mh_script.specs.declared.script.End.{End}
 use Rattle.mh_script.specs.declared.script.Step.{Step}
 use Rattle.mh_script.specs.declared.script.Step.TheVariants as step
 use Rattle.mh_attempt.specs.declared.registers.Assignment.{Assignment, out-Assignment}
-use Rattle.mh_attempt.specs.declared.registers.Held.TheVariants as held
 use Rattle.mh_attempt.specs.declared.registers.Registers.{Registers}
 use Rattle.mh_jobs.specs.Thrown.{◌>>=◌}
 use Rattle.mh_link.specs.Linked.{assigning, ran}
-use Rattle.mh_link.specs.Operands.{Content, Frame, value}
+use Rattle.mh_link.specs.Operands.{Frame}
 use Rattle.mh_attempt.specs.Lines.{passes}
 use Rattle.mh_attempt.specs.Recipes.{script_recipes}
 use Rattle.mh_attempt.specs.Registers.{Hold, Holds}
 use Rattle.mh_attempt.specs.Runs.{Runs, draws}
-use Rattle.mh_attempt.specs.Told.{Tells}
-use Rattle.mh_attempt.proofs.AskedAfter.{asked_more-none}
-use Rattle.mh_attempt.proofs.AskedLines.{pass-recipes, same-asks, thrown-recipes}
-use Rattle.mh_attempt.proofs.Rooms.{goes_on-none}
+use Rattle.mh_attempt.proofs.AskedLines.{pass-recipes, same-asks}
 use Rattle.mh_attempt.proofs.RunRegisters.{Follows, follows-hold, numbered, with_last}
-use Rattle.mh_attempt.proofs.Running.{pass-stepped, pass-thrown, same-target}
+use Rattle.mh_attempt.proofs.Running.{pass-stepped, same-target}
 
 -- ---- `serial`
 

@@ -38,12 +38,6 @@ pub pass-stepped : (leaves : LeafTable) (modulus remainder serial : ℕ) (frame 
 pass-stepped leaves modulus remainder serial frame u is passed =
     ap (λ n. passes n modulus remainder >> Ok frame) is ∙ ap (λ m. m >> Ok frame) passed
 
--- it has this one
-pub pass-thrown : (leaves : LeafTable) (modulus remainder serial : ℕ) (frame : Frame) (exc : Exc) → frame.serial ≡ serial →
-    passes serial modulus remainder ≡ Err exc → stepped leaves (step.FailMod modulus remainder) frame ≡ Err exc
-pass-thrown leaves modulus remainder serial frame exc is thrown =
-    ap (λ n. passes n modulus remainder >> Ok frame) is ∙ ap (λ m. m >> Ok frame) thrown
-
 -- ---- what is told of the target
 
 -- over leaves that stayed
@@ -58,13 +52,6 @@ tells-over target old mid (Err NoMemory) same tells = tells
 pub same-target : (target other : OrThrown Tree) (old : Work) (r : Result Handle HandleError) → target ≡ other → TellsTarget other old r →
     TellsTarget target old r
 same-target target other old r is tells = subst (λ m. TellsTarget m old r) (sym is) tells
-
--- by the last line
-pub ended-target : (target : OrThrown Tree) (old new : Work) (r : Result Handle HandleError) → MakesNode target old new r → TellsTarget target old r
-ended-target target old new (Ok h) makes = makes
-ended-target target old new (Err (Refused e)) makes = makes.0
-ended-target target old new (Err (FormsFull drawn)) makes = tt
-ended-target target old new (Err NoMemory) makes = tt
 
 -- by lines that follow, over leaves that stayed
 pub rest-target : (old mid : Work) (registers : Registers) (steps : List Step) (e : End) (frame : Frame) (r : Result Handle HandleError) →

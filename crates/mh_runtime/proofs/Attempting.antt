@@ -1,19 +1,16 @@
 -- Attempts of threads one after the other: what is known of them, and what one site more that is named changes.
-use Rattle.std.proofs.Common.{◌≡◌, ◌≢◌, refl, sym, ◌∙◌, ap, ap₂, subst, ℕ, zero, suc, ◌+◌, ◌<◌, Bool, true, false, ◌||◌, cond, if◌then◌else◌, List, [], ◌∷◌, ◌++◌, append-nil, length, length-append, map, get_or, Some, ◌⊎◌, inl, inr, ⊎_elim, arith}
+use Rattle.std.proofs.Common.{◌≡◌, ◌≢◌, refl, sym, ◌∙◌, ap, subst, ℕ, suc, true, cond, List, [], ◌∷◌, ◌++◌, length, map, Some, ◌⊎◌, inl, inr, ⊎_elim, arith}
 use Rattle.std.specs.Prelude.{◌==◌, Contains, AllPairs, filter, slice_get}
-use Rattle.std.specs.List.{list_any, range_with_len}
-use Rattle.std.proofs.lemmas.Bool.{eqb-true, eqb-false, eq-eqb, ne_eqb, both_ways}
-use Rattle.std.proofs.lemmas.List.{map_push}
-use Rattle.std.proofs.lemmas.List.Elements.{filter-append, Contains-append_left, Contains-push, Contains-push_cases}
-use Rattle.std.proofs.lemmas.List.Folds.{list_any-append, list_any_at}
-use Rattle.std.proofs.lemmas.List.Quantifiers.{all_pairs_push}
+use Rattle.std.specs.List.{range_with_len}
+use Rattle.std.proofs.lemmas.Bool.{ne_eqb}
+use Rattle.std.proofs.lemmas.List.Elements.{Contains-append_left, Contains-push_cases}
 use Rattle.std.proofs.lemmas.Option.{slice_get_within}
 use Rattle.mh_plan.specs.declared.attempt.Attempt.{Attempt}
 use Rattle.mh_plan.specs.Naming.{Naming, first_places}
 use Rattle.mh_runtime.specs.Ledger.{IsNamed, IsReached, attempted_by}
-use Rattle.mh_runtime.specs.Attempts.{is_attempted, next_attempt, after_site}
-use Rattle.mh_runtime.proofs.Places.{at-push, at-front, at-push_cases, range-push}
-use Rattle.mh_runtime.proofs.Sites.{is_in, or-false, in-push, Contains-in, first-push, first-within, kept-other}
+use Rattle.mh_runtime.specs.Attempts.{is_attempted}
+use Rattle.mh_runtime.proofs.Places.{at-push, at-front, at-push_cases}
+use Rattle.mh_runtime.proofs.Sites.{is_in}
 
 -- the attempts of calls that name these sites, thread by thread
 pub record IsRunOf (naming : Naming) (attempts : List Attempt) : Type 0 where

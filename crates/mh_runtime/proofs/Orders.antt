@@ -1,16 +1,16 @@
 -- In which order one thread attempts sites, where it names one more.
-use Rattle.std.proofs.Common.{◌≡◌, ◌≢◌, refl, sym, ◌∙◌, ap, ap₂, subst, ℕ, zero, suc, ◌+◌, ◌<◌, Bool, true, false, ◌||◌, cond, if◌then◌else◌, List, [], ◌∷◌, ◌++◌, append-nil, length, map, Some, arith}
+use Rattle.std.proofs.Common.{◌≡◌, refl, sym, ◌∙◌, ap, ap₂, subst, ℕ, suc, Bool, true, false, ◌||◌, cond, if◌then◌else◌, List, [], ◌∷◌, ◌++◌, append-nil, length, map, Some, arith}
 use Rattle.std.specs.Prelude.{◌==◌, Contains, filter, slice_get}
-use Rattle.std.proofs.lemmas.Bool.{eqb-true, eq-eqb, ne_eqb, both_ways, or_right, false_from_ne_true}
+use Rattle.std.proofs.lemmas.Bool.{eqb-true, eq-eqb, both_ways, or_right, false_from_ne_true}
 use Rattle.std.proofs.lemmas.List.{map-append}
 use Rattle.std.proofs.lemmas.List.Elements.{filter-append}
 use Rattle.mh_plan.specs.declared.attempt.Attempt.{Attempt}
 use Rattle.mh_plan.specs.Naming.{Naming, first_places}
-use Rattle.mh_runtime.specs.Ledger.{IsReached, attempted_by}
+use Rattle.mh_runtime.specs.Ledger.{attempted_by}
 use Rattle.mh_runtime.specs.Attempts.{is_attempted, next_attempt}
 use Rattle.mh_runtime.proofs.Attempting.{IsRunOf}
 use Rattle.mh_runtime.proofs.Places.{at-push}
-use Rattle.mh_runtime.proofs.Sites.{is_in, or-false, in-push, Contains-in, in-Contains, first-push, first-within, kept-other}
+use Rattle.mh_runtime.proofs.Sites.{is_in, in-push, Contains-in, in-Contains, first-push, first-within, kept-other}
 
 -- ---- the attempts of a thread
 

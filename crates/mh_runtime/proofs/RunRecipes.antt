@@ -1,15 +1,13 @@
 -- The recipes of a run, as sets, and what the calls of a run leave of a pass, one after the other.
-use Rattle.std.proofs.Common.{◌≡◌, refl, sym, ◌∙◌, ap, ap₂, subst, ◌<◌, true, cond, List, [], ◌∷◌, ◌++◌, append-nil, append_assoc, length, arith}
+use Rattle.std.proofs.Common.{◌≡◌, sym, ◌∙◌, subst, List, [], ◌∷◌, ◌++◌, append-nil, append_assoc}
 use Rattle.std.specs.List.{flat_map}
-use Rattle.std.specs.Set.{unique_keys}
 use Rattle.std.proofs.lemmas.Grind.{flat_map-append}
 use Rattle.mh_edit.specs.declared.key.Key.{Key}
 use Rattle.mh_handle.specs.Passes.{PassView}
-use Rattle.mh_handle.specs.SameRecipes.{same_recipe}
 use Rattle.mh_jobs.specs.Given.{Given}
-use Rattle.mh_attempt.specs.Asked.{AreTooMany, DrawsInOrder, HasAsked, HasAskedMore, IsFull}
+use Rattle.mh_attempt.specs.Asked.{AreTooMany, HasAsked, HasAskedMore, IsFull}
 use Rattle.mh_attempt.proofs.RecipeCounts.{too_many-within}
-use Rattle.mh_attempt.proofs.RecipeSets.{AreAmong, among-among, among-first, among-last, among-same, both-among, each-among, is-one, same-among}
+use Rattle.mh_attempt.proofs.RecipeSets.{AreAmong, among-among, among-first, among-last, among-same, both-among, each-among, same-among}
 use Rattle.mh_plan.specs.declared.attempt.Attempt.{Attempt}
 use Rattle.mh_plan.specs.Forms.{attempt_edits}
 use Rattle.mh_runtime.specs.Asking.{HasRunFull, HasRunOn, run_edits}

@@ -1,5 +1,5 @@
 -- What a whole run leaves and tells.
-use Rattle.std.proofs.Common.{◌≡◌, refl, sym, ◌∙◌, ap, subst, ℕ, ◌+◌, ◌<◌, ◌≤◌, List, [], ◌++◌, length, Result, Ok, Err, Option, Some, arith}
+use Rattle.std.proofs.Common.{◌≡◌, refl, sym, ◌∙◌, ap, subst, ℕ, ◌+◌, ◌<◌, ◌≤◌, List, [], length, Result, Ok, Err, Some, arith}
 use Rattle.std.specs.Prelude.{All, IsErrAnd, slice_get}
 use Rattle.std.specs.List.{IsDistinct, flat_map, range_with_len}
 use Rattle.std.specs.Option.{option_flatten, option_map}
@@ -25,7 +25,6 @@ use Rattle.mh_plan.specs.declared.attempt.Attempt.{Attempt}
 use Rattle.mh_plan.specs.declared.call.Call.{Call}
 use Rattle.mh_plan.specs.Forms.{all_edits, attempt_edits, forms_needed, plan_edits, sites_edits}
 use Rattle.mh_plan.specs.Naming.{naming_of, pairs_named}
-use Rattle.mh_plan.specs.Results.{serial_at}
 use Rattle.mh_runtime.specs.Asking.{IfFull, RunStops, run_edits}
 use Rattle.mh_runtime.specs.Attempts.{HasSerials, attempts_of, serial_of, table_of}
 use Rattle.mh_runtime.proofs.Ledger.{own-serial}

@@ -1,5 +1,5 @@
 -- What a linker keeps, and how many handles it holds.
-use Rattle.std.specs.Prelude.{◌≡◌, ℕ, ◌+◌, ◌<◌, ◌≤◌, List, length, map, All, Option, is_none, sum_by, count_by}
+use Rattle.std.specs.Prelude.{◌≡◌, ℕ, ◌+◌, ◌<◌, ◌≤◌, List, length, map, All, is_none, sum_by, count_by}
 use Rattle.std.specs.List.{range_with_len}
 use Rattle.mh_handle.specs.declared.work.Work.{Work}
 use Rattle.mh_script.specs.declared.script.Script.{Script}

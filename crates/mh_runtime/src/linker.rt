@@ -1,4 +1,4 @@
-ghost use Rattle.std.specs.Prelude.{◌≡◌, ◌+◌, ◌-◌, ◌<◌, ◌≤◌, ◌^◌, [], ◌∷◌, ◌++◌, All, List, Option, None, Some, IfOk, IfSome, OnOk, OnErr, true, false, length, is_some, option_map, replicate, slice_set, sum_by, vec_len, vec_capacity};
+ghost use Rattle.std.specs.Prelude.{◌≡◌, ◌+◌, ◌-◌, ◌<◌, ◌≤◌, [], ◌∷◌, ◌++◌, All, List, Option, None, Some, IfOk, IfSome, OnOk, OnErr, true, false, length, is_some, option_map, replicate, sum_by, vec_len, vec_capacity};
 ghost use Rattle.mh_handle.specs.Works.{GoesOn, IsReady, IsUnchanged, leaves_of};
 ghost use Rattle.mh_handle.specs.Answers.{IsAnswer};
 ghost use Rattle.mh_values.specs.HasType.{HaveTypes};

@@ -50,8 +50,11 @@ ran-requires g t c κs within = (
     assigned-may c.args.steps.now c.in-Some.rest.now c.in-Some.step.now c.args.registers.now _ c.in-Serial.name c.args.w.now c.args.w.now
         c.in-Some.ensures.cases.0 c.requires (goes_on-none 4 c.args.w.now)
         (follows-new c.args.registers.now _ _ c.in-Serial.name c.as_slice-in-Serial.ensures refl)
-        (λ frame hold. (numbered frame.serial, holds-new c.args.w.now.leaves.now _ (numbered frame.serial)
-        (number-held c.args.w.now.leaves.now c.args.registers.now frame hold c.requires.serial))),
+        (λ frame hold. (
+          numbered frame.serial,
+          holds-new c.args.w.now.leaves.now _ (numbered frame.serial)
+              (number-held c.args.w.now.leaves.now c.args.registers.now frame hold c.requires.serial),
+        )),
   ),
 )
 

@@ -1,4 +1,4 @@
-use Rattle.std.proofs.Common.{◌≡◌, sym, subst, ℕ, List, [], ◌∷◌, IfOk}
+use Rattle.std.proofs.Common.{sym, subst, [], ◌∷◌, IfOk}
 use Rattle.mh_leaf.specs.LeafTable.{LeafTable}
 use Rattle.mh_tree.specs.Tree as tree
 use Rattle.mh_handle.specs.Answers.{IsAnswer}

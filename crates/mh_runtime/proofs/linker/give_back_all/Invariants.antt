@@ -1,4 +1,4 @@
-use Rattle.std.proofs.Common.{◌≡◌, ◌-◌, take}
+use Rattle.std.proofs.Common.{◌≡◌, ◌-◌}
 use Rattle.std.specs.Prelude.{sum_by}
 use Rattle.mh_handle.specs.Works.{IsUnchanged}
 use Rattle.mh_link.specs.Sites.{linked_at}

@@ -1,9 +1,8 @@
 use Rattle.std.proofs.Common.{◌≡◌, sym, ◌∙◌, ap, subst, [], List, length}
 use Rattle.mh_handle.specs.Passes.{PassView, seat_at}
 use Rattle.mh_plan.specs.declared.attempt.Attempt.{Attempt}
-use Rattle.mh_plan.specs.Forms.{forms, plan_edits}
+use Rattle.mh_plan.specs.Forms.{plan_edits}
 use Rattle.mh_plan.specs.Naming.{naming_of}
-use Rattle.mh_plan.specs.Recorded.{recorded, types}
 use Rattle.mh_runtime.specs.Asking.{HasRunOn, RunStops, run_edits}
 use Rattle.mh_runtime.specs.Attempts.{after_threads, attempts_of, table_of}
 use Rattle.mh_runtime.proofs.Reports.{report-of}

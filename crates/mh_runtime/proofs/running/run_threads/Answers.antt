@@ -1,13 +1,12 @@
-use Rattle.std.proofs.Common.{◌≡◌, sym, ◌∙◌, ap, subst, ℕ, List, get_or, refl, arith}
+use Rattle.std.proofs.Common.{◌≡◌, sym, ◌∙◌, ap, subst, List, get_or, refl, arith}
 use Rattle.std.specs.List.{flat_map}
 use Rattle.std.proofs.lemmas.Option.{get_or_from_slice_get}
 use Rattle.mh_plan.specs.declared.attempt.Attempt.{Attempt}
-use Rattle.mh_plan.specs.declared.call.Call.{Call}
 use Rattle.mh_plan.specs.Forms.{thread_edits}
 use Rattle.mh_plan.specs.Naming.{sites_named}
 use Rattle.mh_plan.specs.Results.{Serials, thread_keys_said, thread_results, thread_said}
 use Rattle.mh_runtime.specs.Asking.{HasRunOn, RunStops, plan_draws, thread_draws}
-use Rattle.mh_runtime.specs.Attempts.{HasSerials, after_sites}
+use Rattle.mh_runtime.specs.Attempts.{HasSerials}
 use Rattle.mh_runtime.specs.Keys.{thread_keys}
 use Rattle.mh_runtime.proofs.Growing.{after_plan, after_thread, has-before, sites-grow, thread-steps}
 use Rattle.mh_runtime.proofs.Repeating.{told-next}

@@ -1,4 +1,4 @@
-use Rattle.std.proofs.Common.{◌≡◌, sym, ◌∙◌, ap, ap₂, ℕ, ◌+◌, false, List, [], ◌∷◌, ◌++◌, length, arith}
+use Rattle.std.proofs.Common.{◌≡◌, ◌∙◌, ap, ap₂, ◌+◌, false, List, [], ◌∷◌, ◌++◌, length, arith}
 use Rattle.mh_jobs.specs.declared.job.Job.{Job}
 use Rattle.mh_attempt.specs.Linkage.{LinkageView}
 use Rattle.mh_plan.specs.declared.attempt.Attempt.{Attempt}

@@ -1,4 +1,4 @@
-use Rattle.std.proofs.Common.{◌≡◌, ◌∙◌, ap, ℕ, ◌-◌, List}
+use Rattle.std.proofs.Common.{◌∙◌, ap, ◌-◌, List}
 use Rattle.mh_plan.specs.declared.attempt.Attempt.{Attempt}
 use Rattle.mh_runtime.specs.Linking.{targets_held}
 use Rattle.mh_runtime.proofs.Kept.{held-linkages}
