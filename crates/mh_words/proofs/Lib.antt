@@ -1,0 +1,6 @@
+pub mod Builders
+pub mod Digits
+mod Examples
+pub mod Gotten
+pub mod Limits
+pub mod Parses

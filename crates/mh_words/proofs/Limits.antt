@@ -1,0 +1,67 @@
+-- What is asked for is within the limits.
+use Rattle.std.proofs.Common.{◌≡◌, ◌≤◌, arith, refl, Bool, true, false, cond, List, [], ◌∷◌, length, Option, Some, None}
+use Rattle.std.specs.Prelude.{IfSome, codes, nat_le, option_and_then, option_map}
+use Rattle.std.specs.Str.{bytes_eq}
+use Rattle.clap.specs.Words.{Text}
+use Rattle.mh_words.specs.Number.{is_written, number_of}
+use Rattle.mh_words.specs.Options.{Given}
+use Rattle.mh_words.specs.Words.{Command, IsWithinLimits, asked, generate, generated_with, most_classes, of_mode}
+use Rattle.mh_words.specs.Words.{run_with, sites_with}
+use Rattle.mh_words.proofs.Digits.{written_is_small}
+
+-- a command, if there is one, is within the limits
+abbrev IsWithin : Option Command → Type 0
+IsWithin command = IfSome command IsWithinLimits
+
+-- one of two commands
+either : (b : Bool) (one other : Option Command) → IsWithin one → IsWithin other → IsWithin (cond b one other)
+either true one other holds _ = holds
+either false one other _ holds = holds
+
+run_within : (leaves scripts plan number : Option Text) (classes : List Text) → length classes ≤ most_classes
+    → IsWithin (run_with leaves scripts plan number classes)
+run_within None _ _ _ classes few = tt
+run_within (Some _) None _ _ classes few = tt
+run_within (Some _) (Some _) None _ classes few = tt
+run_within (Some _) (Some _) (Some _) None classes few = few
+run_within (Some _) (Some _) (Some _) (Some _) classes few = tt
+
+sites_within : (leaves scripts plan number : Option Text) (classes : List Text) → length classes ≤ most_classes
+    → IsWithin (sites_with leaves scripts plan number classes)
+sites_within (Some _) _ _ _ classes few = tt
+sites_within None (Some _) _ _ classes few = tt
+sites_within None None (Some _) _ classes few = tt
+sites_within None None None (Some _) classes few = tt
+sites_within None None None None classes few = few
+
+-- the number that a text writes, if it does
+number_within : (text : Text) (b : Bool) → is_written text ≡ b → IsWithin (option_map (λ n. generate n) (number_of text))
+number_within text true written = rw written (written_is_small text written)
+number_within text false written = rw written tt
+
+generated_within : (leaves scripts plan number : Option Text) (classes : List Text) → IsWithin (generated_with leaves scripts plan number classes)
+generated_within (Some _) _ _ _ classes = tt
+generated_within None (Some _) _ _ classes = tt
+generated_within None None (Some _) _ classes = tt
+generated_within None None None None classes = tt
+generated_within None None None (Some number) [] = number_within number (is_written number) refl
+generated_within None None None (Some number) (class ∷ classes) = tt
+
+mode_within : (mode : Text) (given : Given) → length given.classes ≤ most_classes → IsWithin (of_mode mode given)
+mode_within mode given few =
+    either (bytes_eq mode (codes "run")) _ _ (run_within given.leaves given.scripts given.plan given.number given.classes few)
+    (either (bytes_eq mode (codes "sites")) _ _ (sites_within given.leaves given.scripts given.plan given.number given.classes few)
+    (either (bytes_eq mode (codes "gen")) _ _ (generated_within given.leaves given.scripts given.plan given.number given.classes) tt))
+
+any_mode_within : (mode : Option Text) (given : Given) → length given.classes ≤ most_classes
+    → IsWithin (option_and_then (λ name. of_mode name given) mode)
+any_mode_within None given few = tt
+any_mode_within (Some mode) given few = mode_within mode given few
+
+asked_within : (given : Given) (b : Bool) → nat_le (length given.classes) most_classes ≡ b → IsWithin (asked given)
+asked_within given true few = rw few (any_mode_within given.mode given (grind arith))
+asked_within given false few = rw few tt
+
+-- what options and names of class files ask for
+pub within : (given : Given) (command : Option Command) → command ≡ asked given → IfSome command IsWithinLimits
+within given command is = rw is (asked_within given _ refl)

@@ -1,0 +1,95 @@
+-- What the words of the command line ask for.
+use Rattle.std.specs.Prelude.{ℕ, ◌^◌, ◌<◌, ◌≤◌, List, [], codes, nat_le, length, if◌then◌else◌, Option, None, Some, option_map, option_and_then}
+use Rattle.std.specs.Str.{bytes_eq}
+use Rattle.clap.specs.Words.{Text}
+use Rattle.mh_words.specs.Number.{most_digits, number_of}
+use Rattle.mh_words.specs.Options.{Given, found, given_by, said}
+use Rattle.mh_words.specs.declared.command.Names.{Names}
+use Rattle.mh_words.specs.declared.command.Command.{Command as Held}
+use Rattle.mh_words.specs.declared.command.Command.TheVariants as held
+
+-- the names of the inputs of a run
+pub record Named : Type 0 where
+  pub leaves : Text
+  pub scripts : Text
+  pub plan : Text
+  pub classes : List Text
+
+-- a run of named inputs, the listing of the call sites of named class files, or a run of the input that is made from a number
+pub data Command : Type 0 where
+  run : Named → Command
+  sites : List Text → Command
+  generate : ℕ → Command
+
+-- how many class files may be named
+abbrev pub most_classes : ℕ
+most_classes = 64
+
+-- a run has its three inputs and no number
+abbrev pub run_with : Option Text → Option Text → Option Text → Option Text → List Text → Option Command
+run_with (Some leaves) (Some scripts) (Some plan) None classes =
+    Some (run (record { leaves = leaves; scripts = scripts; plan = plan; classes = classes }))
+run_with _ _ _ _ classes = None
+
+-- the run that is asked for
+abbrev pub run_of : Given → Option Command
+run_of given = run_with given.leaves given.scripts given.plan given.number given.classes
+
+-- a listing has no option beside the mode
+abbrev pub sites_with : Option Text → Option Text → Option Text → Option Text → List Text → Option Command
+sites_with None None None None classes = Some (sites classes)
+sites_with _ _ _ _ classes = None
+
+-- the listing that is asked for
+abbrev pub sites_of : Given → Option Command
+sites_of given = sites_with given.leaves given.scripts given.plan given.number given.classes
+
+-- a generated run has a number alone, and no class files
+abbrev pub generated_with : Option Text → Option Text → Option Text → Option Text → List Text → Option Command
+generated_with None None None (Some number) [] = option_map (λ n. generate n) (number_of number)
+generated_with _ _ _ _ classes = None
+
+-- the generated run that is asked for
+abbrev pub generated_of : Given → Option Command
+generated_of given = generated_with given.leaves given.scripts given.plan given.number given.classes
+
+-- the command of a mode
+abbrev pub of_mode : Text → Given → Option Command
+of_mode mode given =
+    if bytes_eq mode (codes "run") then run_of given
+    else (if bytes_eq mode (codes "sites") then sites_of given
+    else (if bytes_eq mode (codes "gen") then generated_of given else None))
+
+-- the command that options and names of class files ask for, if there is one: a mode with just its options, and not too many class files
+abbrev pub asked : Given → Option Command
+asked given =
+    if nat_le (length given.classes) most_classes then option_and_then (λ mode. of_mode mode given) given.mode else None
+
+-- what the words ask for, or nothing where they are refused: by `clap`, or by what the program itself asks of them
+abbrev pub command_of : List Text → Option Command
+command_of words = option_and_then (λ rows. asked (given_by rows)) (found words)
+
+-- at most so many class files, or a number of at most so many digits
+abbrev pub IsWithinLimits : Command → Type 0
+IsWithinLimits (run names) = length names.classes ≤ most_classes
+IsWithinLimits (sites names) = length names ≤ most_classes
+IsWithinLimits (generate number) = number < 10 ^ most_digits
+
+-- the names that a value of the program holds
+abbrev pub held_names : Names → Named
+held_names names = record {
+  leaves = names.leaves.now;
+  scripts = names.scripts.now;
+  plan = names.plan.now;
+  classes = said names.classes.items;
+}
+
+-- the command that a value of the program holds
+abbrev pub held_command : Held → Command
+held_command (held.Run names) = run (held_names names)
+held_command (held.Sites names) = sites (said names.items)
+held_command (held.Generate number) = generate number
+
+-- the same of a command that may not be there
+abbrev pub commanded : Option Held → Option Command
+commanded = option_map held_command

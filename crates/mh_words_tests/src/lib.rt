@@ -1,0 +1,11 @@
+//! The words of the command line: what they ask for, and which are refused.
+#![tactic(auto)]
+
+#[cfg(test)]
+mod accepted;
+#[cfg(test)]
+mod limits;
+#[cfg(test)]
+mod refused;
+#[cfg(test)]
+mod shown;
