@@ -1,4 +1,5 @@
 pub mod Builders
+mod ClassNames
 pub mod Digits
 mod Examples
 pub mod Gotten
