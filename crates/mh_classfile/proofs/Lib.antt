@@ -1,4 +1,3 @@
-pub mod CallingSites
 pub mod Examples
 pub mod FileLaw
 pub mod FoundSites

@@ -4,7 +4,7 @@ use mh_base::{NoMemory, Seq};
 use mh_class_tests::files::demo;
 use mh_class_tests::sites::many_sites;
 use mh_made_class::make_class;
-use mh_main::status::{DONE, REFUSED, USAGE_WANTED};
+use mh_main::status::{DONE, REFUSED, UNREAD, USAGE_WANTED};
 use mh_main::top;
 use mh_outside::{MemoryInputs, MemorySink, OpenGate};
 use std::alloc::{AllocError, Global};
@@ -138,8 +138,8 @@ fn holds<R: Threads + Wait + Sync>(rt: &R, alloc: Global, row: &ClassRun) -> Res
     Ok(answer.status == row.status && sink.bytes.as_slice() == row.text.as_bytes())
 }
 
-/// Runs that are refused.
-static REFUSALS: [ClassRun; 10] = [
+/// Runs of which an input stops the reading.
+static STOPS: [ClassRun; 11] = [
     ClassRun {
         name: "a class file after two that are accepted",
         leaves: LEAVES,
@@ -148,6 +148,15 @@ static REFUSALS: [ClassRun; 10] = [
         classes: &["made.class", "none.class", "short.class"],
         status: REFUSED,
         text: "refused short.class at 92 Truncated\n",
+    },
+    ClassRun {
+        name: "a class file that is not there",
+        leaves: LEAVES,
+        scripts: LINK,
+        plan: CALL,
+        classes: &["made.class", "other.class", "short.class"],
+        status: UNREAD,
+        text: "cannot read other.class\n",
     },
     ClassRun {
         name: "scripts with a faulty line, before a class file",
@@ -233,8 +242,8 @@ static REFUSALS: [ClassRun; 10] = [
 ];
 
 #[test]
-fn runs_with_class_files_that_are_refused(rt: HostRuntime) -> Result<(), Fail> {
-    for row in &REFUSALS {
+fn runs_of_which_an_input_stops_the_reading(rt: HostRuntime) -> Result<(), Fail> {
+    for row in &STOPS {
         assert!(rt; holds(&rt, rt.alloc(), row)?, "{}", row.name);
     }
     Ok(())
