@@ -1,6 +1,6 @@
 //! What an attempt records at a call site, and the calls of the site.
 
-ghost use Rattle.std.specs.Prelude.{◌≡◌, ◌-◌, IfOk};
+ghost use Rattle.std.specs.Prelude.{◌≡◌, ◌-◌, slice_get, Some, IfOk};
 ghost use Rattle.mh_values.specs.HasType.{HaveTypes};
 ghost use Rattle.mh_handle.specs.Answers.{IsAnswer};
 ghost use Rattle.mh_handle.specs.Works.{IsUnchanged};
@@ -61,7 +61,8 @@ impl<'t, J: Run> Linkage<'t, J> {
 
     /// The job of the call site.
     pub fn job(&self) -> &'t Job
-        ensures { result.now ≡ self.now.job }
+        ensures job { result.now ≡ self.now.job }
+        ensures named { slice_get J.given.jobs self.now.job.site ≡ Some self.now.job }
     {
         self.job
     }
