@@ -1,0 +1,269 @@
+//! Call sites that a script links, and what comes of a call, as texts.
+
+ghost use Rattle.std.specs.Prelude.{◌≡◌, ◌≤◌, ◌^◌, slice_get, Some, IfOk, IsTrue};
+ghost use Rattle.mh_handle.specs.Passes.{seat_at};
+ghost use Rattle.mh_handle.specs.Works.{IsReady, leaves_of};
+ghost use Rattle.mh_jobs.specs.Given.{IsJob};
+
+use mh_attempt::{Linkage, Linked, attempt};
+use mh_base::NoMemory;
+use mh_classfile::read;
+use mh_handle::{Answer, EditError, FormTable, LiveHandles, Work};
+use mh_jobs::{Job, Run, job_of};
+use mh_jobs_tests::files::{Constants, LINKED, Site, class_file};
+use mh_leaves::{Leaves, read_manifest};
+use mh_script::{Scripts, read_scripts};
+use mh_steps::{MANIFEST, Start, are_typed, items_of};
+use mh_texts::{show_exc, show_value};
+use mh_values::{Classes, Exc, Outcome};
+use std::alloc::Global;
+use std::marker::Brand;
+use std::sync::Wait;
+
+/// A call site, the lines of the script that links it, the arguments of a call, and what is wanted:
+/// how the call ends, with the numbers of the leaves that it calls and of the keys of the form that
+/// runs, or the error that is recorded.
+#[derive(Clone, Copy)]
+pub(crate) struct Case {
+    pub name: &'static str,
+    pub ty: &'static str,
+    pub lines: &'static str,
+    pub arguments: &'static [&'static str],
+    pub wanted: &'static str,
+}
+
+/// The static argument of the site, and the number of the attempt.
+#[derive(Clone, Copy)]
+pub(crate) struct Attempt {
+    pub argument: Constants,
+    pub serial: u64,
+}
+
+/// The number of an attempt, and the arguments of a call of what it links.
+#[derive(Clone, Copy)]
+struct Turn {
+    serial: u64,
+    arguments: &'static [&'static str],
+}
+
+/// The script `made/Boot.link` of these lines.
+fn scripts_of(alloc: Global, lines: &str) -> Result<Scripts, NoMemory> {
+    let file = format!(in alloc; "script made/Boot link ()V\n{lines}\nend\n")?;
+    read_scripts(alloc, file.as_bytes()).map_err(|_| NoMemory)
+}
+
+/// The job of a site.
+fn job_for(alloc: Global, leaves: &Leaves, scripts: &Scripts, site: Site) -> Result<Job, NoMemory>
+    ensures job { IfOk result (λ job. IsJob leaves.now scripts.now job) }
+    ensures site { IfOk result (λ job. job.site ≡ 0) }
+{
+    let file = class_file(alloc, site)?;
+    let Ok(view) = read(alloc, &file, 1) else {
+        return Err(NoMemory);
+    };
+    if view.sites() == 0 {
+        return Err(NoMemory);
+    }
+    job_of(alloc, &view, 0, 0, scripts, leaves)
+}
+
+/// A word before an exception.
+fn exc_text(alloc: Global, word: &[u8], exc: &Exc, classes: &Classes) -> Result<Vec<u8>, NoMemory> {
+    let shown = show_exc(alloc, exc, classes)?;
+    let mut text = Vec::from_slice(alloc, word)?;
+    text.extend_from_slice(&shown)?;
+    Ok(text)
+}
+
+fn outcome_text(alloc: Global, outcome: &Outcome, classes: &Classes) -> Result<Vec<u8>, NoMemory> {
+    match outcome {
+        Outcome::Return(None) => Ok(Vec::from_slice(alloc, b"void")?),
+        Outcome::Return(Some(value)) => show_value(alloc, value, classes),
+        Outcome::Throw(exc) => exc_text(alloc, b"throws ", exc, classes),
+    }
+}
+
+fn push_number(alloc: Global, text: &mut Vec<u8>, number: u32) -> Result<(), NoMemory> {
+    let number = format!(in alloc; " {number}")?;
+    text.extend_from_slice(number.as_bytes())?;
+    Ok(())
+}
+
+fn answer_text(alloc: Global, answer: &Answer, classes: &Classes) -> Result<Vec<u8>, NoMemory> {
+    let mut text = outcome_text(alloc, answer.outcome(), classes)?;
+    text.extend_from_slice(b" calls")?;
+    for call in answer.calls().as_slice() {
+        push_number(alloc, &mut text, call.leaf.0)?;
+    }
+    text.extend_from_slice(b" keys")?;
+    push_number(alloc, &mut text, answer.keys())?;
+    Ok(text)
+}
+
+/// How a call of a linked site ends. Arguments that do not have the types that the site takes are
+/// told as want of memory.
+fn call_text<J: Run>(
+    alloc: Global,
+    linkage: &Linkage<'_, J>,
+    leaves: &Leaves,
+    arguments: &[&str],
+) -> Result<Vec<u8>, NoMemory>
+    requires { leaves.now ≡ J.given.leaves }
+{
+    let args = items_of(alloc, arguments, leaves.classes())?;
+    let Some(ty) = linkage.job().ty() else {
+        return Err(NoMemory);
+    };
+    if !are_typed(args.as_slice(), ty.params.as_slice(), leaves.classes()) {
+        return Err(NoMemory);
+    }
+    let answer = linkage.call(alloc, leaves, &args)?;
+    answer_text(alloc, &answer, leaves.classes())
+}
+
+/// The error that is recorded, or how a call of the target ends.
+fn linkage_text<J: Run>(
+    alloc: Global,
+    linkage: &Linkage<'_, J>,
+    leaves: &Leaves,
+    arguments: &[&str],
+) -> Result<Vec<u8>, NoMemory>
+    requires { leaves.now ≡ J.given.leaves }
+{
+    match linkage.linked() {
+        Linked::Target(_) => call_text(alloc, linkage, leaves, arguments),
+        Linked::Error(exc) => exc_text(alloc, b"error ", exc, leaves.classes()),
+    }
+}
+
+/// Whether an attempt may have this number.
+fn is_serial(serial: u64) -> bool
+    ensures { IsTrue result → (1 ≤ serial) × (serial ≤ 2 ^ 62) }
+{
+    1 <= serial && serial <= 1 << 62
+}
+
+/// What comes of an attempt for a job of the run that `J` names.
+fn attempt_text<'t, J: Run, R: Wait>(
+    w: &mut Work<'_, 't>,
+    rt: &R,
+    scripts: &Scripts,
+    job: &'t Job,
+    turn: Turn,
+) -> Result<Vec<u8>, EditError>
+    requires named { slice_get J.given.jobs job.now.site ≡ Some job.now }
+    requires scripts { scripts.now ≡ J.given.scripts }
+    requires leaves { leaves_of w.old ≡ J.given.leaves }
+    requires job { IsJob J.given.leaves J.given.scripts job.now }
+    requires ready { IsReady w.old 256 }
+{
+    if !is_serial(turn.serial) {
+        return Err(EditError::NoMemory);
+    }
+    let leaves = w.leaves;
+    let linkage = attempt::<J, R>(w, rt, scripts, job, turn.serial)?;
+    let text = linkage_text(w.alloc, &linkage, leaves, turn.arguments);
+    linkage.give_back(w);
+    Ok(text?)
+}
+
+/// The same on a table of its own.
+fn named_text<'t, J: Run, R: Wait>(
+    rt: &R,
+    start: Start<'t>,
+    scripts: &Scripts,
+    job: &'t Job,
+    turn: Turn,
+) -> Result<Vec<u8>, EditError>
+    requires named { slice_get J.given.jobs job.now.site ≡ Some job.now }
+    requires scripts { scripts.now ≡ J.given.scripts }
+    requires leaves { start.leaves.now ≡ J.given.leaves }
+    requires job { IsJob J.given.leaves J.given.scripts job.now }
+    requires first { start.seat ≡ seat_at start.table.now 0 }
+{
+    let Start {
+        alloc,
+        table,
+        seat,
+        leaves,
+    } = start;
+    let mut pass = table.first_pass(alloc, seat)?;
+    let mut handles = LiveHandles::new();
+    let mut w = Work {
+        alloc,
+        forms: table,
+        pass: &mut pass,
+        leaves,
+        handles: &mut handles,
+    };
+    let text = attempt_text::<J, R>(&mut w, rt, scripts, job, turn);
+    let Work {
+        alloc: _,
+        forms: _,
+        pass: _,
+        leaves: _,
+        handles: _,
+    } = w;
+    text
+}
+
+/// What comes of a job that is the only one of its run.
+fn job_text<'t, R: Wait>(
+    rt: &R,
+    start: Start<'t>,
+    scripts: &Scripts,
+    job: &'t Job,
+    turn: Turn,
+) -> Result<Vec<u8>, EditError>
+    requires job { IsJob start.leaves.now scripts.now job.now }
+    requires site { job.now.site ≡ 0 }
+    requires first { start.seat ≡ seat_at start.table.now 0 }
+{
+    named_text::<Brand, R>(rt, start, scripts, job, turn)
+}
+
+/// What comes of a case.
+fn case_text<R: Wait>(
+    rt: &R,
+    alloc: Global,
+    leaves: &Leaves,
+    attempt: Attempt,
+    case: &Case,
+) -> Result<Vec<u8>, EditError> {
+    let site = Site {
+        ty: case.ty,
+        argument: attempt.argument,
+        ..LINKED
+    };
+    let turn = Turn {
+        serial: attempt.serial,
+        arguments: case.arguments,
+    };
+    let scripts = scripts_of(alloc, case.lines)?;
+    let job = job_for(alloc, leaves, &scripts, site)?;
+    let (table, seat) = FormTable::new(alloc)?;
+    let start = Start {
+        alloc,
+        table: &table,
+        seat,
+        leaves,
+    };
+    job_text(rt, start, &scripts, &job, turn)
+}
+
+/// The name of the first case that does not end as is wanted.
+pub(crate) fn first_failing<R: Wait>(
+    rt: &R,
+    alloc: Global,
+    attempt: Attempt,
+    cases: &[Case],
+) -> Result<Option<&'static str>, EditError> {
+    let leaves = read_manifest(alloc, MANIFEST).map_err(|_| NoMemory)?;
+    for case in cases {
+        let text = case_text(rt, alloc, &leaves, attempt, case)?;
+        if text.as_slice() != case.wanted.as_bytes() {
+            return Ok(Some(case.name));
+        }
+    }
+    Ok(None)
+}
