@@ -12,7 +12,7 @@ use Rattle.mh_values.specs.declared.value.Value.TheVariants as value
 use Rattle.mh_values.specs.declared.value.Outcome.{Outcome}
 use Rattle.mh_values.specs.declared.value.Outcome.TheVariants.{Return, Throw}
 use Rattle.mh_values.specs.declared.value.LeafId.{LeafId}
-use Rattle.mh_values.specs.declared.value.LeafCall.{LeafCall}
+use Rattle.mh_values.specs.declared.calls.LeafCall.{LeafCall}
 use Rattle.mh_values.specs.Class.{string_class, internal_error_class, null_pointer_class}
 use Rattle.mh_values.specs.Classes.{AreClasses}
 use Rattle.mh_values.specs.Computation.{Gave}

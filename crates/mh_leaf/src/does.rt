@@ -9,7 +9,7 @@ use crate::arguments::{
 use crate::text::{joined, measured};
 use crate::{Kind, Leaf};
 use mh_base::{Copied, NoMemory};
-use mh_values::{ClassId, Exc, Items, Num, Outcome, Value};
+use mh_values::{ClassId, Exc, Num, Outcome, Value};
 use std::alloc::Global;
 
 fn int(number: i32) -> Outcome
@@ -159,12 +159,11 @@ fn length(args: &[Value]) -> Result<Option<Outcome>, NoMemory>
 pub fn kind_does(
     alloc: Global,
     kind: Kind,
-    args: &Items,
+    args: &[Value],
     n: u32,
 ) -> Result<Option<Outcome>, NoMemory>
     ensures { IfOk result (λ outcome. outcome ≡ kind_on kind args.now n) }
 {
-    let args = args.as_slice();
     match kind {
         Kind::Iadd => Ok(sum(args)),
         Kind::Isub => Ok(difference(args)),
@@ -186,11 +185,11 @@ pub fn kind_does(
 }
 
 /// Whether a leaf, virtual or not, is called on null as its receiver, so that it does not run.
-pub fn lacks_receiver(is_virtual: bool, args: &Items) -> bool
+pub fn lacks_receiver(is_virtual: bool, args: &[Value]) -> bool
     ensures { (leaf : Called) → leaf.is_virtual ≡ is_virtual →
         result ≡ lacks_receiver leaf args.now }
 {
-    match args.as_slice() {
+    match args {
         [Value::Null, ..] => is_virtual,
         _ => false,
     }
@@ -198,7 +197,7 @@ pub fn lacks_receiver(is_virtual: bool, args: &Items) -> bool
 
 /// What a leaf does with these arguments, where `n` leaf calls were made before in the invocation.
 /// A virtual leaf whose receiver is null throws `NullPointerException` and makes no leaf call.
-pub fn leaf_does(alloc: Global, leaf: &Leaf, args: &Items, n: u32) -> Result<Outcome, NoMemory>
+pub fn leaf_does(alloc: Global, leaf: &Leaf, args: &[Value], n: u32) -> Result<Outcome, NoMemory>
     requires { IsSome (leaf_outcome leaf.now args.now n) }
     ensures { IfOk result (λ outcome. leaf_outcome leaf.now args.now n ≡ Some outcome) }
 {

@@ -1,14 +1,7 @@
 -- Which leaves an index finds when texts get numbers.
-use Rattle.std.proofs.Common.{◌≡◌, refl, sym, ap, ap₂, ◌∙◌, ℕ, ◌<◌, ◌≤◌, ◌==◌, ◌⊎◌, inl, inr, Bool, true, false, ◌&&◌, cond, List, Option, None, Some, Result, Ok, Err, OnOk, OnErr, arith}
-use Rattle.std.proofs.lemmas.Bool.{cases_Bool, eqb-true, eq-eqb, false_from_ne_true, and_parts, and_right}
-use Rattle.std.proofs.lemmas.Bool.Decides.{nat_tests}
-use Rattle.std.specs.Cmp.{both_tied}
-use Rattle.std.proofs.lemmas.Slice.Eq.{bytes_eq-Decides}
-use Rattle.std.specs.BTreeMap.{BTreeMap, is_at, get, btree_map_len, Updates, IsUnchanged}
-use Rattle.std.specs.Map.{lookup}
-use Rattle.std.specs.Ordering.{nat_cmp, is_eq}
-use Rattle.std.specs.Str.{bytes_eq}
-use Rattle.mh_leaves.specs.Numbers.{number_at, Key, key_cmp, leaf_at, AreApart, AreNumbered, AreGrown, AreByTexts}
+use Rattle.std.proofs.Common.{◌≡◌, refl, sym, ap, ap₂, ◌∙◌, ℕ, ◌≤◌, ◌⊎◌, inl, inr, List, Option, None, Some, arith}
+use Rattle.std.specs.BTreeMap.{BTreeMap, get, btree_map_len}
+use Rattle.mh_leaves.specs.Numbers.{number_at, Key, key_cmp, leaf_at, AreGrown, AreByTexts}
 use Rattle.mh_leaves.proofs.Numbering.{Texts}
 
 abbrev pub Found : Type 0

@@ -1,5 +1,5 @@
 -- What is registered stays so when a class or a leaf is put after the others.
-use Rattle.std.proofs.Common.{◌≡◌, refl, zero, suc, true, false, if◌then◌else◌, sym, ap, ◌∙◌, ℕ, ◌+◌, ◌<◌, List, [], ◌∷◌, ◌++◌, length, slice_get, Option, None, Some, Result, Ok, Err, OnOk, OnErr, IfSome, arith, length-append}
+use Rattle.std.proofs.Common.{◌≡◌, refl, suc, true, false, if◌then◌else◌, sym, ap, ◌∙◌, ℕ, ◌+◌, ◌<◌, List, [], ◌∷◌, ◌++◌, length, slice_get, Option, None, Some, Result, Ok, Err, OnOk, OnErr, IfSome, arith, length-append}
 use Rattle.std.specs.Option.{option_map_or}
 use Rattle.std.proofs.lemmas.Option.{slice_get_within}
 use Rattle.std.proofs.lemmas.List.Elements.{All-push}
@@ -66,6 +66,7 @@ leaf-grown classes more leaf h = record {
   owner = omega (arith, h.owner, length-append classes more);
   typed = h.typed;
   throws = throws-grown classes more leaf.kind h.throws;
+  few = h.few;
 }
 
 -- a class more

@@ -1,8 +1,9 @@
 -- A leaf of an owner that is there, whose kind allows its type, may be registered.
-use Rattle.std.proofs.Common.{◌≡◌, subst, ◌<◌, true, List, length}
+use Rattle.std.proofs.Common.{◌≡◌, subst, ◌<◌, ◌≤◌, true, List, length}
 use Rattle.std.proofs.lemmas.Bool.{and_parts}
 use Rattle.mh_values.specs.declared.class.Class.{Class}
 use Rattle.mh_values.specs.Class.{throwable_class}
+use Rattle.mh_values.specs.Slots.{slots_of_all}
 use Rattle.mh_values.proofs.Subclasses.{reaches-sound}
 use Rattle.mh_leaf.specs.declared.leaf.Kind.{Kind}
 use Rattle.mh_leaf.specs.declared.leaf.Kind.TheVariants as kind
@@ -29,8 +30,8 @@ throws classes kind.Tick h = tt
 throws classes kind.Note h = tt
 
 pub leaf-typed : (classes tested : List Class) (leaf : Leaf) → leaf.owner.0 < length classes → tested ≡ classes → is_well_typed tested leaf ≡ true →
-    IsLeafOf classes leaf
-leaf-typed classes tested leaf owner same typed =
+    slots_of_all leaf.ty.params ≤ 254 → IsLeafOf classes leaf
+leaf-typed classes tested leaf owner same typed few =
     let is : is_well_typed classes leaf ≡ true = subst (λ cs. is_well_typed cs leaf ≡ true) same typed in
     let q = and_parts (is_kind_type leaf.kind leaf.ty) (throws_exceptions classes leaf.kind) is in
-    record { owner = owner; typed = q.0; throws = throws classes leaf.kind q.1 }
+    record { owner = owner; typed = q.0; throws = throws classes leaf.kind q.1; few = few }

@@ -3,6 +3,7 @@ pub mod Find
 pub mod Index
 pub mod Kept
 pub mod Manifest
+pub mod Names
 pub mod Numbers
 pub mod Provided
 pub mod Reference

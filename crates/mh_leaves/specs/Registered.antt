@@ -9,6 +9,7 @@ use Rattle.mh_values.specs.declared.value.Outcome.{Outcome}
 use Rattle.mh_values.specs.declared.value.LeafId.{LeafId}
 use Rattle.mh_values.specs.Class.{builtin_classes, IsSubclass, throwable_class}
 use Rattle.mh_values.specs.Classes.{class_of}
+use Rattle.mh_values.specs.Slots.{slots_of_all}
 use Rattle.mh_leaf.specs.declared.leaf.Kind.{Kind}
 use Rattle.mh_leaf.specs.declared.leaf.Kind.TheVariants.{Throw}
 use Rattle.mh_leaf.specs.declared.leaf.Leaf.{Leaf}
@@ -36,11 +37,12 @@ abbrev pub ThrowsException : List Class → Kind → Type 0
 ThrowsException classes (Throw class) = IsSubclass classes class throwable_class
 ThrowsException classes _ = Unit {0}
 
--- a leaf's owner is a class of the list, and its kind allows its type
+-- a leaf's owner is a class of the list, its kind allows its type, and its parameters, the receiver among them, take at most 254 slots
 pub record IsLeafOf (classes : List Class) (leaf : Leaf) : Type 0 where
   pub owner : leaf.owner.0 < length classes
   pub typed : IsTrue (is_kind_type leaf.kind leaf.ty)
   pub throws : ThrowsException classes leaf.kind
+  pub few : slots_of_all leaf.ty.params ≤ 254
 
 -- what holds of the leaves of each manifest
 pub record AreRegistered (table : LeafTable) : Type 0 where

@@ -4,7 +4,7 @@ use crate::index::Index;
 use crate::{How, Missing, Reference};
 use mh_base::NoMemory;
 use mh_leaf::{Leaf, leaf_does};
-use mh_values::{ClassId, Classes, Items, LeafId, MOST_CLASSES, MethodTy, Outcome};
+use mh_values::{ClassId, Classes, LeafId, MOST_CLASSES, MethodTy, Outcome, Value};
 use std::alloc::Global;
 use std::marker::Model;
 
@@ -189,7 +189,7 @@ impl Leaves {
         &self,
         alloc: Global,
         id: LeafId,
-        args: &Items,
+        args: &[Value],
         n: u32,
     ) -> Result<Outcome, NoMemory>
         requires { outcome_of self.now id args.now n ≢ None }

@@ -5,6 +5,7 @@ ghost use Rattle.mh_values.specs.Classes.{class_named};
 ghost use Rattle.mh_values.specs.Descriptor.{desc};
 ghost use Rattle.mh_leaves.specs.Fault.{TellsManifest, TellsInto};
 ghost use Rattle.mh_leaves.specs.Find.{has_texts};
+ghost use Rattle.mh_leaves.specs.Names.{KnowsNames};
 ghost use Rattle.mh_leaves.specs.Reference.{texts_of};
 ghost use Rattle.mh_leaves.specs.Manifest.{manifest, kind_word, class_added, class_line, knows_name, knows_names, has_known_classes, type_if_read, handle_type, leaf_added, leaf_of, owned_leaf, is_leaf_text, leaf_line, three_tokens, five_tokens, is_virtual_word, tokens_meaning, line_meaning};
 ghost use Rattle.mh_leaves.specs.declared.manifest.ManifestError.TheVariants.{NoMemory as WithoutMemory};
@@ -206,7 +207,8 @@ fn knows_names(alloc: Global, classes: &Classes, descriptor: &[u8]) -> Result<bo
 
 // Whether no class is unknown that a descriptor names, if it is one.
 fn has_known_classes(alloc: Global, classes: &Classes, descriptor: &[u8]) -> Result<bool, NoMemory>
-    ensures { IfOk result (λ known. known ≡ has_known_classes classes.now descriptor.now) }
+    ensures names { IfOk result (λ known. KnowsNames classes.now descriptor.now known) }
+    ensures is { IfOk result (λ known. known ≡ has_known_classes classes.now descriptor.now) }
 {
     if descriptor_text(descriptor).is_err() {
         return Ok(true);

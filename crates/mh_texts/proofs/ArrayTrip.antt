@@ -1,45 +1,35 @@
 -- The printed items of an array read back.
-use Rattle.std.proofs.Common.{◌≡◌, refl, sym, ap, subst, ◌∙◌, zero, suc, codes, ℕ, ◌-◌, ◌<◌, ◌==◌, true, false, not, if◌then◌else◌, List, [], ◌∷◌, ◌++◌, length, take, map, flat_map, None, Some, Ok, Err, option_map, option_and_then, length-append, lit<, arith}
-use Rattle.std.proofs.lemmas.Bool.{and_parts, and_from, or_from}
+use Rattle.std.proofs.Common.{◌≡◌, refl, sym, ap, ◌∙◌, zero, suc, codes, ℕ, ◌<◌, ◌==◌, true, false, if◌then◌else◌, List, [], ◌∷◌, ◌++◌, length, map, flat_map, None, Some, option_map, option_and_then, length-append, lit<, arith}
+use Rattle.std.proofs.lemmas.Bool.{and_parts}
 use Rattle.std.proofs.lemmas.List.{append-nil}
 use Rattle.std.proofs.lemmas.List.Concat.{flat_map-cons}
 use Rattle.std.proofs.lemmas.List.Splits.{slice_split_none, slice_split_at}
-use Rattle.std.specs.List.{All, list_all, slice_split}
-use Rattle.std.specs.Option.{option_map_or}
+use Rattle.std.specs.List.{All, slice_split}
 use Rattle.mh_values.specs.declared.class.Class.{Class}
-use Rattle.mh_values.specs.declared.class.ClassId.{ClassId}
-use Rattle.mh_values.specs.declared.descriptor.DescriptorError.TheVariants as descriptor
 use Rattle.mh_values.specs.declared.types.Comp.{Comp}
 use Rattle.mh_values.specs.declared.types.Comp.TheVariants as comp
-use Rattle.mh_values.specs.declared.types.Primitive.TheVariants as primitive
-use Rattle.mh_values.specs.declared.types.Ty.TheVariants as ty
 use Rattle.mh_values.specs.declared.value.Num.TheVariants as num
 use Rattle.mh_values.specs.declared.value.Cell.{Cell}
 use Rattle.mh_values.specs.declared.value.Cell.TheVariants as cell
-use Rattle.mh_values.specs.Array.{item_type}
-use Rattle.mh_values.specs.Classes.{AreClasses, name_of}
-use Rattle.mh_values.specs.Descriptor.{found_then, class_meant, type_meant, unless_bad, type_desc}
-use Rattle.mh_values.specs.Grammar.{type_fault}
+use Rattle.mh_values.specs.Classes.{AreClasses}
 use Rattle.mh_values.specs.HasType.{is_item_of, are_items_of}
-use Rattle.mh_values.proofs.NamedType as named
-use Rattle.mh_values.proofs.TypeSpelling.{is_name, is_name_byte}
-use Rattle.mh_texts.specs.Literal.{component_of, if_item, items_of, listed, item_of}
-use Rattle.mh_texts.specs.Printed.{name_text, component_text, item_text, items_text}
-use Rattle.mh_texts.specs.Writable.{is_plain, IsPlainClass, AreWritable, IsWritableComponent, bare_item}
+use Rattle.mh_texts.specs.Literal.{if_item, items_of, listed, item_of}
+use Rattle.mh_texts.specs.Printed.{item_text, items_text}
+use Rattle.mh_texts.specs.Writable.{AreWritable, bare_item}
 use Rattle.mh_texts.proofs.ItemTrip.{item_trip, no_comma_in_item}
-use Rattle.mh_texts.proofs.NameTrip.{Lacks, Lacks-append, front_of, plain_byte, plain_lacks, class_text_is}
+use Rattle.mh_base.proofs.Cuts.{Lacks}
 
-all_lack : (xs : List ℕ) → Lacks 44 xs → All (λ b. (b == 44) ≡ false) xs
+pub all_lack : (xs : List ℕ) → Lacks 44 xs → All (λ b. (b == 44) ≡ false) xs
 all_lack [] lacks k d within = absurd (omega (arith, within))
 all_lack (x ∷ xs) lacks zero d within = lacks.0
 all_lack (x ∷ xs) lacks (suc k) d within = all_lack xs lacks.1 k d (omega arith)
 
-abbrev AllLack : List (List ℕ) → Type 0
+abbrev pub AllLack : List (List ℕ) → Type 0
 AllLack [] = Unit {0}
 AllLack (t ∷ ts) = Lacks 44 t × AllLack ts
 
 -- pieces with commas between them are cut into the pieces
-split_joined : (t : List ℕ) (ts : List (List ℕ)) → Lacks 44 t → AllLack ts → slice_split (λ b. b == 44) (t ++ flat_map (λ u. 44 ∷ u) ts) ≡ t ∷ ts
+pub split_joined : (t : List ℕ) (ts : List (List ℕ)) → Lacks 44 t → AllLack ts → slice_split (λ b. b == 44) (t ++ flat_map (λ u. 44 ∷ u) ts) ≡ t ∷ ts
 split_joined t [] lacks all = ap (slice_split (λ b. b == 44)) (append-nil t) ∙ slice_split_none (λ b. b == 44) t (all_lack t lacks)
 split_joined t (u ∷ us) lacks all =
     ap (λ r. slice_split (λ b. b == 44) (t ++ r)) (flat_map-cons (λ v. 44 ∷ v) u us)
@@ -96,7 +86,8 @@ item_some classes (cell.Object c k) = omega arith
 item_some classes (cell.Thrown e) = omega arith
 item_some classes cell.Null = lit< tt
 
-listed_some : (classes : List Class) (c : Comp) (text : List ℕ) → 0 < length text → listed classes c text ≡ items_of classes c (slice_split (λ b. b == 44) text)
+pub listed_some : (classes : List Class) (c : Comp) (text : List ℕ) → 0 < length text →
+    listed classes c text ≡ items_of classes c (slice_split (λ b. b == 44) text)
 listed_some classes c [] some = absurd (omega (arith, some))
 listed_some classes c (b ∷ bs) some = refl
 

@@ -1,10 +1,7 @@
 -- The printed component type of an array reads back.
-use Rattle.std.proofs.Common.{◌≡◌, refl, sym, ap, subst, ◌∙◌, zero, suc, codes, ℕ, ◌-◌, ◌<◌, ◌==◌, true, false, not, if◌then◌else◌, List, [], ◌∷◌, ◌++◌, length, take, map, flat_map, None, Some, Ok, Err, option_map, option_and_then, length-append, lit<, arith}
+use Rattle.std.proofs.Common.{◌≡◌, refl, sym, ap, subst, ◌∙◌, codes, ℕ, ◌-◌, ◌<◌, true, not, List, [], ◌∷◌, ◌++◌, length, take, None, Some, Ok, Err, length-append, arith}
 use Rattle.std.proofs.lemmas.Bool.{and_parts, and_from, or_from}
-use Rattle.std.proofs.lemmas.List.{append-nil}
-use Rattle.std.proofs.lemmas.List.Concat.{flat_map-cons}
-use Rattle.std.proofs.lemmas.List.Splits.{slice_split_none, slice_split_at}
-use Rattle.std.specs.List.{All, list_all, slice_split}
+use Rattle.std.specs.List.{list_all}
 use Rattle.std.specs.Option.{option_map_or}
 use Rattle.mh_values.specs.declared.class.Class.{Class}
 use Rattle.mh_values.specs.declared.class.ClassId.{ClassId}
@@ -13,21 +10,17 @@ use Rattle.mh_values.specs.declared.types.Comp.{Comp}
 use Rattle.mh_values.specs.declared.types.Comp.TheVariants as comp
 use Rattle.mh_values.specs.declared.types.Primitive.TheVariants as primitive
 use Rattle.mh_values.specs.declared.types.Ty.TheVariants as ty
-use Rattle.mh_values.specs.declared.value.Num.TheVariants as num
-use Rattle.mh_values.specs.declared.value.Cell.{Cell}
-use Rattle.mh_values.specs.declared.value.Cell.TheVariants as cell
 use Rattle.mh_values.specs.Array.{item_type}
 use Rattle.mh_values.specs.Classes.{AreClasses, name_of}
 use Rattle.mh_values.specs.Descriptor.{found_then, class_meant, type_meant, unless_bad, type_desc}
 use Rattle.mh_values.specs.Grammar.{type_fault}
-use Rattle.mh_values.specs.HasType.{is_item_of, are_items_of}
 use Rattle.mh_values.proofs.NamedType as named
 use Rattle.mh_values.proofs.TypeSpelling.{is_name, is_name_byte}
-use Rattle.mh_texts.specs.Literal.{component_of, if_item, items_of, listed, item_of}
-use Rattle.mh_texts.specs.Printed.{name_text, component_text, item_text, items_text}
-use Rattle.mh_texts.specs.Writable.{is_plain, IsPlainClass, AreWritable, IsWritableComponent, bare_item}
-use Rattle.mh_texts.proofs.ItemTrip.{item_trip, no_comma_in_item}
-use Rattle.mh_texts.proofs.NameTrip.{Lacks, Lacks-append, front_of, plain_byte, plain_lacks, class_text_is}
+use Rattle.mh_texts.specs.Literal.{component_of}
+use Rattle.mh_texts.specs.Printed.{name_text, component_text}
+use Rattle.mh_texts.specs.Writable.{is_plain, IsPlainClass, IsWritableComponent}
+use Rattle.mh_base.proofs.Cuts.{Lacks, Lacks-append, front_of}
+use Rattle.mh_texts.proofs.NameTrip.{plain_byte, plain_lacks, class_text_is}
 
 plain_is_name_byte : (name : List ℕ) → list_all is_plain name ≡ true → list_all is_name_byte name ≡ true
 plain_is_name_byte [] plain = refl

@@ -6,7 +6,7 @@ use Rattle.std.specs.Fmt.{digits, digits_onto, digit_glyph}
 use Rattle.std.specs.Str.Parse.{digits_value_after}
 use Rattle.mh_texts.specs.declared.escape.Escape.{Escape}
 use Rattle.mh_texts.specs.declared.escape.Escape.TheVariants as escape
-use Rattle.mh_texts.specs.Text.{hex_value, scalar, whole, goes_on, one_digit_more, step, in_front, characters_from}
+use Rattle.mh_texts.specs.Escapes.{hex_value, scalar, whole, goes_on, one_digit_more, step, in_front, characters_from}
 
 -- what follows a byte that was read
 abbrev pub rest_of : List ℕ → Escape × Option ℕ → Option (List ℕ)

@@ -15,9 +15,12 @@ use Rattle.mh_values.specs.Exception.{bare}
 use Rattle.mh_texts.specs.Literal.{has_own_literal, if_object, object_of, if_exception, item_of}
 use Rattle.mh_texts.specs.Number.{is_long, unsigned_of}
 use Rattle.mh_texts.specs.Printed.{name_text, bool_text, item_text}
-use Rattle.mh_texts.specs.Text.{is_graphic, hex_value, escaped_char, escaped}
+use Rattle.mh_texts.specs.Characters.{is_graphic}
+use Rattle.mh_texts.specs.Escapes.{hex_value}
+use Rattle.mh_texts.specs.Text.{escaped_char, escaped}
 use Rattle.mh_texts.specs.Writable.{IsPlainClass, IsWritableItem, bare_item}
-use Rattle.mh_texts.proofs.NameTrip.{Lacks, Lacks-append, cut_found, plain_lacks, class_text_is, class_found}
+use Rattle.mh_base.proofs.Cuts.{Lacks, Lacks-append, cut_found}
+use Rattle.mh_texts.proofs.NameTrip.{plain_lacks, class_text_is, class_found}
 use Rattle.mh_texts.proofs.NumberTrip.{unsigned_trip, long_trip, int_trip, int_long, bool_trip}
 use Rattle.mh_texts.proofs.HexTrip.{AreHexDigits, digits-hex}
 use Rattle.mh_texts.proofs.TextTrip.{text_trip, printed_by}

@@ -9,7 +9,7 @@ use Rattle.mh_values.specs.declared.value.Value.TheVariants as value
 use Rattle.mh_values.specs.Class.{class_at, builtin_classes, object_class, string_class, throwable_class}
 use Rattle.mh_values.specs.Exception.{bare}
 use Rattle.mh_texts.specs.Literal.{literal_of}
-use Rattle.mh_texts.specs.Text.{text_of}
+use Rattle.mh_texts.specs.Escapes.{text_of}
 
 truth : literal_of builtin_classes (codes "z:true") ≡ Some (value.Prim (num.Z true))
 truth = refl

@@ -17,13 +17,13 @@ use Rattle.mh_texts.specs.Literal.{component_of, listed, if_few, unclosed, array
 use Rattle.mh_texts.specs.Printed.{component_text, items_text, value_text, shown_value}
 use Rattle.mh_texts.specs.Writable.{IsWritableArray, IsWritable, bare_item, bare_value}
 use Rattle.mh_texts.proofs.ItemTrip.{item_trip}
-use Rattle.mh_texts.proofs.NameTrip.{cut_found, front_of, drop_front}
+use Rattle.mh_base.proofs.Cuts.{cut_found, front_of, drop_front}
 use Rattle.mh_texts.proofs.ArrayTrip.{listed_trip}
 use Rattle.mh_texts.proofs.ComponentTrip.{component_trip, no_bracket}
 
 -- ---- arrays
 
-unclosed_trip : (inside : List ℕ) → unclosed (inside ++ 93 ∷ []) ≡ Some inside
+pub unclosed_trip : (inside : List ℕ) → unclosed (inside ++ 93 ∷ []) ≡ Some inside
 unclosed_trip inside =
     let long : length (inside ++ 93 ∷ []) - 1 ≡ length inside = omega (arith, length-append inside (93 ∷ [])) in
     let last : bytes_eq (drop (length (inside ++ 93 ∷ []) - 1) (inside ++ 93 ∷ [])) (93 ∷ []) ≡ true =

@@ -6,9 +6,11 @@ use Rattle.std.proofs.lemmas.List.Concat.{flat_map-cons}
 use Rattle.std.specs.Fmt.{digits}
 use Rattle.std.specs.Str.Parse.{digits_value_after}
 use Rattle.mh_texts.specs.declared.escape.Escape.TheVariants as escape
-use Rattle.mh_texts.specs.Text.{is_graphic, scalar, whole, goes_on, step, in_front, characters_from, if_short, text_of, escaped_char, escaped}
+use Rattle.mh_texts.specs.Characters.{is_graphic}
+use Rattle.mh_texts.specs.Escapes.{scalar, whole, goes_on, step, in_front, characters_from, if_short, text_of}
+use Rattle.mh_texts.specs.Text.{escaped_char, escaped}
 use Rattle.mh_texts.specs.Writable.{AreScalars}
-use Rattle.mh_texts.proofs.HexTrip.{rest_of, none_in_front, hex_read, digits-hex, digits-short, scalar-low}
+use Rattle.mh_texts.proofs.HexTrip.{AreHexDigits, rest_of, none_in_front, hex_read, digits-hex, digits-short, scalar-low}
 
 -- ---- one character
 
@@ -24,16 +26,14 @@ printed_by c space comma line backslash graphic =
     else (if backslash then codes "\\\\"
     else (if graphic then c ∷ [] else codes "\\u{" ++ digits 16 false c ++ codes "}"))))
 
-by_number : (rest : List ℕ) (c : ℕ) → scalar c ≡ Some c → characters_from escape.Outside ((codes "\\u{" ++ digits 16 false c ++ codes "}") ++ rest) ≡ option_map
-    (λ cs. c ∷ cs) (characters_from escape.Outside rest)
-by_number rest c is =
+-- digits of a character's number, in braces
+pub by_digits : (rest ds : List ℕ) (c : ℕ) → AreHexDigits ds → 0 < length ds → length ds ≤ 6 → digits_value_after 16 0 ds ≡ c → scalar c ≡ Some c →
+    characters_from escape.Outside ((codes "\\u{" ++ ds ++ codes "}") ++ rest) ≡ option_map (λ cs. c ∷ cs) (characters_from escape.Outside rest)
+by_digits rest ds c hex one short same is =
     let low : c < 0x110000 = scalar-low c is in
-    let ds : List ℕ = digits 16 false c in
-    let k = digits_is_IsNumeral 16 false (lit≤ tt) (lit≤ tt) c (omega arith) in
-    let same : digits_value_after 16 0 ds ≡ c = k.1 in
-    let some : nat_lt 0 (0 + length ds) ≡ true = lt-ltb 0 (0 + length ds) (omega (arith, k.0.0)) in
+    let some : nat_lt 0 (0 + length ds) ≡ true = lt-ltb 0 (0 + length ds) (omega (arith, one)) in
     let joined = append_assoc ds (125 ∷ []) rest in
-    let read = hex_read ds 0 0 (125 ∷ rest) (digits-hex c) (omega (arith, digits-short c low)) (omega (arith, same)) in
+    let read = hex_read ds 0 0 (125 ∷ rest) hex (omega (arith, short)) (omega (arith, same)) in
     let closed : step (escape.Digits (0 + length ds) (digits_value_after 16 0 ds)) 125 ≡ whole c =
     ap (λ t. if t then option_and_then whole (scalar (digits_value_after 16 0 ds)) else None) some
     ∙ ap (λ n. option_and_then whole (scalar n)) same
@@ -45,7 +45,14 @@ by_number rest c is =
     ∙ read
     ∙ ap (option_and_then (rest_of rest)) closed
 
-by_itself : (rest : List ℕ) (c : ℕ) → (c == 92) ≡ false → is_graphic c ≡ true → characters_from escape.Outside (c ∷ rest) ≡ option_map (λ cs. c ∷ cs)
+by_number : (rest : List ℕ) (c : ℕ) → scalar c ≡ Some c → characters_from escape.Outside ((codes "\\u{" ++ digits 16 false c ++ codes "}") ++ rest) ≡ option_map
+    (λ cs. c ∷ cs) (characters_from escape.Outside rest)
+by_number rest c is =
+    let low : c < 0x110000 = scalar-low c is in
+    let k = digits_is_IsNumeral 16 false (lit≤ tt) (lit≤ tt) c (omega arith) in
+    by_digits rest (digits 16 false c) c (digits-hex c) k.0.0 (digits-short c low) k.1 is
+
+pub by_itself : (rest : List ℕ) (c : ℕ) → (c == 92) ≡ false → is_graphic c ≡ true → characters_from escape.Outside (c ∷ rest) ≡ option_map (λ cs. c ∷ cs)
     (characters_from escape.Outside rest)
 by_itself rest c other graphic =
     ap (option_and_then (rest_of rest)) (ap (λ t. if t then goes_on escape.Backslash else (if is_graphic c then whole c else None)) other ∙

@@ -1,5 +1,9 @@
+pub mod Characters
+pub mod Escapes
 pub mod Literal
 pub mod Number
 pub mod Printed
+pub mod ReadsBack
+pub mod Spells
 pub mod Text
 pub mod Writable

@@ -25,7 +25,7 @@ use Rattle.mh_values.specs.HasType.{is_item_of}
 use Rattle.mh_texts.specs.declared.literal.LiteralError.{LiteralError}
 use Rattle.mh_texts.specs.declared.literal.LiteralError.TheVariants as literal_error
 use Rattle.mh_texts.specs.Number.{int_of, long_of, unsigned_of}
-use Rattle.mh_texts.specs.Text.{text_of}
+use Rattle.mh_texts.specs.Escapes.{text_of}
 
 -- ---- numbers
 

@@ -17,7 +17,8 @@ use Rattle.mh_values.specs.Exception.{bare}
 use Rattle.mh_values.specs.HasType.{are_items_of}
 use Rattle.mh_texts.specs.Literal.{has_own_literal}
 use Rattle.mh_texts.specs.Number.{is_int, is_long}
-use Rattle.mh_texts.specs.Text.{is_graphic, scalar}
+use Rattle.mh_texts.specs.Characters.{is_graphic}
+use Rattle.mh_texts.specs.Escapes.{scalar}
 
 -- a byte of a class name that needs no escape and ends no part of a literal: none of `\ , # [ ; .`
 abbrev pub is_plain : ℕ → Bool

@@ -1,6 +1,7 @@
 ghost use Rattle.std.specs.Prelude.{◌≡◌};
 ghost use Rattle.mh_texts.specs.Literal.{TellsLiteral};
-ghost use Rattle.mh_texts.specs.Text.{is_graphic, hex_value, after_backslash, one_digit_more, within_braces, step, text_of};
+ghost use Rattle.mh_texts.specs.Characters.{is_graphic};
+ghost use Rattle.mh_texts.specs.Escapes.{hex_value, after_backslash, one_digit_more, within_braces, step, text_of};
 
 use crate::LiteralError;
 use mh_base::{Frozen, Seq};

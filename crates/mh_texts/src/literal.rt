@@ -3,6 +3,7 @@ ghost use Rattle.std.specs.Option.{option_copied};
 ghost use Rattle.mh_values.specs.Array.{value_of_item};
 ghost use Rattle.mh_values.specs.Descriptor.{type_desc};
 ghost use Rattle.mh_texts.specs.Literal.{bool_of, number_of, has_own_literal, object_of, exception_of, tagged, item_of, component_of, items_of, listed, unclosed, array_of_literal, literal_of, TellsLiteral};
+ghost use Rattle.mh_texts.specs.Spells.{IsSpelled};
 
 use crate::escape::read_text;
 use crate::number::{read_int, read_long, read_unsigned};
@@ -235,15 +236,23 @@ fn read_array(alloc: Global, classes: &Classes, text: &[u8]) -> Result<Value, Li
     }
 }
 
-/// TellsLiteral the literal of a value: `z:`, `i:` and `j:` a number of a primitive type, `Z:`, `I:` and
-/// `J:` a boxed one, `s:` a text, `null`, `o:CLASS#N` an object, `x:CLASS` an exception with an empty
-/// message, `a:COMP[ITEM,ITEM]` an array. In a text `\s` is a space, `\c` a comma, `\n` LF, `\\` a
-/// backslash, and `\u{H}` the character of a hexadecimal number.
-pub fn read_literal(alloc: Global, token: &[u8], classes: &Classes) -> Result<Value, LiteralError>
+/// The value of a token: an array after `a:`, else an item.
+fn read_value(alloc: Global, classes: &Classes, token: &[u8]) -> Result<Value, LiteralError>
     ensures { TellsLiteral result (literal_of classes.now token.now) }
 {
     match token {
         [b'a', b':', text @ ..] => read_array(alloc, classes, text),
         _ => Ok(value_of(read_item(alloc, classes, token)?)),
     }
+}
+
+/// Reads the literal of a value: `z:`, `i:` and `j:` a number of a primitive type, `Z:`, `I:` and
+/// `J:` a boxed one, `s:` a text, `null`, `o:CLASS#N` an object, `x:CLASS` an exception with an empty
+/// message, `a:COMP[ITEM,ITEM]` an array. In a text `\s` is a space, `\c` a comma, `\n` LF, `\\` a
+/// backslash, and `\u{H}` the character of a hexadecimal number.
+pub fn read_literal(alloc: Global, token: &[u8], classes: &Classes) -> Result<Value, LiteralError>
+    ensures spelled { IsSpelled classes.now token.now result }
+    ensures tells { TellsLiteral result (literal_of classes.now token.now) }
+{
+    read_value(alloc, classes, token)
 }

@@ -1,5 +1,6 @@
-ghost use Rattle.std.specs.Prelude.{◌≡◌};
+ghost use Rattle.std.specs.Prelude.{◌≡◌, ◌↔◌, ℕ, Some};
 ghost use Rattle.mh_texts.specs.Number.{long_of, int_of, unsigned_of};
+ghost use Rattle.mh_texts.specs.Spells.{SpellsUnsigned};
 
 use itoa::Buffer;
 
@@ -29,9 +30,8 @@ pub(crate) fn read_int(bytes: &[u8]) -> Option<i32>
     i32::try_from(number).ok()
 }
 
-/// The number from 0 to 4,294,967,295 that a text writes in decimal, without a sign or a needless
-/// zero.
-pub fn read_unsigned(bytes: &[u8]) -> Option<u32>
+/// The number of 32 bits that a text writes without a sign.
+fn unsigned_in(bytes: &[u8]) -> Option<u32>
     ensures { result ≡ unsigned_of bytes.now }
 {
     let Ok(text) = str::from_utf8(bytes) else {
@@ -46,4 +46,13 @@ pub fn read_unsigned(bytes: &[u8]) -> Option<u32>
     } else {
         None
     }
+}
+
+/// The number from 0 to 4,294,967,295 that a text writes in decimal, without a sign or a needless
+/// zero.
+pub fn read_unsigned(bytes: &[u8]) -> Option<u32>
+    ensures spelled { (n : ℕ) → (result ≡ Some n) ↔ SpellsUnsigned bytes.now n }
+    ensures is { result ≡ unsigned_of bytes.now }
+{
+    unsigned_in(bytes)
 }

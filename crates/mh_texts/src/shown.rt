@@ -1,6 +1,7 @@
 ghost use Rattle.std.specs.Prelude.{◌≡◌, IfOk};
 ghost use Rattle.std.specs.Option.{option_copied};
 ghost use Rattle.mh_texts.specs.Printed.{said_text, cause_text, shown_value, shown_type, shown_exception};
+ghost use Rattle.mh_texts.specs.ReadsBack.{ReadsBack};
 ghost use Rattle.mh_texts.specs.Text.{cut, escaped, shown_text};
 
 use crate::printed::{cut, push_chars, push_method_type, push_name, push_value};
@@ -28,7 +29,8 @@ pub fn show_name(alloc: Global, name: &[u8]) -> Result<Vec<u8>, NoMemory>
 
 /// A value as it is printed: as its literal, an exception by its class alone.
 pub fn show_value(alloc: Global, v: &Value, classes: &Classes) -> Result<Vec<u8>, NoMemory>
-    ensures { IfOk result (λ shown. shown.items ≡ shown_value classes.now v.now) }
+    ensures back { IfOk result (λ shown. ReadsBack classes.now v.now shown.items) }
+    ensures is { IfOk result (λ shown. shown.items ≡ shown_value classes.now v.now) }
 {
     let mut bytes = Vec::new(alloc);
     push_value(&mut bytes, classes, v)?;

@@ -3,7 +3,7 @@ use Rattle.std.proofs.Common.{◌≡◌, refl, sym, ℕ, ◌-◌, Bool, true, fa
 use Rattle.std.specs.Prelude.{if◌then◌else◌, option_to_list}
 use Rattle.mh_values.specs.declared.class.ClassId.{ClassId}
 use Rattle.mh_values.specs.declared.value.Exc.{Exc}
-use Rattle.mh_values.specs.declared.value.LeafCall.{LeafCall}
+use Rattle.mh_values.specs.declared.calls.LeafCall.{LeafCall}
 use Rattle.mh_values.specs.declared.value.Value.{Value}
 use Rattle.mh_values.specs.declared.value.Value.TheVariants as value
 use Rattle.mh_values.specs.Computation.{Ran, Gave, Threw, Stuck, raised, after, and_then, guarded, spliced}

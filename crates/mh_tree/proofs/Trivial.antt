@@ -7,7 +7,7 @@ use Rattle.mh_values.specs.declared.class.Class.{Class}
 use Rattle.mh_values.specs.declared.types.Ty.{Ty}
 use Rattle.mh_values.specs.declared.types.MethodTy.{MethodTy}
 use Rattle.mh_values.specs.declared.value.Exc.{Exc}
-use Rattle.mh_values.specs.declared.value.LeafCall.{LeafCall}
+use Rattle.mh_values.specs.declared.calls.LeafCall.{LeafCall}
 use Rattle.mh_values.specs.declared.value.Value.{Value}
 use Rattle.mh_values.specs.Classes.{AreClasses}
 use Rattle.mh_values.specs.Computation.{Gave, Threw, Stuck, after, and_then, found}

@@ -33,7 +33,7 @@ name_accepts p has (b ∷ bs) rest good one more =
     accepts_on (standing.Name p has) (standing.Name p true) b (bs ++ 59 ∷ rest) goes (name_accepts p true bs rest parts.1 (λ h. cc) more)
 
 -- a letter of a primitive type is none of these
-base_other : (b c : ℕ) → is_base b ≡ true → is_base c ≡ false → (b == c) ≡ false
+pub base_other : (b c : ℕ) → is_base b ≡ true → is_base c ≡ false → (b == c) ≡ false
 base_other b c base other = ne_eqb b c (λ e. let same : is_base b ≡ is_base c = ap is_base e in cc)
 
 -- how an element begins

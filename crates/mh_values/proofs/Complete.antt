@@ -1,11 +1,11 @@
 -- A text that is spelled by the grammar has no fault.
-use Rattle.std.proofs.Common.{◌≡◌, refl, sym, ap, subst, ◌∙◌, ℕ, ◌+◌, ◌≤◌, true, if◌then◌else◌, nat_le, List, [], ◌∷◌, ◌++◌, Option, None, Some, append_assoc, arith}
+use Rattle.std.proofs.Common.{◌≡◌, refl, sym, ap, subst, ◌∙◌, ℕ, ◌+◌, ◌<◌, ◌≤◌, Bool, true, false, length, if◌then◌else◌, nat_le, List, [], ◌∷◌, ◌++◌, Option, None, Some, append_assoc, arith}
 use Rattle.std.proofs.lemmas.Bool.{le-leb}
 use Rattle.std.proofs.lemmas.List.{append-nil}
 use Rattle.mh_values.specs.declared.descriptor.Place.TheVariants as place
 use Rattle.mh_values.specs.declared.descriptor.Standing.TheVariants as standing
-use Rattle.mh_values.specs.Grammar.{begun, slots_from, parameter, next, first_bad, descriptor_fault}
-use Rattle.mh_values.specs.Spelling.{Spelled, spelled_text, AreSpelled, all_slots, texts_of, IsReturn, return_spelled, IsMethodDescriptor}
+use Rattle.mh_values.specs.Grammar.{begun, slots_from, parameter, next, first_bad, descriptor_fault, type_fault, types_fault}
+use Rattle.mh_values.specs.Spelling.{Spelled, spelled_text, AreSpelled, all_slots, texts_of, IsReturn, return_spelled, IsMethodDescriptor, IsTypeText, AreTypeTexts}
 use Rattle.mh_values.proofs.Beginnings.{Accepts, accepts_on, spelled_begins}
 
 -- ---- method descriptors
@@ -40,3 +40,25 @@ pub descriptor_complete : (text : List ℕ) → IsMethodDescriptor text → desc
 descriptor_complete text d =
     subst (λ t. first_bad 0 standing.Front t ≡ None) (sym d.is) (accepts_on standing.Front (standing.Parameters 0) 40 (texts_of d.params ++ 41 ∷ return_spelled
     d.ret) refl (parameters_accept d.params d.ret 0 d.spelled d.returns (omega (arith, d.few))) 0)
+
+-- ---- one type, and more
+
+pub type_complete : (text : List ℕ) → IsTypeText text → type_fault text ≡ None
+type_complete text d =
+    let begins = spelled_begins d.type.dimensions d.type.element d.spelled.0 d.spelled.1 in
+    let goes = begins.goes place.Last [] (λ at. refl) in
+    subst (λ t. first_bad 0 standing.Alone t ≡ None) (sym (d.is ∙ begins.is)) (accepts_on standing.Alone goes.0 begins.first begins.more goes.1
+    (subst (Accepts goes.0) (append-nil begins.more) goes.2) 0)
+
+types_accept : (some : Bool) (types : List Spelled) → AreSpelled types → (some ≡ false → 0 < length types) → Accepts (standing.Types some) (texts_of types)
+types_accept true [] good one = λ at. refl
+types_accept false [] good one = absurd (omega (arith, one refl))
+types_accept some (t ∷ ts) good one =
+    let begins = spelled_begins t.dimensions t.element good.0.0 good.0.1 in
+    let goes = begins.goes place.Listed (texts_of ts) (types_accept true ts good.1 (λ h. cc)) in
+    subst (Accepts (standing.Types some)) (sym (ap (λ u. u ++ texts_of ts) begins.is)) (accepts_on (standing.Types some) goes.0 begins.first
+    (begins.more ++ texts_of ts) goes.1 goes.2)
+
+pub types_complete : (text : List ℕ) → AreTypeTexts text → types_fault text ≡ None
+types_complete text d =
+    subst (λ t. first_bad 0 (standing.Types false) t ≡ None) (sym d.is) (types_accept false d.types d.spelled (λ h. d.one) 0)

@@ -1,16 +1,16 @@
--- The fault of a text is the first place at which it continues no method descriptor.
-use Rattle.std.proofs.Common.{◌≡◌, refl, sym, ap, subst, ◌∙◌, suc, ℕ, ◌+◌, ◌<◌, ◌≤◌, true, if◌then◌else◌, List, [], ◌∷◌, ◌++◌, length, take, inl, inr, Option, None, Some, arith}
+-- The fault of a text is the first place at which it continues none of its language.
+use Rattle.std.proofs.Common.{◌≡◌, refl, sym, ap, subst, ◌∙◌, suc, ℕ, ◌+◌, ◌<◌, ◌≤◌, true, false, if◌then◌else◌, List, [], ◌∷◌, ◌++◌, length, take, inl, inr, Option, None, Some, arith}
 use Rattle.std.proofs.lemmas.Bool.{cases_Bool}
 use Rattle.std.specs.Option.{option_map_or}
 use Rattle.mh_values.specs.declared.descriptor.Place.{Place}
 use Rattle.mh_values.specs.declared.descriptor.Place.TheVariants as place
 use Rattle.mh_values.specs.declared.descriptor.Standing.{Standing}
 use Rattle.mh_values.specs.declared.descriptor.Standing.TheVariants as standing
-use Rattle.mh_values.specs.Grammar.{after_type, next, is_end, first_bad, descriptor_fault}
-use Rattle.mh_values.specs.Spelling.{IsFirstBad}
+use Rattle.mh_values.specs.Grammar.{after_type, next, is_end, first_bad, descriptor_fault, type_fault, types_fault}
+use Rattle.mh_values.specs.Spelling.{IsFirstBad, IsMethodDescriptor, IsTypeText, AreTypeTexts}
 use Rattle.mh_values.proofs.Beginnings.{Accepts, accepts_on}
-use Rattle.mh_values.proofs.Complete.{descriptor_complete}
-use Rattle.mh_values.proofs.Sound.{descriptor_sound}
+use Rattle.mh_values.proofs.Complete.{descriptor_complete, type_complete, types_complete}
+use Rattle.mh_values.proofs.Sound.{descriptor_sound, type_sound, types_sound}
 
 -- ---- from each place some text goes on to its end
 
@@ -95,14 +95,25 @@ goes_wrong : (text : List ℕ) (at : ℕ) (s : Standing) (p : ℕ) → first_bad
 goes_wrong [] at s p told = (0, at_end s at p told, wrong_end s)
 goes_wrong (b ∷ bs) at s p told = wrong_on s b bs at p (next s b) refl (λ n h. goes_wrong bs (at + 1) n p h) told
 
-pub descriptor_first_bad : (text : List ℕ) (p : ℕ) → descriptor_fault text ≡ Some p → IsFirstBad text p
-descriptor_first_bad text p told =
-    let wrong = goes_wrong text 0 standing.Front p told in
+-- the fault of a text is its first bad place, where the texts of a language are those that have none
+first_bad_of : (Is : List ℕ → Type 0) (start : Standing) → ((text : List ℕ) → first_bad 0 start text ≡ None → Is text) →
+    ((text : List ℕ) → Is text → first_bad 0 start text ≡ None) → (text : List ℕ) (p : ℕ) → first_bad 0 start text ≡ Some p → IsFirstBad Is text p
+first_bad_of Is start sound complete text p told =
+    let wrong = goes_wrong text 0 start p told in
     let n : ℕ = wrong.0 in
     let same : n ≡ p = omega (arith, wrong.1) in
-    subst (IsFirstBad text) same (record {
+    subst (IsFirstBad Is text) same (record {
       within = wrong.2.within;
-      before = (wrong.2.before.0, descriptor_sound (take n text ++ wrong.2.before.0) (wrong.2.before.1 0));
-      here = λ h rest d. wrong.2.here h rest 0 (descriptor_complete (take (n + 1) text ++ rest) d);
-      none = λ d. let none = descriptor_complete text d in cc;
+      before = (wrong.2.before.0, sound (take n text ++ wrong.2.before.0) (wrong.2.before.1 0));
+      here = λ h rest d. wrong.2.here h rest 0 (complete (take (n + 1) text ++ rest) d);
+      none = λ d. let none = complete text d in cc;
     })
+
+pub descriptor_first_bad : (text : List ℕ) (p : ℕ) → descriptor_fault text ≡ Some p → IsFirstBad IsMethodDescriptor text p
+descriptor_first_bad = first_bad_of IsMethodDescriptor standing.Front descriptor_sound descriptor_complete
+
+pub type_first_bad : (text : List ℕ) (p : ℕ) → type_fault text ≡ Some p → IsFirstBad IsTypeText text p
+type_first_bad = first_bad_of IsTypeText standing.Alone type_sound type_complete
+
+pub types_first_bad : (text : List ℕ) (p : ℕ) → types_fault text ≡ Some p → IsFirstBad AreTypeTexts text p
+types_first_bad = first_bad_of AreTypeTexts (standing.Types false) types_sound types_complete

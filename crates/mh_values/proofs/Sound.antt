@@ -6,8 +6,8 @@ use Rattle.std.specs.Option.{option_map_or}
 use Rattle.mh_values.specs.declared.descriptor.Place.TheVariants as place
 use Rattle.mh_values.specs.declared.descriptor.Standing.{Standing}
 use Rattle.mh_values.specs.declared.descriptor.Standing.TheVariants as standing
-use Rattle.mh_values.specs.Grammar.{begun, slots_from, parameter, next, is_end, first_bad, descriptor_fault}
-use Rattle.mh_values.specs.Spelling.{spelled_text, texts_of, return_spelled, IsMethodDescriptor}
+use Rattle.mh_values.specs.Grammar.{begun, slots_from, parameter, next, is_end, first_bad, descriptor_fault, type_fault, types_fault}
+use Rattle.mh_values.specs.Spelling.{spelled_text, texts_of, return_spelled, IsMethodDescriptor, IsTypeText, AreTypeTexts}
 use Rattle.mh_values.proofs.Accepted.{begins_type, some_is}
 use Rattle.mh_values.proofs.Goes.{ParametersFrom, TypesFrom, ReturnFrom, Goes, BeginsType}
 use Rattle.mh_values.proofs.WithinType.{dimensions_step, name_step}
@@ -132,3 +132,13 @@ goes_to_end (b ∷ bs) at s none = on at s b bs (next s b) refl (λ n h. goes_to
 
 pub descriptor_sound : (text : List ℕ) → descriptor_fault text ≡ None → IsMethodDescriptor text
 descriptor_sound text none = goes_to_end text 0 standing.Front none
+
+pub type_sound : (text : List ℕ) → type_fault text ≡ None → IsTypeText text
+type_sound text none =
+    let t = goes_to_end text 0 standing.Alone none in
+    record { type = t.0; spelled = t.1; is = t.2 }
+
+pub types_sound : (text : List ℕ) → types_fault text ≡ None → AreTypeTexts text
+types_sound text none =
+    let from : TypesFrom false text = goes_to_end text 0 (standing.Types false) none in
+    record { types = from.types; one = from.one refl; spelled = from.spelled; is = from.is }

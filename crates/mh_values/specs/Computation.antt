@@ -1,7 +1,7 @@
 -- What a computation gives that runs leaves: a result or an exception, with the leaf calls that it made, in order.
 use Rattle.std.specs.Prelude.{ℕ, ◌+◌, ◌%◌, ◌^◌, List, [], ◌∷◌, ◌++◌, ◌≡◌, Bool, take, drop, Option, None, Some, if◌then◌else◌}
 use Rattle.mh_values.specs.declared.value.Exc.{Exc}
-use Rattle.mh_values.specs.declared.value.LeafCall.{LeafCall}
+use Rattle.mh_values.specs.declared.calls.LeafCall.{LeafCall}
 
 -- it gave a result, it threw an exception, or it is stuck: it met what nothing is said of, as a place that is not there
 pub data Ran (A : Type 0) : Type 0 where

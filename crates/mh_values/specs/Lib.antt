@@ -1,5 +1,6 @@
 pub mod Array
 pub mod Builtin
+pub mod Calls
 pub mod Class
 pub mod ClassNumbers
 pub mod Classes
@@ -8,6 +9,7 @@ pub mod Descriptor
 pub mod Exception
 pub mod Grammar
 pub mod HasType
+pub mod ReadAs
 pub mod Returns
 pub mod Same
 pub mod Slots

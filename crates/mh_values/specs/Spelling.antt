@@ -1,4 +1,4 @@
--- Method descriptors by their grammar: what is written of types (JVMS SE 17, 4.3.2 and 4.3.3).
+-- Method descriptors and other texts of types by their grammar: what is written of types (JVMS SE 17, 4.3.2 and 4.3.3).
 use Rattle.std.specs.Prelude.{◌≡◌, ℕ, ◌+◌, ◌<◌, ◌≤◌, ◌==◌, Bool, not, ◌||◌, if◌then◌else◌, List, [], ◌∷◌, ◌++◌, length, take, replicate, Option, None, Some, IsTrue}
 use Rattle.std.specs.List.{list_all}
 use Rattle.mh_values.specs.Grammar.{is_base}
@@ -78,9 +78,22 @@ pub record IsMethodDescriptor (text : List ℕ) : Type 0 where
   pub few : all_slots params ≤ 255
   pub is : text ≡ 40 ∷ (texts_of params ++ 41 ∷ return_spelled ret)
 
--- the first place at which a text continues no method descriptor: what stands before it begins one, and with the byte there it begins none
-pub record IsFirstBad (text : List ℕ) (at : ℕ) : Type 0 where
+-- the text of one type
+pub record IsTypeText (text : List ℕ) : Type 0 where
+  pub type : Spelled
+  pub spelled : IsSpelled type
+  pub is : text ≡ spelled_text type
+
+-- the text of one or more types, written one after the other
+pub record AreTypeTexts (text : List ℕ) : Type 0 where
+  pub types : List Spelled
+  pub one : 0 < length types
+  pub spelled : AreSpelled types
+  pub is : text ≡ texts_of types
+
+-- the first place at which a text continues none of a language: what stands before it begins one of the language, and with the byte there it begins none
+pub record IsFirstBad (Is : List ℕ → Type 0) (text : List ℕ) (at : ℕ) : Type 0 where
   pub within : at ≤ length text
-  pub before : (rest : List ℕ) × IsMethodDescriptor (take at text ++ rest)
-  pub here : at < length text → (rest : List ℕ) → IsMethodDescriptor (take (at + 1) text ++ rest) → ⊥
-  pub none : IsMethodDescriptor text → ⊥
+  pub before : (rest : List ℕ) × Is (take at text ++ rest)
+  pub here : at < length text → (rest : List ℕ) → Is (take (at + 1) text ++ rest) → ⊥
+  pub none : Is text → ⊥

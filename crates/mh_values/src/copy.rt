@@ -1,5 +1,5 @@
 use crate::value::ExcKept;
-use crate::{Cause, Cell, ClassId, Exc, LeafCall, MethodTy, Num, Ty, Value};
+use crate::{Cause, Cell, ClassId, Exc, MethodTy, Num, Ty, Value};
 use mh_base::{Copied, NoMemory};
 use std::alloc::Global;
 
@@ -78,15 +78,6 @@ impl Copied for Value {
             Value::Thrown(exc) => Value::Thrown(exc.copy(alloc)?),
             Value::Array(component, cells) => Value::Array(*component, cells.copy()?),
             Value::Null => Value::Null,
-        })
-    }
-}
-
-impl Copied for LeafCall {
-    fn copy(&self, _alloc: Global) -> Result<LeafCall, NoMemory> {
-        Ok(LeafCall {
-            leaf: self.leaf,
-            args: self.args.copy()?,
         })
     }
 }

@@ -1,6 +1,7 @@
 ghost use Rattle.std.specs.Prelude.{◌≡◌, ◌+◌, ◌<◌, ◌≤◌, ◌^◌, length, map, false, None, Some, OnOk, IfOk, IfErr};
-ghost use Rattle.mh_values.specs.Spelling.{IsMethodDescriptor, IsFirstBad};
+ghost use Rattle.mh_values.specs.Spelling.{IsMethodDescriptor, IsTypeText, AreTypeTexts, IsFirstBad};
 ghost use Rattle.mh_values.specs.Grammar.{is_base, after_type, element, begun, within_array, within_name, parameter, next, is_end, first_bad, descriptor_fault, type_fault, types_fault};
+ghost use Rattle.mh_values.specs.ReadAs.{IsTypeRead, AreTypesRead, IsMethodTypeRead};
 ghost use Rattle.mh_values.specs.Descriptor.{pieces, ends_type, primitive_meant, class_meant, element_meant, type_meant, types_meant, return_meant, last_of, method_of, desc, type_desc, types_desc, bytes_of, TellsType};
 
 use crate::{Classes, Comp, MethodTy, Primitive, Ty, Tys};
@@ -228,7 +229,7 @@ fn text_from(start: Standing, bytes: &[u8]) -> Result<(), BadAt>
 /// [`crate::Ty`], and classes that no one declared (JVMS SE 17, 4.3.3).
 pub fn descriptor_text(bytes: &[u8]) -> Result<(), BadAt>
     ensures accepted { OnOk result (IsMethodDescriptor bytes.now) }
-    ensures refused { IfErr result (λ bad. IsFirstBad bytes.now bad.at) }
+    ensures refused { IfErr result (λ bad. IsFirstBad IsMethodDescriptor bytes.now bad.at) }
 
     ensures ok { OnOk result (descriptor_fault bytes.now ≡ None) }
     ensures bad { IfErr result (λ bad. descriptor_fault bytes.now ≡ Some bad.at) }
@@ -238,6 +239,9 @@ pub fn descriptor_text(bytes: &[u8]) -> Result<(), BadAt>
 
 /// Whether a text is one type, likewise any that the JVMS knows (JVMS SE 17, 4.3.2).
 pub fn type_text(bytes: &[u8]) -> Result<(), BadAt>
+    ensures accepted { OnOk result (IsTypeText bytes.now) }
+    ensures refused { IfErr result (λ bad. IsFirstBad IsTypeText bytes.now bad.at) }
+
     ensures ok { OnOk result (type_fault bytes.now ≡ None) }
     ensures bad { IfErr result (λ bad. type_fault bytes.now ≡ Some bad.at) }
 {
@@ -246,6 +250,9 @@ pub fn type_text(bytes: &[u8]) -> Result<(), BadAt>
 
 /// Whether a text is one or more types, written one after the other.
 pub fn types_text(bytes: &[u8]) -> Result<(), BadAt>
+    ensures accepted { OnOk result (AreTypeTexts bytes.now) }
+    ensures refused { IfErr result (λ bad. IsFirstBad AreTypeTexts bytes.now bad.at) }
+
     ensures ok { OnOk result (types_fault bytes.now ≡ None) }
     ensures bad { IfErr result (λ bad. types_fault bytes.now ≡ Some bad.at) }
 {
@@ -409,7 +416,8 @@ pub fn read_descriptor(
     bytes: &[u8],
     classes: &Classes,
 ) -> Result<MethodTy, DescriptorError>
-    ensures { TellsType result (desc classes.now bytes.now) }
+    ensures read { IsMethodTypeRead classes.now bytes.now result }
+    ensures tells { TellsType result (desc classes.now bytes.now) }
 {
     descriptor_text(bytes)?;
     let [_, after @ ..] = bytes else {
@@ -421,7 +429,8 @@ pub fn read_descriptor(
 
 /// Reads one or more types that are written one after the other (JVMS SE 17, 4.3.2). Void is none.
 pub fn read_types(alloc: Global, bytes: &[u8], classes: &Classes) -> Result<Tys, DescriptorError>
-    ensures { TellsType result (types_desc classes.now bytes.now) }
+    ensures read { AreTypesRead classes.now bytes.now result }
+    ensures tells { TellsType result (types_desc classes.now bytes.now) }
 {
     types_text(bytes)?;
     let texts = type_pieces(alloc, bytes)?;
@@ -430,7 +439,8 @@ pub fn read_types(alloc: Global, bytes: &[u8], classes: &Classes) -> Result<Tys,
 
 /// Reads one type (JVMS SE 17, 4.3.2). Void is none. It takes no memory.
 pub fn read_type(bytes: &[u8], classes: &Classes) -> Result<Ty, DescriptorError>
-    ensures { result ≡ type_desc classes.now bytes.now }
+    ensures read { IsTypeRead classes.now bytes.now result }
+    ensures is { result ≡ type_desc classes.now bytes.now }
 {
     type_text(bytes)?;
     type_of(classes, 0, bytes)

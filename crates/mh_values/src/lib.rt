@@ -2,6 +2,7 @@
 #![tactic(auto)]
 
 mod builtin;
+mod calls;
 mod class;
 mod classes;
 mod copy;
@@ -14,6 +15,7 @@ mod types;
 mod typing;
 mod value;
 
+pub use calls::{Calls, LeafCall};
 pub use class::{Class, ClassId};
 pub use classes::{Classes, DeclareError, MOST_CLASSES};
 pub use descriptor::{
@@ -28,6 +30,4 @@ pub use typing::{
     MOST_SLOTS, all_slots, are_items_of, has_type, is_component_below, is_item_of, is_type_below,
     slots,
 };
-pub use value::{
-    Calls, Cause, Cell, Cells, Exc, ExcParts, Items, LeafCall, LeafId, Num, Outcome, Str, Value,
-};
+pub use value::{Cause, Cell, Cells, Exc, ExcParts, Items, LeafId, Num, Outcome, Str, Value};

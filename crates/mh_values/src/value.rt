@@ -91,13 +91,3 @@ pub enum Outcome {
 /// A leaf, by its number in the manifest, from 0.
 #[derive(Clone, Copy, Debug, PartialEq, Eq)]
 pub struct LeafId(pub u32);
-
-/// One run of a leaf, with the arguments that it got.
-#[derive(Debug, Drop)]
-pub struct LeafCall {
-    pub leaf: LeafId,
-    pub args: Items,
-}
-
-/// Leaf calls, in the order in which they were made.
-pub type Calls = Seq<LeafCall>;

@@ -127,7 +127,7 @@ static RUNS: [(Kind, &[Seen], Seen); 24] = [
 /// Whether a kind gives this of its arguments, after all but one of the calls that are counted.
 fn gives(alloc: Global, kind: Kind, args: &[Seen], want: Seen) -> Result<bool, NoMemory> {
     let args = items(alloc, args)?;
-    let outcome = kind_does(alloc, kind, &args, u32::MAX - 1)?;
+    let outcome = kind_does(alloc, kind, args.as_slice(), u32::MAX - 1)?;
     Ok(outcome.as_ref().map(seen_of) == Some(want))
 }
 
@@ -169,7 +169,7 @@ fn says(outcome: &Option<Outcome>, class: ClassId, word: &[char]) -> bool {
 fn joins_null(alloc: Global) -> Result<bool, NoMemory> {
     let front = text(alloc, &['a', 'b'])?;
     let args = two(alloc, front, Value::Null)?;
-    let joined = kind_does(alloc, Kind::Concat, &args, 0)?;
+    let joined = kind_does(alloc, Kind::Concat, args.as_slice(), 0)?;
     Ok(is_text(&joined, &['a', 'b', 'n', 'u', 'l', 'l']))
 }
 
@@ -178,7 +178,7 @@ fn refuses_long_texts(alloc: Global) -> Result<bool, NoMemory> {
     let front = text(alloc, &['x'; 4096])?;
     let back = text(alloc, &['y'])?;
     let args = two(alloc, front, back)?;
-    let refused = kind_does(alloc, Kind::Concat, &args, 0)?;
+    let refused = kind_does(alloc, Kind::Concat, args.as_slice(), 0)?;
     Ok(says(&refused, ClassId::INTERNAL_ERROR, &TOO_LONG))
 }
 
@@ -186,7 +186,7 @@ fn refuses_long_texts(alloc: Global) -> Result<bool, NoMemory> {
 fn measures_units(alloc: Global) -> Result<bool, NoMemory> {
     let measured = text(alloc, &['a', '\u{1F600}'])?;
     let args = Seq::from_vec(vec![in alloc; measured]?);
-    let units = kind_does(alloc, Kind::Length, &args, 0)?;
+    let units = kind_does(alloc, Kind::Length, args.as_slice(), 0)?;
     Ok(units.as_ref().map(seen_of) == Some(Is(Num::I(3))))
 }
 
@@ -201,7 +201,7 @@ fn texts_are_joined_and_measured(rt: HostRuntime) -> Result<(), Fail> {
 /// Whether `null` is no receiver of a leaf.
 fn lacks_null(alloc: Global, is_virtual: bool) -> Result<bool, NoMemory> {
     let args = items(alloc, &[Null])?;
-    Ok(lacks_receiver(is_virtual, &args))
+    Ok(lacks_receiver(is_virtual, args.as_slice()))
 }
 
 /// What the leaf `note` of an object gives of `null`.
@@ -218,7 +218,7 @@ fn given_null(alloc: Global, is_virtual: bool) -> Result<Seen, NoMemory> {
         },
         kind: Kind::Note,
     };
-    let outcome = leaf_does(alloc, &leaf, &args, 0)?;
+    let outcome = leaf_does(alloc, &leaf, args.as_slice(), 0)?;
     Ok(seen_of(&outcome))
 }
 

@@ -1,6 +1,6 @@
 use Rattle.std.proofs.Common.{◌≡◌, ◌++◌, drop, option_map}
 use Rattle.mh_texts.specs.declared.escape.Escape.TheVariants as escape
-use Rattle.mh_texts.specs.Text.{characters_from}
+use Rattle.mh_texts.specs.Escapes.{characters_from}
 use Rattle.mh_texts.proofs.escape.read_text.Given as goal
 
 abbrev pub invariant-loop-byte : goal.invariant-loop-byte

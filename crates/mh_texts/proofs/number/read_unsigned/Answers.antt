@@ -1,25 +1,9 @@
-use Rattle.std.proofs.Common.{◌∙◌, ap, sym, true, false}
-use Rattle.std.specs.Str.{bytes_eq}
-use Rattle.mh_texts.specs.Number.{unsigned_of}
-use Rattle.mh_texts.proofs.Numbers.{unsigned_of-refused, unsigned_of-no_text, unsigned_of-read}
+use Rattle.std.proofs.Common.{◌∙◌, sym}
+use Rattle.mh_texts.proofs.SpelledNumbers.{unsigned_spelled, unsigned_read}
 use Rattle.mh_texts.proofs.number.read_unsigned.Goals as goal
 
-pub returns-in_default : goal.returns-in_default
-returns-in_default c = unsigned_of-no_text c.args.bytes.now c.in_default.ensures.cases.0
-
-pub returns-in_default-parse : goal.returns-in_default-parse
-returns-in_default-parse c =
-    unsigned_of-refused c.in-Ok.text.now c.parse.result c.in_default-parse.field-0 c.parse.ensures.value.0 c.in_default-parse.is ∙
-    ap unsigned_of c.in-Ok.ensures.cases.0
-
-pub returns-then-eq : goal.returns-then-eq
-returns-then-eq c =
-    let parsed = c.in-Ok-parse.ensures.value.0 in
-    sym (unsigned_of-read c.in-Ok.text.now c.in-Ok-parse.number true parsed.0.1 parsed.1 (c.if-eq.ensures ∙ ap (λ t. bytes_eq t c.in-Ok.text.now)
-    c.format.ensures.text)) ∙ ap unsigned_of c.in-Ok.ensures.cases.0
-
-pub returns-else-eq : goal.returns-else-eq
-returns-else-eq c =
-    let parsed = c.in-Ok-parse.ensures.value.0 in
-    sym (unsigned_of-read c.in-Ok.text.now c.in-Ok-parse.number false parsed.0.1 parsed.1 (c.if-eq.ensures ∙ ap (λ t. bytes_eq t c.in-Ok.text.now)
-    c.format.ensures.text)) ∙ ap unsigned_of c.in-Ok.ensures.cases.0
+pub returns-clause-spelled : goal.returns-clause-spelled
+returns-clause-spelled c = λ n. (
+  λ told. unsigned_spelled c.args.bytes.now n (sym c.unsigned_in.ensures ∙ told),
+  λ is. c.unsigned_in.ensures ∙ unsigned_read c.args.bytes.now n is,
+)

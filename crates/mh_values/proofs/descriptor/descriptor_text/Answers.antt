@@ -1,7 +1,7 @@
 use Rattle.std.proofs.Common.{◌≡◌, Some}
 use Rattle.std.proofs.lemmas.Result.{on_ok_weaker, IfErr-weaker}
 use Rattle.mh_values.specs.Grammar.{descriptor_fault}
-use Rattle.mh_values.specs.Spelling.{IsFirstBad}
+use Rattle.mh_values.specs.Spelling.{IsFirstBad, IsMethodDescriptor}
 use Rattle.mh_values.proofs.FirstPlace.{descriptor_first_bad}
 use Rattle.mh_values.proofs.Sound.{descriptor_sound}
 use Rattle.mh_values.proofs.descriptor.descriptor_text.Goals as goal
@@ -11,5 +11,5 @@ returns-clause-accepted c = on_ok_weaker c.text_from.result (descriptor_sound c.
 
 pub returns-clause-refused : goal.returns-clause-refused
 returns-clause-refused c =
-    IfErr-weaker c.text_from.result (λ bad. descriptor_fault c.args.bytes.now ≡ Some bad.at) (λ bad. IsFirstBad c.args.bytes.now bad.at)
+    IfErr-weaker c.text_from.result (λ bad. descriptor_fault c.args.bytes.now ≡ Some bad.at) (λ bad. IsFirstBad IsMethodDescriptor c.args.bytes.now bad.at)
     (λ bad told. descriptor_first_bad c.args.bytes.now bad.at told) c.text_from.ensures.bad
