@@ -2,6 +2,10 @@
 //! and the call sites are for other crates of tests too.
 #![tactic(auto)]
 
+#[cfg(test)]
+mod broken;
+#[cfg(test)]
+mod cuts;
 pub mod files;
 #[cfg(test)]
 mod made;
