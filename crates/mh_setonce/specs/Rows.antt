@@ -1,37 +1,50 @@
--- What a walk keeps of the cells of its chain.
-use Rattle.std.specs.Prelude.{◌≡◌, ℕ, ◌⊎◌, List, [], ◌∷◌, ◌++◌, map, slice_get, Some}
-use Rattle.mh_setonce.specs.declared.learnt.Learnt.{Learnt}
-use Rattle.mh_setonce.specs.Walks.{Distinct, Lacks}
+-- Rows of cells, and what a walk keeps of the cells of its chain.
+use Rattle.std.specs.Prelude.{◌≡◌, ℕ, ◌≤◌, ◌*◌, ◌⊎◌, List, [], ◌∷◌, ◌++◌, length, slice_get, Some, refl}
+use Rattle.std.specs.Coded.{Coded, code_by, coded×, coded_ℕ, coded_list}
+use Rattle.mh_setonce.specs.Views.{ChainView, chain_coded}
+use Rattle.mh_setonce.specs.Learnings.{LearntView, node_of, nodes_of, names_of}
+use Rattle.mh_setonce.specs.Places.{hashes_of}
+use Rattle.mh_setonce.specs.Walks.{StartsWith, Distinct, Lacks}
 
--- the node that was learnt
-abbrev pub node_of : {V : Type 0} → Learnt V → V
-node_of l = l.node.now
+-- the names of the cells of rows, one row after the other
+abbrev pub cells_of : List (List ℕ) → List ℕ
+cells_of [] = []
+cells_of (row ∷ rows) = row ++ cells_of rows
 
--- the nodes that were learnt
-abbrev pub nodes_of : {V : Type 0} → List (Learnt V) → List V
-nodes_of ls = map node_of ls
+-- each row has so many cells
+abbrev pub AreSized : ℕ → List (List ℕ) → Type 0
+AreSized size rows = (i : ℕ) (row : List ℕ) → slice_get rows i ≡ Some row → length row ≡ size
 
--- the node is the value of the cell of this name, for good
-abbrev pub IsOf : {V : Type 0} → ℕ → Learnt V → Type 0
-IsOf name l = (l.mark.cell ≡ name) × (l.mark.value ≡ l.node.now)
+-- the boxes of rows of this size have place for so many cells
+abbrev pub HasRoom : ℕ → List ℕ → ℕ → Type 0
+HasRoom size boxes room = room ≤ length boxes * size
 
--- each node is the value of the cell at its place, for good
-abbrev pub Noted : {V : Type 0} → List ℕ → List (Learnt V) → Type 0
-Noted {V} cells ls = (i : ℕ) (l : Learnt V) → slice_get ls i ≡ Some l → (slice_get cells i ≡ Some l.mark.cell) × (l.mark.value ≡ l.node.now)
+-- what is known of the rows of a chain: the chain, and the names of the cells of the rows so far
+pub record RowsView : Type 0 where
+  pub chain : ChainView
+  pub cells : List ℕ
 
--- a walk of these cells: its nodes are their values, in order, and no two have one key
-pub record IsWalk {V K : Type 0} (key : V → K) (cells : List ℕ) (ls : List (Learnt V)) : Type 0 where
-  pub noted : Noted cells ls
+-- what is known of rows is stored as the pair of its fields
+abbrev pub rows_coded : Coded RowsView
+rows_coded = code_by (ChainView × List ℕ) (coded× chain_coded (coded_list coded_ℕ)) (λ r. (r.chain, r.cells)) (λ p. record { chain = p.0; cells = p.1 })
+    (λ _. refl)
+
+-- rows of a chain: they are the values of its first boxes
+pub record AreRows (size : ℕ) (chain : ChainView) (rows : List (LearntView (List ℕ))) : Type 0 where
+  pub boxed : StartsWith chain.rows (names_of rows)
+  pub sized : AreSized size (nodes_of rows)
+
+-- a walk along these cells: its nodes are the values of the first cells, no two have one key, and they are indexed by their hashes
+pub record IsWalk {V K : Type 0} (key : V → K) (hash : K → ℕ) (rows : RowsView) (ls : List (LearntView V)) (hashes : List ℕ) : Type 0 where
+  pub noted : StartsWith rows.cells (names_of ls)
+  pub within : length ls ≤ rows.chain.room
   pub distinct : Distinct key (nodes_of ls)
+  pub indexed : hashes ≡ hashes_of key hash (nodes_of ls)
 
 -- the node was added, and its key is new; or nothing changed
-abbrev pub Kept : {V K : Type 0} → (V → K) → List (Learnt V) → Learnt V → List (Learnt V) → Type 0
+abbrev pub Kept : {V K : Type 0} → (V → K) → List (LearntView V) → LearntView V → List (LearntView V) → Type 0
 Kept key ls one more = ((more ≡ ls ++ one ∷ []) × Lacks key (nodes_of ls) (key (node_of one))) ⊎ (more ≡ ls)
 
--- what is known of a node: its value, and the cell that holds it for good
-abbrev pub fact_of : {V : Type 0} → Learnt V → V × (ℕ × V)
-fact_of l = (l.node.now, (l.mark.cell, l.mark.value))
-
--- the same of each node
-abbrev pub facts_of : {V : Type 0} → List (Learnt V) → List (V × (ℕ × V))
-facts_of ls = map fact_of ls
+-- cells that both of two lists begin
+abbrev pub Share : List ℕ → List ℕ → Type 0
+Share a b = (cells : List ℕ) × StartsWith cells a × StartsWith cells b

@@ -1,10 +1,12 @@
-ghost use Rattle.std.specs.Prelude.{◌≡◌, ℕ, ◌≤◌, [], length, IfOk, IfErr, OnErr, IfSome, IfNone, slice_get, Some};
+ghost use Rattle.std.specs.Prelude.{◌≡◌, ◌≤◌, ◌*◌, [], IfOk, IfErr, OnErr, IfSome, IfNone, slice_get, Some};
 ghost use Rattle.once_cell.specs.Once.{cell_name};
+ghost use Rattle.mh_setonce.specs.Views.{room_of};
 ghost use Rattle.mh_setonce.specs.Walks.{StartsWith, Lacks, FindsNode, Distinct, Meet};
 ghost use Rattle.mh_setonce.specs.Puts.{Puts};
 
 use crate::keyed::Keyed;
 use crate::put::{Put, PutRefused, Tried};
+use crate::row::Row;
 use crate::twice;
 use crate::walk::Walk;
 use mh_base::NoMemory;
@@ -13,37 +15,48 @@ use std::alloc::Global;
 use std::marker::Model;
 use std::sync::Wait;
 
-/// A row of cells, each of which is set once and never changes again. Its nodes are the values of
-/// its cells, in order. Contracts see the names of its cells.
+/// Cells in order, each of which is set once and never changes again; the nodes are their values.
+/// The cells lie in rows, and a row is made when its first cell is used. Contracts see the names of
+/// the boxes of the rows, and how many cells there are.
 #[derive(Drop)]
-pub struct Chain<V: Drop> {
-    cells: Vec<OnceBox<V>>,
+pub struct Chain<V: Keyed> {
+    rows: Vec<OnceBox<Row<V>>>,
+    room: usize,
 }
 
-impl<V: Drop> Model for Chain<V> {
-    ghost use Rattle.std.specs.Prelude.{ℕ, List, map};
+impl<V: Keyed> Model for Chain<V> {
+    ghost use Rattle.mh_setonce.specs.Views.{ChainView, chain_coded};
+
+    ghost Value = { ChainView };
+
+    ghost coded = { chain_coded };
+
+    ghost use Rattle.std.specs.Prelude.{map};
     ghost use Rattle.once_cell.specs.Once.{cell_name};
+    ghost use Rattle.mh_setonce.specs.Rows.{HasRoom};
 
-    ghost Value = { List ℕ };
+    ghost view = { λ c. record { rows = map cell_name c.rows.items; room = c.room } };
 
-    ghost view = { λ c. map cell_name c.cells.items };
+    ghost invariant = { λ c. HasRoom V.row_size (map cell_name c.rows.items) c.room };
 }
 
 impl<V: Keyed> Chain<V> {
-    /// A chain of so many cells, none of which is set.
+    /// A chain of so many cells, none of which is set. It takes memory for its rows' boxes alone.
     pub fn new(alloc: Global, room: u32) -> Result<Chain<V>, NoMemory>
-        ensures { IfOk result (λ chain. length chain ≡ room) }
+        ensures { IfOk result (λ chain. room_of chain ≡ room) }
     {
-        let mut cells = Vec::new(alloc);
-        for _ in 0..room {
-            cells.push(OnceBox::new(alloc))?;
+        let room = room as usize;
+        let count = room.div_ceil(V::row_len());
+        let mut rows = Vec::with_capacity(alloc, count)?;
+        for _ in 0..count {
+            rows.push_reserved(OnceBox::new(alloc));
         }
-        Ok(Chain { cells })
+        Ok(Chain { rows, room })
     }
 
     /// A walk that has learnt nothing yet. It takes no memory.
     pub fn walk<'t>(&'t self, alloc: Global) -> Walk<'t, V>
-        ensures cells { result.cells ≡ self.entry.now }
+        ensures chain { result.chain ≡ self.entry.now }
         ensures nodes { result.nodes ≡ [] }
     {
         Walk::new(alloc, self)
@@ -56,8 +69,8 @@ impl<V: Keyed> Chain<V> {
         walk: &mut Walk<'t, V>,
         key: &V::Key,
     ) -> Result<Option<&'t V>, NoMemory>
-        requires { walk.old.cells ≡ self.now }
-        ensures cells { walk.new.cells ≡ walk.old.cells }
+        requires { walk.old.chain ≡ self.now }
+        ensures chain { walk.new.chain ≡ walk.old.chain }
         ensures nodes { StartsWith walk.new.nodes walk.old.nodes }
         ensures once { Distinct V.key_of walk.new.nodes }
         ensures found { IfOk result (FindsNode V.key_of walk.new.nodes key.now) }
@@ -82,8 +95,8 @@ impl<V: Keyed> Chain<V> {
         walk: &mut Walk<'t, V>,
         mut value: V,
     ) -> Result<Put<'t, V>, PutRefused<V>>
-        requires { walk.old.cells ≡ self.now }
-        ensures cells { walk.new.cells ≡ walk.old.cells }
+        requires { walk.old.chain ≡ self.now }
+        ensures chain { walk.new.chain ≡ walk.old.chain }
         ensures nodes { StartsWith walk.new.nodes walk.old.nodes }
         ensures once { Distinct V.key_of walk.new.nodes }
         ensures put { Puts V.key_of walk.old walk.new value result }
@@ -99,9 +112,10 @@ impl<V: Keyed> Chain<V> {
 
     /// The length of the shorter of two walks of this chain, which the other one begins with.
     pub fn meet(&self, a: &Walk<V>, b: &Walk<V>) -> usize
-        requires { (a.now.cells ≡ self.now) × (b.now.cells ≡ self.now) }
+        requires { (a.now.chain ≡ self.now) × (b.now.chain ≡ self.now) }
         ensures { Meet a.now.nodes b.now.nodes result }
     {
+        a.rows.agree(&b.rows);
         twice::meet_all(a.learnt.as_slice(), b.learnt.as_slice())
     }
 }
@@ -112,7 +126,7 @@ fn put_once<'t, V: Keyed>(
     walk: &mut Walk<'t, V>,
     value: V,
 ) -> Result<Result<Put<'t, V>, PutRefused<V>>, V>
-    ensures cells { walk.new.cells ≡ walk.old.cells }
+    ensures chain { walk.new.chain ≡ walk.old.chain }
     ensures nodes { StartsWith walk.new.nodes walk.old.nodes }
     ensures once { Distinct V.key_of walk.new.nodes }
     ensures put { IfOk result (Puts V.key_of walk.old walk.new value) }
@@ -134,19 +148,21 @@ fn put_once<'t, V: Keyed>(
     }
 }
 
-impl<V: Drop> Chain<V> {
+impl<V: Keyed> Chain<V> {
     pub(crate) fn room(&self) -> usize
-        ensures { result ≡ length self.now }
+        ensures { result ≡ room_of self.now }
     {
-        self.cells.len()
+        self.room
     }
 
-    pub(crate) fn cell(&self, at: usize) -> Option<&OnceBox<V>>
-        ensures past { IfNone result (length self.entry.now ≤ at) }
-        ensures name { IfSome result (λ r. slice_get self.entry.now at ≡ Some (cell_name r.now)) }
+    /// The box of the row at this place.
+    pub(crate) fn row(&self, at: usize) -> Option<&OnceBox<Row<V>>>
+        ensures past { IfNone result (room_of self.entry.now ≤ at * V.row_size) }
+        ensures name { IfSome result
+            (λ r. slice_get self.entry.now.rows at ≡ Some (cell_name r.now)) }
     {
-        if at < self.cells.len() {
-            Some(&self.cells[at])
+        if at < self.rows.len() {
+            Some(&self.rows[at])
         } else {
             None
         }

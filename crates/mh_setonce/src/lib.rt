@@ -5,12 +5,16 @@ mod chain;
 mod keyed;
 mod learnt;
 mod mark;
+mod places;
 mod put;
+mod row;
+mod rows;
 mod scan;
 mod twice;
 mod walk;
 
 pub use chain::Chain;
 pub use keyed::Keyed;
+pub use places::Places;
 pub use put::{Put, PutRefused};
 pub use walk::Walk;

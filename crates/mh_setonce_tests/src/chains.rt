@@ -1,88 +1,63 @@
 ghost use Rattle.std.specs.Prelude.{◌≡◌};
 
+use crate::entry::{Endless, Entry, Single, Size, Wide};
 use mh_base::NoMemory;
-use mh_setonce::{Chain, Keyed, Put, PutRefused, Walk};
+use mh_setonce::{Chain, Put, PutRefused, Walk};
 use std::alloc::Global;
 use std::sync::Wait;
 use std::test::Fail;
-use std::thread;
-use std::thread::Threads;
 
-#[derive(Drop)]
-struct Entry {
+/// What a put gave: who put the entry that stands in the chain, or why there is none.
+#[derive(Clone, Copy, PartialEq, Eq)]
+enum Answer {
+    Mine,
+    Theirs(u32),
+    Full,
+    NoMemory,
+}
+
+/// Puts an entry, which is handed back unless it becomes the chain's.
+fn put<'t, S: Size, R: Wait>(
+    rt: &R,
+    alloc: Global,
+    chain: &'t Chain<Entry<S>>,
+    walk: &mut Walk<'t, Entry<S>>,
+    entry: Entry<S>,
+) -> Answer
+    requires { walk.old.chain ≡ chain.now }
+    ensures { walk.new.chain ≡ walk.old.chain }
+{
+    match chain.find_or_put(rt, alloc, walk, entry) {
+        Ok(Put::Mine(_)) => Answer::Mine,
+        Ok(Put::Theirs(node, _)) => Answer::Theirs(node.by),
+        Err(PutRefused::Full(_)) => Answer::Full,
+        Err(PutRefused::NoMemory(_)) => Answer::NoMemory,
+    }
+}
+
+/// Whether the walk finds an entry with the key that `by` put.
+fn finds<'t, S: Size>(
+    chain: &'t Chain<Entry<S>>,
+    walk: &mut Walk<'t, Entry<S>>,
     key: u32,
     by: u32,
-}
-
-impl Keyed for Entry {
-    type Key = u32;
-
-    ghost key_of = { λ e. e.key };
-
-    ghost keeps = { λ e k. e.key ≡ k };
-
-    fn has_key(&self, key: &u32) -> bool {
-        self.key == *key
-    }
-
-    fn same_key(&self, other: &Entry) -> bool {
-        self.key == other.key
-    }
-
-    fn kept(&self) {}
-}
-
-/// Whether the entry becomes the chain's.
-fn is_mine<'t, R: Wait>(
-    rt: &R,
-    alloc: Global,
-    chain: &'t Chain<Entry>,
-    walk: &mut Walk<'t, Entry>,
-    entry: Entry,
-) -> bool
-    requires { walk.old.cells ≡ chain.now }
-    ensures { walk.new.cells ≡ walk.old.cells }
+) -> Result<bool, NoMemory>
+    requires { walk.old.chain ≡ chain.now }
+    ensures { walk.new.chain ≡ walk.old.chain }
 {
-    let by = entry.by;
-    match chain.find_or_put(rt, alloc, walk, entry) {
-        Ok(Put::Mine(node)) => node.by == by,
-        _ => false,
-    }
-}
-
-/// Whether the entry is handed back, and one that `by` put stands in its place.
-fn is_theirs<'t, R: Wait>(
-    rt: &R,
-    alloc: Global,
-    chain: &'t Chain<Entry>,
-    walk: &mut Walk<'t, Entry>,
-    entry: Entry,
-    by: u32,
-) -> bool
-    requires { walk.old.cells ≡ chain.now }
-    ensures { walk.new.cells ≡ walk.old.cells }
-{
-    let own = entry.by;
-    match chain.find_or_put(rt, alloc, walk, entry) {
-        Ok(Put::Theirs(node, back)) => node.by == by && back.by == own,
-        _ => false,
-    }
-}
-
-/// Whether the walk finds an entry with key 7 that `by` put.
-fn finds<'t>(chain: &'t Chain<Entry>, walk: &mut Walk<'t, Entry>, by: u32) -> Result<bool, NoMemory>
-    requires { walk.old.cells ≡ chain.now }
-    ensures { walk.new.cells ≡ walk.old.cells }
-{
-    match chain.find(walk, &7)? {
+    match chain.find(walk, &key)? {
         Some(node) => Ok(node.by == by),
         None => Ok(false),
     }
 }
 
 /// Whether a copy of the second walk has seen key 7 alone, and the first begins with it.
-fn copies(chain: &Chain<Entry>, first: &Walk<Entry>, second: &Walk<Entry>) -> Result<bool, NoMemory>
-    requires { (first.now.cells ≡ chain.now) × (second.now.cells ≡ chain.now) }
+fn copies<S: Size>(
+    chain: &Chain<Entry<S>>,
+    first: &Walk<Entry<S>>,
+    second: &Walk<Entry<S>>,
+) -> Result<bool, NoMemory>
+    requires { (first.now.chain ≡ chain.now) × (second.now.chain ≡ chain.now) }
 {
     let copy = second.copy()?;
     let is_alone = copy.seen(&7).is_some() && copy.seen(&8).is_none();
@@ -92,75 +67,48 @@ fn copies(chain: &Chain<Entry>, first: &Walk<Entry>, second: &Walk<Entry>) -> Re
 #[test]
 fn a_second_walk_finds_what_was_put_through_the_first(rt: HostRuntime) -> Result<(), Fail> {
     let alloc = rt.alloc();
-    let chain = Chain::new(alloc, 4)?;
+    let chain: Chain<Entry<Wide>> = Chain::new(alloc, 4)?;
     let mut first = chain.walk(alloc);
     let mut second = chain.walk(alloc);
-    assert!(rt; is_mine(&rt, alloc, &chain, &mut first, Entry { key: 7, by: 1 }));
-    assert!(rt; finds(&chain, &mut second, 1)?);
-    assert!(rt; is_theirs(&rt, alloc, &chain, &mut second, Entry { key: 7, by: 2 }, 1));
+    assert!(rt; put(&rt, alloc, &chain, &mut first, Entry::new(7, 1)) == Answer::Mine);
+    assert!(rt; finds(&chain, &mut second, 7, 1)?);
+    assert!(rt; put(&rt, alloc, &chain, &mut second, Entry::new(7, 2)) == Answer::Theirs(1));
     assert!(rt; copies(&chain, &first, &second)?);
     Ok(())
-}
-
-/// Whether a full chain hands the entry back.
-fn is_refused<'t, R: Wait>(
-    rt: &R,
-    alloc: Global,
-    chain: &'t Chain<Entry>,
-    walk: &mut Walk<'t, Entry>,
-    entry: Entry,
-) -> bool
-    requires { walk.old.cells ≡ chain.now }
-{
-    let key = entry.key;
-    match chain.find_or_put(rt, alloc, walk, entry) {
-        Err(PutRefused::Full(back)) => back.key == key,
-        _ => false,
-    }
 }
 
 #[test]
 fn a_full_chain_hands_the_value_back(rt: HostRuntime) -> Result<(), Fail> {
     let alloc = rt.alloc();
-    let chain = Chain::new(alloc, 1)?;
+    let chain: Chain<Entry<Single>> = Chain::new(alloc, 2)?;
     let mut walk = chain.walk(alloc);
-    assert!(rt; is_mine(&rt, alloc, &chain, &mut walk, Entry { key: 1, by: 1 }));
-    assert!(rt; is_refused(&rt, alloc, &chain, &mut walk, Entry { key: 2, by: 1 }));
+    assert!(rt; put(&rt, alloc, &chain, &mut walk, Entry::new(1, 1)) == Answer::Mine);
+    assert!(rt; put(&rt, alloc, &chain, &mut walk, Entry::new(9, 1)) == Answer::Mine);
+    assert!(rt; put(&rt, alloc, &chain, &mut walk, Entry::new(2, 1)) == Answer::Full);
+    assert!(rt; put(&rt, alloc, &chain, &mut walk, Entry::new(9, 2)) == Answer::Theirs(1));
     Ok(())
 }
 
-fn put_forty<'t, R: Wait>(
-    rt: &R,
-    chain: &'t Chain<Entry>,
-    alloc: Global,
-    by: u32,
-) -> Walk<'t, Entry>
-    ensures { result.cells ≡ chain.entry.now }
-{
+#[test]
+fn a_copy_and_its_walk_learn_on(rt: HostRuntime) -> Result<(), Fail> {
+    let alloc = rt.alloc();
+    let chain: Chain<Entry<Single>> = Chain::new(alloc, 4)?;
     let mut walk = chain.walk(alloc);
-    for key in 0..40 {
-        let _ = chain.find_or_put(rt, alloc, &mut walk, Entry { key, by });
-    }
-    walk
-}
-
-fn race<R: Threads + Wait + Sync>(rt: &R, chain: &Chain<Entry>, alloc: Global) -> (usize, usize) {
-    let (a, b) = thread::join(
-        rt,
-        move || -> Walk<Entry>
-            ensures { result.cells ≡ chain.entry.now }
-        { put_forty(rt, chain, alloc, 1) },
-        move || -> Walk<Entry>
-            ensures { result.cells ≡ chain.entry.now }
-        { put_forty(rt, chain, alloc, 2) },
-    );
-    (chain.meet(&a, &b), a.len())
+    assert!(rt; put(&rt, alloc, &chain, &mut walk, Entry::new(1, 1)) == Answer::Mine);
+    let mut copy = walk.copy()?;
+    assert!(rt; put(&rt, alloc, &chain, &mut copy, Entry::new(9, 2)) == Answer::Mine);
+    assert!(rt; put(&rt, alloc, &chain, &mut walk, Entry::new(17, 1)) == Answer::Mine);
+    assert!(rt; finds(&chain, &mut walk, 9, 2)? && finds(&chain, &mut copy, 17, 1)?);
+    assert!(rt; chain.meet(&walk, &copy) == 3);
+    Ok(())
 }
 
 #[test]
-fn threads_that_race_agree(rt: HostRuntime) -> Result<(), Fail> {
-    let chain = Chain::new(rt.alloc(), 64)?;
-    let (both, len) = race(&rt, &chain, rt.alloc());
-    assert!(rt; both == 40 && len == 40);
+fn where_no_row_can_be_made_the_value_is_handed_back(rt: HostRuntime) -> Result<(), Fail> {
+    let alloc = rt.alloc();
+    let chain: Chain<Entry<Endless>> = Chain::new(alloc, 4)?;
+    let mut walk = chain.walk(alloc);
+    assert!(rt; put(&rt, alloc, &chain, &mut walk, Entry::new(1, 1)) == Answer::NoMemory);
+    assert!(rt; !finds(&chain, &mut walk, 1, 1)?);
     Ok(())
 }

@@ -1,5 +1,11 @@
-//! Chains: what another walk finds, a full chain, and two threads that race.
+//! Chains: what another walk finds, rows, a full chain, want of memory, and threads that race.
 #![tactic(auto)]
 
 #[cfg(test)]
 mod chains;
+#[cfg(test)]
+mod entry;
+#[cfg(test)]
+mod places;
+#[cfg(test)]
+mod races;
