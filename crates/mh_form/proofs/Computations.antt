@@ -1,6 +1,6 @@
 -- Laws of computations: leaf calls that stand first, and what follows one after the other.
 use Rattle.std.proofs.Common.{◌≡◌, refl, ap, ◌∙◌, ℕ, List, [], ◌∷◌, ◌++◌, append_assoc}
-use Rattle.mh_values.specs.declared.value.LeafCall.{LeafCall}
+use Rattle.mh_values.specs.declared.calls.LeafCall.{LeafCall}
 use Rattle.mh_values.specs.Computation.{Ran, Gave, Threw, Stuck, and_then, after, mapped, next_count, raised}
 
 pub raised-append : (n : ℕ) (a b : List LeafCall) → raised n (a ++ b) ≡ raised (raised n a) b

@@ -1,5 +1,5 @@
 -- What the fields of a bound body stand for.
-use Rattle.std.proofs.Common.{◌≡◌, refl, ap, ◌∙◌, ℕ, ◌<◌, List, ◌∷◌, Option, Some, map, length}
+use Rattle.std.proofs.Common.{◌≡◌, refl, sym, ap, ◌∙◌, ℕ, ◌<◌, List, ◌∷◌, Option, Some, map, length}
 use Rattle.std.specs.Prelude.{slice_get, slice_index_or}
 use Rattle.std.specs.Option.{option_map}
 use Rattle.std.specs.declared.sync.Arc.{Arc}
@@ -58,6 +58,17 @@ run_field-part table fields f e b slots n low is part =
     let at : field_of part_of (map (sense table) fields) f ≡ Some (run_bound table b.value) =
     field_of-at part_of table fields f e low is ∙ (ap (λ x. part_of (sense table x)) part ∙ ap part_of (sense-Part table b)) in
     ap (λ o. found o (λ p. p slots n)) at
+
+-- the same of what the part holds
+pub run_field-held :
+    (table : LeafTable) (fields : List Field) (f : ℕ) (e : Field) (a : Arc Bound Global) (b : Bound) (slots : List Slot) (n : ℕ) →
+    f < length fields →
+    e ≡ slice_index_or fields f e →
+    e ≡ Part a →
+    b ≡ a.value →
+    run_field (map (sense table) fields) f slots n ≡ run_bound table b slots n
+run_field-held table fields f e a b slots n low is part held =
+    run_field-part table fields f e a slots n low is part ∙ ap (λ c. run_bound table c slots n) (sym held)
 
 pub run_field-none :
     (table : LeafTable) (fields : List Field) (f : ℕ) (e : Field) (slots : List Slot) (n : ℕ) →

@@ -1,7 +1,7 @@
 -- One run does what another does, where that one is not stuck.
 use Rattle.std.proofs.Common.{◌≡◌, ◌≢◌, refl, subst, ℕ, Bool, true, false, List, Option, Some, None, sym, ap, cond}
 use Rattle.mh_values.specs.declared.value.Exc.{Exc}
-use Rattle.mh_values.specs.declared.value.LeafCall.{LeafCall}
+use Rattle.mh_values.specs.declared.calls.LeafCall.{LeafCall}
 use Rattle.mh_values.specs.Computation.{Ran, Gave, Threw, Stuck, Refines, and_then, after, found, guarded, mapped, raised}
 
 pub refines-refl : {B : Type 0} → (x : Ran B) → Refines x x

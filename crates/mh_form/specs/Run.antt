@@ -2,7 +2,7 @@
 use Rattle.std.specs.Prelude.{ℕ, Bool, List, [], ◌∷◌, ◌++◌, Option, Some, None, if◌then◌else◌, slice_get, map, take}
 use Rattle.std.specs.Option.{option_map}
 use Rattle.mh_values.specs.declared.value.Exc.{Exc}
-use Rattle.mh_values.specs.declared.value.LeafCall.{LeafCall}
+use Rattle.mh_values.specs.declared.calls.LeafCall.{LeafCall}
 use Rattle.mh_values.specs.declared.value.Value.TheVariants as value
 use Rattle.mh_values.specs.Computation.{Ran, Gave, Threw, Stuck, and_then, found, guarded}
 use Rattle.mh_leaf.specs.LeafTable.{LeafTable}
@@ -14,8 +14,6 @@ use Rattle.mh_form.specs.declared.slot.Slot.TheVariants as slot
 use Rattle.mh_form.specs.declared.outcome.Ran.{Ran as Done}
 use Rattle.mh_form.specs.declared.outcome.SlotOutcome.{SlotOutcome}
 use Rattle.mh_form.specs.declared.outcome.SlotOutcome.TheVariants.{Return, Throw}
-use Rattle.mh_form.specs.declared.outcome.Stepped.{Stepped}
-use Rattle.mh_form.specs.declared.outcome.Stepped.TheVariants.{Filled, Ended}
 use Rattle.mh_form.specs.declared.field.Bound.{Bound, Row_of-Field, end_of-Field, more_of-Field}
 use Rattle.mh_form.specs.declared.field.Field.{Field}
 use Rattle.mh_form.specs.declared.field.Field.TheVariants.{Part'}
@@ -183,8 +181,3 @@ ran_of_run done = ran_of_outcome done.outcome done.calls
 -- what the fields of a bound body stand for
 abbrev pub senses_in : LeafTable → Bound → List Sense
 senses_in table bound = map (sense table) bound.fields.items
-
--- what a name did as a computation
-abbrev pub ran_of_step : Stepped → Ran Slot
-ran_of_step (Filled s calls) = Gave s calls
-ran_of_step (Ended e calls) = Threw e calls

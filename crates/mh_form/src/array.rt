@@ -3,11 +3,10 @@
 ghost use Rattle.std.specs.Prelude.{◌≡◌, ◌≢◌, IfOk, None, Some, replicate, length, map};
 ghost use Rattle.mh_values.specs.Array.{array_of, item_of_value, item_type, items_of_values, value_of_item};
 ghost use Rattle.mh_values.specs.Computation.{Stuck};
-ghost use Rattle.mh_form.specs.Run.{ran_of_step};
 ghost use Rattle.mh_form.specs.Slots.{checked_array, filled, item_in, made_array};
+ghost use Rattle.mh_form.specs.Stack.{slot_or_exc};
 
-use crate::convert::{end, fill, slot_or_throw};
-use crate::outcome::Stepped;
+use crate::convert::slot_or_throw;
 use crate::{Slot, Slots, all_typed, erase};
 use mh_base::{Copied, Frozen, NoMemory, Seq};
 use mh_values::{Cell, Cells, ClassId, Classes, Comp, Exc, Items, Ty, Tys, Value};
@@ -79,30 +78,29 @@ pub(crate) fn make_array(
     comp: Comp,
     slots: Slots,
     classes: &Classes,
-) -> Result<Stepped, NoMemory>
+) -> Result<Result<Slot, Exc>, NoMemory>
     requires { made_array classes.now comp slots ≢ Stuck }
-    ensures { IfOk result (λ r. ran_of_step r ≡ made_array classes.now comp slots) }
+    ensures { IfOk result (λ r. slot_or_exc r ≡ made_array classes.now comp slots) }
 {
     let types = item_types(alloc, comp, &slots)?;
     let values = all_typed(alloc, &types, slots, classes)?;
-    Ok(slot_or_throw(alloc, array_of(alloc, comp, values)?))
+    Ok(slot_or_throw(array_of(alloc, comp, values)?))
 }
 
-pub(crate) fn check_array(alloc: Global, slot: &Slot, count: u32) -> Result<Stepped, NoMemory>
+pub(crate) fn check_array(
+    alloc: Global,
+    slot: &Slot,
+    count: u32,
+) -> Result<Result<Slot, Exc>, NoMemory>
     requires { checked_array count slot.now ≢ Stuck }
-    ensures { IfOk result (λ r. ran_of_step r ≡ filled (checked_array count slot.now)) }
+    ensures { IfOk result (λ r. slot_or_exc r ≡ filled (checked_array count slot.now)) }
 {
     match slot {
-        Slot::L(Value::Null) if count == 0 => Ok(fill(alloc, Slot::I(0))),
-        Slot::L(Value::Null) => Ok(end(alloc, Exc::bare(ClassId::NULL_POINTER))),
-        Slot::L(Value::Array(_, items)) if items.len() == count as usize => {
-            Ok(fill(alloc, Slot::I(0)))
-        }
+        Slot::L(Value::Null) if count == 0 => Ok(Ok(Slot::I(0))),
+        Slot::L(Value::Null) => Ok(Err(Exc::bare(ClassId::NULL_POINTER))),
+        Slot::L(Value::Array(_, items)) if items.len() == count as usize => Ok(Ok(Slot::I(0))),
         Slot::L(Value::Array(..)) => {
-            Ok(end(
-                alloc,
-                Exc::saying(alloc, ClassId::ILLEGAL_ARGUMENT, b"spread")?,
-            ))
+            Ok(Err(Exc::saying(alloc, ClassId::ILLEGAL_ARGUMENT, b"spread")?))
         }
         _ => unreachable!(),
     }

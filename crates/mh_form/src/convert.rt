@@ -1,48 +1,31 @@
 //! Conversions of slots and of results.
 
-ghost use Rattle.std.specs.Prelude.{◌≡◌, ◌≢◌, []};
+ghost use Rattle.std.specs.Prelude.{◌≡◌, ◌≢◌};
 ghost use Rattle.mh_values.specs.Computation.{Stuck};
 ghost use Rattle.mh_convert.specs.Conversion.{default_of};
-ghost use Rattle.mh_form.specs.Run.{ran_of_step};
-ghost use Rattle.mh_form.specs.declared.outcome.Stepped.TheVariants.{Filled, Ended};
 ghost use Rattle.mh_form.specs.Slots.{converted, filled, ret_converted, slot_or_throw};
+ghost use Rattle.mh_form.specs.Stack.{slot_or_exc};
 
-use crate::outcome::Stepped;
 use crate::{Slot, erase, typed};
-use mh_base::Seq;
 use mh_convert::{Conv, RetConv, convert};
 use mh_values::{Classes, Exc, Num, Primitive, Ty, Value};
-use std::alloc::Global;
 
-/// A slot that was filled without a leaf call.
-pub(crate) fn fill(alloc: Global, slot: Slot) -> Stepped
-    ensures { result ≡ Filled slot [] }
-{
-    Stepped::Filled(slot, Seq::new(alloc))
-}
-
-/// An end without a leaf call.
-pub(crate) fn end(alloc: Global, exc: Exc) -> Stepped
-    ensures { result ≡ Ended exc [] }
-{
-    Stepped::Ended(exc, Seq::new(alloc))
-}
-
-pub(crate) fn slot_or_throw(alloc: Global, given: Result<Value, Exc>) -> Stepped
-    ensures { ran_of_step result ≡ slot_or_throw given }
+/// A value that was given as a slot, or the exception.
+pub(crate) fn slot_or_throw(given: Result<Value, Exc>) -> Result<Slot, Exc>
+    ensures { slot_or_exc result ≡ slot_or_throw given }
 {
     match given {
-        Ok(value) => fill(alloc, erase(value)),
-        Err(exc) => end(alloc, exc),
+        Ok(value) => Ok(erase(value)),
+        Err(exc) => Err(exc),
     }
 }
 
-pub(crate) fn convert_slot(alloc: Global, conv: Conv, slot: Slot, classes: &Classes) -> Stepped
+pub(crate) fn convert_slot(conv: Conv, slot: Slot, classes: &Classes) -> Result<Slot, Exc>
     requires { converted classes.now conv slot ≢ Stuck }
-    ensures { ran_of_step result ≡ converted classes.now conv slot }
+    ensures { slot_or_exc result ≡ converted classes.now conv slot }
 {
     let value = typed(conv.from, slot, classes);
-    slot_or_throw(alloc, convert(conv, value, classes))
+    slot_or_throw(convert(conv, value, classes))
 }
 
 /// Null, false or zero.
@@ -58,19 +41,18 @@ fn default_value(ty: Ty) -> Value
 }
 
 pub(crate) fn convert_result(
-    alloc: Global,
     conv: RetConv,
     given: Option<Slot>,
     classes: &Classes,
-) -> Stepped
+) -> Result<Slot, Exc>
     requires { ret_converted classes.now conv given ≢ Stuck }
-    ensures { ran_of_step result ≡ filled (ret_converted classes.now conv given) }
+    ensures { slot_or_exc result ≡ filled (ret_converted classes.now conv given) }
 {
     match (conv, given) {
-        (RetConv::Keep, Some(slot)) => fill(alloc, slot),
-        (RetConv::Keep, None) | (RetConv::Discard, _) => fill(alloc, Slot::I(0)),
-        (RetConv::Default(ty), _) => fill(alloc, erase(default_value(ty))),
-        (RetConv::Value(conv), Some(slot)) => convert_slot(alloc, conv, slot, classes),
+        (RetConv::Keep, Some(slot)) => Ok(slot),
+        (RetConv::Keep, None) | (RetConv::Discard, _) => Ok(Slot::I(0)),
+        (RetConv::Default(ty), _) => Ok(erase(default_value(ty))),
+        (RetConv::Value(conv), Some(slot)) => convert_slot(conv, slot, classes),
         (RetConv::Value(_), None) => unreachable!(),
     }
 }

@@ -1,19 +1,23 @@
-ghost use Rattle.std.specs.Prelude.{◌≡◌, ◌≢◌, ◌++◌, ◌∷◌, [], if◌then◌else◌, IfOk, OnOk};
-ghost use Rattle.mh_values.specs.declared.value.Value.TheVariants.{Thrown};
-ghost use Rattle.mh_values.specs.Computation.{Stuck, after, found, guarded};
+ghost use Rattle.std.specs.Prelude.{◌≡◌, ◌≢◌, ◌≤◌, [], if◌then◌else◌, IfOk, None, length, map};
+ghost use Rattle.mh_values.specs.Computation.{Stuck, after, found, raised};
 ghost use Rattle.mh_form.specs.declared.name.Name.TheVariants.{Link};
-ghost use Rattle.mh_form.specs.declared.slot.Slot.TheVariants as slot;
-ghost use Rattle.mh_form.specs.Run.{ended, guarded_field, picked, ran_of_run, ran_of_step, run_bound, run_field, senses_in, step};
+ghost use Rattle.mh_form.specs.Run.{guarded_field, picked, ran_of_outcome, ran_of_run, run_bound, run_field, senses_in};
 ghost use Rattle.mh_form.specs.Slots.{filled, holds_one, is_caught};
+ghost use Rattle.mh_form.specs.Erasure.{erased};
+ghost use Rattle.mh_form.specs.Guards.{caught_on, guarded_on};
+ghost use Rattle.mh_form.specs.Stack.{done, left, on_stack, slots_on, step_on};
 
+use crate::going::Going;
+use crate::invocation::Invocation;
 use crate::lookup::class_in;
-use crate::outcome::Stepped;
+use crate::machine::Machine;
 use crate::plain::{array, call_leaf, check, convert, convert_returned, get, item, throw};
-use crate::slots::{filled, first, holds_one, pick, raised, result_in};
+use crate::slots::holds_one;
+use crate::stack::Stack;
 use crate::{Bound, Field, Name, Operands, Ran, Slot, SlotOutcome, Slots};
-use mh_base::{NoMemory, Seq};
+use mh_base::NoMemory;
 use mh_leaves::Leaves;
-use mh_values::{Calls, ClassId, Exc, Value};
+use mh_values::{ClassId, Items};
 use std::alloc::Global;
 
 /// A part that is guarded: its field, the class of exceptions that are handled, the field of the
@@ -26,152 +30,155 @@ struct Guard {
     kept: u32,
 }
 
+/// Runs a part on the slots of the run under way, and goes on with the run that waits for it, which
+/// has so many slots: it gets what the part gave, or stays as it is where the part threw.
 #[cycle(run)]
 fn run_part(
-    alloc: Global,
+    m: &mut Stack,
+    call: &Invocation<'_>,
+    part: &Bound<'_>,
+    count: usize,
+) -> Result<Going, NoMemory>
+    requires waits { count ≤ length m.old.below }
+    requires well_formed { run_bound call.now.leaves.now part.now m.old.frame
+        (raised call.now.n m.old.calls) ≢ Stuck }
+    ensures done { IfOk result (λ g. done g m.new ≡ on_stack (left count m.old) (filled
+        (run_bound call.now.leaves.now part.now m.old.frame (raised call.now.n m.old.calls)))) }
+    ensures below { IfOk result (λ g. m.new.below ≡ (left count m.old).below) }
+    ensures threw { IfOk result (λ g. g ≡ Going.Threw → m.new.frame ≡ (left count m.old).frame) }
+{
+    match run_in(m, call, part)? {
+        Going::On => {
+            m.leave_with(part.body.out, count)?;
+            Ok(Going::On)
+        }
+        Going::Threw => {
+            m.leave(count);
+            Ok(Going::Threw)
+        }
+    }
+}
+
+/// Runs the part in a field on the slots of the run under way, in the same way.
+#[cycle(run)]
+fn run_entered(
+    m: &mut Stack,
+    call: &Invocation<'_>,
     bound: &Bound<'_>,
-    leaves: &Leaves,
     field: u32,
-    args: Slots,
-    n: u32,
-) -> Result<Ran, NoMemory>
-    requires well_formed { run_field (senses_in leaves.now bound.now) field args n ≢ Stuck }
-    ensures { IfOk result
-        (λ r. ran_of_run r ≡ run_field (senses_in leaves.now bound.now) field args n) }
+    count: usize,
+) -> Result<Going, NoMemory>
+    requires waits { count ≤ length m.old.below }
+    requires well_formed { run_field (senses_in call.now.leaves.now bound.now) field m.old.frame
+        (raised call.now.n m.old.calls) ≢ Stuck }
+    ensures done { IfOk result (λ g. done g m.new ≡ on_stack (left count m.old) (filled
+        (run_field (senses_in call.now.leaves.now bound.now) field m.old.frame
+        (raised call.now.n m.old.calls)))) }
+    ensures below { IfOk result (λ g. m.new.below ≡ (left count m.old).below) }
+    ensures threw { IfOk result (λ g. g ≡ Going.Threw → m.new.frame ≡ (left count m.old).frame) }
 {
     let at = field as usize;
     if at >= bound.fields.len() {
         unreachable!()
     }
     match &bound.fields[at] {
-        Field::Part(part) => run(alloc, part, args, n, leaves),
+        Field::Part(part) => run_part(m, call, part, count),
         _ => unreachable!(),
     }
-}
-
-/// A run after these leaf calls.
-fn after_calls(calls: Calls, ran: Ran) -> Result<Ran, NoMemory>
-    ensures { IfOk result (λ r. ran_of_run r ≡ after calls (ran_of_run ran)) }
-{
-    let Ran {
-        outcome,
-        calls: later,
-    } = ran;
-    let mut calls = calls;
-    calls.append(later)?;
-    Ok(Ran { outcome, calls })
-}
-
-/// The arguments of a handler: the exception, and those that are kept.
-fn handler_args(alloc: Global, exc: Exc, kept: Slots) -> Result<Slots, NoMemory>
-    ensures { IfOk result (λ args. args ≡ slot.L (Thrown exc) ∷ kept) }
-{
-    let mut args = Seq::new(alloc);
-    args.push(Slot::L(Value::Thrown(exc)))?;
-    args.append(kept)?;
-    Ok(args)
-}
-
-/// What a guarded part gave, or what the handler gives of its exception.
-#[cycle(run)]
-fn handle_exception(
-    alloc: Global,
-    bound: &Bound<'_>,
-    leaves: &Leaves,
-    guard: Guard,
-    ran: Ran,
-    kept: Slots,
-    n: u32,
-) -> Result<Ran, NoMemory>
-    requires well_formed { guarded (ran_of_run ran) (is_caught leaves.now.classes guard.class) n
-        (λ e k. run_field (senses_in leaves.now bound.now) guard.handler
-        (slot.L (Thrown e) ∷ kept) k) ≢ Stuck }
-    ensures { IfOk result (λ r. ran_of_run r
-        ≡ guarded (ran_of_run ran) (is_caught leaves.now.classes guard.class) n
-        (λ e k. run_field (senses_in leaves.now bound.now) guard.handler
-        (slot.L (Thrown e) ∷ kept) k)) }
-{
-    let Ran { outcome, calls } = ran;
-    match outcome {
-        SlotOutcome::Return(slot) => Ok(Ran {
-            outcome: SlotOutcome::Return(slot),
-            calls,
-        }),
-        SlotOutcome::Throw(exc) => {
-            if !leaves.classes().subclass(exc.class(), guard.class) {
-                return Ok(Ran {
-                    outcome: SlotOutcome::Throw(exc),
-                    calls,
-                });
-            }
-            let later = raised(n, &calls);
-            let args = handler_args(alloc, exc, kept)?;
-            let handled = run_part(alloc, bound, leaves, guard.handler, args, later)?;
-            after_calls(calls, handled)
-        }
-    }
-}
-
-#[cycle(run)]
-fn run_guarded(
-    alloc: Global,
-    bound: &Bound<'_>,
-    leaves: &Leaves,
-    guard: Guard,
-    args: Slots,
-    n: u32,
-) -> Result<Ran, NoMemory>
-    requires well_formed { guarded_field (senses_in leaves.now bound.now) guard.part
-        (is_caught leaves.now.classes guard.class) guard.handler guard.kept args n ≢ Stuck }
-    ensures { IfOk result (λ r. ran_of_run r
-        ≡ guarded_field (senses_in leaves.now bound.now) guard.part
-        (is_caught leaves.now.classes guard.class) guard.handler guard.kept args n) }
-{
-    let kept = first(alloc, &args, guard.kept)?;
-    let ran = run_part(alloc, bound, leaves, guard.part, args, n)?;
-    handle_exception(alloc, bound, leaves, guard, ran, kept, n)
-}
-
-/// Runs a guarded part on the slots at these places.
-#[cycle(run)]
-fn step_guarded(
-    alloc: Global,
-    bound: &Bound<'_>,
-    leaves: &Leaves,
-    guard: Guard,
-    args: &Operands,
-    slots: &Slots,
-    n: u32,
-) -> Result<Stepped, NoMemory>
-    requires well_formed { found (picked slots.now args.now) (λ xs. filled
-        (guarded_field (senses_in leaves.now bound.now) guard.part
-        (is_caught leaves.now.classes guard.class) guard.handler guard.kept xs n)) ≢ Stuck }
-    ensures { IfOk result (λ r. ran_of_step r ≡ found (picked slots.now args.now) (λ xs. filled
-        (guarded_field (senses_in leaves.now bound.now) guard.part
-        (is_caught leaves.now.classes guard.class) guard.handler guard.kept xs n))) }
-{
-    let args = pick(alloc, slots, args)?;
-    Ok(filled(run_guarded(alloc, bound, leaves, guard, args, n)?))
 }
 
 /// Runs the part in a field on the slots at these places.
 #[cycle(run)]
 fn step_link(
-    alloc: Global,
+    m: &mut Stack,
+    call: &Invocation<'_>,
     bound: &Bound<'_>,
-    leaves: &Leaves,
     field: u32,
     args: &Operands,
-    slots: &Slots,
-    n: u32,
-) -> Result<Stepped, NoMemory>
-    requires well_formed { step (Link field args.now) (senses_in leaves.now bound.now) slots.now n
-        ≢ Stuck }
-    ensures { IfOk result (λ r. ran_of_step r
-        ≡ step (Link field args.now) (senses_in leaves.now bound.now) slots.now n) }
+) -> Result<Going, NoMemory>
+    requires well_formed { step_on call.now.leaves.now call.now.n bound.now (Link field args.now)
+        m.old ≢ Stuck }
+    ensures done { IfOk result (λ g. done g m.new ≡ on_stack m.old
+        (step_on call.now.leaves.now call.now.n bound.now (Link field args.now) m.old)) }
+    ensures below { IfOk result (λ g. m.new.below ≡ m.old.below) }
 {
-    let args = pick(alloc, slots, args)?;
-    Ok(filled(run_part(alloc, bound, leaves, field, args, n)?))
+    let count = m.enter(args)?;
+    run_entered(m, call, bound, field, count)
+}
+
+/// What a handler gives of the exception of a guarded part, on the arguments of that, which are the
+/// slots of the run under way. An exception of another class goes on.
+#[cycle(run)]
+fn handle(
+    m: &mut Stack,
+    call: &Invocation<'_>,
+    bound: &Bound<'_>,
+    guard: Guard,
+    count: usize,
+) -> Result<Going, NoMemory>
+    requires waits { count ≤ length m.old.below }
+    requires well_formed { caught_on call.now.leaves.now call.now.n bound.now guard m.old ≢ Stuck }
+    ensures done { IfOk result (λ g. done g m.new ≡ on_stack (left count m.old) (filled
+        (caught_on call.now.leaves.now call.now.n bound.now guard m.old))) }
+    ensures below { IfOk result (λ g. m.new.below ≡ (left count m.old).below) }
+{
+    let classes = call.leaves.classes();
+    if !classes.subclass(m.thrown().class(), guard.class) {
+        m.leave(count);
+        return Ok(Going::Threw);
+    }
+    m.hand_over(guard.kept)?;
+    run_entered(m, call, bound, guard.handler, count)
+}
+
+/// Runs a guarded part on copies of the slots of the run under way, and its handler on those
+/// themselves.
+#[cycle(run)]
+fn run_guarded(
+    m: &mut Stack,
+    call: &Invocation<'_>,
+    bound: &Bound<'_>,
+    guard: Guard,
+    count: usize,
+) -> Result<Going, NoMemory>
+    requires waits { count ≤ length m.old.below }
+    requires well_formed { guarded_on call.now.leaves.now call.now.n bound.now guard m.old ≢ Stuck }
+    ensures done { IfOk result (λ g. done g m.new ≡ on_stack (left count m.old) (filled
+        (guarded_on call.now.leaves.now call.now.n bound.now guard m.old))) }
+    ensures below { IfOk result (λ g. m.new.below ≡ (left count m.old).below) }
+{
+    let kept = m.enter_again()?;
+    match run_entered(m, call, bound, guard.part, kept)? {
+        Going::On => {
+            m.leave_with_last(kept, count)?;
+            Ok(Going::On)
+        }
+        Going::Threw => handle(m, call, bound, guard, count),
+    }
+}
+
+/// Runs a guarded part on the slots at these places.
+#[cycle(run)]
+fn step_guarded(
+    m: &mut Stack,
+    call: &Invocation<'_>,
+    bound: &Bound<'_>,
+    guard: Guard,
+    args: &Operands,
+) -> Result<Going, NoMemory>
+    requires well_formed { found (picked m.old.frame args.now) (λ xs. filled
+        (guarded_field (senses_in call.now.leaves.now bound.now) guard.part
+        (is_caught call.now.leaves.now.classes guard.class) guard.handler guard.kept xs
+        (raised call.now.n m.old.calls))) ≢ Stuck }
+    ensures done { IfOk result (λ g. done g m.new ≡ on_stack m.old
+        (found (picked m.old.frame args.now) (λ xs. filled
+        (guarded_field (senses_in call.now.leaves.now bound.now) guard.part
+        (is_caught call.now.leaves.now.classes guard.class) guard.handler guard.kept xs
+        (raised call.now.n m.old.calls))))) }
+    ensures below { IfOk result (λ g. m.new.below ≡ m.old.below) }
+{
+    let count = m.enter(args)?;
+    run_guarded(m, call, bound, guard, count)
 }
 
 /// The field of one of two parts: the first where the slot of the test is int 1.
@@ -181,33 +188,29 @@ fn chosen(test: &Slot, field: u32, other: u32) -> u32
     if holds_one(test) { field } else { other }
 }
 
+/// Runs a name on the slots of the run under way, which gets one slot more.
 #[cycle(run)]
 fn step(
-    alloc: Global,
+    m: &mut Stack,
+    call: &Invocation<'_>,
     bound: &Bound<'_>,
-    leaves: &Leaves,
     name: &Name,
-    slots: &Slots,
-    n: u32,
-) -> Result<Stepped, NoMemory>
-    requires well_formed { step name.now (senses_in leaves.now bound.now) slots.now n ≢ Stuck }
-    ensures { IfOk result
-        (λ r. ran_of_step r ≡ step name.now (senses_in leaves.now bound.now) slots.now n) }
+) -> Result<Going, NoMemory>
+    requires well_formed { step_on call.now.leaves.now call.now.n bound.now name.now m.old ≢ Stuck }
+    ensures done { IfOk result (λ g. done g m.new ≡ on_stack m.old
+        (step_on call.now.leaves.now call.now.n bound.now name.now m.old)) }
+    ensures below { IfOk result (λ g. m.new.below ≡ m.old.below) }
 {
     match name {
-        Name::Get(field) => get(alloc, bound, leaves, *field),
-        Name::Call(field, args) => call_leaf(alloc, bound, leaves, *field, args, slots, n),
-        Name::Link(field, args) => step_link(alloc, bound, leaves, *field, args, slots, n),
+        Name::Get(field) => get(m, call, bound, *field),
+        Name::Call(field, args) => call_leaf(m, call, bound, *field, args),
+        Name::Link(field, args) => step_link(m, call, bound, *field, args),
         Name::Select(test, field, other, args) => {
-            let at = *test as usize;
-            if at >= slots.len() {
-                unreachable!()
-            }
-            let part = chosen(slots.get(at), *field, *other);
-            step_link(alloc, bound, leaves, part, args, slots, n)
+            let part = chosen(m.at(*test), *field, *other);
+            step_link(m, call, bound, part, args)
         }
         Name::Guarded(part, class, handler, args, kept) => {
-            let Some(class) = class_in(bound, leaves, *class) else {
+            let Some(class) = class_in(bound, call.leaves, *class) else {
                 unreachable!()
             };
             let guard = Guard {
@@ -216,58 +219,57 @@ fn step(
                 handler: *handler,
                 kept: *kept,
             };
-            step_guarded(alloc, bound, leaves, guard, args, slots, n)
+            step_guarded(m, call, bound, guard, args)
         }
         Name::Conv(field, slot) | Name::Cast(field, slot) => {
-            convert(alloc, bound, leaves, *field, *slot, slots)
+            convert(m, call, bound, *field, *slot)
         }
-        Name::Ret(field, slot) => convert_returned(alloc, bound, leaves, *field, *slot, slots),
-        Name::MakeArray(field, items) => array(alloc, bound, leaves, *field, items, slots),
-        Name::CheckArray(slot, count) => check(alloc, *slot, *count, slots),
-        Name::Elem(slot, at) => item(alloc, *slot, *at, slots),
-        Name::Raise(slot) => throw(alloc, *slot, slots),
+        Name::Ret(field, slot) => convert_returned(m, call, bound, *field, *slot),
+        Name::MakeArray(field, items) => array(m, call, bound, *field, items),
+        Name::CheckArray(slot, count) => check(m, *slot, *count),
+        Name::Elem(slot, at) => item(m, *slot, *at),
+        Name::Raise(slot) => throw(m, *slot),
     }
 }
 
-/// A run under way: the slots, and the leaf calls so far.
-#[derive(Drop)]
-struct Progress {
-    slots: Slots,
-    calls: Calls,
-}
-
-/// Notes in a run under way that one more name filled its slot.
-fn advance(progress: &mut Progress, slot: Slot, more: Calls) -> Result<(), NoMemory>
-    ensures { OnOk result
-        (progress.new ≡ record {
-          slots = progress.old.slots ++ slot ∷ [];
-          calls = progress.old.calls ++ more;
-        }) }
+/// Runs the names of a body in order on the slots of the run under way, until one throws.
+#[cycle(run)]
+fn run_in(m: &mut Stack, call: &Invocation<'_>, bound: &Bound<'_>) -> Result<Going, NoMemory>
+    requires well_formed { slots_on call.now.leaves.now call.now.n bound.now m.old ≢ Stuck }
+    ensures done { IfOk result (λ g. done g m.new ≡ after m.old.calls
+        (slots_on call.now.leaves.now call.now.n bound.now m.old)) }
+    ensures below { IfOk result (λ g. m.new.below ≡ m.old.below) }
 {
-    if !more.is_empty() {
-        progress.calls.append(more)?;
+    for name in bound.body.names.as_slice() {
+        match step(m, call, bound, name)? {
+            Going::On => {}
+            Going::Threw => return Ok(Going::Threw),
+        }
     }
-    progress.slots.push(slot)
+    Ok(Going::On)
 }
 
-/// The end of a run whose names all filled their slots, with the result at a place.
-fn finish(alloc: Global, progress: Progress, place: Option<u32>) -> Result<Ran, NoMemory>
-    requires { ended place progress.slots 0 ≢ Stuck }
-    ensures { IfOk result
-        (λ r. ran_of_run r ≡ after progress.calls (ended place progress.slots 0)) }
+/// Runs a body on the slots of the run under way, and takes its result.
+fn run_whole(
+    m: &mut Stack,
+    call: &Invocation<'_>,
+    bound: &Bound<'_>,
+) -> Result<SlotOutcome, NoMemory>
+    requires first { m.old.calls ≡ [] }
+    requires well_formed { run_bound call.now.leaves.now bound.now m.old.frame call.now.n ≢ Stuck }
+    ensures { IfOk result (λ outcome. ran_of_outcome outcome m.new.calls
+        ≡ run_bound call.now.leaves.now bound.now m.old.frame call.now.n) }
 {
-    let given = result_in(alloc, place, &progress.slots)?;
-    Ok(Ran {
-        outcome: SlotOutcome::Return(given),
-        calls: progress.calls,
-    })
+    match run_in(m, call, bound)? {
+        Going::On => Ok(SlotOutcome::Return(m.take_result(bound.body.out))),
+        Going::Threw => Ok(SlotOutcome::Throw(m.take_thrown())),
+    }
 }
 
 /// Runs a body on its fields and on arguments, where `n` leaf calls were made before in the
 /// invocation: the names in order, each putting one slot at the end of a list that begins with the
 /// arguments, until one throws. The body must be well formed for its fields, the arguments, `n`
 /// and the leaves: each name that is reached finds what it takes.
-#[cycle(run)]
 pub fn run<'t>(
     alloc: Global,
     bound: &Bound<'t>,
@@ -278,25 +280,30 @@ pub fn run<'t>(
     requires well_formed { run_bound leaves.now bound.now args n ≢ Stuck }
     ensures { IfOk result (λ r. ran_of_run r ≡ run_bound leaves.now bound.now args n) }
 {
-    let mut progress = Progress {
-        slots: args,
-        calls: Seq::new(alloc),
-    };
-    let mut count = n;
-    for name in bound.body.names.as_slice() {
-        match step(alloc, bound, leaves, name, &progress.slots, count)? {
-            Stepped::Filled(slot, more) => {
-                count = raised(count, &more);
-                advance(&mut progress, slot, more)?;
-            }
-            Stepped::Ended(exc, more) => {
-                let last = Ran {
-                    outcome: SlotOutcome::Throw(exc),
-                    calls: more,
-                };
-                return after_calls(progress.calls, last);
-            }
-        }
-    }
-    finish(alloc, progress, bound.body.out)
+    let mut m = Stack::on(alloc, args);
+    let outcome = run_whole(&mut m, &Invocation { leaves, n }, bound)?;
+    Ok(Ran {
+        outcome,
+        calls: m.into_calls(),
+    })
+}
+
+/// Runs a body as `run` does, in a machine that is kept from call to call, on values, which are
+/// its arguments when they are erased. Its leaf calls stay in the machine until the next run.
+/// Nothing of the run before is seen, also where that found no memory on its way.
+pub fn run_on(
+    m: &mut Machine,
+    bound: &Bound<'_>,
+    args: &Items,
+    n: u32,
+    leaves: &Leaves,
+) -> Result<SlotOutcome, NoMemory>
+    requires { run_bound leaves.now bound.now (map erased args.now) n ≢ Stuck }
+    ensures { IfOk result (λ outcome. ran_of_outcome outcome m.new
+        ≡ run_bound leaves.now bound.now (map erased args.now) n) }
+{
+    m.stack.begin_on(args)?;
+    let ended = run_whole(&mut m.stack, &Invocation { leaves, n }, bound);
+    m.stack.rest();
+    ended
 }

@@ -1,49 +1,28 @@
 //! Leaves on slots.
 
-ghost use Rattle.std.specs.Prelude.{◌≡◌, ◌≢◌, ◌<◌, IfOk, List, None, Some, length, slice_get};
-ghost use Rattle.mh_values.specs.Computation.{Stuck};
-ghost use Rattle.mh_values.specs.declared.value.LeafCall.{LeafCall};
+ghost use Rattle.std.specs.Prelude.{◌≡◌, ◌≢◌, ◌<◌, ◌++◌, [], IfOk, OnOk, None, Some, length, slice_get};
+ghost use Rattle.mh_values.specs.Computation.{Stuck, raised};
 ghost use Rattle.mh_leaf.specs.declared.leaf.Leaf.{Leaf};
-ghost use Rattle.mh_leaf.specs.Outcome.{calls_of, leaf_mean, ran_of};
+ghost use Rattle.mh_leaf.specs.Outcome.{calls_of, leaf_mean};
 ghost use Rattle.mh_form.specs.Erasure.{erased_ran, typed_at, typed_slot};
-ghost use Rattle.mh_form.specs.Run.{ran_of_outcome, ran_of_run};
-ghost use Rattle.mh_form.specs.Slots.{called_at};
+ghost use Rattle.mh_form.specs.Slots.{called_at, filled};
+ghost use Rattle.mh_form.specs.Stack.{done, on_stack};
 
-use crate::{Operands, Ran, SlotOutcome, Slots, erase, typed};
-use mh_base::{Copied, NoMemory, Seq};
+use crate::going::Going;
+use crate::invocation::Invocation;
+use crate::slots::{raised, slot_at};
+use crate::stack::Stack;
+use crate::{Operands, Slot, typed};
+use mh_base::{Copied, NoMemory};
 use mh_leaf::lacks_receiver;
-use mh_leaves::Leaves;
-use mh_values::{Calls, Classes, Items, LeafCall, LeafId, Outcome, Ty, Tys, Value};
+use mh_values::{Classes, LeafId, Ty, Tys, Value};
 use std::alloc::Global;
-
-fn erase_outcome(outcome: Outcome) -> SlotOutcome
-    ensures { (calls : List LeafCall) →
-        ran_of_outcome result calls ≡ erased_ran (ran_of outcome calls) }
-{
-    match outcome {
-        Outcome::Return(None) => SlotOutcome::Return(None),
-        Outcome::Return(Some(value)) => SlotOutcome::Return(Some(erase(value))),
-        Outcome::Throw(exc) => SlotOutcome::Throw(exc),
-    }
-}
-
-/// The leaf call that a leaf makes, if it runs.
-fn calls_of(alloc: Global, id: LeafId, is_virtual: bool, args: Items) -> Result<Calls, NoMemory>
-    ensures { (leaf : Leaf) → leaf.is_virtual ≡ is_virtual →
-        IfOk result (λ calls. calls ≡ calls_of id leaf args) }
-{
-    let mut calls = Seq::new(alloc);
-    if !lacks_receiver(is_virtual, &args) {
-        calls.push(LeafCall { leaf: id, args })?;
-    }
-    Ok(calls)
-}
 
 /// A copy of the slot at a place as the value of a type of which it is the erasure.
 fn typed_slot(
     alloc: Global,
     ty: Ty,
-    slots: &Slots,
+    slots: &[Slot],
     place: u32,
     classes: &Classes,
 ) -> Result<Value, NoMemory>
@@ -51,27 +30,25 @@ fn typed_slot(
     ensures { IfOk result
         (λ value. typed_slot classes.now ty (slice_get slots.now place) ≡ Some value) }
 {
-    let at = place as usize;
-    if at >= slots.len() {
-        unreachable!()
-    }
-    let slot = slots.get(at).copy(alloc)?;
+    let slot = slot_at(slots, place).copy(alloc)?;
     Ok(typed(ty, slot, classes))
 }
 
-/// The slots at these places as the values of types of which they are the erasures, one for each.
-fn typed_at(
-    alloc: Global,
+/// Puts the slots at these places into a vector without items, as the values of types of which they
+/// are the erasures, one for each.
+pub(crate) fn typed_at(
+    values: &mut Vec<Value>,
     types: &Tys,
-    slots: &Slots,
+    slots: &[Slot],
     places: &Operands,
     classes: &Classes,
-) -> Result<Items, NoMemory>
-    requires { typed_at classes.now slots.now types.now places.now ≢ None }
-    ensures { IfOk result
-        (λ values. typed_at classes.now slots.now types.now places.now ≡ Some values) }
+) -> Result<(), NoMemory>
+    requires typed { typed_at classes.now slots.now types.now places.now ≢ None }
+    requires empty { values.old.items ≡ [] }
+    ensures { OnOk result
+        (typed_at classes.now slots.now types.now places.now ≡ Some values.new.items) }
 {
-    let mut values = Seq::from_vec(Vec::with_capacity(alloc, types.len())?);
+    let alloc = *values.allocator();
     for i in 0..types.len() {
         if i >= places.len() {
             unreachable!()
@@ -79,37 +56,56 @@ fn typed_at(
         let value = typed_slot(alloc, *types.get(i), slots, *places.get(i), classes)?;
         values.push(value)?;
     }
-    Ok(values)
+    Ok(())
 }
 
-/// Calls a leaf on arguments of its types.
-fn call_on(alloc: Global, leaves: &Leaves, id: LeafId, args: Items, n: u32) -> Result<Ran, NoMemory>
-    requires leaf { id.0 < length leaves.now.leaves }
-    requires runs { leaf_mean leaves.now id args n ≢ Stuck }
-    ensures { IfOk result (λ r. ran_of_run r ≡ erased_ran (leaf_mean leaves.now id args n)) }
+/// Notes a call of a leaf on the arguments that are loaded, if it runs.
+fn note(m: &mut Stack, call: &Invocation<'_>, id: LeafId) -> Result<(), NoMemory>
+    requires leaf { id.0 < length call.now.leaves.now.leaves }
+    ensures calls { (leaf : Leaf) → slice_get call.now.leaves.now.leaves id.0 ≡ Some leaf →
+        OnOk result (m.new.calls ≡ m.old.calls ++ calls_of id leaf m.old.args) }
+    ensures frame { OnOk result (m.new.frame ≡ m.old.frame) }
+    ensures below { OnOk result (m.new.below ≡ m.old.below) }
 {
-    let outcome = erase_outcome(leaves.leaf_does(alloc, id, &args, n)?);
-    let calls = calls_of(alloc, id, leaves.is_virtual(id), args)?;
-    Ok(Ran { outcome, calls })
+    if lacks_receiver(call.leaves.is_virtual(id), m.args()) {
+        return Ok(());
+    }
+    m.note(id)
+}
+
+/// Calls a leaf on the arguments that are loaded, which have its types.
+fn call_loaded(m: &mut Stack, call: &Invocation<'_>, id: LeafId) -> Result<Going, NoMemory>
+    requires leaf { id.0 < length call.now.leaves.now.leaves }
+    requires runs { leaf_mean call.now.leaves.now id m.old.args (raised call.now.n m.old.calls)
+        ≢ Stuck }
+    ensures done { IfOk result (λ g. done g m.new ≡ on_stack m.old (filled (erased_ran
+        (leaf_mean call.now.leaves.now id m.old.args (raised call.now.n m.old.calls))))) }
+    ensures below { IfOk result (λ g. m.new.below ≡ m.old.below) }
+{
+    let n = raised(call.n, m.calls());
+    let outcome = call.leaves.leaf_does(m.alloc(), id, m.args(), n)?;
+    note(m, call, id)?;
+    m.finish(outcome)
 }
 
 /// Calls a leaf on the slots at these places, which are the erasures of values of its types.
-pub(crate) fn call(
-    alloc: Global,
-    leaves: &Leaves,
+pub(crate) fn call_at(
+    m: &mut Stack,
+    call: &Invocation<'_>,
     id: LeafId,
-    slots: &Slots,
     places: &Operands,
-    n: u32,
-) -> Result<Ran, NoMemory>
-    requires { called_at leaves.now id slots.now places.now n ≢ Stuck }
-    ensures { IfOk result
-        (λ r. ran_of_run r ≡ called_at leaves.now id slots.now places.now n) }
+) -> Result<Going, NoMemory>
+    requires { called_at call.now.leaves.now id m.old.frame places.now
+        (raised call.now.n m.old.calls) ≢ Stuck }
+    ensures done { IfOk result (λ g. done g m.new ≡ on_stack m.old (filled
+        (called_at call.now.leaves.now id m.old.frame places.now
+        (raised call.now.n m.old.calls)))) }
+    ensures below { IfOk result (λ g. m.new.below ≡ m.old.below) }
 {
+    let leaves = call.leaves;
     if id.0 >= leaves.count() {
         unreachable!()
     }
-    let types = &leaves.ty(id).params;
-    let args = typed_at(alloc, types, slots, places, leaves.classes())?;
-    call_on(alloc, leaves, id, args, n)
+    m.load(&leaves.ty(id).params, places, leaves.classes())?;
+    call_loaded(m, call, id)
 }

@@ -14,11 +14,3 @@ pub struct Ran {
     pub outcome: SlotOutcome,
     pub calls: Calls,
 }
-
-/// What a name did: it filled its slot, or ended the run by an exception, with the leaf calls that
-/// it made.
-#[derive(Drop)]
-pub(crate) enum Stepped {
-    Filled(Slot, Calls),
-    Ended(Exc, Calls),
-}

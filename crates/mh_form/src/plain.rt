@@ -3,150 +3,150 @@
 ghost use Rattle.std.specs.Prelude.{◌≡◌, ◌≢◌, IfOk, []};
 ghost use Rattle.mh_values.specs.Computation.{Stuck};
 ghost use Rattle.mh_form.specs.declared.name.Name.TheVariants.{Get, Call, Conv, Ret, MakeArray, CheckArray, Elem, Raise};
-ghost use Rattle.mh_form.specs.Run.{ran_of_step, senses_in, step};
+ghost use Rattle.mh_form.specs.Run.{step};
+ghost use Rattle.mh_form.specs.Stack.{done, on_stack, step_on};
 
 use crate::array::{check_array, item_in, make_array};
-use crate::convert::{convert_result, convert_slot, end, fill};
-use crate::leaf::call;
+use crate::convert::{convert_result, convert_slot};
+use crate::going::Going;
+use crate::invocation::Invocation;
+use crate::leaf::call_at;
 use crate::lookup::{comp_in, conv_in, leaf_in, ret_in, slot_in};
-use crate::outcome::Stepped;
-use crate::slots::{filled, pick, raise, result_in};
-use crate::{Bound, Operands, Slots};
+use crate::slots::{pick, raise, result_in};
+use crate::stack::Stack;
+use crate::{Bound, Operands};
 use mh_base::{Copied, NoMemory};
-use mh_leaves::Leaves;
-use std::alloc::Global;
 
+/// A copy of the slot in a field.
 pub(crate) fn get(
-    alloc: Global,
+    m: &mut Stack,
+    call: &Invocation<'_>,
     bound: &Bound<'_>,
-    leaves: &Leaves,
     field: u32,
-) -> Result<Stepped, NoMemory>
-    requires { step (Get field) (senses_in leaves.now bound.now) [] 0 ≢ Stuck }
-    ensures { IfOk result
-        (λ r. ran_of_step r ≡ step (Get field) (senses_in leaves.now bound.now) [] 0) }
+) -> Result<Going, NoMemory>
+    requires { step_on call.now.leaves.now call.now.n bound.now (Get field) m.old ≢ Stuck }
+    ensures done { IfOk result (λ g. done g m.new ≡ on_stack m.old
+        (step_on call.now.leaves.now call.now.n bound.now (Get field) m.old)) }
+    ensures below { IfOk result (λ g. m.new.below ≡ m.old.below) }
 {
-    let Some(slot) = slot_in(bound, leaves, field) else {
+    let Some(slot) = slot_in(bound, call.leaves, field) else {
         unreachable!()
     };
-    Ok(fill(alloc, slot.copy(alloc)?))
+    let slot = slot.copy(m.alloc())?;
+    m.give(Ok(slot))
 }
 
+/// Calls the leaf in a field.
 pub(crate) fn call_leaf(
-    alloc: Global,
+    m: &mut Stack,
+    call: &Invocation<'_>,
     bound: &Bound<'_>,
-    leaves: &Leaves,
     field: u32,
     args: &Operands,
-    slots: &Slots,
-    n: u32,
-) -> Result<Stepped, NoMemory>
-    requires { step (Call field args.now) (senses_in leaves.now bound.now) slots.now n ≢ Stuck }
-    ensures { IfOk result (λ r. ran_of_step r
-        ≡ step (Call field args.now) (senses_in leaves.now bound.now) slots.now n) }
+) -> Result<Going, NoMemory>
+    requires { step_on call.now.leaves.now call.now.n bound.now (Call field args.now) m.old
+        ≢ Stuck }
+    ensures done { IfOk result (λ g. done g m.new ≡ on_stack m.old
+        (step_on call.now.leaves.now call.now.n bound.now (Call field args.now) m.old)) }
+    ensures below { IfOk result (λ g. m.new.below ≡ m.old.below) }
 {
-    let Some(leaf) = leaf_in(bound, leaves, field) else {
+    let Some(leaf) = leaf_in(bound, call.leaves, field) else {
         unreachable!()
     };
-    Ok(filled(call(alloc, leaves, leaf, slots, args, n)?))
+    call_at(m, call, leaf, args)
 }
 
+/// Converts the slot at a place by the conversion in a field.
 pub(crate) fn convert(
-    alloc: Global,
+    m: &mut Stack,
+    call: &Invocation<'_>,
     bound: &Bound<'_>,
-    leaves: &Leaves,
     field: u32,
     slot: u32,
-    slots: &Slots,
-) -> Result<Stepped, NoMemory>
-    requires { step (Conv field slot) (senses_in leaves.now bound.now) slots.now 0 ≢ Stuck }
-    ensures { IfOk result (λ r. ran_of_step r
-        ≡ step (Conv field slot) (senses_in leaves.now bound.now) slots.now 0) }
+) -> Result<Going, NoMemory>
+    requires { step_on call.now.leaves.now call.now.n bound.now (Conv field slot) m.old ≢ Stuck }
+    ensures done { IfOk result (λ g. done g m.new ≡ on_stack m.old
+        (step_on call.now.leaves.now call.now.n bound.now (Conv field slot) m.old)) }
+    ensures below { IfOk result (λ g. m.new.below ≡ m.old.below) }
 {
-    let Some(conv) = conv_in(bound, leaves, field) else {
+    let Some(conv) = conv_in(bound, call.leaves, field) else {
         unreachable!()
     };
-    let at = slot as usize;
-    if at >= slots.len() {
-        unreachable!()
-    }
-    let slot = slots.get(at).copy(alloc)?;
-    Ok(convert_slot(alloc, conv, slot, leaves.classes()))
+    let slot = m.at(slot).copy(m.alloc())?;
+    m.give(convert_slot(conv, slot, call.leaves.classes()))
 }
 
+/// Converts a result by the return conversion in a field.
 pub(crate) fn convert_returned(
-    alloc: Global,
+    m: &mut Stack,
+    call: &Invocation<'_>,
     bound: &Bound<'_>,
-    leaves: &Leaves,
     field: u32,
     slot: Option<u32>,
-    slots: &Slots,
-) -> Result<Stepped, NoMemory>
-    requires { step (Ret field slot) (senses_in leaves.now bound.now) slots.now 0 ≢ Stuck }
-    ensures { IfOk result (λ r. ran_of_step r
-        ≡ step (Ret field slot) (senses_in leaves.now bound.now) slots.now 0) }
+) -> Result<Going, NoMemory>
+    requires { step_on call.now.leaves.now call.now.n bound.now (Ret field slot) m.old ≢ Stuck }
+    ensures done { IfOk result (λ g. done g m.new ≡ on_stack m.old
+        (step_on call.now.leaves.now call.now.n bound.now (Ret field slot) m.old)) }
+    ensures below { IfOk result (λ g. m.new.below ≡ m.old.below) }
 {
-    let Some(conv) = ret_in(bound, leaves, field) else {
+    let Some(conv) = ret_in(bound, call.leaves, field) else {
         unreachable!()
     };
-    let given = result_in(alloc, slot, slots)?;
-    Ok(convert_result(alloc, conv, given, leaves.classes()))
+    let given = result_in(m.alloc(), slot, m.frame())?;
+    m.give(convert_result(conv, given, call.leaves.classes()))
 }
 
+/// Makes an array of the slots at these places, of the component type in a field.
 pub(crate) fn array(
-    alloc: Global,
+    m: &mut Stack,
+    call: &Invocation<'_>,
     bound: &Bound<'_>,
-    leaves: &Leaves,
     field: u32,
     items: &Operands,
-    slots: &Slots,
-) -> Result<Stepped, NoMemory>
-    requires { step (MakeArray field items.now) (senses_in leaves.now bound.now) slots.now 0
+) -> Result<Going, NoMemory>
+    requires { step_on call.now.leaves.now call.now.n bound.now (MakeArray field items.now) m.old
         ≢ Stuck }
-    ensures { IfOk result (λ r. ran_of_step r
-        ≡ step (MakeArray field items.now) (senses_in leaves.now bound.now) slots.now 0) }
+    ensures done { IfOk result (λ g. done g m.new ≡ on_stack m.old
+        (step_on call.now.leaves.now call.now.n bound.now (MakeArray field items.now) m.old)) }
+    ensures below { IfOk result (λ g. m.new.below ≡ m.old.below) }
 {
-    let items = pick(alloc, slots, items)?;
-    let Some(comp) = comp_in(bound, leaves, field) else {
+    let items = pick(m.alloc(), m.frame(), items)?;
+    let Some(comp) = comp_in(bound, call.leaves, field) else {
         unreachable!()
     };
-    make_array(alloc, comp, items, leaves.classes())
+    let array = make_array(m.alloc(), comp, items, call.leaves.classes())?;
+    m.give(array)
 }
 
-pub(crate) fn check(
-    alloc: Global,
-    slot: u32,
-    count: u32,
-    slots: &Slots,
-) -> Result<Stepped, NoMemory>
-    requires { step (CheckArray slot count) [] slots.now 0 ≢ Stuck }
-    ensures { IfOk result (λ r. ran_of_step r ≡ step (CheckArray slot count) [] slots.now 0) }
+/// Checks that the slot at a place holds an array of so many items.
+pub(crate) fn check(m: &mut Stack, slot: u32, count: u32) -> Result<Going, NoMemory>
+    requires { step (CheckArray slot count) [] m.old.frame 0 ≢ Stuck }
+    ensures done { IfOk result (λ g. done g m.new ≡ on_stack m.old
+        (step (CheckArray slot count) [] m.old.frame 0)) }
+    ensures below { IfOk result (λ g. m.new.below ≡ m.old.below) }
 {
-    let at = slot as usize;
-    if at >= slots.len() {
-        unreachable!()
-    }
-    check_array(alloc, slots.get(at), count)
+    let checked = check_array(m.alloc(), m.at(slot), count)?;
+    m.give(checked)
 }
 
-pub(crate) fn item(alloc: Global, slot: u32, item: u32, slots: &Slots) -> Result<Stepped, NoMemory>
-    requires { step (Elem slot item) [] slots.now 0 ≢ Stuck }
-    ensures { IfOk result (λ r. ran_of_step r ≡ step (Elem slot item) [] slots.now 0) }
+/// An item of the array in the slot at a place.
+pub(crate) fn item(m: &mut Stack, slot: u32, item: u32) -> Result<Going, NoMemory>
+    requires { step (Elem slot item) [] m.old.frame 0 ≢ Stuck }
+    ensures done { IfOk result (λ g. done g m.new ≡ on_stack m.old
+        (step (Elem slot item) [] m.old.frame 0)) }
+    ensures below { IfOk result (λ g. m.new.below ≡ m.old.below) }
 {
-    let at = slot as usize;
-    if at >= slots.len() {
-        unreachable!()
-    }
-    Ok(fill(alloc, item_in(alloc, slots.get(at), item)?))
+    let item = item_in(m.alloc(), m.at(slot), item)?;
+    m.give(Ok(item))
 }
 
-pub(crate) fn throw(alloc: Global, slot: u32, slots: &Slots) -> Result<Stepped, NoMemory>
-    requires { step (Raise slot) [] slots.now 0 ≢ Stuck }
-    ensures { IfOk result (λ r. ran_of_step r ≡ step (Raise slot) [] slots.now 0) }
+/// Throws the exception in the slot at a place.
+pub(crate) fn throw(m: &mut Stack, slot: u32) -> Result<Going, NoMemory>
+    requires { step (Raise slot) [] m.old.frame 0 ≢ Stuck }
+    ensures done { IfOk result (λ g. done g m.new ≡ on_stack m.old
+        (step (Raise slot) [] m.old.frame 0)) }
+    ensures below { IfOk result (λ g. m.new.below ≡ m.old.below) }
 {
-    let at = slot as usize;
-    if at >= slots.len() {
-        unreachable!()
-    }
-    Ok(end(alloc, raise(slots.get(at).copy(alloc)?)))
+    let slot = m.at(slot).copy(m.alloc())?;
+    Ok(m.throw(raise(slot)))
 }

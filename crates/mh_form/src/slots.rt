@@ -1,13 +1,12 @@
 //! Slots by their place, and what a slot holds.
 
-ghost use Rattle.std.specs.Prelude.{◌≡◌, ◌≢◌, ◌++◌, ◌∷◌, IfOk, OnOk, None, Some, [], take};
+ghost use Rattle.std.specs.Prelude.{◌≡◌, ◌≢◌, ◌++◌, ◌∷◌, IfOk, OnOk, None, Some, [], slice_get};
 ghost use Rattle.mh_values.specs.Computation.{Stuck, Threw, raised};
 ghost use Rattle.mh_form.specs.declared.slot.Slot.{Slot};
-ghost use Rattle.mh_form.specs.Run.{picked, ran_of_run, ran_of_step, result_at};
-ghost use Rattle.mh_form.specs.Slots.{filled, holds_one, raised_slot};
+ghost use Rattle.mh_form.specs.Run.{picked, result_at};
+ghost use Rattle.mh_form.specs.Slots.{holds_one, raised_slot};
 
-use crate::outcome::Stepped;
-use crate::{Operands, Ran, Slot, SlotOutcome, Slots};
+use crate::{Operands, Slot, Slots};
 use mh_base::{Copied, NoMemory, Seq};
 use mh_values::{Calls, ClassId, Exc, Value};
 use std::alloc::Global;
@@ -19,6 +18,15 @@ pub(crate) fn raised(n: u32, calls: &Calls) -> u32
     ((n as u64 + calls.len() as u64 % 0x1_0000_0000) % 0x1_0000_0000) as u32
 }
 
+/// The slot at a place.
+#[inline]
+pub(crate) fn slot_at(slots: &[Slot], place: u32) -> &Slot
+    requires { slice_get slots.now place ≢ None }
+    ensures { slice_get slots.now place ≡ Some result.now }
+{
+    &slots[place as usize]
+}
+
 /// Puts a copy of a slot at the end of slots.
 fn push_copy(alloc: Global, slots: &mut Slots, slot: &Slot) -> Result<(), NoMemory>
     ensures { OnOk result (slots.new ≡ slots.old ++ slot.now ∷ []) }
@@ -28,17 +36,13 @@ fn push_copy(alloc: Global, slots: &mut Slots, slot: &Slot) -> Result<(), NoMemo
 }
 
 /// Copies of the slots at these places.
-pub(crate) fn pick(alloc: Global, slots: &Slots, places: &Operands) -> Result<Slots, NoMemory>
+pub(crate) fn pick(alloc: Global, slots: &[Slot], places: &Operands) -> Result<Slots, NoMemory>
     requires { picked slots.now places.now ≢ None }
     ensures { IfOk result (λ xs. picked slots.now places.now ≡ Some xs) }
 {
     let mut xs = Seq::new(alloc);
     for place in places.as_slice() {
-        let at = *place as usize;
-        if at >= slots.len() {
-            unreachable!()
-        }
-        push_copy(alloc, &mut xs, slots.get(at))?;
+        push_copy(alloc, &mut xs, slot_at(slots, *place))?;
     }
     Ok(xs)
 }
@@ -47,7 +51,7 @@ pub(crate) fn pick(alloc: Global, slots: &Slots, places: &Operands) -> Result<Sl
 pub(crate) fn result_in(
     alloc: Global,
     place: Option<u32>,
-    slots: &Slots,
+    slots: &[Slot],
 ) -> Result<Option<Slot>, NoMemory>
     requires { result_at place slots.now ≢ None }
     ensures { IfOk result (λ given. result_at place slots.now ≡ Some given) }
@@ -55,24 +59,7 @@ pub(crate) fn result_in(
     let Some(place) = place else {
         return Ok(None);
     };
-    let at = place as usize;
-    if at >= slots.len() {
-        unreachable!()
-    }
-    Ok(Some(slots.get(at).copy(alloc)?))
-}
-
-/// Copies of the first slots.
-pub(crate) fn first(alloc: Global, slots: &Slots, count: u32) -> Result<Slots, NoMemory>
-    ensures { IfOk result (λ xs. xs ≡ take count slots.now) }
-{
-    let mut xs = Seq::new(alloc);
-    for slot in slots.as_slice() {
-        if xs.len() < count as usize {
-            push_copy(alloc, &mut xs, slot)?;
-        }
-    }
-    Ok(xs)
+    Ok(Some(slot_at(slots, place).copy(alloc)?))
 }
 
 pub(crate) fn holds_one(slot: &Slot) -> bool
@@ -81,18 +68,6 @@ pub(crate) fn holds_one(slot: &Slot) -> bool
     match slot {
         Slot::I(number) => *number == 1,
         _ => false,
-    }
-}
-
-/// A run as what a name did: where it gives nothing, its slot is int 0.
-pub(crate) fn filled(ran: Ran) -> Stepped
-    ensures { ran_of_step result ≡ filled (ran_of_run ran) }
-{
-    let Ran { outcome, calls } = ran;
-    match outcome {
-        SlotOutcome::Return(None) => Stepped::Filled(Slot::I(0), calls),
-        SlotOutcome::Return(Some(slot)) => Stepped::Filled(slot, calls),
-        SlotOutcome::Throw(exc) => Stepped::Ended(exc, calls),
     }
 }
 

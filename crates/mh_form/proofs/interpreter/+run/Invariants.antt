@@ -1,13 +1,15 @@
 use Rattle.std.proofs.Common.{◌≡◌, drop}
-use Rattle.mh_values.specs.Computation.{after}
-use Rattle.mh_form.specs.Run.{run_names, run_bound, ended, senses_in}
+use Rattle.mh_values.specs.Computation.{after, raised}
+use Rattle.mh_form.specs.Run.{senses_in}
+use Rattle.mh_form.specs.Stack.{run_slots, slots_on}
 use Rattle.mh_form.proofs.interpreter.+run.Given as goal
 
--- the run of all is the calls so far, and then the run of the names that are left
-abbrev pub invariant-run-loop-name : goal.invariant-run-loop-name
-invariant-run-loop-name l =
+-- the leaf calls so far, and then the run of the names that are left; the slots of the runs that wait stay
+abbrev pub invariant-run_in-loop-name : goal.invariant-run_in-loop-name
+invariant-run_in-loop-name l =
     record {
-      same : run_bound l.leaves l.bound l.fn.args l.n
-          ≡ after l.progress.calls (run_names (drop l.name-index l.name-items) (senses_in l.leaves l.bound) l.progress.slots l.count
-          (ended l.bound.body.now.out));
+      same : after l.fn.m.calls (slots_on l.call.leaves.now l.call.n l.bound l.fn.m)
+          ≡ after l.m.calls
+          (run_slots (drop l.name-index l.name-items) (senses_in l.call.leaves.now l.bound) l.m.frame (raised l.call.n l.m.calls));
+      below : l.m.below ≡ l.fn.m.below;
     }
