@@ -1,12 +1,12 @@
 -- What a pass has learnt, by recipe.
-use Rattle.std.proofs.Common.{◌≡◌, refl, sym, ◌∙◌, ap, subst, ℕ, zero, suc, Bool, true, false, cond, List, [], ◌∷◌, ◌++◌, Option, Some, None}
+use Rattle.std.proofs.Common.{◌≡◌, refl, sym, ◌∙◌, ap, subst, ℕ, zero, suc, Bool, true, false, cond, List, [], ◌∷◌, Option, Some, None}
 use Rattle.std.specs.Prelude.{slice_get}
 use Rattle.std.specs.List.{find}
 use Rattle.mh_edit.specs.declared.key.Key.{Key}
-use Rattle.mh_setonce.specs.Walks.{StartsWith, Lacks, Has, Distinct}
+use Rattle.mh_setonce.specs.Walks.{Lacks, Has}
 use Rattle.mh_handle.specs.Form.{FormView}
 use Rattle.mh_handle.specs.Index.{recipe_of}
-use Rattle.mh_handle.specs.Passes.{PassView, IsUnlearnt, StaysLearnt, learnt_of}
+use Rattle.mh_handle.specs.Passes.{AreLearnt, AreOneEach, DoMatch, IsUnlearnt, PassView, StaysLearnt, learnt_of}
 use Rattle.mh_handle.specs.SameRecipes.{same_recipe}
 use Rattle.mh_handle.proofs.SameRecipes.{same_recipe-decides}
 
@@ -42,18 +42,8 @@ module _ {X : Type 0} (test : X → Bool) where
   none-found [] none = refl
   none-found (y ∷ xs) none = ap (λ b. cond b (Some y) (find test xs)) (none zero y refl) ∙ none-found xs (λ i x at. none (suc i) x at)
 
-  -- what is found stays found where more follows
-  found-before : (xs ys : List X) (x : X) → find test xs ≡ Some x → find test (xs ++ ys) ≡ Some x
-  found-before [] ys x e = absurd cc
-  found-before (y ∷ xs) ys x e = cases (test y) e (found-before xs ys x)
-    where
-      cases : (b : Bool) → cond b (Some y) (find test xs) ≡ Some x → (find test xs ≡ Some x → find test (xs ++ ys) ≡ Some x) →
-          cond b (Some y) (find test (xs ++ ys)) ≡ Some x
-      cases true same later = same
-      cases false same later = later same
-
--- of forms with recipes of their own, the one with a recipe is the one that is found
-pub has-found : (recipe : List Key) (forms : List FormView) (form : FormView) → Distinct recipe_of forms → Has recipe_of forms recipe form →
+-- where forms with one recipe are one, the one with a recipe is the one that is found
+pub has-found : (recipe : List Key) (forms : List FormView) (form : FormView) → AreOneEach forms → Has recipe_of forms recipe form →
     find (λ f. same_recipe recipe f.recipe) forms ≡ Some form
 has-found recipe forms form once has = cases (find (λ f. same_recipe recipe f.recipe) forms) refl
   where
@@ -65,8 +55,7 @@ has-found recipe forms form once has = cases (find (λ f. same_recipe recipe f.r
     cases (Some other) found =
         let is = found-is (λ f. same_recipe recipe f.recipe) forms other found in
         let made : other.recipe ≡ recipe = sym ((same_recipe-decides recipe other.recipe).0 is.2) in
-        let place : is.0 ≡ has.0 = once is.0 has.0 other form is.1 has.1 (made ∙ sym has.2) in
-        sym is.1 ∙ (ap (slice_get forms) place ∙ has.1)
+        ap Some (once is.0 has.0 other form is.1 has.1 (made ∙ sym has.2))
 
 pub lacks-found : (recipe : List Key) (forms : List FormView) → Lacks recipe_of forms recipe → find (λ f. same_recipe recipe f.recipe) forms ≡ None
 lacks-found recipe forms lacks = none-found (λ f. same_recipe recipe f.recipe) forms (λ i f at. cases f (same_recipe recipe f.recipe) refl (lacks i f at))
@@ -75,11 +64,13 @@ lacks-found recipe forms lacks = none-found (λ f. same_recipe recipe f.recipe) 
     cases f true same other = absurd (other (sym ((same_recipe-decides recipe f.recipe).0 same)))
     cases f false same other = refl
 
--- what was found among the first forms is found among all
-pub starts-found : (forms more : List FormView) → StartsWith more forms → (recipe : List Key) (form : FormView) →
+-- what was found among forms is found among more of them
+pub kept-found : (forms more : List FormView) → AreLearnt more forms → AreOneEach more → (recipe : List Key) (form : FormView) →
     find (λ f. same_recipe recipe f.recipe) forms ≡ Some form → find (λ f. same_recipe recipe f.recipe) more ≡ Some form
-starts-found forms more starts recipe form found =
-    ap (find (λ f. same_recipe recipe f.recipe)) starts.1 ∙ found-before (λ f. same_recipe recipe f.recipe) forms starts.0 form found
+kept-found forms more kept once recipe form found =
+    let is = found-is (λ f. same_recipe recipe f.recipe) forms form found in
+    let there = kept is.0 form is.1 in
+    has-found recipe more form once (there.0, there.1, sym ((same_recipe-decides recipe form.recipe).0 is.2))
 
 -- what was not learnt at last was not learnt before
 pub unlearnt-before : (recipe : List Key) (old new : PassView) → StaysLearnt old new → IsUnlearnt recipe new → IsUnlearnt recipe old
@@ -88,3 +79,11 @@ unlearnt-before recipe old new stays none = cases (learnt_of old recipe) refl
     cases : (o : Option FormView) → learnt_of old recipe ≡ o → o ≡ None
     cases None e = refl
     cases (Some form) e = let later : learnt_of new recipe ≡ Some form = stays recipe form e in absurd cc
+
+-- where forms of two lists with one recipe are one, what is found of a recipe in both is one form
+pub found-alike : (forms others : List FormView) → DoMatch forms others → (recipe : List Key) (f g : FormView) →
+    find (λ h. same_recipe recipe h.recipe) forms ≡ Some f → find (λ h. same_recipe recipe h.recipe) others ≡ Some g → f ≡ g
+found-alike forms others match recipe f g found found' =
+    let a = found-is (λ h. same_recipe recipe h.recipe) forms f found in
+    let b = found-is (λ h. same_recipe recipe h.recipe) others g found' in
+    match a.0 b.0 f g a.1 b.1 (sym ((same_recipe-decides recipe f.recipe).0 a.2) ∙ (same_recipe-decides recipe g.recipe).0 b.2)

@@ -1,52 +1,31 @@
--- What a pass keeps while it learns, and while it draws a number.
-use Rattle.std.proofs.Common.{◌≡◌, ℕ, zero, suc, ◌+◌, ◌-◌, ◌^◌, ◌<◌, ◌≤◌, List, [], ◌∷◌, ◌++◌, length, length-append, sym, refl, ap, ◌∙◌, subst, arith, add-one, append_assoc, Some, ⊎_elim, Result, Ok, Err, OnOk, OnErr}
-use Rattle.std.specs.Prelude.{slice_get, slice_index_or, Option, None, IfOk, IfSome}
+-- What a pass keeps while it learns.
+use Rattle.std.proofs.Common.{◌≡◌, ℕ, List, [], ◌∷◌, ◌++◌, length, sym, ap, ◌∙◌, subst, append_assoc, Some, ⊎_elim, Result, Ok, Err, OnOk, OnErr}
+use Rattle.std.specs.Prelude.{slice_get, Option, None, IfOk, IfSome}
 use denote.Ref.{Bor}
-use Rattle.std.specs.List.{All, find}
-use Rattle.std.proofs.lemmas.List.Elements.{All-append}
-use Rattle.std.proofs.lemmas.Option.{get_or_from_slice_get, slice_get_within}
+use Rattle.std.specs.List.{find}
 use Rattle.mh_setonce.specs.declared.put.Put.{Put}
 use Rattle.mh_setonce.specs.declared.put.Put.TheVariants.{Mine, Theirs}
 use Rattle.mh_setonce.specs.Puts.{PutIn}
-use Rattle.mh_setonce.specs.Walks.{StartsWith, Lacks, Distinct, FindsNode}
+use Rattle.mh_setonce.specs.Views.{WalkView}
+use Rattle.mh_setonce.specs.Walks.{StartsWith, Lacks, FindsNode}
 use Rattle.mh_edit.specs.declared.key.Key.{Key}
-use Rattle.mh_edit.proofs.Renaming.{slice_get-append_left}
 use Rattle.mh_base.proofs.Slices.{slice_get-push, slice_get-end}
 use Rattle.mh_handle.proofs.Learning.{has-found}
 use Rattle.mh_handle.specs.Form.{FormView}
 use Rattle.mh_handle.specs.Index.{recipe_of}
 use Rattle.mh_handle.specs.SameRecipes.{same_recipe}
-use Rattle.mh_handle.specs.Passes.{AreLearnt, AreNumbered, Draws, IsKept, IsPut, SeatView, TableView, numbers_to, seat_at}
-
-numbers-low : (last n : ℕ) → last < n → All (λ k. k < n) (numbers_to last)
-numbers-low zero n low = λ k d past. absurd (omega arith)
-numbers-low (suc last) n low = All-append (λ k. k < n) (numbers_to last) (suc last ∷ []) (numbers-low last n (omega arith)) (λ k d here. one k d here)
-  where
-    one : (k d : ℕ) → k < 1 → slice_index_or (suc last ∷ []) k d < n
-    one zero d here = low
-    one (suc k) d here = absurd (omega arith)
-
--- there are as many numbers as the last one says
-numbers-count : (last : ℕ) → length (numbers_to last) ≡ last
-numbers-count zero = refl
-numbers-count (suc last) = length-append (numbers_to last) (suc last ∷ []) ∙ (ap (λ k. k + 1) (numbers-count last) ∙ add-one last)
-
-pub draws-next : (table : TableView) (last : ℕ) → 1 ≤ 2 ^ 62 - last → Draws (last + 1) (seat_at table last) (seat_at table (last + 1))
-draws-next table last room = record {
-  table = refl;
-  numbers = ap numbers_to (add-one last) ∙ ap (λ k. numbers_to last ++ k ∷ []) (sym (add-one last));
-  room = omega (arith, room);
-  greater = numbers-low last (last + 1) (omega arith);
-  next = λ whole. ap (λ k. k + 1) (sym (numbers-count last));
-}
+use Rattle.mh_handle.specs.Chains.{chains_of, learnt_by}
+use Rattle.mh_handle.specs.Passes.{AreLearnt, AreOneEach, IsKept, IsPass, IsPut}
+use Rattle.mh_handle.specs.Seats.{Draws, SeatView, TableView}
+use Rattle.mh_handle.proofs.Numbers.{numbered-drawn, numbered-kept}
 
 pub starts-trans : {V : Type 0} (xs ys zs : List V) → StartsWith ys xs → StartsWith zs ys → StartsWith zs xs
 starts-trans xs ys zs a b = (a.0 ++ b.0, b.1 ∙ (ap (λ v. v ++ b.0) a.1 ∙ append_assoc xs a.0 b.0))
 
-pub learnt-later : (nodes nodes' asked : List FormView) → StartsWith nodes' nodes → AreLearnt nodes asked → AreLearnt nodes' asked
+pub learnt-later : (nodes nodes' asked : List FormView) → AreLearnt nodes' nodes → AreLearnt nodes asked → AreLearnt nodes' asked
 learnt-later nodes nodes' asked more l i f at =
     let j = l i f at in
-    (j.0, ap (λ v. slice_get v j.0) more.1 ∙ slice_get-append_left nodes more.0 j.0 f j.1)
+    more j.0 f j.1
 
 pub learnt-more : (nodes asked : List FormView) (form : FormView) (i : ℕ) → AreLearnt nodes asked → slice_get nodes i ≡ Some form →
     AreLearnt nodes (asked ++ form ∷ [])
@@ -67,7 +46,7 @@ lacks-same asked asked' recipe recipe' new a r = subst (λ v. Lacks recipe_of v 
 -- a form that was found is the one that was learnt of its recipe
 pub found-form :
     {E : Type 0} (recipe : List Key) (learnt : List FormView) (r : Result (Option (Bor FormView)) E) →
-    Distinct recipe_of learnt → IfOk r (FindsNode recipe_of learnt recipe) →
+    AreOneEach learnt → IfOk r (FindsNode recipe_of learnt recipe) →
     IfOk r (λ found. IfSome found (λ form. find (λ f. same_recipe recipe f.recipe) learnt ≡ Some form.now))
 found-form recipe learnt (Ok None) once finds = tt
 found-form recipe learnt (Ok (Some form)) once finds = has-found recipe learnt form.now once finds
@@ -76,7 +55,7 @@ found-form recipe learnt (Err e) once finds = tt
 -- and so is one that was asked for
 pub seen-form :
     (recipe : List Key) (learnt asked : List FormView) (r : Option (Bor FormView)) →
-    AreLearnt learnt asked → Distinct recipe_of learnt → FindsNode recipe_of asked recipe r →
+    AreLearnt learnt asked → AreOneEach learnt → FindsNode recipe_of asked recipe r →
     IfSome r (λ form. find (λ f. same_recipe recipe f.recipe) learnt ≡ Some form.now)
 seen-form recipe learnt asked None are once finds = tt
 seen-form recipe learnt asked (Some form) are once finds =
@@ -91,64 +70,51 @@ put-is before after ours (Mine form) is =
     ((length forms, last ∙ ap Some (sym is.0), ap recipe_of is.0), is.0)
 put-is before after ours (Theirs form back) is = is.1
 
--- ---- numbers of the forms that the pass has made
+-- ---- the whole of what a pass keeps
 
-pub numbered-none : (made : List FormView) (numbers : List ℕ) → made ≡ [] → AreNumbered made numbers
-numbered-none made numbers none = subst (λ fs. AreNumbered fs numbers) (sym none)
-    (record { drawn = λ i f at. absurd cc; in_order = λ i j f g before at_i at_j. absurd cc })
+-- memory was taken
+pub pass-same : (walks walks' : List (WalkView FormView)) (made made' asked asked' : List FormView) (seat : SeatView) → IsPass walks made asked seat →
+    walks' ≡ walks → made' ≡ made → asked' ≡ asked → IsPass walks' made' asked' seat
+pass-same walks walks' made made' asked asked' seat is w m a =
+    subst (λ v. IsPass v made' asked' seat) (sym w) (subst (λ v. IsPass walks v asked' seat) (sym m) (subst (λ v. IsPass walks made v seat) (sym a) is))
 
-pub numbered-later : (made : List FormView) (number : ℕ) (old new : SeatView) → Draws number old new → AreNumbered made old.numbers →
-    AreNumbered made new.numbers
-numbered-later made number old new draws are = record {
-  drawn = λ i f at.
-      let n = are.drawn i f at in
-      (n.0, ap (λ ns. slice_get ns n.0) draws.numbers ∙ slice_get-append_left old.numbers (number ∷ []) n.0 f.number n.1);
-  in_order = are.in_order;
+-- more was learnt
+pub pass-learns : (walks walks' : List (WalkView FormView)) (made asked : List FormView) (seat : SeatView) → IsPass walks made asked seat →
+    chains_of walks' ≡ chains_of walks → AreLearnt (learnt_by walks') (learnt_by walks) → AreOneEach (learnt_by walks') → IsPass walks' made asked seat
+pass-learns walks walks' made asked seat is chains more once = record {
+  chains = chains ∙ is.chains;
+  learnt = learnt-later (learnt_by walks) (learnt_by walks') asked more is.learnt;
+  once = once;
+  numbered = is.numbered;
 }
 
-module _ (made : List FormView) (form : FormView) (number : ℕ) (old new : SeatView) (draws : Draws number old new) (is : form.number ≡ number)
-    (are : AreNumbered made old.numbers) where
-  last : (f : FormView) → form ≡ f → slice_get new.numbers (length old.numbers) ≡ Some f.number
-  last f same =
-      ap (λ ns. slice_get ns (length old.numbers)) draws.numbers
-      ∙ (slice_get-end old.numbers number ∙ ap Some (sym is ∙ ap (λ (h : FormView). h.number) same))
+-- a form was asked for, or nothing changed
+pub pass-asks : {A E : Type 0} (walks : List (WalkView FormView)) (made asked asked' : List FormView) (seat : SeatView) (form : FormView) (i : ℕ)
+    (r : Result A E) → IsPass walks made asked seat → slice_get (learnt_by walks) i ≡ Some form → OnOk r (asked' ≡ asked ++ form ∷ []) →
+    OnErr r (asked' ≡ asked) → IsPass walks made asked' seat
+pass-asks walks made asked asked' seat form i r is here ok err = record {
+  chains = is.chains;
+  learnt = learnt-added (learnt_by walks) asked asked' form i r is.learnt here ok err;
+  once = is.once;
+  numbered = is.numbered;
+}
 
-  below : (i : ℕ) (f : FormView) → slice_get made i ≡ Some f → f.number < number
-  below i f at =
-      let n = are.drawn i f at in
-      let within : n.0 < length old.numbers = slice_get_within old.numbers n.0 f.number n.1 in
-      subst (λ k. k < number) (get_or_from_slice_get old.numbers n.0 f.number f.number n.1) (draws.greater n.0 f.number within)
+-- a number was drawn
+pub pass-draws : (walks : List (WalkView FormView)) (made asked : List FormView) (number : ℕ) (seat seat' : SeatView) → Draws number seat seat' →
+    IsPass walks made asked seat → IsPass walks made asked seat'
+pass-draws walks made asked number seat seat' draws is = record {
+  chains = is.chains ∙ ap (λ (t : TableView). t.chains) (sym draws.table);
+  learnt = is.learnt;
+  once = is.once;
+  numbered = numbered-drawn made number seat seat' draws is.numbered;
+}
 
-  past : (i j : ℕ) (g : FormView) → i ≡ length made → i < j → slice_get (made ++ form ∷ []) j ≡ Some g → ⊥
-  past i j g here before at =
-      let within = slice_get_within (made ++ form ∷ []) j g at in
-      omega (arith, within, here, before, length-append made (form ∷ []))
-
-  ordered : (i j : ℕ) (f g : FormView) → i < j → slice_get made i ≡ Some f → slice_get (made ++ form ∷ []) j ≡ Some g → f.number < g.number
-  ordered i j f g before at_i at_j = ⊎_elim
-      (λ (old : slice_get made j ≡ Some g). are.in_order i j f g before at_i old)
-      (λ (now : (j ≡ length made) × (form ≡ g)). subst (λ n. f.number < n) (sym is ∙ ap (λ (h : FormView). h.number) now.1) (below i f at_i))
-      (slice_get-push made form j g at_j)
-
-  -- one more form, with the number drawn now
-  pub numbered-more : AreNumbered (made ++ form ∷ []) new.numbers
-  numbered-more = record {
-    drawn = λ i f at. ⊎_elim
-        (λ (before : slice_get made i ≡ Some f). (numbered-later made number old new draws are).drawn i f before)
-        (λ (now : (i ≡ length made) × (form ≡ f)). (length old.numbers, last f now.1))
-        (slice_get-push made form i f at);
-    in_order = λ i j f g before at_i at_j. ⊎_elim
-        (λ (p : slice_get made i ≡ Some f). ordered i j f g before p at_j)
-        (λ (p : (i ≡ length made) × (form ≡ f)). absurd (past i j g p.0 before at_j))
-        (slice_get-push made form i f at_i);
-  }
-
--- the same of what was kept of a form that was put
-pub numbered-kept : (ours form : FormView) (made made' : List FormView) (number : ℕ) (old new : SeatView) → Draws number old new → ours.number ≡ number →
-    IsKept ours made made' form → AreNumbered made old.numbers → AreNumbered made' new.numbers
-numbered-kept ours form made made' number old new draws is kept are = ⊎_elim
-    (λ (same : made' ≡ made). subst (λ fs. AreNumbered fs new.numbers) (sym same) (numbered-later made number old new draws are))
-    (λ (more : (made' ≡ made ++ form ∷ []) × (form ≡ ours)).
-    subst (λ fs. AreNumbered fs new.numbers) (sym more.0)
-    (numbered-more made form number old new draws (ap (λ (h : FormView). h.number) more.1 ∙ is) are))
-    kept
+-- and the form that was made with it was kept
+pub pass-keeps : (walks : List (WalkView FormView)) (made made' asked : List FormView) (number : ℕ) (seat seat' : SeatView) (ours form : FormView) →
+    Draws number seat seat' → ours.number ≡ number → IsKept ours made made' form → IsPass walks made asked seat → IsPass walks made' asked seat'
+pass-keeps walks made made' asked number seat seat' ours form draws is kept pass = record {
+  chains = pass.chains ∙ ap (λ (t : TableView). t.chains) (sym draws.table);
+  learnt = pass.learnt;
+  once = pass.once;
+  numbered = numbered-kept ours form made made' number seat seat' draws is kept pass.numbered;
+}

@@ -1,9 +1,10 @@
 -- Recipes with one more key.
-use Rattle.std.proofs.Common.{◌≡◌, ℕ, List, [], ◌∷◌, ◌++◌, refl}
+use Rattle.std.proofs.Common.{◌≡◌, ℕ, ◌+◌, ◌*◌, ◌%◌, List, [], ◌∷◌, ◌++◌, refl}
 use Rattle.mh_form.specs.declared.body.FormBody.{FormBody}
 use Rattle.mh_edit.specs.declared.key.Key.{Key}
 use Rattle.mh_edit.specs.Applied.{applied}
 use Rattle.mh_form.specs.Body.{nothing}
+use Rattle.mh_handle.specs.Chains.{chain_after, chain_count, chain_of, kind_of}
 use Rattle.mh_handle.specs.Form.{body_from, body_of}
 use Rattle.mh_handle.specs.Hashes.{mixed, all_mixed, key_hash, hash_of}
 
@@ -20,3 +21,10 @@ body_from-snoc body (y ∷ keys) k = body_from-snoc (applied y body) keys k
 
 pub body_of-snoc : (keys : List Key) (k : Key) → body_of (keys ++ k ∷ []) ≡ applied k (body_of keys)
 body_of-snoc keys k = body_from-snoc nothing keys k
+
+chain_after-snoc : (chain : ℕ) (keys : List Key) (k : Key) → chain_after chain (keys ++ k ∷ []) ≡ (31 * chain_after chain keys + kind_of k) % chain_count
+chain_after-snoc chain [] k = refl
+chain_after-snoc chain (y ∷ keys) k = chain_after-snoc ((31 * chain + kind_of y) % chain_count) keys k
+
+pub chain_of-snoc : (keys : List Key) (k : Key) → chain_of (keys ++ k ∷ []) ≡ (31 * chain_of keys + kind_of k) % chain_count
+chain_of-snoc keys k = chain_after-snoc 0 keys k

@@ -2,19 +2,24 @@
 use Rattle.std.specs.Prelude.{◌≡◌, ℕ, List, Option, Some, None}
 use Rattle.mh_values.specs.declared.class.Class.{Class}
 use Rattle.mh_values.specs.declared.types.Ty.{Ty}
-use Rattle.mh_values.specs.declared.value.LeafCall.{LeafCall}
+use Rattle.mh_values.specs.declared.calls.LeafCall.{LeafCall}
 use Rattle.mh_values.specs.declared.value.Outcome.{Outcome}
 use Rattle.mh_values.specs.declared.value.Value.{Value}
 use Rattle.mh_values.specs.Computation.{Ran, Gave, Threw, Stuck, found}
 use Rattle.mh_leaf.specs.Outcome.{ran_of}
 use Rattle.mh_form.specs.declared.slot.Slot.{Slot}
 use Rattle.mh_form.specs.Erasure.{typed}
+use Rattle.mh_handle.specs.declared.answer.Ended.{Ended}
 
 -- an outcome, the leaf calls that were made, in order, and the number of keys of the form that ran
 pub record AnswerView : Type 0 where
   pub outcome : Outcome
   pub calls : List LeafCall
   pub keys : ℕ
+
+-- the answer of a call that was made in a machine, which has these leaf calls
+abbrev pub answer_in : Ended → List LeafCall → AnswerView
+answer_in ended calls = record { outcome = ended.outcome; calls = calls; keys = ended.keys }
 
 -- the value of a slot, where there is one
 abbrev pub some_value : Option Value → Option (Option Value)

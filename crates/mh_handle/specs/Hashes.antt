@@ -1,4 +1,4 @@
--- The hash of a recipe: a small number, by which recipes that differ are mostly told apart.
+-- The hash of a recipe: a number, by which recipes that differ are mostly told apart.
 use Rattle.std.specs.Prelude.{ℕ, ◌+◌, ◌*◌, ◌%◌, List, [], ◌∷◌, Option, Some, None}
 use Rattle.mh_form.specs.declared.basic.Basic.{Basic}
 use Rattle.mh_form.specs.declared.basic.Basic.TheVariants as basic
@@ -10,9 +10,13 @@ use Rattle.mh_edit.specs.declared.key.Key.TheVariants as key
 use Rattle.mh_edit.specs.declared.key.RetEntry.{RetEntry}
 use Rattle.mh_edit.specs.declared.key.RetEntry.TheVariants as entry
 
+-- hashes are below this prime number
+abbrev pub hash_limit : ℕ
+hash_limit = 16777213
+
 -- a hash with one more part
 abbrev pub mixed : ℕ → ℕ → ℕ
-mixed hash part = (31 * hash + part) % 4096
+mixed hash part = (31 * hash + part) % hash_limit
 
 -- a hash with the parts of a list
 abbrev pub all_mixed : {A : Type 0} → (A → ℕ) → ℕ → List A → ℕ

@@ -1,14 +1,17 @@
 pub mod Answers
+pub mod Chains
 pub mod Converting
 pub mod Errors
 pub mod Form
 pub mod Grows
 pub mod Index
 pub mod Hashes
+pub mod Joins
 pub mod Obeys
 pub mod Parts
 pub mod Passes
 pub mod Recipe
 pub mod SameRecipes
+pub mod Seats
 pub mod Stands
 pub mod Works

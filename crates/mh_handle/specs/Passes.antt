@@ -1,26 +1,19 @@
 -- What contracts see of a table of forms, of its seat and of a pass over it, and what an edit leaves of a pass.
-use Rattle.std.specs.Prelude.{◌≡◌, ℕ, zero, suc, ◌+◌, ◌-◌, ◌^◌, ◌<◌, ◌⊎◌, List, [], ◌∷◌, ◌++◌, length, slice_get, Result, Ok, Err, Option, None, Some}
-use Rattle.std.specs.List.{All, find}
+use Rattle.std.specs.Prelude.{◌≡◌, ℕ, ◌<◌, ◌⊎◌, List, [], ◌∷◌, ◌++◌, slice_get, Result, Ok, Err, Option, None, Some}
+use Rattle.std.specs.List.{find}
 use denote.Ref.{Bor}
+use Rattle.mh_setonce.specs.Views.{WalkView}
 use Rattle.mh_setonce.specs.Walks.{Lacks, Has}
 use Rattle.mh_edit.specs.declared.key.Key.{Key}
 use Rattle.mh_setonce.specs.declared.put.Put.{Put}
 use Rattle.mh_setonce.specs.declared.put.Put.TheVariants.{Mine, Theirs}
 use Rattle.mh_handle.specs.declared.error.EditError.{EditError}
 use Rattle.mh_handle.specs.declared.error.EditError.TheVariants.{NoMemory, FormsFull}
+use Rattle.mh_handle.specs.Chains.{chains_of, learnt_by}
 use Rattle.mh_handle.specs.Form.{FormView}
 use Rattle.mh_handle.specs.Index.{recipe_of}
 use Rattle.mh_handle.specs.SameRecipes.{same_recipe}
-
--- a table of forms, by the names of the cells of its chain: no two tables have one name
-pub record TableView : Type 0 where
-  pub cells : List ℕ
-
--- the table whose numbers a seat draws, the numbers that it has drawn, and how many it may still draw
-pub record SeatView : Type 0 where
-  pub table : TableView
-  pub numbers : List ℕ
-  pub room : ℕ
+pub use Rattle.mh_handle.specs.Seats.{Draws, KnowsAll, SeatView, TableView, seat_at}
 
 -- the table of a pass, the forms that it has learnt of it, those that it has put there itself, those that it has asked for, and its seat
 pub record PassView : Type 0 where
@@ -42,35 +35,35 @@ learnt_of pass recipe = find (λ form. same_recipe recipe form.recipe) pass.lear
 abbrev pub StaysLearnt : PassView → PassView → Type 0
 StaysLearnt old new = (recipe : List Key) (form : FormView) → learnt_of old recipe ≡ Some form → learnt_of new recipe ≡ Some form
 
--- the numbers from 1 to this one
-abbrev pub numbers_to : ℕ → List ℕ
-numbers_to zero = []
-numbers_to (suc n) = numbers_to n ++ suc n ∷ []
-
--- a seat of the table that has drawn this number last
-abbrev pub seat_at : TableView → ℕ → SeatView
-seat_at table last = record { table = table; numbers = numbers_to last; room = 2 ^ 62 - last }
-
 -- a pass that has learnt nothing, made nothing and asked for nothing
 abbrev pub pass_at : TableView → SeatView → PassView
 pass_at table seat = record { table = table; learnt = []; made = []; asked = []; seat = seat }
-
--- this number was drawn, which is greater than all that the seat had; where those and the room are 2^62 together, it is the next one
-pub record Draws (number : ℕ) (old new : SeatView) : Type 0 where
-  pub table : new.table ≡ old.table
-  pub numbers : new.numbers ≡ old.numbers ++ number ∷ []
-  pub room : new.room + 1 ≡ old.room
-  pub greater : All (λ n. n < number) old.numbers
-  pub next : length old.numbers + old.room ≡ 2 ^ 62 → number ≡ length old.numbers + 1
 
 -- each form that was asked for is one that the pass has learnt
 abbrev pub AreLearnt : List FormView → List FormView → Type 0
 AreLearnt learnt asked = (i : ℕ) (f : FormView) → slice_get asked i ≡ Some f → (j : ℕ) × (slice_get learnt j ≡ Some f)
 
--- the forms that a pass has put into its table have numbers of its seat, a later form a greater one
-pub record AreNumbered (made : List FormView) (numbers : List ℕ) : Type 0 where
-  pub drawn : (i : ℕ) (f : FormView) → slice_get made i ≡ Some f → (j : ℕ) × (slice_get numbers j ≡ Some f.number)
-  pub in_order : (i j : ℕ) (f g : FormView) → i < j → slice_get made i ≡ Some f → slice_get made j ≡ Some g → f.number < g.number
+-- forms have numbers of this list, each one of its own, in the list's order
+abbrev pub AreNumbered : List FormView → List ℕ → Type 0
+AreNumbered [] numbers = Unit {0}
+AreNumbered (form ∷ forms) [] = ⊥
+AreNumbered (form ∷ forms) (n ∷ numbers) = ((form.number ≡ n) × AreNumbered forms numbers) ⊎ AreNumbered (form ∷ forms) numbers
+
+-- forms of two lists that have one recipe are one form
+abbrev pub DoMatch : List FormView → List FormView → Type 0
+DoMatch forms others = (i j : ℕ) (f g : FormView) → slice_get forms i ≡ Some f → slice_get others j ≡ Some g → f.recipe ≡ g.recipe → f ≡ g
+
+-- forms with one recipe are one form
+abbrev pub AreOneEach : List FormView → Type 0
+AreOneEach forms = DoMatch forms forms
+
+-- what a pass keeps: walks of its table's chains, whose forms with one recipe are one, those that it has asked for among them; and the forms that it has put
+-- into the table with numbers of its seat
+pub record IsPass (walks : List (WalkView FormView)) (made asked : List FormView) (seat : SeatView) : Type 0 where
+  pub chains : chains_of walks ≡ seat.table.chains
+  pub learnt : AreLearnt (learnt_by walks) asked
+  pub once : AreOneEach (learnt_by walks)
+  pub numbered : AreNumbered made seat.numbers
 
 -- this is the form of the recipe that the pass has learnt
 abbrev pub IsFormOf : List Key → PassView → FormView → Type 0
@@ -80,7 +73,7 @@ IsFormOf recipe pass form = learnt_of pass recipe ≡ Some form
 abbrev pub IsUnlearnt : List Key → PassView → Type 0
 IsUnlearnt recipe pass = learnt_of pass recipe ≡ None
 
--- more was learnt of the chain, and nothing else changed
+-- more was learnt of the table, and nothing else changed
 pub record Learns (old new : PassView) : Type 0 where
   pub table : new.table ≡ old.table
   pub learnt : StaysLearnt old new
@@ -104,12 +97,12 @@ PutsAtMost form old new = (new.made ≡ old.made) ⊎ PutsForm form old new
 abbrev pub PutsAtMostOne : List Key → PassView → PassView → Type 0
 PutsAtMostOne recipe old new = (new.made ≡ old.made) ⊎ ((form : FormView) × (form.recipe ≡ recipe) × PutsForm form old new)
 
--- the form that a chain has for the recipe of ours, after ours was put: ours, or another one
+-- the form that the table has for the recipe of ours, after ours was put: ours, or another one
 abbrev pub IsPut : List FormView → FormView → Put FormView → Type 0
 IsPut learnt ours (Mine form) = Has recipe_of learnt ours.recipe form.now × (form.now ≡ ours)
 IsPut learnt ours (Theirs form back) = Has recipe_of learnt ours.recipe form.now
 
--- where the chain has ours, it was kept with the forms that the pass has put into the table
+-- where the table has ours, it was kept with the forms that the pass has put into the table
 abbrev pub IsKept : FormView → List FormView → List FormView → FormView → Type 0
 IsKept ours before after form = (after ≡ before) ⊎ ((after ≡ before ++ form ∷ []) × (form ≡ ours))
 
@@ -132,7 +125,7 @@ Edits recipe old new (Err NoMemory) = NotAsked recipe old new × DrawsAtMostOne 
 Edits recipe old new (Err (FormsFull drawn)) =
     NotAsked recipe old new × Draws drawn old.seat new.seat × (16384 < drawn) × IsUnlearnt recipe new × (new.made ≡ old.made)
 
--- what asking for a form answers that was not asked for before: what the edit does where the chain shows it, or memory is short; else the pass has not learnt
+-- what asking for a form answers that was not asked for before: what the edit does where the table shows it, or memory is short; else the pass has not learnt
 -- it
 abbrev pub AsksShown : {E : Type 0} → List Key → PassView → PassView → Result (Option (Bor FormView)) E → Type 0
 AsksShown recipe old new (Ok (Some form)) = Edits recipe old new (Ok form)

@@ -1,11 +1,18 @@
 ghost use Rattle.std.specs.Prelude.{◌≡◌, [], ◌≢◌, None, Some};
-ghost use Rattle.mh_handle.specs.Answers.{typed_result};
+ghost use Rattle.mh_handle.specs.Answers.{answer_in, typed_result};
 
-use mh_base::Seq;
 use mh_form::{Slot, SlotOutcome, typed};
 use mh_values::{Calls, Classes, Exc, Outcome, Ty, Value};
 use std::alloc::Global;
 use std::marker::Model;
+
+/// How a call ended that was made in a machine, which has its leaf calls, with the number of keys in
+/// the recipe of the form that ran; 0 where none did.
+#[derive(Debug, Drop)]
+pub struct Ended {
+    pub outcome: Outcome,
+    pub keys: u32,
+}
 
 /// How a call ended, with the leaf calls that it made and the number of keys in the recipe of the
 /// form that ran. Only a call of a handle makes one that returned or called a leaf.
@@ -31,18 +38,18 @@ impl Answer {
     {
         Answer {
             outcome: Outcome::Throw(e),
-            calls: Seq::new(alloc),
+            calls: Calls::new(alloc),
             keys: 0,
         }
     }
 
-    pub(crate) fn new(outcome: Outcome, calls: Calls, keys: u32) -> Answer
-        ensures { result ≡ record { outcome = outcome; calls = calls; keys = keys } }
+    pub(crate) fn new(ended: Ended, calls: Calls) -> Answer
+        ensures { result ≡ answer_in ended calls }
     {
         Answer {
-            outcome,
+            outcome: ended.outcome,
             calls,
-            keys,
+            keys: ended.keys,
         }
     }
 

@@ -1,6 +1,8 @@
 ghost use Rattle.std.specs.Prelude.{◌≡◌, ◌≤◌};
 ghost use Rattle.mh_handle.specs.Form.{base_form, body_of};
+ghost use Rattle.mh_handle.specs.Hashes.{hash_of};
 
+use crate::chain::ROW_LEN;
 use crate::recipe::Recipe;
 use mh_form::FormBody;
 use mh_setonce::Keyed;
@@ -83,6 +85,10 @@ impl Keyed for Form {
 
     ghost key_of = { λ f. f.recipe };
 
+    ghost hash_of = { hash_of };
+
+    ghost row_size = { 128 };
+
     ghost keeps = { λ f recipe. f.recipe ≡ recipe };
 
     fn has_key(&self, key: &Recipe) -> bool {
@@ -91,6 +97,18 @@ impl Keyed for Form {
 
     fn same_key(&self, other: &Form) -> bool {
         self.recipe.is_same(&other.recipe)
+    }
+
+    fn hash(&self) -> u32 {
+        self.recipe.hash()
+    }
+
+    fn hash_key(key: &Recipe) -> u32 {
+        key.hash()
+    }
+
+    fn row_len() -> usize {
+        ROW_LEN
     }
 
     fn kept(&self) {}

@@ -1,8 +1,11 @@
 ghost use Rattle.std.specs.Prelude.{◌≡◌, ◌<◌, ℕ};
-ghost use Rattle.mh_handle.specs.Hashes.{mixed, all_mixed, shape_mixed, basic_number, entry_number, ret_number, ret_entry_number, key_hash};
+ghost use Rattle.mh_handle.specs.Hashes.{hash_limit, mixed, all_mixed, shape_mixed, basic_number, entry_number, ret_number, ret_entry_number, key_hash};
 
 use mh_edit::{Key, RetEntry};
 use mh_form::{Basic, BasicRet, Shape};
+
+/// Hashes are below this prime number.
+const HASH_LIMIT: u32 = 16777213;
 
 /// What goes into the hash of a recipe.
 pub(crate) trait Hashed {
@@ -11,7 +14,7 @@ pub(crate) trait Hashed {
     /// Its part of a hash.
     fn hash(&self) -> u32
         ensures part { result ≡ part self.now }
-        ensures small { result < 4096 };
+        ensures small { result < hash_limit };
 }
 
 impl Hashed for u8 {
@@ -69,19 +72,19 @@ impl Hashed for RetEntry {
 
 /// A hash with one more part.
 pub(crate) fn mix(hash: u32, part: u32) -> u32
-    requires hash { hash < 4096 }
-    requires part { part < 4096 }
+    requires hash { hash < hash_limit }
+    requires part { part < hash_limit }
     ensures mixed { result ≡ mixed hash part }
-    ensures small { result < 4096 }
+    ensures small { result < hash_limit }
 {
-    (31 * hash + part) % 4096
+    (31 * hash + part) % HASH_LIMIT
 }
 
 /// A hash with the parts of a list.
 fn mix_all<T: Hashed>(hash: u32, items: &[T]) -> u32
-    requires { hash < 4096 }
+    requires { hash < hash_limit }
     ensures mixed { result ≡ all_mixed T.part hash items.now }
-    ensures small { result < 4096 }
+    ensures small { result < hash_limit }
 {
     let mut all = hash;
     for item in items {
@@ -92,9 +95,9 @@ fn mix_all<T: Hashed>(hash: u32, items: &[T]) -> u32
 
 /// A hash with the parts of a shape.
 fn mix_shape(hash: u32, shape: &Shape) -> u32
-    requires { hash < 4096 }
+    requires { hash < hash_limit }
     ensures mixed { result ≡ shape_mixed hash shape.now }
-    ensures small { result < 4096 }
+    ensures small { result < hash_limit }
 {
     mix_all(mix(hash, shape.ret.hash()), shape.params.as_slice())
 }

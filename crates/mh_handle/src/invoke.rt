@@ -1,21 +1,21 @@
 ghost use Rattle.std.specs.Prelude.{◌≡◌, ◌≢◌, ◌++◌, IfOk, List, length, map};
-ghost use Rattle.mh_values.specs.declared.value.LeafCall.{LeafCall};
+ghost use Rattle.mh_values.specs.declared.calls.LeafCall.{LeafCall};
 ghost use Rattle.mh_values.specs.Computation.{Stuck};
 ghost use Rattle.mh_values.specs.HasType.{HaveTypes};
 ghost use Rattle.mh_leaf.specs.Outcome.{ran_of};
 ghost use Rattle.mh_tree.specs.Tree.{Tree};
 ghost use Rattle.mh_tree.specs.Meaning.{mean};
 ghost use Rattle.mh_form.specs.Erasure.{erased};
-ghost use Rattle.mh_form.specs.Run.{ran_of_outcome, run_bound, run_on};
-ghost use Rattle.mh_handle.specs.Answers.{IsAnswer, typed_ran};
+ghost use Rattle.mh_form.specs.Run.{ran_of_outcome, run_on};
+ghost use Rattle.mh_handle.specs.Answers.{IsAnswer, answer_in, typed_ran};
 ghost use Rattle.mh_handle.specs.Form.{body_of};
 ghost use Rattle.mh_handle.specs.Stands.{Stands, handle_run};
 
-use crate::answer::{Answer, type_result};
+use crate::answer::{Answer, Ended, type_result};
 use crate::form::Form;
 use crate::handle::Handle;
 use mh_base::NoMemory;
-use mh_form::{Bound, Fields, SlotOutcome, copy_fields, erase_all, run};
+use mh_form::{Bound, Fields, Machine, SlotOutcome, copy_fields, run_on};
 use mh_leaves::Leaves;
 use mh_values::{Classes, Items, Outcome, Ty};
 use std::alloc::Global;
@@ -38,15 +38,54 @@ impl<'t> Handle<'t> {
         ensures tree { (t : Tree) → Stands leaves.now self.now t
             → IfOk result (IsAnswer (mean leaves.now t args.now n) (length self.now.form.recipe)) }
     {
-        answer_of(
-            alloc,
-            &self.bound,
-            self.ty.get().ret,
-            self.form.recipe().len(),
-            leaves,
-            args,
-            n,
-        )
+        self.invoke_with(&mut Machine::new(alloc), leaves, args, n)
+    }
+
+    /// Calls the handle as `invoke` does, in a machine that is kept from call to call, out of which
+    /// the answer takes the leaf calls.
+    pub fn invoke_with(
+        &self,
+        m: &mut Machine,
+        leaves: &Leaves,
+        args: &Items,
+        n: u32,
+    ) -> Result<Answer, NoMemory>
+        requires typed { HaveTypes leaves.now.classes args.now self.now.ty.params }
+        requires runs { typed_ran leaves.now.classes self.now.ty.ret
+            (handle_run leaves.now self.now (map erased args.now) n) ≢ Stuck }
+        ensures run { IfOk result (IsAnswer (typed_ran leaves.now.classes self.now.ty.ret
+            (handle_run leaves.now self.now (map erased args.now) n))
+            (length self.now.form.recipe)) }
+        ensures tree { (t : Tree) → Stands leaves.now self.now t
+            → IfOk result (IsAnswer (mean leaves.now t args.now n) (length self.now.form.recipe)) }
+    {
+        let ended = self.invoke_on(m, leaves, args, n)?;
+        Ok(Answer::new(ended, m.take_calls()))
+    }
+
+    /// Calls the handle as `invoke` does, in a machine that is kept from call to call. The leaf calls
+    /// stay in the machine until its next call, so that none of this takes memory, but where a leaf
+    /// or a conversion makes a text, an array or a message, or where the machine has too little room.
+    pub fn invoke_on(
+        &self,
+        m: &mut Machine,
+        leaves: &Leaves,
+        args: &Items,
+        n: u32,
+    ) -> Result<Ended, NoMemory>
+        requires typed { HaveTypes leaves.now.classes args.now self.now.ty.params }
+        requires runs { typed_ran leaves.now.classes self.now.ty.ret
+            (handle_run leaves.now self.now (map erased args.now) n) ≢ Stuck }
+        ensures run { IfOk result (λ ended. IsAnswer (typed_ran leaves.now.classes self.now.ty.ret
+            (handle_run leaves.now self.now (map erased args.now) n))
+            (length self.now.form.recipe) (answer_in ended m.new)) }
+        ensures tree { (t : Tree) → Stands leaves.now self.now t → IfOk result (λ ended.
+            IsAnswer (mean leaves.now t args.now n) (length self.now.form.recipe)
+            (answer_in ended m.new)) }
+    {
+        let outcome = run_on(m, &self.bound, args, n, leaves)?;
+        let keys = self.form.recipe().len();
+        end(outcome, self.ty.get().ret, keys, leaves.classes())
     }
 
     /// Calls a form that was edited from the handle's, on the handle's fields and those of the
@@ -68,39 +107,60 @@ impl<'t> Handle<'t> {
             (run_on leaves.now (body_of form.entry.now.recipe) (self.now.fields ++ more.entry.items)
             (map erased args.now) n)) (length form.entry.now.recipe)) }
     {
-        let mut fields = copy_fields(alloc, self.bound.fields.as_slice())?;
+        self.invoke_edited_with(&mut Machine::new(alloc), form, more, ret, leaves, args, n)
+    }
+
+    /// Calls a form that was edited from the handle's as `invoke_edited` does, in a machine that is
+    /// kept from call to call, out of which the answer takes the leaf calls.
+    pub fn invoke_edited_with(
+        &self,
+        m: &mut Machine,
+        form: &'t Form,
+        more: Fields<'t>,
+        ret: Option<Ty>,
+        leaves: &Leaves,
+        args: &Items,
+        n: u32,
+    ) -> Result<Answer, NoMemory>
+        requires runs { typed_ran leaves.now.classes ret
+            (run_on leaves.now (body_of form.now.recipe) (self.now.fields ++ more.items)
+            (map erased args.now) n) ≢ Stuck }
+        ensures run { IfOk result (IsAnswer (typed_ran leaves.now.classes ret
+            (run_on leaves.now (body_of form.entry.now.recipe) (self.now.fields ++ more.entry.items)
+            (map erased args.now) n)) (length form.entry.now.recipe)) }
+    {
+        let mut fields = copy_fields(m.alloc(), self.bound.fields.as_slice())?;
         let mut more = more;
         fields.append(&mut more)?;
         let bound = Bound {
             body: form.body(),
             fields,
         };
-        answer_of(alloc, &bound, ret, form.recipe().len(), leaves, args, n)
+        let outcome = run_on(m, &bound, args, n, leaves)?;
+        let ended = end(outcome, ret, form.recipe().len(), leaves.classes())?;
+        Ok(Answer::new(ended, m.take_calls()))
     }
 }
 
-/// The answer of a body on its fields, with the result typed by a return type.
-fn answer_of<'t>(
-    alloc: Global,
-    bound: &Bound<'t>,
+/// The end of a run of a form with so many keys, with the result typed by a return type.
+fn end(
+    outcome: SlotOutcome,
     ret: Option<Ty>,
     keys: usize,
-    leaves: &Leaves,
-    args: &Items,
-    n: u32,
-) -> Result<Answer, NoMemory>
-    requires { typed_ran leaves.now.classes ret
-        (run_bound leaves.now bound.now (map erased args.now) n) ≢ Stuck }
-    ensures { IfOk result (IsAnswer (typed_ran leaves.now.classes ret
-        (run_bound leaves.now bound.now (map erased args.now) n)) keys) }
+    classes: &Classes,
+) -> Result<Ended, NoMemory>
+    requires { (calls : List LeafCall) × (typed_ran classes.now ret
+        (ran_of_outcome outcome calls) ≢ Stuck) }
+    ensures { (calls : List LeafCall) → IfOk result (λ ended. IsAnswer
+        (typed_ran classes.now ret (ran_of_outcome outcome calls)) keys (answer_in ended calls)) }
 {
     let Ok(keys) = u32::try_from(keys) else {
         return Err(NoMemory);
     };
-    let slots = erase_all(alloc, args)?;
-    let ran = run(alloc, bound, slots, n, leaves)?;
-    let outcome = type_outcome(ran.outcome, ret, leaves.classes());
-    Ok(Answer::new(outcome, ran.calls, keys))
+    Ok(Ended {
+        outcome: type_outcome(outcome, ret, classes),
+        keys,
+    })
 }
 
 /// An outcome with its result typed.

@@ -2,6 +2,7 @@
 #![tactic(auto)]
 
 mod answer;
+mod chain;
 mod copies;
 mod equality;
 mod error;
@@ -19,10 +20,12 @@ mod refusal;
 mod retyped;
 mod seat;
 mod seen_forms;
+mod sought;
 mod table;
+mod walks;
 mod work;
 
-pub use answer::Answer;
+pub use answer::{Answer, Ended};
 pub use error::{EditError, HandleError};
 pub use form::Form;
 pub use growth::{Growth, one_field};

@@ -1,29 +1,36 @@
-ghost use Rattle.std.specs.Prelude.{◌≡◌, ◌≤◌, ◌<◌, ◌++◌, ◌∷◌, [], length, map, vec_len, vec_capacity, OnOk, OnErr, IfOk, IfSome, List, ℕ};
-ghost use Rattle.mh_setonce.specs.Puts.{Refused};
-ghost use Rattle.mh_setonce.specs.Walks.{Distinct, FindsNode, Has, Lacks, StartsWith};
+ghost use Rattle.std.specs.Prelude.{◌≡◌, ◌≤◌, ◌<◌, ◌++◌, ◌∷◌, [], length, map, vec_len, vec_capacity, OnOk, OnErr, IfOk, IfSome, List};
+ghost use Rattle.mh_setonce.specs.Walks.{FindsNode, Has, Lacks};
 ghost use Rattle.mh_handle.specs.Form.{FormView, body_of};
 ghost use Rattle.mh_handle.specs.Index.{recipe_of};
-ghost use Rattle.mh_handle.specs.Passes.{AsksShown, IsFormOf, IsKept, IsPut, Learns, MakesForm, StaysLearnt, pass_at};
+ghost use Rattle.mh_handle.specs.Joins.{DoAgree, KnowsBoth, split_pass, split_room, unasked, with_seat};
+ghost use Rattle.mh_handle.specs.Passes.{AreNumbered, AsksShown, IsFormOf, IsKept, IsPassOf, IsPut, Learns, MakesForm, StaysLearnt, pass_at};
+ghost use Rattle.mh_handle.specs.Seats.{KnowsAll, joined_seats, with_less_room};
 
 use crate::error::EditError;
 use crate::form::Form;
 use crate::recipe::Recipe;
 use crate::seat::FormSeat;
 use crate::seen_forms::SeenForms;
+use crate::sought::Then;
+use crate::table::FormTable;
+use crate::walks::FormWalks;
 use mh_base::NoMemory;
 use mh_edit::Key;
 use mh_form::FormBody;
-use mh_setonce::{Chain, Put, PutRefused, Walk};
+use mh_setonce::Put;
 use std::alloc::Global;
 use std::marker::Model;
 use std::sync::Wait;
 
-/// What one thread of work knows of a table of forms: what it has learnt of the table's chain, the
-/// forms that it has put there itself, those that it has asked for, each once, and the seat through
-/// which it draws the numbers of the forms that it makes.
+/// How many numbers a pass may draw that was split off.
+const SPLIT_ROOM: u64 = 1 << 32;
+
+/// What one thread of work knows of a table of forms: the forms that it has learnt of the table's
+/// chains, those that it has put there itself, those that it has asked for, each once, and the seat
+/// through which it draws the numbers of the forms that it makes.
 #[derive(Drop)]
 pub struct FormPass<'t> {
-    walk: Walk<'t, Form>,
+    walks: FormWalks<'t>,
     made: Vec<&'t Form>,
     seen: SeenForms<'t>,
     seat: FormSeat,
@@ -31,38 +38,91 @@ pub struct FormPass<'t> {
 
 impl<'t> Model for FormPass<'t> {
     ghost use Rattle.std.specs.Prelude.{map};
-    ghost use Rattle.mh_setonce.specs.Walks.{Distinct};
-    ghost use Rattle.mh_handle.specs.Index.{recipe_of};
-    ghost use Rattle.mh_handle.specs.Passes.{PassView, AreLearnt, AreNumbered};
+    ghost use Rattle.mh_handle.specs.Chains.{learnt_by};
+    ghost use Rattle.mh_handle.specs.Passes.{IsPass, PassView};
 
     ghost Value = { PassView };
 
-    ghost view = { λ p. record { table = record { cells = p.walk.cells }; learnt = p.walk.nodes; made = map (λ f. f.now) p.made.items; asked = p.seen; seat = p.seat } };
+    ghost view = { λ p. record {
+      table = p.seat.table;
+      learnt = learnt_by p.walks;
+      made = map (λ f. f.now) p.made.items;
+      asked = p.seen;
+      seat = p.seat;
+    } };
 
-    ghost invariant = { λ p. AreLearnt p.walk.nodes p.seen × Distinct recipe_of p.walk.nodes
-        × AreNumbered (map (λ f. f.now) p.made.items) p.seat.numbers };
+    ghost invariant = { λ p. IsPass p.walks (map (λ f. f.now) p.made.items) p.seen p.seat };
 }
 
 impl<'t> FormPass<'t> {
     pub(crate) fn new(
         alloc: Global,
-        walk: Walk<'t, Form>,
+        table: &'t FormTable,
         seat: FormSeat,
     ) -> Result<FormPass<'t>, NoMemory>
-        requires { walk.nodes ≡ [] }
-        ensures { IfOk result (λ pass. pass ≡ pass_at (record { cells = walk.entry.cells }) seat) }
+        requires { seat.table ≡ table.now }
+        ensures { IfOk result (λ pass. pass ≡ pass_at table.entry.now seat) }
     {
         Ok(FormPass {
-            walk,
+            walks: FormWalks::new(alloc, table)?,
             made: Vec::new(alloc),
-            seen: SeenForms::new(alloc)?,
+            seen: SeenForms::new(alloc),
             seat,
         })
     }
 
+    /// A pass that knows what this one knows and has made no form, with a part of its room.
+    pub(crate) fn split(
+        &mut self,
+        alloc: Global,
+        table: &'t FormTable,
+    ) -> Result<FormPass<'t>, NoMemory>
+        requires pass { IsPassOf table.now self.old }
+        requires room { split_room < self.old.seat.room }
+        ensures ok { IfOk result (λ other. other ≡ split_pass self.old) }
+        ensures left { OnOk result
+            (self.new ≡ with_seat (with_less_room split_room self.old.seat) self.old) }
+        ensures err { OnErr result (self.new ≡ self.old) }
+    {
+        let walks = self.walks.copy(alloc)?;
+        let seen = self.seen.copy()?;
+        Ok(FormPass {
+            walks,
+            made: Vec::new(alloc),
+            seen,
+            seat: self.seat.split(table, SPLIT_ROOM),
+        })
+    }
+
+    /// Adds what another pass over the table knows. The seats are joined also where no memory is
+    /// left.
+    pub(crate) fn join(&mut self, table: &'t FormTable, other: FormPass<'t>) -> Result<(), NoMemory>
+        requires pass { IsPassOf table.now self.old }
+        requires other { IsPassOf table.now other }
+        ensures table { self.new.table ≡ self.old.table }
+        ensures seat { self.new.seat ≡ joined_seats self.old.seat other.entry.seat }
+        ensures known { KnowsAll self.new.seat }
+        ensures agree { DoAgree self.old other.entry }
+        ensures ok { OnOk result (KnowsBoth self.old other.entry self.new) }
+        ensures err { OnErr result (self.new ≡ with_seat self.new.seat self.old) }
+    {
+        let FormPass {
+            walks,
+            made,
+            seen,
+            seat,
+        } = other;
+        self.seat.join(table, seat);
+        self.walks.meet(table, &walks);
+        add_all(&mut self.made, &mut self.seen, made, seen)?;
+        self.walks.join(walks);
+        Ok(())
+    }
+
     /// How many forms were asked for. No two of them have one recipe.
     pub fn len(&self) -> u32
-        ensures { result ≡ length self.now.asked }
+        ensures count { result ≡ length self.now.asked }
+        ensures numbered { AreNumbered self.now.made self.now.seat.numbers }
     {
         self.seen.len()
     }
@@ -73,22 +133,22 @@ impl<'t> FormPass<'t> {
         ensures form { IfSome result (λ form. IsFormOf (recipe.now ++ key.now ∷ [])
             self.now form.now) }
     {
-        self.seen.find(recipe, key)
+        self.seen.find(&Then { recipe, key })
     }
 
-    /// The form of a recipe, if the chain shows it.
+    /// The form of a recipe, if the table shows it.
     pub(crate) fn find(
         &mut self,
-        chain: &'t Chain<Form>,
+        table: &'t FormTable,
         recipe: &Recipe,
     ) -> Result<Option<&'t Form>, NoMemory>
-        requires { self.old.table.cells ≡ chain.now }
+        requires { IsPassOf table.now self.old }
         ensures learns { Learns self.old self.new }
         ensures found { IfOk result (FindsNode recipe_of self.new.learnt recipe.now) }
         ensures form { IfOk result (λ found. IfSome found
             (λ form. IsFormOf recipe.now self.new form.now)) }
     {
-        chain.find(&mut self.walk, recipe)
+        self.walks.find(table, recipe)
     }
 
     /// Asks for a form that was learnt, and was not asked for.
@@ -102,19 +162,19 @@ impl<'t> FormPass<'t> {
         self.seen.add(form)
     }
 
-    /// Asks for the form of a recipe that was not asked for, if the chain shows it.
+    /// Asks for the form of a recipe that was not asked for, if the table shows it.
     pub(crate) fn ask_shown(
         &mut self,
-        chain: &'t Chain<Form>,
+        table: &'t FormTable,
         recipe: &Recipe,
     ) -> Result<Option<&'t Form>, NoMemory>
-        requires pass { self.old.table.cells ≡ chain.now }
+        requires pass { IsPassOf table.now self.old }
         requires new { Lacks recipe_of self.old.asked recipe.now }
         ensures table { self.new.table ≡ self.old.table }
         ensures learnt { StaysLearnt self.old self.new }
         ensures asks { AsksShown recipe.now self.old self.new result }
     {
-        let Some(found) = self.find(chain, recipe)? else {
+        let Some(found) = self.find(table, recipe)? else {
             return Ok(None);
         };
         self.ask(found)?;
@@ -127,12 +187,12 @@ impl<'t> FormPass<'t> {
         &mut self,
         rt: &R,
         alloc: Global,
-        chain: &'t Chain<Form>,
+        table: &'t FormTable,
         recipe: Recipe,
         body: FormBody,
     ) -> Result<&'t Form, EditError>
         requires body { body ≡ body_of recipe }
-        requires pass { self.old.table.cells ≡ chain.now }
+        requires pass { IsPassOf table.now self.old }
         requires room { 1 ≤ self.old.seat.room }
         requires new { Lacks recipe_of self.old.asked recipe }
         ensures table { self.new.table ≡ self.old.table }
@@ -142,17 +202,35 @@ impl<'t> FormPass<'t> {
     {
         self.seen.reserve()?;
         reserve_one(&mut self.made)?;
-        self.walk.reserve()?;
-        let number = self.seat.draw();
+        self.walks.reserve(&recipe)?;
+        let number = self.seat.draw(table);
         if number > Form::LIMIT {
             return Err(EditError::FormsFull { drawn: number });
         }
         let form = Form::new(number, recipe, body);
-        let put = put_form(rt, alloc, chain, &mut self.walk, form)?;
+        let put = self.walks.put(rt, alloc, table, form)?;
         let form = kept(&mut self.made, put);
         self.ask(form)?;
         Ok(form)
     }
+}
+
+/// Adds the forms that another pass has made and asked for, or none where no memory is left.
+fn add_all<'t>(
+    made: &mut Vec<&'t Form>,
+    seen: &mut SeenForms<'t>,
+    mut more_made: Vec<&'t Form>,
+    more_seen: SeenForms<'t>,
+) -> Result<(), NoMemory>
+    ensures made { OnOk result (made.new.items ≡ made.old.items ++ more_made.entry.items) }
+    ensures seen { OnOk result (seen.new ≡ seen.old ++ unasked seen.old more_seen.entry) }
+    ensures made_err { OnErr result (made.new.items ≡ made.old.items) }
+    ensures seen_err { OnErr result (seen.new ≡ seen.old) }
+{
+    made.reserve(more_made.len())?;
+    seen.add_all(&more_seen)?;
+    made.append(&mut more_made)?;
+    Ok(())
 }
 
 /// Takes memory for one form more.
@@ -164,33 +242,7 @@ fn reserve_one<'t>(forms: &mut Vec<&'t Form>) -> Result<(), NoMemory>
     Ok(())
 }
 
-/// Puts a form into the chain, unless one with its recipe stands there.
-///
-/// The forms of the chain and this one have numbers of their own, from 1 to 16,384, so that a cell
-/// is left for it; no contract says so, and a chain that seems full is asked again.
-fn put_form<'t, R: Wait>(
-    rt: &R,
-    alloc: Global,
-    chain: &'t Chain<Form>,
-    walk: &mut Walk<'t, Form>,
-    mut form: Form,
-) -> Result<Put<'t, Form>, NoMemory>
-    requires { walk.old.cells ≡ chain.now }
-    ensures cells { walk.new.cells ≡ walk.old.cells }
-    ensures nodes { StartsWith walk.new.nodes walk.old.nodes }
-    ensures once { Distinct recipe_of walk.new.nodes }
-    ensures put { IfOk result (IsPut walk.new.nodes form) }
-{
-    for _ in rt.forever() {
-        match chain.find_or_put(rt, alloc, walk, form) {
-            Ok(put) => return Ok(put),
-            Err(refused) => form = handed_back(refused)?,
-        }
-    }
-    unreachable!()
-}
-
-/// The form that the chain has, whoever put it there. One that this pass has put is kept.
+/// The form that the table has, whoever put it there. One that this pass has put is kept.
 fn kept<'t>(made: &mut Vec<&'t Form>, put: Put<'t, Form>) -> &'t Form
     requires { vec_len made.old < vec_capacity made.old }
     ensures has { (learnt : List FormView) (ours : FormView) → IsPut learnt ours put.entry
@@ -204,16 +256,5 @@ fn kept<'t>(made: &mut Vec<&'t Form>, put: Put<'t, Form>) -> &'t Form
             form
         }
         Put::Theirs(form, _) => form,
-    }
-}
-
-/// The form that was not put, where the chain seems full.
-fn handed_back(refused: PutRefused<Form>) -> Result<Form, NoMemory>
-    ensures { (nodes : List FormView) (cells : List ℕ) (form : FormView)
-        → Refused recipe_of nodes cells form refused → IfOk result (λ back. back ≡ form) }
-{
-    match refused {
-        PutRefused::NoMemory(_) => Err(NoMemory),
-        PutRefused::Full(back) => Ok(back),
     }
 }

@@ -1,7 +1,9 @@
 ghost use Rattle.std.specs.Prelude.{◌≡◌, ◌<◌, ◌++◌, ◌∷◌, [], length, IfOk, IsTrue};
 ghost use mathlib.Core.Logic.{◌↔◌};
-ghost use Rattle.mh_handle.specs.Hashes.{hash_of};
+ghost use Rattle.mh_handle.specs.Chains.{chain_count, chain_of};
+ghost use Rattle.mh_handle.specs.Hashes.{hash_limit, hash_of};
 
+use crate::chain::chain_then;
 use crate::equality::{Same, are_same};
 use crate::hash::{Hashed, mix};
 use mh_base::{Copied, NoMemory, Seq};
@@ -14,6 +16,8 @@ use std::marker::Model;
 pub struct Recipe {
     keys: Seq<Key>,
     hash: u32,
+    // The chain of a table that has its form.
+    chain: u32,
 }
 
 impl Model for Recipe {
@@ -22,11 +26,13 @@ impl Model for Recipe {
 
     ghost Value = { List Key };
 
-    ghost use Rattle.mh_handle.specs.Hashes.{hash_of};
+    ghost use Rattle.mh_handle.specs.Chains.{chain_count, chain_of};
+    ghost use Rattle.mh_handle.specs.Hashes.{hash_limit, hash_of};
 
     ghost view = { λ r. r.keys };
 
-    ghost invariant = { λ r. (r.hash ≡ hash_of r.keys) × (r.hash < 4096) };
+    ghost invariant = { λ r. (r.hash ≡ hash_of r.keys) × (r.hash < hash_limit)
+        × (r.chain ≡ chain_of r.keys) × (r.chain < chain_count) };
 }
 
 impl Recipe {
@@ -37,6 +43,7 @@ impl Recipe {
         Recipe {
             keys: Seq::new(alloc),
             hash: 0,
+            chain: 0,
         }
     }
 
@@ -49,6 +56,7 @@ impl Recipe {
         Ok(Recipe {
             keys,
             hash: self.hash_then(key),
+            chain: self.chain_then(key),
         })
     }
 
@@ -65,17 +73,32 @@ impl Recipe {
     /// The hash of this recipe and one more key.
     pub(crate) fn hash_then(&self, key: &Key) -> u32
         ensures hash { result ≡ hash_of (self.now ++ key.now ∷ []) }
-        ensures small { result < 4096 }
+        ensures small { result < hash_limit }
     {
         mix(self.hash, key.hash())
     }
 
-    /// A number below 4,096, by which recipes that differ are mostly told apart.
+    /// A number by which recipes that differ are mostly told apart.
     pub(crate) fn hash(&self) -> u32
         ensures hash { result ≡ hash_of self.now }
-        ensures small { result < 4096 }
+        ensures small { result < hash_limit }
     {
         self.hash
+    }
+
+    fn chain_then(&self, key: &Key) -> u32
+        ensures chain { result ≡ chain_of (self.now ++ key.now ∷ []) }
+        ensures small { result < chain_count }
+    {
+        chain_then(self.chain, key)
+    }
+
+    /// The chain of a table of forms that has the form of this recipe.
+    pub(crate) fn chain(&self) -> usize
+        ensures chain { result ≡ chain_of self.now }
+        ensures small { result < chain_count }
+    {
+        self.chain as usize
     }
 
     /// How many keys there are.

@@ -1,47 +1,76 @@
-ghost use Rattle.std.specs.Prelude.{◌≡◌, ◌≤◌};
-ghost use Rattle.mh_handle.specs.Passes.{Draws, seat_at};
+ghost use Rattle.std.specs.Prelude.{◌≡◌, ◌≤◌, ◌<◌};
+ghost use Rattle.mh_handle.specs.Seats.{Draws, KnowsAll, joined_seats, new_seat, with_less_room};
 
 use crate::table::FormTable;
+use mh_tickets::TicketSeat;
 use std::marker::Model;
 use std::snapshot::Snapshot;
 
-/// What the numbers of a table's forms are drawn through. There is one for each table, and it
-/// cannot be copied. Contracts see its table, the numbers drawn, and how many may still be drawn.
+/// The right to draw the numbers of a table's forms. Each pass over the table has one of its own,
+/// which cannot be copied. Contracts see its table, the numbers drawn with it, and how many more it
+/// may draw (its room).
 #[derive(Drop)]
 pub struct FormSeat {
     // The table whose numbers it draws. It has no bytes.
     table: Snapshot<FormTable>,
-    last: u64,
+    tickets: TicketSeat,
 }
 
 impl Model for FormSeat {
-    ghost use Rattle.std.specs.Prelude.{◌≤◌, ◌^◌};
-    ghost use Rattle.mh_handle.specs.Passes.{SeatView, seat_at};
+    ghost use Rattle.std.specs.Prelude.{◌≡◌};
+    ghost use Rattle.mh_handle.specs.Seats.{SeatView};
 
     ghost Value = { SeatView };
 
-    ghost view = { λ s. seat_at s.table.value s.last };
+    ghost view = { λ s. record {
+      table = s.table.value;
+      numbers = s.tickets.numbers;
+      room = s.tickets.room;
+    } };
 
-    ghost invariant = { λ s. s.last ≤ 2 ^ 62 };
+    ghost invariant = { λ s. s.tickets.tickets ≡ s.table.value.tickets };
 }
 
 impl FormSeat {
-    /// The seat of a table that has drawn nothing.
-    pub(crate) fn of(table: &FormTable) -> FormSeat
-        ensures { result ≡ seat_at table.now 0 }
+    /// A seat of a table, from one of the counter of its numbers.
+    pub(crate) fn of(table: &FormTable, tickets: TicketSeat) -> FormSeat
+        requires { tickets.tickets ≡ table.now.tickets }
+        ensures { result ≡ record
+            { table = table.now; numbers = tickets.numbers; room = tickets.room } }
     {
         FormSeat {
             table: Snapshot::of(table),
-            last: 0,
+            tickets,
         }
     }
 
-    /// A number that was not drawn before.
-    pub(crate) fn draw(&mut self) -> u64
-        requires { 1 ≤ self.old.room }
+    /// A number that no other seat has drawn.
+    pub(crate) fn draw(&mut self, table: &FormTable) -> u64
+        requires table { self.old.table ≡ table.now }
+        requires room { 1 ≤ self.old.room }
         ensures { Draws result self.old self.new }
     {
-        self.last += 1;
-        self.last
+        table.tickets().draw(&mut self.tickets)
+    }
+
+    /// A new seat with a part of the room.
+    pub(crate) fn split(&mut self, table: &FormTable, room: u64) -> FormSeat
+        requires table { self.old.table ≡ table.now }
+        requires room { (1 ≤ room) × (room < self.old.room) }
+        ensures left { self.new ≡ with_less_room room self.old }
+        ensures new { result ≡ new_seat self.old.table room }
+    {
+        let tickets = table.tickets().split(&mut self.tickets, room);
+        FormSeat::of(table, tickets)
+    }
+
+    /// The seat has the numbers and the room of both.
+    pub(crate) fn join(&mut self, table: &FormTable, other: FormSeat)
+        requires table { (self.old.table ≡ table.now) × (other.table ≡ table.now) }
+        ensures joined { self.new ≡ joined_seats self.old other }
+        ensures known { KnowsAll self.new }
+    {
+        let FormSeat { table: _, tickets } = other;
+        table.tickets().join(&mut self.tickets, tickets);
     }
 }

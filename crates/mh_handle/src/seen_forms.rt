@@ -1,23 +1,21 @@
 ghost use Rattle.std.specs.Prelude.{◌≡◌, ◌++◌, ◌∷◌, [], length, OnOk, OnErr, IfOk};
 ghost use Rattle.mh_setonce.specs.Walks.{Lacks, FindsNode};
 ghost use Rattle.mh_handle.specs.Index.{recipe_of};
+ghost use Rattle.mh_handle.specs.Joins.{unasked};
 
 use crate::form::Form;
-use crate::recipe::Recipe;
+use crate::sought::Sought;
 use mh_base::NoMemory;
-use mh_edit::Key;
+use mh_setonce::Places;
 use std::alloc::Global;
 use std::marker::Model;
+use std::mem;
 
-// The forms that a pass has asked for, found by the hash of their recipe. Places are kept one
-// higher, and 0 is none.
+/// The forms that a pass has asked for, found by their recipes. Contracts see the list of them.
 #[derive(Drop)]
 pub(crate) struct SeenForms<'t> {
     forms: Vec<&'t Form>,
-    // For each hash the latest form with it.
-    newest: Vec<usize>,
-    // For each form the one before it that has its hash.
-    before: Vec<usize>,
+    places: Places,
 }
 
 impl<'t> Model for SeenForms<'t> {
@@ -26,22 +24,22 @@ impl<'t> Model for SeenForms<'t> {
 
     ghost Value = { List FormView };
 
-    ghost use Rattle.mh_handle.specs.Index.{AreIndexed};
+    ghost use Rattle.mh_handle.specs.Index.{AreSeen};
 
     ghost view = { λ s. map (λ f. f.now) s.forms.items };
 
-    ghost invariant = { λ s. AreIndexed (map (λ f. f.now) s.forms.items) s.newest.items s.before.items × (length s.forms.items < 2 ^ 32) };
+    ghost invariant = { λ s. AreSeen (map (λ f. f.now) s.forms.items) s.places.hashes × (length s.forms.items < 2 ^ 32) };
 }
 
 impl<'t> SeenForms<'t> {
-    pub(crate) fn new(alloc: Global) -> Result<SeenForms<'t>, NoMemory>
-        ensures { IfOk result (λ seen. seen ≡ []) }
+    /// No forms. It takes no memory.
+    pub(crate) fn new(alloc: Global) -> SeenForms<'t>
+        ensures { result ≡ [] }
     {
-        Ok(SeenForms {
+        SeenForms {
             forms: Vec::new(alloc),
-            newest: Vec::from_elem(alloc, 0, 4096)?,
-            before: Vec::new(alloc),
-        })
+            places: Places::new(alloc),
+        }
     }
 
     pub(crate) fn len(&self) -> u32
@@ -50,19 +48,53 @@ impl<'t> SeenForms<'t> {
         self.forms.len() as u32
     }
 
-    /// The form of a recipe and one more key, if it was asked for. It takes no memory.
-    pub(crate) fn find(&self, recipe: &Recipe, key: &Key) -> Option<&'t Form>
-        ensures { FindsNode recipe_of self.now (recipe.now ++ key.now ∷ []) result }
+    /// The form of a recipe, if it was asked for. It takes no memory.
+    pub(crate) fn find<S: Sought>(&self, sought: &S) -> Option<&'t Form>
+        ensures { FindsNode recipe_of self.now (S.recipe sought.now) result }
     {
-        let mut place = self.newest[recipe.hash_then(key) as usize];
-        while place > 0 {
-            let form = self.forms[place - 1];
-            if form.recipe().is_then(recipe, key) {
+        let mut next = self.places.latest(sought.hash());
+        while let Some(place) = next {
+            let form = self.forms[place];
+            if sought.is_recipe(form.recipe()) {
                 return Some(form);
             }
-            place = self.before[place - 1];
+            next = self.places.earlier(place);
         }
         None
+    }
+
+    /// A list of the same forms.
+    pub(crate) fn copy(&self) -> Result<SeenForms<'t>, NoMemory>
+        ensures { IfOk result (λ copy. copy ≡ self.now) }
+    {
+        let alloc = *self.forms.allocator();
+        Ok(SeenForms {
+            forms: Vec::from_slice(alloc, self.forms.as_slice())?,
+            places: self.places.copy()?,
+        })
+    }
+
+    /// A list of the same forms, and of those of another list that have a recipe of their own.
+    fn joined(&self, others: &SeenForms<'t>) -> Result<SeenForms<'t>, NoMemory>
+        ensures { IfOk result (λ all. all ≡ self.now ++ unasked self.now others.now) }
+    {
+        let mut all = self.copy()?;
+        for form in others.forms.as_slice() {
+            if all.find(form.recipe()).is_none() {
+                all.add(form)?;
+            }
+        }
+        Ok(all)
+    }
+
+    /// Adds those of other forms that have a recipe of their own, or none where no memory is left.
+    pub(crate) fn add_all(&mut self, others: &SeenForms<'t>) -> Result<(), NoMemory>
+        ensures ok { OnOk result (self.new ≡ self.old ++ unasked self.old others.now) }
+        ensures err { OnErr result (self.new ≡ self.old) }
+    {
+        let joined = self.joined(others)?;
+        let _before = mem::replace(self, joined);
+        Ok(())
     }
 
     /// Takes memory for one form more.
@@ -70,7 +102,7 @@ impl<'t> SeenForms<'t> {
         ensures { self.new ≡ self.old }
     {
         self.forms.reserve(1)?;
-        self.before.reserve(1)?;
+        self.places.reserve()?;
         Ok(())
     }
 
@@ -84,12 +116,9 @@ impl<'t> SeenForms<'t> {
             return Err(NoMemory);
         }
         self.forms.reserve(1)?;
-        self.before.reserve(1)?;
-        let hash = form.recipe().hash() as usize;
-        let place = self.newest[hash];
+        self.places.reserve()?;
+        self.places.add(form.recipe().hash());
         self.forms.push_reserved(form);
-        self.before.push_reserved(place);
-        self.newest[hash] = self.forms.len();
         Ok(())
     }
 }

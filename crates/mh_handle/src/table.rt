@@ -1,8 +1,13 @@
-ghost use Rattle.std.specs.Prelude.{◌≡◌, ◌+◌, ◌≤◌, ◌++◌, ◌∷◌, [], length, IfOk, IsTrue};
+ghost use Rattle.std.specs.Prelude.{◌≡◌, ◌+◌, ◌<◌, ◌≤◌, ◌++◌, ◌∷◌, [], All, length, IfOk, OnOk, OnErr, IsTrue};
 ghost use Rattle.mh_edit.specs.Fit.{fits};
+ghost use Rattle.mh_setonce.specs.Views.{room_of};
+ghost use Rattle.mh_handle.specs.Chains.{chain_count, chain_room};
 ghost use Rattle.mh_handle.specs.Form.{base_form, body_of};
-ghost use Rattle.mh_handle.specs.Passes.{Edits, IsPassOf, StaysLearnt, pass_at, seat_at};
+ghost use Rattle.mh_handle.specs.Joins.{DoAgree, KnowsBoth, split_pass, split_room, with_seat};
+ghost use Rattle.mh_handle.specs.Passes.{Edits, IsPassOf, StaysLearnt, pass_at};
+ghost use Rattle.mh_handle.specs.Seats.{KnowsAll, joined_seats, seat_at, with_less_room};
 
+use crate::chain::{CHAIN_ROOM, CHAINS};
 use crate::error::EditError;
 use crate::form::Form;
 use crate::pass::FormPass;
@@ -10,41 +15,48 @@ use crate::seat::FormSeat;
 use mh_base::NoMemory;
 use mh_edit::{Key, apply};
 use mh_setonce::Chain;
+use mh_tickets::Tickets;
 use std::alloc::Global;
 use std::marker::Model;
 use std::sync::Wait;
 
-/// The forms of a run, one for each recipe: a chain of 16,384 cells. Contracts see which table it
-/// is, by the names of the cells.
+/// The forms of a run, one for each recipe, which threads share: 64 chains of 16,384 cells each,
+/// and the counter of the forms' numbers. Contracts see the chains and the counter.
 #[derive(Drop)]
 pub struct FormTable {
     base: Form,
-    chain: Chain<Form>,
+    chains: Vec<Chain<Form>>,
+    tickets: Tickets,
 }
 
 impl Model for FormTable {
     ghost use Rattle.std.specs.Prelude.{◌≡◌, length};
-    ghost use Rattle.mh_handle.specs.Form.{base_form};
-    ghost use Rattle.mh_handle.specs.Passes.{TableView};
+    ghost use Rattle.mh_handle.specs.Seats.{TableView};
 
     ghost Value = { TableView };
 
-    ghost view = { λ t. record { cells = t.chain } };
+    ghost use Rattle.mh_handle.specs.Chains.{chain_count};
+    ghost use Rattle.mh_handle.specs.Form.{base_form};
 
-    ghost invariant = { λ t. (t.base ≡ base_form) × (length t.chain ≡ 16384) };
+    ghost view = { λ t. record { chains = t.chains.items; tickets = t.tickets } };
+
+    ghost invariant = { λ t. (t.base ≡ base_form) × (length t.chains.items ≡ chain_count) };
 }
 
 impl FormTable {
-    /// A table without forms but the base, and the seat through which all numbers are drawn.
+    /// A table without forms but the base, and the seat that has the room for all numbers: 2^62.
     pub fn new(alloc: Global) -> Result<(FormTable, FormSeat), NoMemory>
-        ensures cells { IfOk result (λ made. length made.0.cells ≡ 16384) }
+        ensures chains { IfOk result (λ made. length made.0.chains ≡ chain_count) }
+        ensures cells { IfOk result (λ made. All (λ c. room_of c ≡ chain_room) made.0.chains) }
         ensures seat { IfOk result (λ made. made.1 ≡ seat_at made.0 0) }
     {
+        let (tickets, seat) = Tickets::new(alloc)?;
         let table = FormTable {
             base: Form::base(alloc),
-            chain: Chain::new(alloc, 16384)?,
+            chains: all_chains(alloc)?,
+            tickets,
         };
-        let seat = FormSeat::of(&table);
+        let seat = FormSeat::of(&table, seat);
         Ok((table, seat))
     }
 
@@ -55,12 +67,62 @@ impl FormTable {
         &self.base
     }
 
+    /// The chains, in the order of their numbers.
+    pub(crate) fn chains(&self) -> &[Chain<Form>]
+        ensures chains { result.now ≡ self.now.chains }
+        ensures count { length self.now.chains ≡ chain_count }
+    {
+        self.chains.as_slice()
+    }
+
+    /// The counter of the forms' numbers.
+    pub(crate) fn tickets(&self) -> &Tickets
+        ensures { result.now ≡ self.now.tickets }
+    {
+        &self.tickets
+    }
+
     /// The first pass, with the table's seat.
     pub fn first_pass<'t>(&'t self, alloc: Global, seat: FormSeat) -> Result<FormPass<'t>, NoMemory>
         requires { seat.table ≡ self.now }
         ensures { IfOk result (λ pass. pass ≡ pass_at self.entry.now seat) }
     {
-        FormPass::new(alloc, self.chain.walk(alloc), seat)
+        FormPass::new(alloc, self, seat)
+    }
+
+    /// A second pass over the table, for another thread. It knows the forms that the pass has learnt
+    /// and asked for, and has made none. It may draw 2^32 numbers, for which the pass must have
+    /// room.
+    pub fn split<'t>(
+        &'t self,
+        alloc: Global,
+        pass: &mut FormPass<'t>,
+    ) -> Result<FormPass<'t>, NoMemory>
+        requires pass { IsPassOf self.now pass.old }
+        requires room { split_room < pass.old.seat.room }
+        ensures ok { IfOk result (λ other. other ≡ split_pass pass.old) }
+        ensures left { OnOk result
+            (pass.new ≡ with_seat (with_less_room split_room pass.old.seat) pass.old) }
+        ensures err { OnErr result (pass.new ≡ pass.old) }
+    {
+        pass.split(alloc, self)
+    }
+
+    /// One pass that knows what both knew. Where no memory is left, the pass has the numbers and
+    /// the room of both, and else knows what it knew.
+    ///
+    /// The two never differ on the form of a recipe.
+    pub fn join<'t>(&'t self, pass: &mut FormPass<'t>, other: FormPass<'t>) -> Result<(), NoMemory>
+        requires pass { IsPassOf self.now pass.old }
+        requires other { IsPassOf self.now other }
+        ensures table { pass.new.table ≡ pass.old.table }
+        ensures seat { pass.new.seat ≡ joined_seats pass.old.seat other.entry.seat }
+        ensures known { KnowsAll pass.new.seat }
+        ensures agree { DoAgree pass.old other.entry }
+        ensures ok { OnOk result (KnowsBoth pass.old other.entry pass.new) }
+        ensures err { OnErr result (pass.new ≡ with_seat pass.new.seat pass.old) }
+    {
+        pass.join(self, other)
     }
 
     /// The form whose recipe is that of `form` followed by the key, as `Work::edit` says, which
@@ -104,10 +166,22 @@ impl FormTable {
             return Ok(seen);
         }
         let recipe = form.recipe().then(alloc, key)?;
-        if let Some(found) = pass.ask_shown(&self.chain, &recipe)? {
+        if let Some(found) = pass.ask_shown(self, &recipe)? {
             return Ok(found);
         }
         let body = apply(alloc, form.body(), key)?;
-        pass.make(rt, alloc, &self.chain, recipe, body)
+        pass.make(rt, alloc, self, recipe, body)
     }
+}
+
+/// The chains of a table, none of whose cells is set.
+fn all_chains(alloc: Global) -> Result<Vec<Chain<Form>>, NoMemory>
+    ensures count { IfOk result (λ chains. length chains.items ≡ chain_count) }
+    ensures room { IfOk result (λ chains. All (λ c. room_of c ≡ chain_room) chains.items) }
+{
+    let mut chains = Vec::new(alloc);
+    for _ in 0..CHAINS {
+        chains.push(Chain::new(alloc, CHAIN_ROOM)?)?;
+    }
+    Ok(chains)
 }

@@ -3,8 +3,18 @@
 #![tactic(auto)]
 
 #[cfg(test)]
+mod edits;
+#[cfg(test)]
 mod handles;
 #[cfg(test)]
 mod linkages;
+#[cfg(test)]
+mod passes;
+#[cfg(test)]
+mod racing;
+#[cfg(test)]
+mod random;
+#[cfg(test)]
+mod task;
 #[cfg(test)]
 mod values;

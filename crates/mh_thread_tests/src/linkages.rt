@@ -1,3 +1,5 @@
+ghost use Rattle.std.specs.Prelude.{◌≡◌, ◌≤◌};
+
 use crate::handles::{first_leaf, one_leaf};
 use mh_base::NoMemory;
 use mh_handle::{FormTable, Handle};
@@ -39,6 +41,10 @@ impl<'t> Keyed for Linkage<'t> {
 
     ghost key_of = { λ l. l.site };
 
+    ghost hash_of = { λ site. site };
+
+    ghost row_size = { 1 };
+
     ghost keeps = { λ l site. l.site ≡ site };
 
     fn has_key(&self, key: &u32) -> bool {
@@ -47,6 +53,23 @@ impl<'t> Keyed for Linkage<'t> {
 
     fn same_key(&self, other: &Linkage<'t>) -> bool {
         self.site == other.site
+    }
+
+    fn hash(&self) -> u32 {
+        self.site
+    }
+
+    fn hash_key(key: &u32) -> u32
+        ensures { result ≡ key.now }
+    {
+        *key
+    }
+
+    fn row_len() -> usize
+        ensures size { result ≡ 1 }
+        ensures some { 1 ≤ result }
+    {
+        1
     }
 
     fn kept(&self) {}

@@ -1,4 +1,4 @@
-use Rattle.mh_handle.proofs.Passing.{learnt-added}
+use Rattle.mh_handle.proofs.Passing.{pass-asks}
 use Rattle.mh_handle.proofs.pass.FormPass.ask.Goals as goal
 
 pub add-requires : goal.add-requires
@@ -6,9 +6,6 @@ add-requires c = rw (← c.self.view_is) at c.requires.new
 
 pub invariant_of-self : goal.invariant_of-self
 invariant_of-self c =
-    let here = rw (← c.self.view_is) at c.requires.learnt in (
-      learnt-added c.self.inside.walk.nodes c.self.inside.seen c.add.new.self c.args.form.now here.0 c.add.result c.self.invariant.0 here.1 c.add.ensures.ok
-          c.add.ensures.err,
-      c.self.invariant.1,
-      c.self.invariant.2,
-    )
+    let here = rw (← c.self.view_is) at c.requires.learnt in
+    pass-asks c.self.inside.walks _ c.self.inside.seen c.add.new.self c.self.inside.seat c.args.form.now here.0 c.add.result c.self.invariant here.1
+    c.add.ensures.ok c.add.ensures.err

@@ -1,74 +1,67 @@
-use Rattle.std.proofs.Common.{subst, sym, refl, map}
-use Rattle.mh_setonce.specs.Views.{WalkView}
-use Rattle.mh_setonce.specs.Walks.{Distinct, StartsWith}
-use Rattle.mh_handle.specs.Form.{FormView}
-use Rattle.mh_handle.specs.Index.{recipe_of}
-use Rattle.mh_handle.specs.Passes.{AreLearnt, AreNumbered, IsFormOf, PassView, StaysLearnt}
+use Rattle.std.proofs.Common.{ap, subst, sym, refl, map}
+use Rattle.mh_handle.specs.Chains.{learnt_by}
+use Rattle.mh_handle.specs.Passes.{AreLearnt, IsFormOf, PassView, StaysLearnt}
 use Rattle.mh_handle.proofs.Edits.{made-asked, made-refused, put-has, put-kept}
-use Rattle.mh_handle.proofs.Learning.{has-found, starts-found}
-use Rattle.mh_handle.proofs.Passing.{lacks-same, learnt-later, numbered-kept, numbered-later}
+use Rattle.mh_handle.proofs.Learning.{has-found, kept-found}
+use Rattle.mh_handle.proofs.Passing.{lacks-same, pass-draws, pass-keeps, pass-learns, pass-same}
 use Rattle.mh_handle.proofs.pass.FormPass.make.Goals as goal
 
 pub invariant_of-self-then-number-gt-LIMIT : goal.invariant_of-self-then-number-gt-LIMIT
-invariant_of-self-then-number-gt-LIMIT g c = (
-  subst (λ (w : WalkView FormView). AreLearnt w.nodes c.reserve.new.self) (sym c.in_ok-reserve-2.ensures)
-      (subst (AreLearnt c.self.inside.walk.nodes) (sym c.in_ok-reserve.ensures) c.self.invariant.0),
-  subst (λ (w : WalkView FormView). Distinct recipe_of w.nodes) (sym c.in_ok-reserve-2.ensures) c.self.invariant.1,
-  numbered-later (map (λ f. f.now) c.reserve_one.new.forms.items) c.draw-number.result c.self.inside.seat c.draw-number.new.self c.draw-number.ensures
-      (subst (λ fs. AreNumbered (map (λ f. f.now) fs) c.self.inside.seat.numbers) (sym c.in_ok-reserve_one.ensures.same) c.self.invariant.2),
-)
+invariant_of-self-then-number-gt-LIMIT g c =
+    pass-draws c.reserve-2.new.self (map (λ f. f.now) c.reserve_one.new.forms.items) c.reserve.new.self c.draw-number.result c.self.inside.seat
+    c.draw-number.new.self c.draw-number.ensures
+    (pass-same c.self.inside.walks c.reserve-2.new.self _ _ c.self.inside.seen c.reserve.new.self c.self.inside.seat c.self.invariant
+    c.in_ok-reserve-2.ensures (ap (map (λ f. f.now)) c.in_ok-reserve_one.ensures.same) c.in_ok-reserve.ensures)
 
 pub invariant_of-self-in_err-put : goal.invariant_of-self-in_err-put
-invariant_of-self-in_err-put g c = (
-  subst (AreLearnt c.put_form.new.walk.nodes) (sym c.in_ok-reserve.ensures) (learnt-later c.self.inside.walk.nodes c.put_form.new.walk.nodes c.self.inside.seen
-      (subst (λ (w : WalkView FormView). StartsWith c.put_form.new.walk.nodes w.nodes) c.in_ok-reserve-2.ensures c.in_err-put.ensures.nodes)
-      c.self.invariant.0),
-  c.in_err-put.ensures.once,
-  numbered-later (map (λ f. f.now) c.reserve_one.new.forms.items) c.draw-number.result c.self.inside.seat c.draw-number.new.self c.draw-number.ensures
-      (subst (λ fs. AreNumbered (map (λ f. f.now) fs) c.self.inside.seat.numbers) (sym c.in_ok-reserve_one.ensures.same) c.self.invariant.2),
-)
+invariant_of-self-in_err-put g c =
+    pass-learns c.reserve-2.new.self c.put.new.self (map (λ f. f.now) c.reserve_one.new.forms.items) c.reserve.new.self c.draw-number.new.self
+    (pass-draws c.reserve-2.new.self (map (λ f. f.now) c.reserve_one.new.forms.items) c.reserve.new.self c.draw-number.result c.self.inside.seat
+    c.draw-number.new.self c.draw-number.ensures
+    (pass-same c.self.inside.walks c.reserve-2.new.self _ _ c.self.inside.seen c.reserve.new.self c.self.inside.seat c.self.invariant
+    c.in_ok-reserve-2.ensures (ap (map (λ f. f.now)) c.in_ok-reserve_one.ensures.same) c.in_ok-reserve.ensures))
+    c.in_err-put.ensures.chains c.in_err-put.ensures.learnt c.in_err-put.ensures.once
 
 pub invariant_of-self-2 : goal.invariant_of-self-2
-invariant_of-self-2 g c = (
-  subst (AreLearnt c.put_form.new.walk.nodes) (sym c.in_ok-reserve.ensures) (learnt-later c.self.inside.walk.nodes c.put_form.new.walk.nodes c.self.inside.seen
-      (subst (λ (w : WalkView FormView). StartsWith c.put_form.new.walk.nodes w.nodes) c.in_ok-reserve-2.ensures c.in_ok-put.ensures.nodes)
-      c.self.invariant.0),
-  c.in_ok-put.ensures.once,
-  numbered-kept _ c.kept-form.result.now (map (λ f. f.now) c.reserve_one.new.forms.items) (map (λ f. f.now) c.kept-form.new.made.items) c.draw-number.result
-      c.self.inside.seat c.draw-number.new.self c.draw-number.ensures refl
-      (put-kept c.put_form.new.walk.nodes (map (λ f. f.now) c.reserve_one.new.forms.items) (map (λ f. f.now) c.kept-form.new.made.items) c.draw-number.result
-      c.args.recipe c.new-form.result c.kept-form.result.now c.in_ok-put.put c.new-form.ensures c.in_ok-put.ensures.put c.kept-form.ensures.kept)
-      (subst (λ fs. AreNumbered (map (λ f. f.now) fs) c.self.inside.seat.numbers) (sym c.in_ok-reserve_one.ensures.same) c.self.invariant.2),
-)
+invariant_of-self-2 g c =
+    pass-learns c.reserve-2.new.self c.put.new.self (map (λ f. f.now) c.kept-form.new.made.items) c.reserve.new.self c.draw-number.new.self
+    (pass-keeps c.reserve-2.new.self (map (λ f. f.now) c.reserve_one.new.forms.items) (map (λ f. f.now) c.kept-form.new.made.items) c.reserve.new.self
+    c.draw-number.result c.self.inside.seat c.draw-number.new.self _ c.kept-form.result.now c.draw-number.ensures refl
+    (put-kept (learnt_by c.put.new.self) (map (λ f. f.now) c.reserve_one.new.forms.items) (map (λ f. f.now) c.kept-form.new.made.items)
+    c.draw-number.result c.args.recipe c.new-form.result c.kept-form.result.now c.in_ok-put.put c.new-form.ensures c.in_ok-put.ensures.put
+    c.kept-form.ensures.kept)
+    (pass-same c.self.inside.walks c.reserve-2.new.self _ _ c.self.inside.seen c.reserve.new.self c.self.inside.seat c.self.invariant
+    c.in_ok-reserve-2.ensures (ap (map (λ f. f.now)) c.in_ok-reserve_one.ensures.same) c.in_ok-reserve.ensures))
+    c.in_ok-put.ensures.chains c.in_ok-put.ensures.learnt c.in_ok-put.ensures.once
 
 pub returns-in_err-put-clause-learnt : goal.returns-in_err-put-clause-learnt
 returns-in_err-put-clause-learnt g c =
-    let more = subst (λ (w : WalkView FormView). StartsWith c.put_form.new.walk.nodes w.nodes) c.in_ok-reserve-2.ensures c.in_err-put.ensures.nodes in
-    rw (← c.self.view_is) (starts-found c.self.inside.walk.nodes c.put_form.new.walk.nodes more)
+    let more = subst (λ w. AreLearnt (learnt_by c.put.new.self) (learnt_by w)) c.in_ok-reserve-2.ensures c.in_err-put.ensures.learnt in
+    rw (← c.self.view_is) (kept-found (learnt_by c.self.inside.walks) (learnt_by c.put.new.self) more c.in_err-put.ensures.once)
 
 pub ask-requires-clause-new : goal.ask-requires-clause-new
 ask-requires-clause-new g c =
     let has =
-    put-has c.put_form.new.walk.nodes (map (λ f. f.now) c.reserve_one.new.forms.items) (map (λ f. f.now) c.kept-form.new.made.items) c.draw-number.result
+    put-has (learnt_by c.put.new.self) (map (λ f. f.now) c.reserve_one.new.forms.items) (map (λ f. f.now) c.kept-form.new.made.items) c.draw-number.result
     c.args.recipe c.new-form.result c.kept-form.result.now c.in_ok-put.put c.new-form.ensures c.in_ok-put.ensures.put c.kept-form.ensures.has in
     lacks-same c.self.inside.seen c.reserve.new.self c.args.recipe c.kept-form.result.now.recipe
     (rw (← c.self.view_is) at c.requires.new) c.in_ok-reserve.ensures has.2
 
 pub ask-requires-clause-learnt : goal.ask-requires-clause-learnt
 ask-requires-clause-learnt g c =
-    let has = c.kept-form.ensures.has c.put_form.new.walk.nodes c.new-form.result c.in_ok-put.ensures.put in (has.0, has.1, refl)
+    let has = c.kept-form.ensures.has (learnt_by c.put.new.self) c.new-form.result c.in_ok-put.ensures.put in (has.0, has.1, refl)
 
 pub returns-in_err-ask-clause-learnt : goal.returns-in_err-ask-clause-learnt
 returns-in_err-ask-clause-learnt g c =
-    let more = subst (λ (w : WalkView FormView). StartsWith c.put_form.new.walk.nodes w.nodes) c.in_ok-reserve-2.ensures c.in_ok-put.ensures.nodes in
+    let more = subst (λ w. AreLearnt (learnt_by c.put.new.self) (learnt_by w)) c.in_ok-reserve-2.ensures c.in_ok-put.ensures.learnt in
     subst (λ (p : PassView). StaysLearnt c.args.self.now p) (sym c.in_err-ask.ensures.err)
-    (rw (← c.self.view_is) (starts-found c.self.inside.walk.nodes c.put_form.new.walk.nodes more))
+    (rw (← c.self.view_is) (kept-found (learnt_by c.self.inside.walks) (learnt_by c.put.new.self) more c.in_ok-put.ensures.once))
 
 pub returns-in_err-ask-clause-makes : goal.returns-in_err-ask-clause-makes
 returns-in_err-ask-clause-makes g c =
     let made = map (λ f. f.now) c.reserve_one.new.forms.items in
     let made' = map (λ f. f.now) c.kept-form.new.made.items in
-    let nodes = c.put_form.new.walk.nodes in
+    let nodes = learnt_by c.put.new.self in
     let has =
     put-has nodes made made' c.draw-number.result c.args.recipe c.new-form.result c.kept-form.result.now c.in_ok-put.put c.new-form.ensures
     c.in_ok-put.ensures.put c.kept-form.ensures.has in
@@ -77,15 +70,15 @@ returns-in_err-ask-clause-makes g c =
     c.in_ok-put.ensures.put c.kept-form.ensures.kept in
     let old : PassView =
     record {
-      table = record { cells = c.self.inside.walk.cells };
-      learnt = c.self.inside.walk.nodes;
+      table = c.self.inside.seat.table;
+      learnt = learnt_by c.self.inside.walks;
       made = map (λ f. f.now) c.self.inside.made.items;
       asked = c.self.inside.seen;
       seat = c.self.inside.seat;
     } in
     let mid : PassView =
     record {
-      table = record { cells = c.put_form.new.walk.cells };
+      table = c.draw-number.new.self.table;
       learnt = nodes;
       made = made';
       asked = c.reserve.new.self;
@@ -97,15 +90,15 @@ returns-in_err-ask-clause-makes g c =
 
 pub returns-clause-learnt : goal.returns-clause-learnt
 returns-clause-learnt g c =
-    let more = subst (λ (w : WalkView FormView). StartsWith c.put_form.new.walk.nodes w.nodes) c.in_ok-reserve-2.ensures c.in_ok-put.ensures.nodes in
+    let more = subst (λ w. AreLearnt (learnt_by c.put.new.self) (learnt_by w)) c.in_ok-reserve-2.ensures c.in_ok-put.ensures.learnt in
     subst (λ (p : PassView). StaysLearnt c.args.self.now p) (sym c.in_ok-ask.ensures.ok)
-    (rw (← c.self.view_is) (starts-found c.self.inside.walk.nodes c.put_form.new.walk.nodes more))
+    (rw (← c.self.view_is) (kept-found (learnt_by c.self.inside.walks) (learnt_by c.put.new.self) more c.in_ok-put.ensures.once))
 
 pub returns-clause-makes : goal.returns-clause-makes
 returns-clause-makes g c =
     let made = map (λ f. f.now) c.reserve_one.new.forms.items in
     let made' = map (λ f. f.now) c.kept-form.new.made.items in
-    let nodes = c.put_form.new.walk.nodes in
+    let nodes = learnt_by c.put.new.self in
     let has =
     put-has nodes made made' c.draw-number.result c.args.recipe c.new-form.result c.kept-form.result.now c.in_ok-put.put c.new-form.ensures
     c.in_ok-put.ensures.put c.kept-form.ensures.has in
@@ -114,15 +107,15 @@ returns-clause-makes g c =
     c.in_ok-put.ensures.put c.kept-form.ensures.kept in
     let old : PassView =
     record {
-      table = record { cells = c.self.inside.walk.cells };
-      learnt = c.self.inside.walk.nodes;
+      table = c.self.inside.seat.table;
+      learnt = learnt_by c.self.inside.walks;
       made = map (λ f. f.now) c.self.inside.made.items;
       asked = c.self.inside.seen;
       seat = c.self.inside.seat;
     } in
     let mid : PassView =
     record {
-      table = record { cells = c.put_form.new.walk.cells };
+      table = c.draw-number.new.self.table;
       learnt = nodes;
       made = made';
       asked = c.reserve.new.self;
@@ -135,7 +128,7 @@ returns-clause-makes g c =
 pub returns-clause-form : goal.returns-clause-form
 returns-clause-form g c =
     let has =
-    put-has c.put_form.new.walk.nodes (map (λ f. f.now) c.reserve_one.new.forms.items) (map (λ f. f.now) c.kept-form.new.made.items) c.draw-number.result
+    put-has (learnt_by c.put.new.self) (map (λ f. f.now) c.reserve_one.new.forms.items) (map (λ f. f.now) c.kept-form.new.made.items) c.draw-number.result
     c.args.recipe c.new-form.result c.kept-form.result.now c.in_ok-put.put c.new-form.ensures c.in_ok-put.ensures.put c.kept-form.ensures.has in
     subst (λ (p : PassView). IsFormOf c.args.recipe p c.kept-form.result.now) (sym c.in_ok-ask.ensures.ok)
-    (has-found c.args.recipe c.put_form.new.walk.nodes c.kept-form.result.now c.in_ok-put.ensures.once has)
+    (has-found c.args.recipe (learnt_by c.put.new.self) c.kept-form.result.now c.in_ok-put.ensures.once has)

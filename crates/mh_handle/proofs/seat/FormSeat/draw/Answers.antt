@@ -1,5 +1,7 @@
-use Rattle.mh_handle.proofs.Passing.{draws-next}
+use Rattle.mh_handle.proofs.Numbers.{drawn-of}
 use Rattle.mh_handle.proofs.seat.FormSeat.draw.Goals as goal
 
 pub returns : goal.returns
-returns c = rw (← c.self.view_is) (draws-next c.self.inside.table.value c.self.inside.last (rw (← c.self.view_is) at c.requires))
+returns c =
+    rw (← c.self.view_is) (drawn-of c.self.inside.table.value c.draw.result c.self.inside.tickets c.draw.new.seat
+    c.draw.ensures.draws c.draw.ensures.known)

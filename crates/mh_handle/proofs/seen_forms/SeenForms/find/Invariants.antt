@@ -1,9 +1,9 @@
-use Rattle.std.proofs.Common.{◌++◌, ◌∷◌, []}
-use Rattle.mh_handle.proofs.Asked.{Sought}
+use Rattle.std.proofs.Common.{map}
+use Rattle.mh_handle.proofs.Asked.{Searched, turns}
 use Rattle.mh_handle.proofs.seen_forms.SeenForms.find.Given as goal
 
-abbrev pub invariant-loop-place : goal.invariant-loop-place
-invariant-loop-place l = Sought l.self (l.recipe ++ l.key ∷ []) l.place
+abbrev pub invariant-loop-next : goal.invariant-loop-next
+invariant-loop-next g l = Searched (map (λ f. f.now) l.self-inside.forms.items) l.self-inside.places.hashes (g.S.Sought.recipe l.sought) l.next
 
-abbrev pub decreases-loop-place : goal.decreases-loop-place
-decreases-loop-place l = l.place
+abbrev pub decreases-loop-next : goal.decreases-loop-next
+decreases-loop-next g l = turns l.next

@@ -1,7 +1,7 @@
 use Rattle.std.proofs.Common.{◌∙◌, subst}
 use Rattle.mh_handle.specs.Passes.{IsPut}
 use Rattle.mh_handle.proofs.Passing.{put-is, starts-trans}
-use Rattle.mh_handle.proofs.pass.put_form.Goals as goal
+use Rattle.mh_handle.proofs.walks.put_form.Goals as goal
 
 pub returns-in-Ok-clause-put : goal.returns-in-Ok-clause-put
 returns-in-Ok-clause-put g c =
@@ -10,7 +10,7 @@ returns-in-Ok-clause-put g c =
 
 pub loop-preserved : goal.loop-preserved
 loop-preserved g c = (
-  c.find_or_put.ensures.cells ∙ c.loop.invariant.0,
+  c.find_or_put.ensures.chain ∙ c.loop.invariant.0,
   starts-trans c.args.walk.now.nodes c.loop.walk.nodes c.find_or_put.new.walk.nodes c.loop.invariant.1 c.find_or_put.ensures.nodes,
-  c.in_ok-form-in-Err.ensures c.find_or_put.new.walk.nodes c.find_or_put.new.walk.cells c.loop.form c.in-Err.ensures.put ∙ c.loop.invariant.2,
+  c.in_ok-form-in-Err.ensures c.find_or_put.new.walk.nodes c.find_or_put.new.walk.chain c.loop.form c.in-Err.ensures.put ∙ c.loop.invariant.2,
 )

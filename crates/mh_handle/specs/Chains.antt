@@ -1,0 +1,74 @@
+-- The chains of a table of forms: which one has the form of a recipe, and what walks of all of them have learnt.
+use Rattle.std.specs.Prelude.{◌≡◌, ℕ, suc, ◌+◌, ◌*◌, ◌%◌, ◌<◌, ◌≤◌, ◌⊎◌, ◌==◌, List, [], ◌∷◌, ◌++◌, length, map, slice_get, Some}
+use Rattle.std.specs.List.{filter}
+use Rattle.mh_setonce.specs.Views.{ChainView, WalkView}
+use Rattle.mh_setonce.specs.Walks.{Distinct, Meet}
+use Rattle.mh_edit.specs.declared.key.Key.{Key}
+use Rattle.mh_edit.specs.declared.key.Key.TheVariants as key
+use Rattle.mh_handle.specs.Form.{FormView}
+use Rattle.mh_handle.specs.Index.{recipe_of}
+
+-- how many chains a table has
+abbrev pub chain_count : ℕ
+chain_count = 64
+
+-- how many cells a chain has
+abbrev pub chain_room : ℕ
+chain_room = 16384
+
+-- the number of a key's kind
+abbrev pub kind_of : Key → ℕ
+kind_of (key.LeafRoot shape) = 1
+kind_of (key.ConstRoot b) = 2
+kind_of (key.IdentityRoot b) = 3
+kind_of (key.ThrowRoot ret) = 4
+kind_of (key.GuardRoot shape test) = 5
+kind_of (key.CatchRoot shape handler) = 6
+kind_of (key.Bind pos) = 7
+kind_of (key.Add pos basics) = 8
+kind_of (key.Permute basics reorder) = 9
+kind_of (key.Collect pos basics ret) = 10
+kind_of (key.Fold pos count ret) = 11
+kind_of (key.FilterReturn ret) = 12
+kind_of (key.Convert params ret) = 13
+kind_of (key.Spread count b) = 14
+kind_of (key.Gather count b) = 15
+
+-- the chain of a recipe, from that of its first keys
+abbrev pub chain_after : ℕ → List Key → ℕ
+chain_after chain [] = chain
+chain_after chain (k ∷ keys) = chain_after ((31 * chain + kind_of k) % chain_count) keys
+
+-- the chain that has the form of a recipe
+abbrev pub chain_of : List Key → ℕ
+chain_of keys = chain_after 0 keys
+
+-- the forms among these that belong to a chain
+abbrev pub forms_of : ℕ → List FormView → List FormView
+forms_of chain forms = filter (λ f. chain_of f.recipe == chain) forms
+
+-- the forms that walks of the chains from this one on have learnt
+abbrev pub learnt_from : ℕ → List (WalkView FormView) → List FormView
+learnt_from chain [] = []
+learnt_from chain (w ∷ walks) = forms_of chain w.nodes ++ learnt_from (suc chain) walks
+
+-- the forms that walks of all chains have learnt, chain by chain
+abbrev pub learnt_by : List (WalkView FormView) → List FormView
+learnt_by walks = learnt_from 0 walks
+
+-- the chains of walks
+abbrev pub chains_of : List (WalkView FormView) → List ChainView
+chains_of walks = map (λ w. w.chain) walks
+
+-- a walk of each chain, of which no two nodes have one recipe
+pub record AreWalks (walks : List (WalkView FormView)) : Type 0 where
+  pub count : length walks ≡ chain_count
+  pub once : (c : ℕ) (w : WalkView FormView) → slice_get walks c ≡ Some w → Distinct recipe_of w.nodes
+
+-- of two walks of one chain, one begins with the other
+abbrev pub DoMeet : List (WalkView FormView) → List (WalkView FormView) → Type 0
+DoMeet walks others = (c : ℕ) (a b : WalkView FormView) → slice_get walks c ≡ Some a → slice_get others c ≡ Some b → (n : ℕ) × Meet a.nodes b.nodes n
+
+-- the longer of two walks
+abbrev pub IsLonger : WalkView FormView → WalkView FormView → WalkView FormView → Type 0
+IsLonger walk other kept = ((kept ≡ walk) × (length other.nodes ≤ length walk.nodes)) ⊎ ((kept ≡ other) × (length walk.nodes < length other.nodes))

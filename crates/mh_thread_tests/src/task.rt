@@ -1,0 +1,36 @@
+//! Work that many threads do, each on a lane of its own.
+ghost use Rattle.std.specs.Prelude.{◌≡◌, ℕ, ◌<◌, All, length, slice_index_or};
+
+use std::sync::Wait;
+use std::thread;
+use std::thread::Threads;
+
+/// What is done with each lane.
+pub trait Task {
+    type Lane: Send;
+
+    // A lane that may be run, and what it is afterwards.
+    ghost ready: { Self → Self.Lane → Type 0 };
+
+    ghost done: { Self → Self.Lane → Self.Lane → Type 0 };
+
+    fn run<R: Wait>(&self, rt: &R, lane: &mut Self::Lane)
+        requires { ready self.now lane.old }
+        ensures { done self.entry.now lane.old lane.new };
+}
+
+/// A thread for each lane.
+pub fn run_each<T: Task + Sync, R: Threads + Wait + Sync>(rt: &R, task: &T, lanes: &mut [T::Lane])
+    requires some { 0 < length lanes.old }
+    requires ready { All (T.ready task.now) lanes.old }
+    ensures { (i : ℕ) (d : _) → i < length lanes.old
+        → T.done task.now (slice_index_or lanes.old i d) (slice_index_or lanes.new i d) }
+{
+    let count = lanes.len();
+    thread::for_each_mut(
+        rt,
+        lanes,
+        count,
+        &|_, lane: &mut T::Lane| { task.run(rt, lane) },
+    );
+}
