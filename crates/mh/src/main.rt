@@ -6,11 +6,12 @@ ghost use Rattle.std.specs.Process.{exit_status};
 ghost use Rattle.std.specs.Io.KnownBytes.{Keeps};
 ghost use Rattle.mh_outside.specs.Causes.{AreSame, IsStill};
 ghost use Rattle.mh_outside.specs.Kept.{KeepsInputs};
-ghost use Rattle.mh_main.specs.Words.{command_of, said};
+ghost use Rattle.mh_words.specs.Options.{said};
+ghost use Rattle.mh_words.specs.Words.{command_of};
 ghost use Rattle.mh_main.specs.Input.{input, AreAccepted, FitsForms, IsMissing, IsRefused};
 ghost use Rattle.mh_main.specs.Stops.{InputsStill};
-ghost use Rattle.mh_main.specs.Status.{refused, usage_wanted, no_memory, forms_full, unread, write_failed, IsStatus, FailsWhere, IsRefusedOrWant, IsUnreadOrWant, IsDoneOrWant};
-ghost use Rattle.mh_main.specs.Due.{FailsToRead, FillsForms, RefusesInput, RefusesWords, Writes};
+ghost use Rattle.mh_main.specs.Status.{refused, usage_wanted, no_memory, forms_full, unread, write_failed, IsStatus, FailsWhere, IsUsageOrWant, IsRefusedOrWant, IsUnreadOrWant, IsDoneOrWant, IsDoneFullOrWant};
+ghost use Rattle.mh_main.specs.Due.{IsGenerated, FailsToRead, FillsForms, RefusesInput, RefusesWords, Writes};
 
 use mh_main::status::NO_MEMORY;
 use mh_main::top;
@@ -72,7 +73,7 @@ fn run<'a, R: Threads + Wait + Sync, I: Inputs, S: Sink>(
     ensures no_fault { exit_status result ≢ unread → exit_status result ≢ write_failed
         → AreSame (I.faults inputs.old) (I.faults inputs.new) }
     ensures usage_due { command_of (said words.now) ≡ None
-        → IsStill (S.faults sink.old) (S.faults sink.new) → exit_status result ≡ usage_wanted }
+        → IsStill (S.faults sink.old) (S.faults sink.new) → IsUsageOrWant (exit_status result) }
     ensures refusal_wanted { IsRefused (input (said words.now) (I.told inputs.old))
         → InputsStill (command_of (said words.now)) (I.faults inputs.old) (I.faults inputs.new)
         → IsStill (S.faults sink.old) (S.faults sink.new) → IsRefusedOrWant (exit_status result) }
@@ -80,6 +81,9 @@ fn run<'a, R: Threads + Wait + Sync, I: Inputs, S: Sink>(
         → FitsForms (input (said words.now) (I.told inputs.old))
         → InputsStill (command_of (said words.now)) (I.faults inputs.old) (I.faults inputs.new)
         → IsStill (S.faults sink.old) (S.faults sink.new) → IsDoneOrWant (exit_status result) }
+    ensures generated { IsGenerated (command_of (said words.now))
+        → IsStill (S.faults sink.old) (S.faults sink.new)
+        → IsDoneFullOrWant (exit_status result) }
     ensures unread_wanted { IsMissing (input (said words.now) (I.told inputs.old))
         → IsStill (S.faults sink.old) (S.faults sink.new) → IsUnreadOrWant (exit_status result) }
 {

@@ -4,7 +4,7 @@ ghost use Rattle.mh_values.specs.Same.{is_same_method_type};
 ghost use Rattle.mh_tree.specs.Meaning.{exact, generic, mean};
 ghost use Rattle.mh_tree.specs.Rows.{astype_row};
 ghost use Rattle.mh_tree.specs.Tree.{Tree, AsType};
-ghost use Rattle.mh_handle.specs.Answers.{IsAnswer};
+ghost use Rattle.mh_handle.specs.Answers.{IsAnswer, answer_in};
 ghost use Rattle.mh_convert.specs.Conversion.{is_trivial_ret};
 ghost use Rattle.mh_handle.specs.Recipe.{are_trivial, convert_keys, recipe};
 ghost use Rattle.mh_handle.specs.Stands.{Stands, StandsForSome};
@@ -13,10 +13,11 @@ ghost use Rattle.mh_astype.specs.Calls.{AsksBy, IsRefusal, call_keys, exact_keys
 
 use crate::conversions::{convert_fields, convert_key, is_trivial};
 use mh_base::NoMemory;
-use mh_handle::{Answer, EditError, Handle, Work};
+use mh_form::Machine;
+use mh_handle::{Answer, EditError, Ended, Handle, Work};
 use mh_leaves::Leaves;
 use mh_tree::{CheckError, check_astype, mismatch};
-use mh_values::{Classes, Exc, Items, MethodTy, is_same_method_type};
+use mh_values::{Classes, Exc, Items, MethodTy, Outcome, is_same_method_type};
 use std::alloc::Global;
 use std::sync::Wait;
 
@@ -36,16 +37,63 @@ pub fn invoke_exact<'t>(
     ensures { (t : Tree) → Stands leaves.now handle.now t → IfOk result
         (IsAnswer (exact leaves.now t call.now args.now n) (exact_keys leaves.now t call.now)) }
 {
+    invoke_exact_with(&mut Machine::new(alloc), handle, leaves, call, args, n)
+}
+
+/// A call as by `invoke_exact`, in a machine that is kept from call to call, out of which the answer
+/// takes the leaf calls.
+pub fn invoke_exact_with<'t>(
+    m: &mut Machine,
+    handle: &Handle<'t>,
+    leaves: &Leaves,
+    call: &MethodTy,
+    args: &Items,
+    n: u32,
+) -> Result<Answer, NoMemory>
+    requires typed { HaveTypes leaves.now.classes args.now call.now.params }
+    requires stands { StandsForSome leaves.now handle.now }
+    ensures { (t : Tree) → Stands leaves.now handle.now t → IfOk result
+        (IsAnswer (exact leaves.now t call.now args.now n) (exact_keys leaves.now t call.now)) }
+{
     if is_same_method_type(handle.ty(), call) {
-        handle.invoke(alloc, leaves, args, n)
+        handle.invoke_with(m, leaves, args, n)
     } else {
-        let exc = mismatch(alloc, handle.ty(), call, leaves.classes())?;
-        Ok(Answer::thrown(alloc, exc))
+        let exc = mismatch(m.alloc(), handle.ty(), call, leaves.classes())?;
+        Ok(Answer::thrown(m.alloc(), exc))
+    }
+}
+
+/// A call as by `invoke_exact`, in a machine that is kept from call to call, which has its leaf
+/// calls until the next call.
+pub fn invoke_exact_on<'t>(
+    m: &mut Machine,
+    handle: &Handle<'t>,
+    leaves: &Leaves,
+    call: &MethodTy,
+    args: &Items,
+    n: u32,
+) -> Result<Ended, NoMemory>
+    requires typed { HaveTypes leaves.now.classes args.now call.now.params }
+    requires stands { StandsForSome leaves.now handle.now }
+    ensures { (t : Tree) → Stands leaves.now handle.now t → IfOk result (λ ended. IsAnswer
+        (exact leaves.now t call.now args.now n) (exact_keys leaves.now t call.now)
+        (answer_in ended m.new)) }
+{
+    if is_same_method_type(handle.ty(), call) {
+        handle.invoke_on(m, leaves, args, n)
+    } else {
+        m.clear();
+        let exc = mismatch(m.alloc(), handle.ty(), call, leaves.classes())?;
+        Ok(Ended {
+            outcome: Outcome::Throw(exc),
+            keys: 0,
+        })
     }
 }
 
 /// A call through the conversions to the type, of which one changes something.
 fn invoke_converted<'t, R: Wait>(
+    m: &mut Machine,
     w: &mut Work<'_, 't>,
     rt: &R,
     handle: &Handle<'t>,
@@ -73,11 +121,12 @@ fn invoke_converted<'t, R: Wait>(
     let more = convert_fields(w.alloc, call, handle.ty(), classes)?;
     let leaves = w.leaves;
     let form = w.edit(rt, handle.form(), key)?;
-    Ok(handle.invoke_edited(w.alloc, form, more, call.ret, leaves, args, n)?)
+    Ok(handle.invoke_edited_with(m, form, more, call.ret, leaves, args, n)?)
 }
 
 /// A call through the conversions to the type, of which maybe none changes anything.
 fn invoke_used<'t, R: Wait>(
+    m: &mut Machine,
     w: &mut Work<'_, 't>,
     rt: &R,
     handle: &Handle<'t>,
@@ -99,9 +148,9 @@ fn invoke_used<'t, R: Wait>(
         (length (recipe (leaves_of w.old) (AsType t call.now)))) }
 {
     if is_trivial(call, handle.ty(), w.classes()) {
-        Ok(handle.invoke(w.alloc, w.leaves, args, n)?)
+        Ok(handle.invoke_with(m, w.leaves, args, n)?)
     } else {
-        invoke_converted(w, rt, handle, call, args, n)
+        invoke_converted(m, w, rt, handle, call, args, n)
     }
 }
 
@@ -144,11 +193,36 @@ pub fn invoke_generic<'t, R: Wait>(
         (IsAnswer (generic (leaves_of w.old) t call.now args.now n)
         (generic_keys (leaves_of w.old) t call.now)) }
 {
+    invoke_generic_with(&mut Machine::new(w.alloc), w, rt, handle, call, args, n)
+}
+
+/// A call as by `invoke_generic`, in a machine that is kept from call to call, out of which the
+/// answer takes the leaf calls.
+pub fn invoke_generic_with<'t, R: Wait>(
+    m: &mut Machine,
+    w: &mut Work<'_, 't>,
+    rt: &R,
+    handle: &Handle<'t>,
+    call: &MethodTy,
+    args: &Items,
+    n: u32,
+) -> Result<Answer, EditError>
+    requires typed { HaveTypes (classes_of w.old) args.now call.now.params }
+    requires stands { StandsForSome (leaves_of w.old) handle.now }
+    requires ready { IsReady w.old 1 }
+    ensures goes_on { GoesOn 1 w.old w.new }
+    ensures handles { w.new.handles.now ≡ w.old.handles.now }
+    ensures asks { AsksBy handle.now.form.recipe
+        (call_keys (classes_of w.old) handle.now.ty handle.now.weight call.now) w.old w.new result }
+    ensures answer { (t : Tree) → StandsIn w.old handle.now t → IfOk result
+        (IsAnswer (generic (leaves_of w.old) t call.now args.now n)
+        (generic_keys (leaves_of w.old) t call.now)) }
+{
     if is_same_method_type(handle.ty(), call) {
-        return Ok(handle.invoke(w.alloc, w.leaves, args, n)?);
+        return Ok(handle.invoke_with(m, w.leaves, args, n)?);
     }
     if let Some(exc) = refusal(w.alloc, handle, call, w.leaves.classes())? {
         return Ok(Answer::thrown(w.alloc, exc));
     }
-    invoke_used(w, rt, handle, call, args, n)
+    invoke_used(m, w, rt, handle, call, args, n)
 }

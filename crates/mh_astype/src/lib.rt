@@ -5,5 +5,7 @@ mod calls;
 mod conversions;
 mod use_as;
 
-pub use calls::{invoke_exact, invoke_generic};
+pub use calls::{
+    invoke_exact, invoke_exact_on, invoke_exact_with, invoke_generic, invoke_generic_with,
+};
 pub use use_as::as_type;

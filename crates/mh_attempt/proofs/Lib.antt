@@ -16,6 +16,7 @@ pub mod KnownLines
 pub mod KnownNodes
 pub mod KnownSteps
 pub mod LineNodes
+pub mod LineOperations
 pub mod Outcomes
 pub mod RecipeBeginnings
 pub mod RecipeCounts

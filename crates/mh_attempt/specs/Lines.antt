@@ -23,8 +23,8 @@ typed leaves t = do
   own ← type_of leaves t
   Ok t
 
--- a handle that stands for the tree, or the exception in its place, which leaves all but the number of handles as it was; a full table comes only where there is
--- a tree, and want of memory tells nothing
+-- a handle that stands for the tree, or the exception in its place, which leaves all but the number of handles as it was; a full table comes only where there
+-- is a tree, and want of memory tells nothing
 abbrev pub MakesNode : OrThrown Tree → Work → Work → Result Handle HandleError → Type 0
 MakesNode node old new (Ok h) = (t : Tree) × (node ≡ Ok t) × Stands old.leaves.now h t
 MakesNode node old new (Err (Refused e)) = (node ≡ Err e) × IsUnchanged old new

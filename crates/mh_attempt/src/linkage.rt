@@ -10,6 +10,7 @@ ghost use Rattle.mh_link.specs.Sites.{linked_at};
 ghost use Rattle.mh_attempt.specs.Linkage.{IsLinkage, IsLinkedBy, site_keys, target_count};
 
 use mh_base::{Copied, NoMemory};
+use mh_form::Machine;
 use mh_handle::{Answer, Handle, Work};
 use mh_jobs::{Job, Run};
 use mh_leaves::Leaves;
@@ -99,9 +100,27 @@ impl<'t, J: Run> Linkage<'t, J> {
             (linked_at J.given self.now.job.site self.now.serial) args.now)
             (site_keys J.given self.now.job.site self.now.serial)) }
     {
+        self.call_with(&mut Machine::new(alloc), leaves, args)
+    }
+
+    /// Calls the site as `call` does, in a machine that is kept from call to call, out of which the
+    /// answer takes the leaf calls.
+    pub fn call_with(
+        &self,
+        m: &mut Machine,
+        leaves: &Leaves,
+        args: &Items,
+    ) -> Result<Answer, NoMemory>
+        requires leaves { leaves.now ≡ J.given.leaves }
+        requires typed { HaveTypes J.given.leaves.classes args.now
+            (params_at J.given.jobs self.now.job.site) }
+        ensures { IfOk result (IsAnswer (site_call J.given.leaves
+            (linked_at J.given self.now.job.site self.now.serial) args.now)
+            (site_keys J.given self.now.job.site self.now.serial)) }
+    {
         match &self.linked {
-            Linked::Target(target) => target.invoke(alloc, leaves, args, 0),
-            Linked::Error(exc) => Ok(Answer::thrown(alloc, exc.copy(alloc)?)),
+            Linked::Target(target) => target.invoke_with(m, leaves, args, 0),
+            Linked::Error(exc) => Ok(Answer::thrown(m.alloc(), exc.copy(m.alloc())?)),
         }
     }
 

@@ -92,8 +92,9 @@ fn push_number(alloc: Global, text: &mut Vec<u8>, number: u32) -> Result<(), NoM
 fn answer_text(alloc: Global, answer: &Answer, classes: &Classes) -> Result<Vec<u8>, NoMemory> {
     let mut text = outcome_text(alloc, answer.outcome(), classes)?;
     text.extend_from_slice(b" calls")?;
-    for call in answer.calls().as_slice() {
-        push_number(alloc, &mut text, call.leaf.0)?;
+    let calls = answer.calls();
+    for at in 0..calls.len() {
+        push_number(alloc, &mut text, calls.leaf(at).0)?;
     }
     text.extend_from_slice(b" keys")?;
     push_number(alloc, &mut text, answer.keys())?;

@@ -2,6 +2,7 @@
 //! prints the row, the number and a sum over all answers.
 #![tactic(auto)]
 
+mod forms;
 mod measures;
 mod rows;
 mod scripts;

@@ -1,8 +1,8 @@
 //! The rows by their names.
 
-use crate::{rows, scripts, types};
+use crate::{forms, rows, scripts, types};
 use mh_base::NoMemory;
-use mh_handle::HandleError;
+use mh_handle::{EditError, HandleError};
 use mh_intern::InternError;
 use std::alloc::Global;
 use std::sync::Wait;
@@ -12,21 +12,31 @@ use std::thread::Threads;
 #[derive(Clone, Copy)]
 pub(crate) enum Measure {
     Handles(rows::Row),
+    /// New forms on one table, half of them made in another thread.
+    FormsBeside,
     Types(types::Row),
     Scripts(scripts::Row),
 }
 
-pub(crate) static MEASURES: [(&str, Measure); 16] = [
+pub(crate) static MEASURES: [(&str, Measure); 21] = [
     (
         "run-three-names",
         Measure::Handles(rows::Row::RunThreeNames),
+    ),
+    (
+        "run-three-names-kept",
+        Measure::Handles(rows::Row::RunThreeNamesKept),
     ),
     ("edit-seen", Measure::Handles(rows::Row::EditSeen)),
     ("bind-seen", Measure::Handles(rows::Row::BindSeen)),
     ("drops-60", Measure::Handles(rows::Row::Drops60)),
     ("tree-256", Measure::Handles(rows::Row::Tree256)),
+    ("tree-256-kept", Measure::Handles(rows::Row::Tree256Kept)),
     ("new-form", Measure::Handles(rows::Row::NewForm)),
+    ("new-form-beside", Measure::FormsBeside),
+    ("split-joined", Measure::Handles(rows::Row::SplitJoined)),
     ("text-4096", Measure::Handles(rows::Row::LongText)),
+    ("text-4096-kept", Measure::Handles(rows::Row::LongTextKept)),
     ("text-1", Measure::Handles(rows::Row::ShortText)),
     ("type-made", Measure::Types(types::Row::Made)),
     ("intern-live", Measure::Types(types::Row::Live)),
@@ -44,6 +54,12 @@ pub(crate) struct Unfinished;
 
 impl From<NoMemory> for Unfinished {
     fn from(_: NoMemory) -> Self {
+        Unfinished
+    }
+}
+
+impl From<EditError> for Unfinished {
+    fn from(_: EditError) -> Self {
         Unfinished
     }
 }
@@ -69,6 +85,7 @@ pub(crate) fn measured<R: Threads + Wait + Sync>(
 ) -> Result<u64, Unfinished> {
     match measure {
         Measure::Handles(row) => Ok(rows::measured(rt, alloc, row, turns)?),
+        Measure::FormsBeside => Ok(forms::made_beside(rt, alloc, turns)?),
         Measure::Types(row) => Ok(types::measured(rt, alloc, row, turns)?),
         Measure::Scripts(row) => Ok(scripts::measured(alloc, row, turns)?),
     }

@@ -1,16 +1,17 @@
 //! Handles and forms, which are made and called.
 
-ghost use Rattle.std.specs.Prelude.{◌≡◌, ◌≤◌, ◌+◌, length, IfOk};
+ghost use Rattle.std.specs.Prelude.{◌≡◌, ◌≤◌, ◌+◌, ◌^◌, length, IfOk};
 ghost use Rattle.mh_values.specs.HasType.{HaveTypes};
 ghost use Rattle.mh_handle.specs.Passes.{seat_at};
 ghost use Rattle.mh_handle.specs.Works.{IsReady};
 ghost use Rattle.mh_handle.specs.Stands.{StandsForSome};
 
+use crate::forms::{forms, splits};
 use mh_adapt::bind;
-use mh_astype::invoke_exact;
+use mh_astype::{invoke_exact, invoke_exact_on};
 use mh_base::{Frozen, NoMemory, Seq};
 use mh_edit::Key;
-use mh_form::{Basic, BasicRet, Basics, Shape};
+use mh_form::Machine;
 use mh_handle::{FormTable, Handle, HandleError, LiveHandles, Work};
 use mh_leaves::{Leaves, read_manifest};
 use mh_steps::{ADD, Joined, MANIFEST, Root, SAME, Start, Step, TEXT, Typed, are_typed, made};
@@ -29,12 +30,20 @@ pub(crate) enum Row {
     BindSeen,
     /// A handle of 254 parameters, of which the last 60 came by a drop each, on a table of its own.
     Drops60,
+    /// The same, all calls in one machine.
+    RunThreeNamesKept,
     /// A call of a tree of weight 256, which calls its leaf 128 times.
     Tree256,
+    /// The same, all calls in one machine.
+    Tree256Kept,
     /// A form more on one table.
     NewForm,
+    /// A pass that knows 1,000 forms split in two, and the two joined.
+    SplitJoined,
     /// A call on a text of 4,096 characters, which goes through 60 filters.
     LongText,
+    /// The same, all calls in one machine.
+    LongTextKept,
     /// A call on a text of one character, which goes through 60 filters.
     ShortText,
 }
@@ -77,12 +86,22 @@ enum Args {
     Text(usize),
 }
 
-/// What is called: a leaf, the steps that adapt it, and the arguments.
+/// The machines that calls use.
+#[derive(Clone, Copy)]
+enum Machines {
+    /// Each call has a new one.
+    New,
+    /// All calls have one.
+    Kept,
+}
+
+/// What is called: a leaf, the steps that adapt it, and the arguments; and in which machines.
 #[derive(Clone, Copy)]
 struct Subject<'a> {
     leaf: LeafId,
     steps: &'a [Step],
     args: Args,
+    machines: Machines,
 }
 
 /// Ints as arguments.
@@ -144,24 +163,24 @@ fn run_each<'t>(
     Ok(calls)
 }
 
-/// Calls a handle so many times, if the arguments have the types of its parameters.
-fn run<'t>(
+/// Calls a handle so many times in one machine, and counts the leaf calls.
+fn run_kept<'t>(
     alloc: Global,
     handle: &Handle<'t>,
     leaves: &Leaves,
     args: &Items,
     turns: u32,
 ) -> Result<u64, NoMemory>
+    requires typed { HaveTypes leaves.now.classes args.now handle.now.ty.params }
     requires stands { StandsForSome leaves.now handle.now }
 {
-    if !are_typed(
-        args.as_slice(),
-        handle.ty().params.as_slice(),
-        leaves.classes(),
-    ) {
-        return Err(NoMemory);
+    let mut m = Machine::new(alloc);
+    let mut calls: u64 = 0;
+    for _ in 0..turns {
+        let _ended = invoke_exact_on(&mut m, handle, leaves, handle.ty(), args, 0)?;
+        calls = calls.wrapping_add(m.calls().len() as u64);
     }
-    run_each(alloc, handle, leaves, args, turns)
+    Ok(calls)
 }
 
 /// Asks so many times for the form of a handle with its first parameter bound.
@@ -203,50 +222,28 @@ fn bind_each<'t, R: Wait>(
     Ok(sum)
 }
 
-/// Nine basic types, by the digits of a number to the base three.
-fn digits(alloc: Global, number: u32) -> Result<Basics, NoMemory> {
-    let mut rest = number;
-    let mut basics = Seq::new(alloc);
-    for _ in 0..9 {
-        basics.push(match rest % 3 {
-            0 => Basic::I,
-            1 => Basic::J,
-            _ => Basic::L,
-        })?;
-        rest /= 3;
-    }
-    Ok(basics)
-}
-
-/// Makes so many forms, each of a leaf of another shape.
-fn forms<'t, R: Wait>(w: &mut Work<'_, 't>, rt: &R, turns: u32) -> Result<u64, HandleError>
-    requires ready { IsReady w.old turns }
-{
-    let mut sum: u64 = 0;
-    for turn in 0..turns {
-        let shape = Shape {
-            params: digits(w.alloc, turn)?,
-            ret: BasicRet::V,
-        };
-        let base = w.forms.base();
-        let form = w.edit(rt, base, Key::LeafRoot { shape })?;
-        sum = sum.wrapping_add(form.number());
-    }
-    Ok(sum)
-}
-
-/// Calls a handle so many times on arguments.
+/// Calls a handle so many times, as the subject says.
 fn called<'t>(
     alloc: Global,
     handle: &Handle<'t>,
     leaves: &Leaves,
-    args: Args,
+    subject: Subject<'_>,
     turns: u32,
 ) -> Result<u64, NoMemory>
     requires stands { StandsForSome leaves.now handle.now }
 {
-    let args = items_of(alloc, args)?;
-    run(alloc, handle, leaves, &args, turns)
+    let args = items_of(alloc, subject.args)?;
+    if !are_typed(
+        args.as_slice(),
+        handle.ty().params.as_slice(),
+        leaves.classes(),
+    ) {
+        return Err(NoMemory);
+    }
+    match subject.machines {
+        Machines::New => run_each(alloc, handle, leaves, &args, turns),
+        Machines::Kept => run_kept(alloc, handle, leaves, &args, turns),
+    }
 }
 
 /// Makes a handle, and calls it so many times.
@@ -261,7 +258,7 @@ fn calls<'t, R: Wait>(
 {
     let leaves = w.leaves;
     let handle = made(w, rt, Root::Leaf(subject.leaf), subject.steps)?;
-    let sum = called(w.alloc, &handle, leaves, subject.args, turns);
+    let sum = called(w.alloc, &handle, leaves, subject, turns);
     handle.give_back(w);
     Ok(sum?)
 }
@@ -317,6 +314,7 @@ fn texts<'t, R: Wait>(
     w: &mut Work<'_, 't>,
     rt: &R,
     length: usize,
+    machines: Machines,
     turns: u32,
 ) -> Result<u64, HandleError>
     requires ready { IsReady w.old 204 }
@@ -325,30 +323,43 @@ fn texts<'t, R: Wait>(
         leaf: TEXT,
         steps: &text_filters(),
         args: Args::Text(length),
+        machines,
     };
     calls(w, rt, subject, turns)
 }
 
 /// Calls a handle of ints so many times.
-fn three_names<'t, R: Wait>(w: &mut Work<'_, 't>, rt: &R, turns: u32) -> Result<u64, HandleError>
+fn three_names<'t, R: Wait>(
+    w: &mut Work<'_, 't>,
+    rt: &R,
+    machines: Machines,
+    turns: u32,
+) -> Result<u64, HandleError>
     requires ready { IsReady w.old 204 }
 {
     let subject = Subject {
         leaf: ADD,
         steps: &THREE_NAMES,
         args: Args::Ints(&[7]),
+        machines,
     };
     calls(w, rt, subject, turns)
 }
 
 /// Calls a tree of weight 256 so many times.
-fn tree<'t, R: Wait>(w: &mut Work<'_, 't>, rt: &R, turns: u32) -> Result<u64, HandleError>
+fn tree<'t, R: Wait>(
+    w: &mut Work<'_, 't>,
+    rt: &R,
+    machines: Machines,
+    turns: u32,
+) -> Result<u64, HandleError>
     requires ready { IsReady w.old 204 }
 {
     let subject = Subject {
         leaf: SAME,
         steps: &TREE,
         args: Args::Ints(&[1, 2]),
+        machines,
     };
     calls(w, rt, subject, turns)
 }
@@ -360,17 +371,21 @@ fn row_on<'t, R: Wait>(
     row: Row,
     turns: u32,
 ) -> Result<u64, HandleError>
-    requires ready { IsReady w.old (204 + turns) }
+    requires ready { IsReady w.old (2 ^ 33) }
 {
     match row {
-        Row::RunThreeNames => three_names(w, rt, turns),
+        Row::RunThreeNames => three_names(w, rt, Machines::New, turns),
+        Row::RunThreeNamesKept => three_names(w, rt, Machines::Kept, turns),
         Row::EditSeen => edits(w, rt, turns),
         Row::BindSeen => binds(w, rt, turns),
         Row::Drops60 => many_drops(w, rt),
-        Row::Tree256 => tree(w, rt, turns),
+        Row::Tree256 => tree(w, rt, Machines::New, turns),
+        Row::Tree256Kept => tree(w, rt, Machines::Kept, turns),
         Row::NewForm => forms(w, rt, turns),
-        Row::LongText => texts(w, rt, 4096, turns),
-        Row::ShortText => texts(w, rt, 1, turns),
+        Row::SplitJoined => splits(w, rt, turns),
+        Row::LongText => texts(w, rt, 4096, Machines::New, turns),
+        Row::LongTextKept => texts(w, rt, 4096, Machines::Kept, turns),
+        Row::ShortText => texts(w, rt, 1, Machines::New, turns),
     }
 }
 

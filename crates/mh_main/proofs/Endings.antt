@@ -2,13 +2,14 @@
 use Rattle.std.proofs.Common.{◌≡◌, ◌≢◌, refl, sym, subst, inl, inr, ℕ, List, Option, Some, arith}
 use Rattle.mh_outside.specs.Causes.{AreSame}
 use Rattle.mh_outside.specs.Told.{Told}
+use Rattle.mh_classfile.specs.Class.{Class}
 use Rattle.mh_listing.specs.Listing.{listing}
 use Rattle.mh_main.specs.declared.answer.TopAnswer.{TopAnswer}
 use Rattle.mh_main.specs.declared.stop.Stop.{Stop}
 use Rattle.mh_main.specs.declared.stop.Stop.TheVariants.{NoMemory, ReadFault, TooLong, Fault, Place}
 use Rattle.mh_main.specs.declared.program.Program.{Program}
-use Rattle.mh_main.specs.Words.{Command, Named, command_of, run, sites}
-use Rattle.mh_main.specs.Input.{Accepted, AreListed, IfAccepted, IfRefused, Input, accepted, command_input, fault_line, input_of, listed, listing_input, missing, most_sites, named_input, place_line, program, refused, too_long_line, untold, usage}
+use Rattle.mh_words.specs.Words.{Command, sites, command_of}
+use Rattle.mh_main.specs.Input.{Accepted, AreListed, IfAccepted, IfRefused, Input, accepted, command_input, fault_line, input_of, listed, listing_input, missing, most_sites, place_line, program, refused, too_long_line, untold, usage}
 use Rattle.mh_main.specs.Status.{no_memory, refused as refusal, unread}
 use Rattle.mh_main.specs.Stops.{Refuses, IsStopAmong, IsReachedInput, stop_line, stop_status, unread_line}
 use Rattle.mh_main.specs.Due.{FailsToRead, IsDue, IsDueOf, IsIdle, IsOutputOf, NeedsManyForms, RefusesInput}
@@ -77,32 +78,53 @@ taken untold a P is holds = tt
 
 -- what is due of a program is due of the words and files that give it
 pub due-of-program :
-    (words : List (List ℕ)) (files : List ℕ → Told) (before now : List ℕ → ℕ) (answer : TopAnswer) (names : Named) (p : Program) (bytes : List ℕ) →
-    Some (run names) ≡ command_of words →
-    IfAccepted (named_input names files) (λ a. a ≡ program p) →
+    (words : List (List ℕ)) (files : List ℕ → Told) (before now : List ℕ → ℕ) (answer : TopAnswer) (command : Command) (p : Program) (bytes : List ℕ) →
+    Some command ≡ command_of words →
+    IfAccepted (command_input command files) (λ a. a ≡ program p) →
     AreSame before now →
     IsDueOf p answer bytes →
     IsDue words files before now answer bytes
-due-of-program words files before now answer names p bytes asked is same (inl report) =
+due-of-program words files before now answer command p bytes asked is same (inl report) =
     inl (
       same,
       subst (λ o. IfAccepted (input_of o files) (λ a. IsOutputOf a answer bytes)) asked
-          (taken (named_input names files) (program p) (λ a. IsOutputOf a answer bytes) is report),
+          (taken (command_input command files) (program p) (λ a. IsOutputOf a answer bytes) is report),
     )
-due-of-program words files before now answer names p bytes asked is same (inr full) =
+due-of-program words files before now answer command p bytes asked is same (inr full) =
     let fills : IfAccepted (input_of (command_of words) files) NeedsManyForms =
     subst (λ o. IfAccepted (input_of o files) NeedsManyForms) asked
-    (taken (named_input names files) (program p) NeedsManyForms is full.1.0) in
+    (taken (command_input command files) (program p) NeedsManyForms is full.1.0) in
     inr (full.0, inr (inr (inr (same, (fills, full.1.1)))))
 
-listed-output : (i : Input) (answer : TopAnswer) (bytes : List ℕ) → IsIdle answer → IfAccepted i (AreListed (λ classes. bytes ≡ listing classes)) →
-    IfAccepted i (λ a. IsOutputOf a answer bytes)
-listed-output usage answer bytes idle is = is
-listed-output (refused line) answer bytes idle is = is
-listed-output (accepted (program p)) answer bytes idle is = absurd is
-listed-output (accepted (listed classes)) answer bytes idle is = (idle, is)
-listed-output missing answer bytes idle is = is
-listed-output untold answer bytes idle is = tt
+-- what holds of a program holds of what is accepted of the words and files that give it
+pub accepted-of :
+    (words : List (List ℕ)) (files : List ℕ → Told) (command : Command) (p : Program) (P : Accepted → Type 0) →
+    Some command ≡ command_of words →
+    IfAccepted (command_input command files) (λ a. a ≡ program p) →
+    P (program p) →
+    IfAccepted (input_of (command_of words) files) P
+accepted-of words files command p P asked is holds =
+    subst (λ o. IfAccepted (input_of o files) P) asked (taken (command_input command files) (program p) P is holds)
+
+-- what holds of the classes of a listing holds of what is accepted
+listed-as : (i : Input) (Q : List Class → Type 0) (P : Accepted → Type 0) → ((classes : List Class) → Q classes → P (listed classes)) →
+    IfAccepted i (AreListed Q) → IfAccepted i P
+listed-as usage Q P each is = is
+listed-as (refused line) Q P each is = is
+listed-as (accepted (program p)) Q P each is = absurd is
+listed-as (accepted (listed classes)) Q P each is = each classes is
+listed-as missing Q P each is = is
+listed-as untold Q P each is = tt
+
+-- and of the words and files that give the classes
+pub listed-of :
+    (words : List (List ℕ)) (files : List ℕ → Told) (names : List (List ℕ)) (Q : List Class → Type 0) (P : Accepted → Type 0) →
+    ((classes : List Class) → Q classes → P (listed classes)) →
+    Some (sites names) ≡ command_of words →
+    IfAccepted (listing_input most_sites names files) (AreListed Q) →
+    IfAccepted (input_of (command_of words) files) P
+listed-of words files names Q P each asked is =
+    subst (λ o. IfAccepted (input_of o files) P) asked (listed-as (listing_input most_sites names files) Q P each is)
 
 -- a listing is due of the words and files that give its classes
 pub due-of-listing :
@@ -116,5 +138,6 @@ due-of-listing words files before now answer names bytes asked is same idle =
     inl (
       same,
       subst (λ o. IfAccepted (input_of o files) (λ a. IsOutputOf a answer bytes)) asked
-          (listed-output (listing_input most_sites names files) answer bytes idle is),
+          (listed-as (listing_input most_sites names files) (λ classes. bytes ≡ listing classes) (λ a. IsOutputOf a answer bytes)
+          (λ classes same. (idle, same)) is),
     )

@@ -15,9 +15,10 @@ use Rattle.mh_jobs.proofs.OfClasses.{are_jobs}
 use Rattle.mh_plan.specs.declared.call.Call.{Call}
 use Rattle.mh_plan.specs.declared.kinds.PlanKind.{PlanKind}
 use Rattle.mh_plan.specs.Plan.{plan, kind_word as plan_word}
+use Rattle.mh_main.specs.declared.program.Output.{Output}
 use Rattle.mh_main.specs.declared.program.Program.{Program}
 use Rattle.mh_main.specs.declared.stop.Stop.{Stop}
-use Rattle.mh_main.specs.Words.{Named}
+use Rattle.mh_words.specs.Words.{Named}
 use Rattle.mh_main.specs.Input.{HasMeaning, IfAccepted, Input, leaves_limit, most_sites, classes_input, named_input, plan_input, plan_limit, program, untold}
 use Rattle.mh_main.specs.Classes.{HasJobs}
 use Rattle.mh_main.specs.Stops.{IsStopAmong, IsStopOf, ReachesClass, ReachesInput, Refuses, StopsClasses, StopsText, TextsMean}
@@ -25,24 +26,25 @@ use Rattle.mh_main.proofs.ReadOn.{classes-read, refuses-untold, text-read, text-
 use Rattle.mh_main.proofs.Reaching.{stops-at, stops-later}
 
 -- what holds where the inputs are not told, and where they go on after the manifest and the scripts, holds of all
-texts-read : (Q : Input → Type 0) (names : Named) (files : List ℕ → Told) (leaves : LeafTable) (all : List Script) → Q untold →
+texts-read : (Q : Input → Type 0) (output : Output) (names : Named) (files : List ℕ → Told) (leaves : LeafTable) (all : List Script) → Q untold →
     TextsMean names files leaves all →
     Q (classes_input most_sites names.classes files (λ classes.
-    plan_input (record { leaves = leaves; scripts = all; jobs = jobs_of leaves all classes }) names.plan files)) →
-    Q (named_input names files)
-texts-read Q names files leaves all free mean h =
+    plan_input output (record { leaves = leaves; scripts = all; jobs = jobs_of leaves all classes }) names.plan files)) →
+    Q (named_input output names files)
+texts-read Q output names files leaves all free mean h =
     text-read Q leaves_limit names.leaves manifest_word manifest (files names.leaves) leaves _ free mean.0
     (text-read Q leaves_limit names.scripts script_word scripts (files names.scripts) all _ free mean.1 h)
 
 -- likewise after the class files
-given-read : (Q : Input → Type 0) (names : Named) (files : List ℕ → Told) (leaves : LeafTable) (all : List Script) (jobs : List Job) → Q untold →
+given-read : (Q : Input → Type 0) (output : Output) (names : Named) (files : List ℕ → Told) (leaves : LeafTable) (all : List Script) (jobs : List Job) →
+    Q untold →
     TextsMean names files leaves all → HasJobs leaves all names.classes files jobs →
-    Q (plan_input (record { leaves = leaves; scripts = all; jobs = jobs }) names.plan files) → Q (named_input names files)
-given-read Q names files leaves all jobs free mean has h =
-    texts-read Q names files leaves all free mean
+    Q (plan_input output (record { leaves = leaves; scripts = all; jobs = jobs }) names.plan files) → Q (named_input output names files)
+given-read Q output names files leaves all jobs free mean has h =
+    texts-read Q output names files leaves all free mean
     (classes-read Q most_sites names.classes files has.0
-    (λ classes. plan_input (record { leaves = leaves; scripts = all; jobs = jobs_of leaves all classes }) names.plan files) free has.1
-    (subst (λ (js : List Job). Q (plan_input (record { leaves = leaves; scripts = all; jobs = js }) names.plan files)) has.2 h))
+    (λ classes. plan_input output (record { leaves = leaves; scripts = all; jobs = jobs_of leaves all classes }) names.plan files) free has.1
+    (subst (λ (js : List Job). Q (plan_input output (record { leaves = leaves; scripts = all; jobs = js }) names.plan files)) has.2 h))
 
 -- the scripts that were read after the manifest
 pub texts-mean : (names : Named) (files files' : List ℕ → Told) (leaves : LeafTable) (all : List Script) → ((n : List ℕ) → files' n ≡ files n) →
@@ -61,10 +63,10 @@ has-jobs names files files' leaves all jobs told has =
 -- a program that was read is what the inputs say
 pub program-read : (names : Named) (files files' : List ℕ → Told) (p : Program) → ((n : List ℕ) → files' n ≡ files n) →
     TextsMean names files p.leaves p.scripts → HasJobs p.leaves p.scripts names.classes files p.jobs →
-    HasMeaning plan_limit (λ bytes. plan bytes p.leaves p.jobs) (files' names.plan) p.plan → IfAccepted (named_input names files) (λ a. a ≡ program p)
+    HasMeaning plan_limit (λ bytes. plan bytes p.leaves p.jobs) (files' names.plan) p.plan → IfAccepted (named_input p.output names files) (λ a. a ≡ program p)
 program-read names files files' p told mean has is =
     let P : Input → Type 0 = λ i. IfAccepted i (λ a. a ≡ program p) in
-    given-read P names files p.leaves p.scripts p.jobs tt mean has
+    given-read P p.output names files p.leaves p.scripts p.jobs tt mean has
     (text-read P plan_limit names.plan plan_word (λ bytes. plan bytes p.leaves p.jobs) (files names.plan) p.plan _ tt
     (subst (λ t. HasMeaning plan_limit (λ bytes. plan bytes p.leaves p.jobs) t p.plan) (told names.plan) is) refl)
 
@@ -85,12 +87,12 @@ classes-among names files files' before before' now leaves all stop told same me
     (λ name there. inr (inr (inl (leaves, all, mean, there)))) same
     (subst (λ (f : List ℕ → Told). IsStopAmong (ReachesClass most_sites names.classes f) before' now stop) e stops)
 
-pub classes-stop : (names : Named) (files files' : List ℕ → Told) (leaves : LeafTable) (all : List Script) (stop : Stop) →
+pub classes-stop : (output : Output) (names : Named) (files files' : List ℕ → Told) (leaves : LeafTable) (all : List Script) (stop : Stop) →
     ((n : List ℕ) → files' n ≡ files n) → TextsMean names files leaves all → StopsClasses most_sites names.classes files' stop →
-    Refuses (named_input names files) stop
-classes-stop names files files' leaves all stop told mean stops =
+    Refuses (named_input output names files) stop
+classes-stop output names files files' leaves all stop told mean stops =
     let e : files' ≡ files = λ i n. told n i in
-    texts-read (λ i. Refuses i stop) names files leaves all (refuses-untold stop) mean
+    texts-read (λ i. Refuses i stop) output names files leaves all (refuses-untold stop) mean
     (subst (λ (f : List ℕ → Told). StopsClasses most_sites names.classes f stop) e stops _)
 
 -- ---- where the plan stops the reading
@@ -102,12 +104,12 @@ plan-among names files before before' now leaves all jobs stop same mean has sto
     stops-later (ReachesInput names files) (ReachesInput names files) before before' now stop (λ name there. there) same
     (stops-at (ReachesInput names files) names.plan before' now stop (inr (inr (inr (leaves, all, has.0, refl, mean, has.1)))) stops)
 
-pub plan-stop : (names : Named) (files files' : List ℕ → Told) (before now : List ℕ → ℕ) (leaves : LeafTable) (all : List Script) (jobs : List Job)
-    (stop : Stop) → ((n : List ℕ) → files' n ≡ files n) → TextsMean names files leaves all → HasJobs leaves all names.classes files jobs →
+pub plan-stop : (output : Output) (names : Named) (files files' : List ℕ → Told) (before now : List ℕ → ℕ) (leaves : LeafTable) (all : List Script)
+    (jobs : List Job) (stop : Stop) → ((n : List ℕ) → files' n ≡ files n) → TextsMean names files leaves all → HasJobs leaves all names.classes files jobs →
     IsStopOf names.plan before now stop → StopsText plan_limit plan_word (λ bytes. plan bytes leaves jobs) (files' names.plan) stop →
-    Refuses (named_input names files) stop
-plan-stop names files files' before now leaves all jobs stop told mean has of stops =
+    Refuses (named_input output names files) stop
+plan-stop output names files files' before now leaves all jobs stop told mean has of stops =
     let Meaning : List ℕ → Result (List (List Call)) (LineFault PlanKind) = λ bytes. plan bytes leaves jobs in
-    given-read (λ i. Refuses i stop) names files leaves all jobs (refuses-untold stop) mean has
+    given-read (λ i. Refuses i stop) output names files leaves all jobs (refuses-untold stop) mean has
     (text-stopped plan_limit names.plan plan_word Meaning (files names.plan) _ before now stop of
     (subst (λ t. StopsText plan_limit plan_word Meaning t stop) (told names.plan) stops))

@@ -1,5 +1,5 @@
 -- What the inputs say once one of them was read, and where one of them stops the reading.
-use Rattle.std.proofs.Common.{◌≡◌, ◌<◌, ◌≤◌, refl, sym, ap, subst, ℕ, ◌-◌, true, false, List, [], ◌∷◌, length, Result, arith}
+use Rattle.std.proofs.Common.{◌≡◌, ◌<◌, ◌≤◌, refl, sym, ap, subst, ℕ, ◌-◌, true, false, List, [], ◌∷◌, length, Result, Ok, arith}
 use Rattle.std.specs.Prelude.{nat_lt}
 use Rattle.std.proofs.lemmas.Bool.Decides.{nat_tests}
 use Rattle.mh_base.specs.declared.lines.LineFault.{LineFault}
@@ -18,6 +18,18 @@ small limit bytes h = grind (arith, nat_tests)
 long : (limit : ℕ) (bytes : List ℕ) → limit < length bytes → nat_lt limit (length bytes) ≡ true
 long limit bytes h = grind (arith, nat_tests)
 
+-- what holds where the inputs go on with what a text says, whose file is told, holds of all
+pub file-read :
+    {T K : Type 0} (Q : Input → Type 0) (limit : ℕ) (name : List ℕ) (word : K → List ℕ) (meaning : List ℕ → Result T (LineFault K)) (bytes : List ℕ)
+    (value : T) (next : T → Input) → meaning bytes ≡ Ok value → length bytes ≤ limit → Q (next value) →
+    Q (within name limit (file bytes) (λ b. meant name word (meaning b) next))
+file-read Q limit name word meaning bytes value next is few h = rw (small limit bytes few, is) h
+
+-- likewise with the class of a file that is told
+pub class-file-read : (Q : Input → Type 0) (room : ℕ) (name bytes : List ℕ) (c : Class) (next : Class → Input) → class_or_fault room bytes ≡ Ok c →
+    length bytes ≤ class_limit → Q (next c) → Q (within name class_limit (file bytes) (λ b. class_meant name (class_or_fault room b) next))
+class-file-read Q room name bytes c next is few h = rw (small class_limit bytes few, is) h
+
 -- what holds where the inputs are not told, and where they go on with what a text says, holds of all
 pub text-read :
     {T K : Type 0} (Q : Input → Type 0) (limit : ℕ) (name : List ℕ) (word : K → List ℕ) (meaning : List ℕ → Result T (LineFault K)) (told : Told) (value : T)
@@ -25,7 +37,7 @@ pub text-read :
     Q (within name limit told (λ bytes. meant name word (meaning bytes) next))
 text-read Q limit name word meaning nothing value next free is h = free
 text-read Q limit name word meaning absent value next free is h = absurd is
-text-read Q limit name word meaning (file bytes) value next free is h = rw (small limit bytes is.1, is.0) h
+text-read Q limit name word meaning (file bytes) value next free is h = file-read Q limit name word meaning bytes value next is.0 is.1 h
 
 -- likewise with the class of a file
 class-read : (Q : Input → Type 0) (room : ℕ) (name : List ℕ) (told : Told) (c : Class) (next : Class → Input) → Q untold →
@@ -33,7 +45,7 @@ class-read : (Q : Input → Type 0) (room : ℕ) (name : List ℕ) (told : Told)
     Q (within name class_limit told (λ bytes. class_meant name (class_or_fault room bytes) next))
 class-read Q room name nothing c next free is h = free
 class-read Q room name absent c next free is h = absurd is
-class-read Q room name (file bytes) c next free is h = rw (small class_limit bytes is.1, is.0) h
+class-read Q room name (file bytes) c next free is h = class-file-read Q room name bytes c next is.0 is.1 h
 
 -- likewise with the class of the first file, before those of others
 pub first-read : (Q : Input → Type 0) (room : ℕ) (name : List ℕ) (names : List (List ℕ)) (files : List ℕ → Told) (c : Class) (next : List Class → Input) →

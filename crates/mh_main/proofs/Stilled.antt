@@ -5,7 +5,7 @@ use Rattle.mh_outside.specs.Told.{Told}
 use Rattle.mh_outside.specs.Causes.{IsStill, Rose}
 use Rattle.mh_main.specs.declared.stop.Stop.{Stop}
 use Rattle.mh_main.specs.declared.stop.Stop.TheVariants.{NoMemory, ReadFault, TooLong, Fault, Place}
-use Rattle.mh_main.specs.Words.{Command, run, sites}
+use Rattle.mh_words.specs.Words.{Command, run, sites, generate}
 use Rattle.mh_main.specs.Input.{AreAccepted, IfRefused, Input, IsMissing, accepted, command_input, input_of, missing, most_sites, refused, untold, usage}
 use Rattle.mh_main.specs.Status.{IsDoneOrWant, IsRefusedOrWant, IsUnreadOrWant, write_failed}
 use Rattle.mh_main.specs.Stops.{InputsStill, IsInput, IsReachedInput, ReachesClass, Refuses, IsStopAmong, stop_status}
@@ -27,6 +27,7 @@ named-class room (first ∷ names) files name (inr more) =
 -- an input that was reached is one of the command's
 named-input : (command : Command) (files : List ℕ → Told) (name : List ℕ) → IsReachedInput command files name → IsInput command name
 named-input (sites names) files name h = named-class most_sites names files name h
+named-input (generate number) files name h = absurd h
 named-input (run names) files name (inl is) = inl is
 named-input (run names) files name (inr (inl at)) = inr (inl at.1)
 named-input (run names) files name (inr (inr (inl at))) = inr (inr (inl (named-class most_sites names.classes files name at.3)))

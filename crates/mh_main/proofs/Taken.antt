@@ -3,10 +3,10 @@ use Rattle.std.proofs.Common.{◌≡◌, ◌<◌, ◌≤◌, sym, subst, inl, in
 use Rattle.mh_outside.specs.Told.{Told}
 use Rattle.mh_plan.specs.Forms.{forms_needed}
 use Rattle.mh_main.specs.declared.program.Program.{Program}
-use Rattle.mh_main.specs.Words.{Command, Named, run}
+use Rattle.mh_words.specs.Words.{Command}
 use Rattle.mh_main.specs.Program.{given_of}
 use Rattle.mh_main.specs.Status.{IsDoneFullOrWant, IsDoneOrWant, forms_full}
-use Rattle.mh_main.specs.Input.{Accepted, AreAccepted, FitsForms, IfAccepted, Input, IsMissing, IsRefused, NeedsFewForms, accepted, command_input, input_of, missing, most_forms, named_input, program, refused, untold, usage}
+use Rattle.mh_main.specs.Input.{Accepted, AreAccepted, FitsForms, IfAccepted, Input, IsMissing, IsRefused, NeedsFewForms, accepted, command_input, input_of, missing, most_forms, program, refused, untold, usage}
 
 not-refused : (i : Input) (P : Accepted → Type 0) → IfAccepted i P → IsRefused i → ⊥
 not-refused usage P holds is = is
@@ -42,14 +42,14 @@ fits-few missing p is so fits = absurd so
 fits-few untold p is so fits = absurd so
 
 -- a program whose calls need few forms is run to its end, or memory is wanting
-pub run-done : (o : Option Command) (names : Named) (files : List ℕ → Told) (p : Program) (status : ℕ) → Some (run names) ≡ o →
-    IfAccepted (named_input names files) (λ a. a ≡ program p) → AreAccepted (input_of o files) → FitsForms (input_of o files) → IsDoneFullOrWant status →
+pub run-done : (o : Option Command) (command : Command) (files : List ℕ → Told) (p : Program) (status : ℕ) → Some command ≡ o →
+    IfAccepted (command_input command files) (λ a. a ≡ program p) → AreAccepted (input_of o files) → FitsForms (input_of o files) → IsDoneFullOrWant status →
     (status ≡ forms_full → most_forms < forms_needed (given_of p) p.plan) → IsDoneOrWant status
-run-done o names files p status asked is so fits (inl done) full = inl done
-run-done o names files p status asked is so fits (inr (inl want)) full = inr want
-run-done o names files p status asked is so fits (inr (inr many)) full =
+run-done o command files p status asked is so fits (inl done) full = inl done
+run-done o command files p status asked is so fits (inr (inl want)) full = inr want
+run-done o command files p status asked is so fits (inr (inr many)) full =
     let few : forms_needed (given_of p) p.plan ≤ most_forms =
-    fits-few (named_input names files) p is (subst (λ c. AreAccepted (input_of c files)) (sym asked) so)
+    fits-few (command_input command files) p is (subst (λ c. AreAccepted (input_of c files)) (sym asked) so)
     (subst (λ c. FitsForms (input_of c files)) (sym asked) fits) in
     let more : most_forms < forms_needed (given_of p) p.plan = full many in
     absurd (omega arith)

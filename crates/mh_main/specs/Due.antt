@@ -13,7 +13,7 @@ use Rattle.mh_runtime.specs.Keys.{plan_keys}
 use Rattle.mh_runtime.specs.Ledger.{Ledger}
 use Rattle.mh_main.specs.declared.answer.TopAnswer.{TopAnswer}
 use Rattle.mh_main.specs.declared.program.Program.{Program}
-use Rattle.mh_main.specs.Words.{Command, command_of}
+use Rattle.mh_words.specs.Words.{Command, command_of, sites, generate}
 use Rattle.mh_main.specs.Program.{given_of, text}
 use Rattle.mh_main.specs.Input.{Accepted, program, listed, input, IfAccepted, IfRefused, most_forms}
 use Rattle.mh_main.specs.Stops.{IsReachedInput, unread_line}
@@ -25,6 +25,16 @@ usage_line = codes "usage: mh --mode run --leaves F --scripts F --plan F [CLASS]
 -- the line for a program whose calls need more forms than there are
 abbrev pub full_line : List ℕ
 full_line = codes "forms full\n"
+
+-- the command lists class files
+abbrev pub IsListing : Option Command → Type 0
+IsListing (Some (sites names)) = Unit {0}
+IsListing _ = ⊥
+
+-- the command runs the input that is made from a number
+abbrev pub IsGenerated : Option Command → Type 0
+IsGenerated (Some (generate number)) = Unit {0}
+IsGenerated _ = ⊥
 
 -- no table, no attempts and no answers
 abbrev pub IsIdle : TopAnswer → Type 0

@@ -14,10 +14,13 @@ use Rattle.mh_jobs.specs.Given.{Given}
 use Rattle.mh_jobs.specs.Jobs.{jobs_of}
 use Rattle.mh_plan.specs.Forms.{forms_needed}
 use Rattle.mh_plan.specs.Plan.{plan, kind_word as plan_word}
+use Rattle.mh_generated.specs.Files.{files_of}
+use Rattle.mh_main.specs.declared.program.Output.{Output}
+use Rattle.mh_main.specs.declared.program.Output.TheVariants.{Report, Line}
 use Rattle.mh_main.specs.declared.program.Program.{Program}
 use Rattle.mh_main.specs.Kinds.{class_word}
 use Rattle.mh_main.specs.Program.{given_of}
-use Rattle.mh_main.specs.Words.{Named, Command, run, sites, command_of}
+use Rattle.mh_words.specs.Words.{Named, Command, run, sites, generate, command_of}
 
 -- what is accepted: a program to run, or classes whose call sites are listed
 pub data Accepted : Type 0 where
@@ -84,19 +87,19 @@ classes_input room (name ∷ names) files next =
     within name class_limit (files name) (λ bytes. class_meant name (class_or_fault room bytes) (λ c.
     classes_input (room - length c.sites) names files (λ classes. next (c ∷ classes))))
 
--- what the plan of a run says, over what the run is given
-abbrev pub plan_input : Given → List ℕ → (List ℕ → Told) → Input
-plan_input given name files =
+-- what the plan of a run says, over what the run is given, where this is written of the run
+abbrev pub plan_input : Output → Given → List ℕ → (List ℕ → Told) → Input
+plan_input output given name files =
     within name plan_limit (files name) (λ bytes. meant name plan_word (plan bytes given.leaves given.jobs) (λ threads.
-    accepted (program (record { leaves = given.leaves; scripts = given.scripts; jobs = given.jobs; plan = threads }))))
+    accepted (program (record { leaves = given.leaves; scripts = given.scripts; jobs = given.jobs; plan = threads; output = output }))))
 
 -- what the inputs of these names say, taken in the order manifest, scripts, class files, plan
-abbrev pub named_input : Named → (List ℕ → Told) → Input
-named_input names files =
+abbrev pub named_input : Output → Named → (List ℕ → Told) → Input
+named_input output names files =
     within names.leaves leaves_limit (files names.leaves) (λ leaves_bytes. meant names.leaves manifest_word (manifest leaves_bytes) (λ leaves.
     within names.scripts leaves_limit (files names.scripts) (λ scripts_bytes. meant names.scripts script_word (scripts scripts_bytes) (λ scripts.
     classes_input most_sites names.classes files (λ classes.
-    plan_input (record { leaves = leaves; scripts = scripts; jobs = jobs_of leaves scripts classes }) names.plan files)))))
+    plan_input output (record { leaves = leaves; scripts = scripts; jobs = jobs_of leaves scripts classes }) names.plan files)))))
 
 -- classes are accepted to be listed
 abbrev pub to_list : List Class → Input
@@ -106,10 +109,19 @@ to_list classes = accepted (listed classes)
 abbrev pub listing_input : ℕ → List (List ℕ) → (List ℕ → Told) → Input
 listing_input room names files = classes_input room names files to_list
 
+-- the names of the files that are made from a number
+abbrev pub generated_names : Named
+generated_names = record { leaves = codes "leaves"; scripts = codes "scripts"; plan = codes "plan"; classes = codes "class" ∷ [] }
+
+-- what the files say that are made from a number: a run, of which one line is written
+unfoldable pub generated_input : ℕ → Input
+generated_input number = named_input (Line number) generated_names (files_of number)
+
 -- what the inputs of a command say
 abbrev pub command_input : Command → (List ℕ → Told) → Input
-command_input (run names) files = named_input names files
+command_input (run names) files = named_input Report names files
 command_input (sites names) files = listing_input most_sites names files
+command_input (generate number) files = generated_input number
 
 -- the same where the words may be refused
 abbrev pub input_of : Option Command → (List ℕ → Told) → Input

@@ -6,4 +6,4 @@ pub mod Program
 pub mod Runnable
 pub mod Status
 pub mod Stops
-pub mod Words
+pub mod Sums

@@ -1,20 +1,34 @@
 -- What a run writes.
-use Rattle.std.specs.Prelude.{ℕ, List, length}
+use Rattle.std.specs.Prelude.{ℕ, List, length, Option}
 use Rattle.mh_jobs.specs.Given.{Given}
 use Rattle.mh_plan.specs.declared.attempt.Attempt.{Attempt}
+use Rattle.mh_plan.specs.declared.table.Recorded.{Recorded}
 use Rattle.mh_plan.specs.Forms.{forms}
+use Rattle.mh_plan.specs.Limits.{calls_in}
 use Rattle.mh_plan.specs.Recorded.{recorded, types}
-use Rattle.mh_plan.specs.Results.{Serials, results_of}
+use Rattle.mh_plan.specs.Results.{Result, Serials, results_of}
 use Rattle.mh_plan.specs.Text.{report_text}
+use Rattle.mh_main.specs.declared.program.Output.{Output}
+use Rattle.mh_main.specs.declared.program.Output.TheVariants.{Report, Line}
 use Rattle.mh_main.specs.declared.program.Program.{Program}
+use Rattle.mh_main.specs.Sums.{line_text, sum_of}
 
 -- what a run of the program is given before anything is linked
 abbrev pub given_of : Program → Given
 given_of p = record { leaves = p.leaves; scripts = p.scripts; jobs = p.jobs }
 
+-- what is written of a run where it is this: the report, or the line of a number
+abbrev pub written_as : Output → Program → List (Option Recorded) → List (List Result) → ℕ → ℕ → ℕ → List ℕ
+written_as Report p table threads attempts forms types = report_text p.leaves.classes table threads attempts forms types
+written_as (Line number) p table threads attempts forms types =
+    line_text number (length p.jobs) (calls_in p.plan) (sum_of threads) forms types
+
+-- what is written of a run, by what is recorded at its sites, the results of its calls, and how many attempts, forms and types there are
+abbrev pub written : Program → List (Option Recorded) → List (List Result) → ℕ → ℕ → ℕ → List ℕ
+written p table threads attempts forms types = written_as p.output p table threads attempts forms types
+
 -- the text of a run, with the table of its sites and the attempts that linked them
 abbrev pub text : Program → Serials → List Attempt → List ℕ
 text p table attempts =
     let given = given_of p in
-    report_text p.leaves.classes (recorded given table) (results_of given table p.plan) (length attempts) (forms given p.plan attempts)
-    (types given table)
+    written p (recorded given table) (results_of given table p.plan) (length attempts) (forms given p.plan attempts) (types given table)

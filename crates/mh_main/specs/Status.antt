@@ -34,6 +34,10 @@ write_failed = 7
 abbrev pub IsStatus : ℕ → Type 0
 IsStatus status = (status ≤ write_failed) × (status ≢ 5)
 
+-- the words are refused, or memory was wanting
+abbrev pub IsUsageOrWant : ℕ → Type 0
+IsUsageOrWant status = (status ≡ usage_wanted) ⊎ (status ≡ no_memory)
+
 -- the input is refused, or memory was wanting
 abbrev pub IsRefusedOrWant : ℕ → Type 0
 IsRefusedOrWant status = (status ≡ refused) ⊎ (status ≡ no_memory)

@@ -16,7 +16,7 @@ use Rattle.mh_classfile.specs.Class.{Class}
 use Rattle.mh_classfile.specs.File.{class_or_fault}
 use Rattle.mh_main.specs.Kinds.{class_word}
 use Rattle.mh_main.specs.Status.{refused, no_memory, unread}
-use Rattle.mh_main.specs.Words.{Named, Command, run, sites}
+use Rattle.mh_words.specs.Words.{Named, Command, run, sites, generate}
 use Rattle.mh_main.specs.Input.{Input, IfRefused, HasMeaning, too_long_line, fault_line, place_line, leaves_limit, class_limit, classes_input, most_sites}
 
 -- the line for an input that could not be read
@@ -119,6 +119,7 @@ ReachesInput names files name =
 abbrev pub IsReachedInput : Command → (List ℕ → Told) → List ℕ → Type 0
 IsReachedInput (run names) files name = ReachesInput names files name
 IsReachedInput (sites names) files name = ReachesClass most_sites names files name
+IsReachedInput (generate number) files name = ⊥
 
 -- the stop is one of the inputs that are reached: at a read fault it was, and its count rose, and else no count did
 abbrev pub IsStopAmong : (List ℕ → Type 0) → (List ℕ → ℕ) → (List ℕ → ℕ) → Stop → Type 0
@@ -152,6 +153,7 @@ stop_status (Place at place kind) = refused
 abbrev pub IsInput : Command → List ℕ → Type 0
 IsInput (run names) name = (name ≡ names.leaves) ⊎ ((name ≡ names.scripts) ⊎ (Contains names.classes name ⊎ (name ≡ names.plan)))
 IsInput (sites names) name = Contains names name
+IsInput (generate number) name = ⊥
 
 -- no count of an input of the command rose
 abbrev pub InputsStill : Option Command → (List ℕ → ℕ) → (List ℕ → ℕ) → Type 0

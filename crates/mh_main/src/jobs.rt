@@ -2,7 +2,7 @@ ghost use Rattle.std.specs.Prelude.{◌≡◌, ◌≤◌, ◌-◌, List, ℕ, If
 ghost use Rattle.mh_jobs.specs.Jobs.{jobs_of};
 ghost use Rattle.mh_outside.specs.Causes.{AreSame};
 ghost use Rattle.mh_outside.specs.Kept.{KeepsInputs};
-ghost use Rattle.mh_main.specs.Words.{said};
+ghost use Rattle.mh_words.specs.Options.{said};
 ghost use Rattle.mh_main.specs.Input.{most_sites};
 ghost use Rattle.mh_main.specs.Classes.{MakesJobs, MakesAllJobs, HasJobs};
 ghost use Rattle.mh_main.specs.Stops.{IsStopAmong, IsStopOf, ReachesClass, StopsClass, StopsClasses};
@@ -55,7 +55,7 @@ fn read_class<'a, I: Inputs>(
 fn read_classes<'a, I: Inputs>(
     alloc: Global,
     inputs: &mut I,
-    names: &'a [&'a str],
+    names: &[&'a str],
     methods: &Methods<'_>,
     jobs: Jobs,
 ) -> Result<Jobs, Stop<'a>>
@@ -78,7 +78,7 @@ fn read_classes<'a, I: Inputs>(
     let Some((name, others)) = names.split_first() else {
         return Ok(jobs);
     };
-    let jobs = read_class(alloc, inputs, name, methods, jobs)?;
+    let jobs = read_class(alloc, inputs, *name, methods, jobs)?;
     read_classes(alloc, inputs, others, methods, jobs)
 }
 
@@ -87,7 +87,7 @@ fn read_classes<'a, I: Inputs>(
 pub fn read_jobs<'a, I: Inputs>(
     alloc: Global,
     inputs: &mut I,
-    names: &'a [&'a str],
+    names: &[&'a str],
     leaves: &Leaves,
     scripts: &Scripts,
 ) -> Result<Jobs, Stop<'a>>

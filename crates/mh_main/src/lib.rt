@@ -3,6 +3,7 @@
 
 mod answer;
 mod classes;
+mod generated;
 mod jobs;
 mod lines;
 mod listing;
@@ -12,9 +13,9 @@ mod reporting;
 mod running;
 pub mod status;
 mod stop;
-mod words;
+mod sums;
 
 pub use answer::TopAnswer;
 pub use mh_plan::{Attempt, Attempts, Serials};
-pub use program::Program;
+pub use program::{Output, Program};
 pub use running::top;

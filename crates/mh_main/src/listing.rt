@@ -2,7 +2,7 @@ ghost use Rattle.std.specs.Prelude.{◌≡◌, ◌≤◌, ◌-◌, List, ℕ, If
 ghost use Rattle.mh_listing.specs.Listing.{listing};
 ghost use Rattle.mh_outside.specs.Causes.{AreSame};
 ghost use Rattle.mh_outside.specs.Kept.{KeepsInputs};
-ghost use Rattle.mh_main.specs.Words.{said};
+ghost use Rattle.mh_words.specs.Options.{said};
 ghost use Rattle.mh_main.specs.Input.{AreListed, IfAccepted, listing_input, most_sites};
 ghost use Rattle.mh_main.specs.Classes.{ListsClass, ListsClasses};
 ghost use Rattle.mh_main.specs.Stops.{IsStopAmong, IsStopOf, ReachesClass, Refuses, StopsClass, StopsClasses};
@@ -46,7 +46,7 @@ fn list_class<'a, I: Inputs>(
 fn list_classes<'a, I: Inputs>(
     alloc: Global,
     inputs: &mut I,
-    names: &'a [&'a str],
+    names: &[&'a str],
     first: u32,
     text: &mut Vec<u8>,
 ) -> Result<(), Stop<'a>>
@@ -67,7 +67,7 @@ fn list_classes<'a, I: Inputs>(
     let Some((name, others)) = names.split_first() else {
         return Ok(push_count(text, first)?);
     };
-    let next = list_class(alloc, inputs, name, first, text)?;
+    let next = list_class(alloc, inputs, *name, first, text)?;
     list_classes(alloc, inputs, others, next, text)
 }
 
@@ -75,7 +75,7 @@ fn list_classes<'a, I: Inputs>(
 pub fn list_sites<'a, I: Inputs>(
     alloc: Global,
     inputs: &mut I,
-    names: &'a [&'a str],
+    names: &[&'a str],
 ) -> Result<Vec<u8>, Stop<'a>>
     ensures keeps { KeepsInputs (I.told inputs.old) (I.told inputs.new)
         (I.faults inputs.old) (I.faults inputs.new) }

@@ -3,7 +3,16 @@ use mh_leaves::Leaves;
 use mh_plan::Plan;
 use mh_script::Scripts;
 
-/// What the inputs of a run say.
+/// What is written of a run.
+#[derive(Clone, Copy, Debug)]
+pub enum Output {
+    /// Its report.
+    Report,
+    /// One line with sums, for the input that is made from this number.
+    Line(u32),
+}
+
+/// What the inputs of a run say, and what is written of it.
 #[derive(Drop)]
 pub struct Program {
     pub leaves: Leaves,
@@ -11,4 +20,5 @@ pub struct Program {
     /// The jobs of the call sites of all class files, in order.
     pub jobs: Jobs,
     pub plan: Plan,
+    pub output: Output,
 }

@@ -8,20 +8,20 @@ ghost use Rattle.mh_script.specs.Scripts.{scripts};
 ghost use Rattle.mh_plan.specs.Limits.{IsWithinLimits};
 ghost use Rattle.mh_plan.specs.Results.{AreCallsOf};
 ghost use Rattle.mh_plan.specs.Plan.{plan, kind_word as plan_word};
-ghost use Rattle.mh_main.specs.Words.{held_names};
+ghost use Rattle.mh_words.specs.Words.{held_names};
 ghost use Rattle.mh_main.specs.Runnable.{IsRunnable};
 ghost use Rattle.mh_main.specs.Input.{HasMeaning, IfAccepted, named_input, program, leaves_limit, plan_limit};
 ghost use Rattle.mh_main.specs.Stops.{IsStopAmong, IsStopOf, ReachesInput, Refuses, StopsFile, StopsText};
 
-use crate::Program;
 use crate::jobs::read_jobs;
 use crate::stop::Stop;
-use crate::words::Names;
+use crate::{Output, Program};
 use mh_jobs::Jobs;
 use mh_leaves::{Leaves, ManifestError, read_manifest};
 use mh_outside::{Inputs, ReadWhole, read_whole};
 use mh_plan::{Plan, PlanError, read_plan};
 use mh_script::{ScriptError, Scripts};
+use mh_words::Names;
 use std::alloc::Global;
 
 /// How many bytes a manifest may have, and likewise the scripts.
@@ -133,33 +133,35 @@ fn read_calls<'a, I: Inputs>(
 }
 
 /// Reads the inputs of a run in the order manifest, scripts, class files, plan, up to the first
-/// that stops it.
+/// that stops it. This is to be written of the run.
 pub fn read_program<'a, I: Inputs>(
     alloc: Global,
     inputs: &mut I,
-    names: Names<'a>,
+    names: &Names<'a>,
+    output: Output,
 ) -> Result<Program, Stop<'a>>
     ensures keeps { KeepsInputs (I.told inputs.old) (I.told inputs.new)
         (I.faults inputs.old) (I.faults inputs.new) }
     ensures no_fault { OnOk result (AreSame (I.faults inputs.old) (I.faults inputs.new)) }
     ensures stop { IfErr result
-        (λ stop. IsStopAmong (ReachesInput (held_names names.entry) (I.told inputs.old))
+        (λ stop. IsStopAmong (ReachesInput (held_names names.now) (I.told inputs.old))
         (I.faults inputs.old) (I.faults inputs.new) stop) }
     ensures refuses { IfErr result
-        (λ stop. Refuses (named_input (held_names names.entry) (I.told inputs.old)) stop) }
+        (λ stop. Refuses (named_input output (held_names names.now) (I.told inputs.old)) stop) }
     ensures ok { IfOk result
-        (λ p. IfAccepted (named_input (held_names names.entry) (I.told inputs.old))
+        (λ p. IfAccepted (named_input output (held_names names.now) (I.told inputs.old))
         (λ a. a ≡ program p)) }
     ensures runnable { IfOk result IsRunnable }
 {
     let leaves = read_leaves(alloc, inputs, names.leaves)?;
     let scripts = read_scripts(alloc, inputs, names.scripts)?;
-    let jobs = read_jobs(alloc, inputs, names.classes, &leaves, &scripts)?;
+    let jobs = read_jobs(alloc, inputs, &names.classes, &leaves, &scripts)?;
     let plan = read_calls(alloc, inputs, names.plan, &leaves, &jobs)?;
     Ok(Program {
         leaves,
         scripts,
         jobs,
         plan,
+        output,
     })
 }

@@ -1,19 +1,22 @@
 ghost use Rattle.std.specs.Prelude.{◌≡◌, ◌<◌, IfOk, length, option_map};
 ghost use Rattle.mh_plan.specs.Forms.{forms, forms_needed};
+ghost use Rattle.mh_plan.specs.Limits.{IsWithinLimits, calls_in};
 ghost use Rattle.mh_plan.specs.Naming.{naming_of};
 ghost use Rattle.mh_plan.specs.Recorded.{recorded, serials_of, types};
 ghost use Rattle.mh_plan.specs.Results.{results_said};
 ghost use Rattle.mh_plan.specs.Text.{report_text};
 ghost use Rattle.mh_runtime.specs.Asking.{IfFull};
 ghost use Rattle.mh_runtime.specs.Ledger.{Ledger};
-ghost use Rattle.mh_main.specs.Program.{given_of, text};
+ghost use Rattle.mh_main.specs.Program.{given_of, text, written};
 ghost use Rattle.mh_main.specs.Input.{most_forms};
 ghost use Rattle.mh_main.specs.Runnable.{IsRunnable};
 ghost use Rattle.mh_main.specs.Status.{done};
 ghost use Rattle.mh_main.specs.Due.{AreAnswersOf};
+ghost use Rattle.mh_main.specs.Sums.{line_text, sum_of};
 
 use crate::status::DONE;
-use crate::{Program, TopAnswer};
+use crate::sums::{Sums, calls_in, line, sum_of};
+use crate::{Output, Program, TopAnswer};
 use mh_base::{NoMemory, Seq};
 use mh_plan::{Attempts, Recorded, Serials, Summary, Table, report};
 use mh_runtime::{RunInput, RunReport, WorkError, run_plan};
@@ -77,8 +80,8 @@ fn run<R: Wait>(rt: &R, alloc: Global, program: &Program) -> Result<RunReport, W
     run_plan(rt, alloc, &input, &program.plan)
 }
 
-// The text of a run.
-fn text_of(alloc: Global, classes: &Classes, run: &RunReport) -> Result<Vec<u8>, NoMemory>
+// The report on a run.
+fn report_of(alloc: Global, classes: &Classes, run: &RunReport) -> Result<Vec<u8>, NoMemory>
     ensures { IfOk result (λ text. text.items ≡ report_text classes.now run.now.table
         (results_said run.now.threads) (length run.now.attempts) run.now.forms run.now.types) }
 {
@@ -88,6 +91,41 @@ fn text_of(alloc: Global, classes: &Classes, run: &RunReport) -> Result<Vec<u8>,
         types: run.types,
     };
     report(alloc, &run.threads, &run.table, summary, classes)
+}
+
+// The line of a run of the input that is made from a number.
+fn line_of(
+    alloc: Global,
+    number: u32,
+    program: &Program,
+    run: &RunReport,
+) -> Result<Vec<u8>, NoMemory>
+    requires { IsWithinLimits program.now.plan }
+    ensures { IfOk result (λ text. text.items
+        ≡ line_text number (length program.now.jobs) (calls_in program.now.plan)
+        (sum_of (results_said run.now.threads)) run.now.forms run.now.types) }
+{
+    let sums = Sums {
+        number,
+        sites: program.jobs.len(),
+        calls: calls_in(&program.plan),
+        sum: sum_of(run.threads.as_slice()),
+        forms: run.forms,
+        types: run.types,
+    };
+    line(alloc, &sums)
+}
+
+// What is to be written of a run.
+fn text_of(alloc: Global, program: &Program, run: &RunReport) -> Result<Vec<u8>, NoMemory>
+    requires { IsWithinLimits program.now.plan }
+    ensures { IfOk result (λ text. text.items ≡ written program.now run.now.table
+        (results_said run.now.threads) (length run.now.attempts) run.now.forms run.now.types) }
+{
+    match program.output {
+        Output::Report => report_of(alloc, program.leaves.classes(), run),
+        Output::Line(number) => line_of(alloc, number, program, run),
+    }
 }
 
 // The answer with what a run gave.
@@ -121,7 +159,7 @@ pub fn run_and_report<R: Wait>(
         (most_forms < forms_needed (given_of program.now) program.now.plan) }
 {
     let run = run(rt, alloc, program)?;
-    let text = text_of(alloc, program.leaves.classes(), &run)?;
+    let text = text_of(alloc, program, &run)?;
     let table = serials(alloc, &run.table)?;
     Ok((answered(table, run), text))
 }

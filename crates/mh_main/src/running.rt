@@ -3,25 +3,27 @@ ghost use Rattle.std.specs.List.{flat_map};
 ghost use Rattle.std.specs.Io.KnownBytes.{Appends, Keeps};
 ghost use Rattle.mh_outside.specs.Causes.{IsStill, AreSame, AppendsPart};
 ghost use Rattle.mh_outside.specs.Kept.{KeepsInputs};
-ghost use Rattle.mh_main.specs.Words.{command_of, said, IsListing};
+ghost use Rattle.mh_words.specs.Options.{said};
+ghost use Rattle.mh_words.specs.Words.{command_of};
 ghost use Rattle.mh_main.specs.Runnable.{IsRunnable};
 ghost use Rattle.mh_main.specs.Input.{input, IsRefused, AreAccepted, IsMissing, FitsForms};
 ghost use Rattle.mh_main.specs.Stops.{stop_line, stop_status, InputsStill};
-ghost use Rattle.mh_main.specs.Status.{done, refused, usage_wanted, no_memory, forms_full, unread, write_failed, IsStatus, IsRefusedOrWant, IsUnreadOrWant, IsDoneOrWant, IsDoneFullOrWant, FailsWhere};
-ghost use Rattle.mh_main.specs.Due.{AnswersCalls, AreAnswersOf, FailsToRead, FillsForms, IsDue, IsDueOf, IsFullOf, IsIdle, IsListingOf, IsReportOf, RefusesInput, RefusesWords, Reports, Writes, WritesPart};
+ghost use Rattle.mh_main.specs.Status.{done, refused, usage_wanted, no_memory, forms_full, unread, write_failed, IsStatus, IsUsageOrWant, IsRefusedOrWant, IsUnreadOrWant, IsDoneOrWant, IsDoneFullOrWant, FailsWhere};
+ghost use Rattle.mh_main.specs.Due.{AnswersCalls, AreAnswersOf, FailsToRead, FillsForms, IsDue, IsDueOf, IsFullOf, IsGenerated, IsIdle, IsListing, IsListingOf, IsReportOf, RefusesInput, RefusesWords, Reports, Writes, WritesPart};
 
+use crate::generated::read_generated;
 use crate::lines::{FULL, USAGE, write_pieces};
 use crate::listing::list_sites;
 use crate::reading::read_program;
 use crate::reporting::run_and_report;
 use crate::status::{DONE, FORMS_FULL, NO_MEMORY, REFUSED, UNREAD, USAGE_WANTED, WRITE_FAILED};
 use crate::stop::Stop;
-use crate::words::{Command, read_words};
-use crate::{Program, TopAnswer};
+use crate::{Output, Program, TopAnswer};
 use itoa::Buffer;
 use mh_base::Seq;
 use mh_outside::{Failed, Gate, Inputs, Sink, write_whole};
 use mh_runtime::WorkError;
+use mh_words::{Command, read_words};
 use std::alloc::Global;
 use std::sync::Wait;
 use std::thread::Threads;
@@ -234,7 +236,7 @@ pub fn top<'a, R: Threads + Wait + Sync, I: Inputs, S: Sink, G: Gate + Sync>(
     // Where nothing failed, the words and the inputs decide the status, but for want of memory; a
     // program is run to its end if its calls need no more forms than there are.
     ensures usage_due { command_of (said words.now) ≡ None
-        → IsStill (S.faults sink.old) (S.faults sink.new) → result.status ≡ usage_wanted }
+        → IsStill (S.faults sink.old) (S.faults sink.new) → IsUsageOrWant result.status }
     ensures refusal_wanted { IsRefused (input (said words.now) (I.told inputs.old))
         → InputsStill (command_of (said words.now)) (I.faults inputs.old) (I.faults inputs.new)
         → IsStill (S.faults sink.old) (S.faults sink.new) → IsRefusedOrWant result.status }
@@ -243,20 +245,31 @@ pub fn top<'a, R: Threads + Wait + Sync, I: Inputs, S: Sink, G: Gate + Sync>(
         → InputsStill (command_of (said words.now)) (I.faults inputs.old) (I.faults inputs.new)
         → IsStill (S.faults sink.old) (S.faults sink.new) → IsDoneOrWant result.status }
 
+    // The input that is made from a number is never refused.
+    ensures generated { IsGenerated (command_of (said words.now))
+        → IsStill (S.faults sink.old) (S.faults sink.new) → IsDoneFullOrWant result.status }
+
     // An input that is told not to be there cannot be read.
     ensures unread_wanted { IsMissing (input (said words.now) (I.told inputs.old))
         → IsStill (S.faults sink.old) (S.faults sink.new) → IsUnreadOrWant result.status }
 {
-    let Some(command) = read_words(words) else {
+    let Ok(command) = read_words(alloc, words) else {
+        return nothing_ran(alloc, NO_MEMORY);
+    };
+    let Some(command) = command else {
         return answer_line(alloc, sink, USAGE_WANTED, &[USAGE.as_bytes()]);
     };
     match command {
-        Command::Run(names) => match read_program(alloc, inputs, names) {
+        Command::Run(names) => match read_program(alloc, inputs, &names, Output::Report) {
             Ok(program) => run_program(rt, alloc, sink, &program),
             Err(stop) => answer_stop(alloc, sink, stop),
         },
-        Command::Sites(names) => match list_sites(alloc, inputs, names) {
+        Command::Sites(names) => match list_sites(alloc, inputs, &names) {
             Ok(text) => answer_listing(alloc, sink, &text),
+            Err(stop) => answer_stop(alloc, sink, stop),
+        },
+        Command::Generate(number) => match read_generated(alloc, number) {
+            Ok(made) => run_program(rt, alloc, sink, &made),
             Err(stop) => answer_stop(alloc, sink, stop),
         },
     }

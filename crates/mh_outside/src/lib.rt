@@ -10,7 +10,7 @@ mod real;
 mod sink;
 mod whole;
 
-pub use gate::{Gate, OpenGate};
+pub use gate::{Gate, OpenGate, TestGate};
 pub use honest::{HonestInputs, HonestSink};
 pub use inputs::{Failed, Inputs};
 pub use memory::{MemoryInputs, MemorySink};

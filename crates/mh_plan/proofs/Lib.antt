@@ -9,6 +9,7 @@ pub mod Counted
 pub mod Host
 pub mod Limits
 pub mod TableSerials
+mod CallTexts
 mod WorkedPlans
 mod WorkedReports
 mod WorkedRuns

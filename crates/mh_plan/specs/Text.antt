@@ -2,7 +2,7 @@
 use Rattle.std.specs.Prelude.{ℕ, ◌+◌, List, [], ◌∷◌, ◌++◌, codes, Option, None, Some}
 use Rattle.std.specs.List.{flat_map}
 use Rattle.std.specs.Fmt.{decimal}
-use Rattle.mh_values.specs.declared.value.LeafCall.{LeafCall}
+use Rattle.mh_values.specs.declared.calls.LeafCall.{LeafCall}
 use Rattle.mh_values.specs.declared.value.Outcome.{Outcome}
 use Rattle.mh_values.specs.declared.value.Outcome.TheVariants.{Return, Throw}
 use Rattle.mh_values.specs.declared.value.Value.{Value}

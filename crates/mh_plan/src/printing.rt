@@ -1,4 +1,4 @@
-ghost use Rattle.std.specs.Prelude.{◌≡◌, ◌+◌, ◌++◌, ◌<◌, ◌≤◌, ◌^◌, length, IfOk, OnOk, List};
+ghost use Rattle.std.specs.Prelude.{◌≡◌, ◌+◌, ◌++◌, ◌<◌, ◌≤◌, ◌^◌, length, IfOk, OnOk, codes, List};
 ghost use Rattle.std.specs.Fmt.{decimal};
 ghost use Rattle.mh_values.specs.declared.class.Class.{Class};
 ghost use Rattle.mh_plan.specs.Text.{linked_text, recorded_text, site_text, sites_text, outcome_text, returned_text, calls_text, result_line, results_text, thread_text, threads_text, summary_text, report_text};
@@ -9,7 +9,7 @@ use itoa::Buffer;
 use mh_base::NoMemory;
 use mh_handle::Answer;
 use mh_texts::{show_exc, show_type, show_value};
-use mh_values::{Classes, LeafCall, Outcome, Value};
+use mh_values::{Calls, Classes, LeafId, Outcome, Value};
 use std::alloc::Global;
 
 fn push(text: &mut Vec<u8>, bytes: &[u8]) -> Result<(), NoMemory>
@@ -114,17 +114,24 @@ fn push_returned(
     }
 }
 
+// A space, and the number of a leaf.
+fn push_next(text: &mut Vec<u8>, leaf: LeafId) -> Result<(), NoMemory>
+    ensures { OnOk result (text.new.items ≡ text.old.items ++ (codes " " ++ decimal leaf.0)) }
+{
+    push(text, b" ")?;
+    push_number(text, u64::from(leaf.0))
+}
+
 // The numbers of the leaves that were called, or a dash.
-fn push_calls(text: &mut Vec<u8>, calls: &[LeafCall]) -> Result<(), NoMemory>
+fn push_calls(text: &mut Vec<u8>, calls: &Calls) -> Result<(), NoMemory>
     ensures { OnOk result (text.new.items ≡ text.old.items ++ calls_text calls.now) }
 {
-    let Some((first, others)) = calls.split_first() else {
+    if calls.is_empty() {
         return push(text, b"-");
-    };
-    push_number(text, u64::from(first.leaf.0))?;
-    for next in others {
-        push(text, b" ")?;
-        push_number(text, u64::from(next.leaf.0))?;
+    }
+    push_number(text, u64::from(calls.leaf(0).0))?;
+    for at in 1..calls.len() {
+        push_next(text, calls.leaf(at))?;
     }
     Ok(())
 }
@@ -163,7 +170,7 @@ fn push_answer(
 {
     push_outcome(alloc, text, answer.outcome(), classes)?;
     push(text, b" calls ")?;
-    push_calls(text, answer.calls().as_slice())?;
+    push_calls(text, answer.calls())?;
     push(text, b"\n")
 }
 

@@ -16,7 +16,8 @@ ghost use Rattle.mh_runtime.specs.Keys.{keys_of};
 ghost use Rattle.mh_runtime.specs.Linking.{KeepsHandles, KeepsOthers};
 
 use crate::linker::Linker;
-use mh_astype::{invoke_exact, invoke_generic};
+use mh_astype::{invoke_exact_with, invoke_generic_with};
+use mh_form::Machine;
 use mh_handle::{Answer, EditError, Handle, HandleError, Work, leaf};
 use mh_jobs::Run;
 use mh_plan::Call;
@@ -49,6 +50,7 @@ fn leaf_handle<'t, R: Wait>(
 
 // An exact call of a leaf.
 fn call_exact<'t, R: Wait>(
+    m: &mut Machine,
     w: &mut Work<'_, 't>,
     rt: &R,
     id: LeafId,
@@ -66,13 +68,14 @@ fn call_exact<'t, R: Wait>(
     ensures asks { Asks (recipe (leaves_of w.old) (tree.Leaf id) ∷ []) w.old w.new result }
 {
     let handle = leaf_handle(w, rt, id)?;
-    let answer = invoke_exact(w.alloc, &handle, w.leaves, ty, args, 0);
+    let answer = invoke_exact_with(m, &handle, w.leaves, ty, args, 0);
     handle.give_back(w);
     Ok(answer?)
 }
 
 // A generic call of a leaf.
 fn call_generic<'t, R: Wait>(
+    m: &mut Machine,
     w: &mut Work<'_, 't>,
     rt: &R,
     id: LeafId,
@@ -91,16 +94,17 @@ fn call_generic<'t, R: Wait>(
         ∷ used_edits (leaves_of w.old) (tree.Leaf id) ty.now) w.old w.new result }
 {
     let handle = leaf_handle(w, rt, id)?;
-    let answer = invoke_generic(w, rt, &handle, ty, args, 0);
+    let answer = invoke_generic_with(m, w, rt, &handle, ty, args, 0);
     handle.give_back(w);
     answer
 }
 
-/// Makes a call of a thread: of a leaf by a handle of it, as the first of its invocation, or of a
+/// Makes a call of a thread, in the machine that its calls have in common: of a leaf by a handle of it, as the first of its invocation, or of a
 /// call site by what is linked there, which is attempted now where no call before did. Each handle
 /// that is made is given back, also where no memory or no form was left, but for those of the
 /// linker's targets.
 pub(crate) fn call<'t, J: Run, R: Wait>(
+    m: &mut Machine,
     w: &mut Work<'_, 't>,
     rt: &R,
     linker: &mut Linker<'t, J>,
@@ -122,8 +126,8 @@ pub(crate) fn call<'t, J: Run, R: Wait>(
         (call_edits J.given.leaves call.now) w.old w.new result }
 {
     match call {
-        Call::Exact(id, ty, args) => call_exact(w, rt, *id, ty, args),
-        Call::Generic(id, ty, args) => call_generic(w, rt, *id, ty, args),
-        Call::Indy(site, args) => linker.call_site(w, rt, thread, *site, args),
+        Call::Exact(id, ty, args) => call_exact(m, w, rt, *id, ty, args),
+        Call::Generic(id, ty, args) => call_generic(m, w, rt, *id, ty, args),
+        Call::Indy(site, args) => linker.call_site(m, w, rt, thread, *site, args),
     }
 }

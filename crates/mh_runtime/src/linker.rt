@@ -14,6 +14,7 @@ ghost use Rattle.mh_runtime.specs.Linking.{KeepsOthers, most_sites, targets_held
 use crate::calls::WorkError;
 use mh_attempt::{Linkage, attempt};
 use mh_base::{NoMemory, Seq};
+use mh_form::Machine;
 use mh_handle::{Answer, Work};
 use mh_jobs::{Jobs, Run};
 use mh_plan::{Attempt, Attempts};
@@ -184,7 +185,13 @@ impl<'t, J: Run> Linker<'t, J> {
     }
 
     // A call of a site that was attempted.
-    fn answer(&self, w: &Work<'_, 't>, site: u32, args: &Items) -> Result<Answer, NoMemory>
+    fn answer(
+        &self,
+        m: &mut Machine,
+        w: &Work<'_, 't>,
+        site: u32,
+        args: &Items,
+    ) -> Result<Answer, NoMemory>
         requires linked { is_attempted self.now site ≡ true }
         requires site { site < length J.given.jobs }
         requires leaves { leaves_of w.now ≡ J.given.leaves }
@@ -194,7 +201,7 @@ impl<'t, J: Run> Linker<'t, J> {
             (site_keys J.given site serial))) }
     {
         match self.find(site as usize) {
-            Some(linkage) => linkage.call(w.alloc, w.leaves, args),
+            Some(linkage) => linkage.call_with(m, w.leaves, args),
             None => unreachable!(),
         }
     }
@@ -203,6 +210,7 @@ impl<'t, J: Run> Linker<'t, J> {
     /// recorded error is thrown.
     pub(crate) fn call_site<R: Wait>(
         &mut self,
+        m: &mut Machine,
         w: &mut Work<'_, 't>,
         rt: &R,
         thread: u32,
@@ -223,7 +231,7 @@ impl<'t, J: Run> Linker<'t, J> {
             w.old w.new result }
     {
         self.link(w, rt, thread, site)?;
-        Ok(self.answer(w, site, args)?)
+        Ok(self.answer(m, w, site, args)?)
     }
 
     /// Gives up all linkages, and hands out the attempts.

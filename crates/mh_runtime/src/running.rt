@@ -21,6 +21,7 @@ use crate::linker::Linker;
 use crate::recording::table;
 use crate::types::count_types;
 use mh_base::Seq;
+use mh_form::Machine;
 use mh_handle::{FormTable, LiveHandles, Work};
 use mh_jobs::Run;
 use mh_plan::{Answers, Attempts, Plan, Table, ThreadAnswers, ThreadCalls};
@@ -43,7 +44,7 @@ pub struct RunReport {
     pub types: u32,
 }
 
-// Makes the calls of a thread, in order.
+// Makes the calls of a thread, in order and in one machine.
 fn run_thread<'t, J: Run, R: Wait>(
     w: &mut Work<'_, 't>,
     rt: &R,
@@ -66,9 +67,10 @@ fn run_thread<'t, J: Run, R: Wait>(
         (after_sites thread linker.old (flat_map sites_named calls.now))
         (thread_edits J.given.leaves calls.now) w.old w.new result }
 {
+    let mut m = Machine::new(w.alloc);
     let mut answers = Seq::new(w.alloc);
     for next in calls.as_slice() {
-        answers.push(call(w, rt, linker, thread, next)?)?;
+        answers.push(call(&mut m, w, rt, linker, thread, next)?)?;
     }
     Ok(answers)
 }

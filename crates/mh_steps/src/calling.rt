@@ -6,8 +6,9 @@ ghost use Rattle.mh_handle.specs.Answers.{IsAnswer};
 ghost use Rattle.mh_handle.specs.Stands.{Stands, StandsForSome};
 ghost use Rattle.mh_astype.specs.Calls.{exact_keys};
 
-use mh_astype::invoke_exact;
+use mh_astype::{invoke_exact_on, invoke_exact_with};
 use mh_base::NoMemory;
+use mh_form::Machine;
 use mh_handle::{Answer, Handle};
 use mh_leaves::Leaves;
 use mh_values::{Classes, Items, Ty, Value, has_type};
@@ -26,8 +27,8 @@ pub fn are_typed(values: &[Value], types: &[Ty], classes: &Classes) -> bool
     has_type(value, *ty, classes) && are_typed(values, types, classes)
 }
 
-/// Calls a handle by its own type, as the first of its invocation. Arguments that do not have the
-/// types of its parameters are told as want of memory.
+/// Calls a handle by its own type, as the first of its invocation, twice in one machine; the second
+/// call answers. Arguments that do not have the types of its parameters are told as want of memory.
 pub fn call_typed<'t>(
     alloc: Global,
     handle: &Handle<'t>,
@@ -46,5 +47,7 @@ pub fn call_typed<'t>(
     ) {
         return Err(NoMemory);
     }
-    invoke_exact(alloc, handle, leaves, handle.ty(), args, 0)
+    let mut m = Machine::new(alloc);
+    let _first = invoke_exact_on(&mut m, handle, leaves, handle.ty(), args, 0)?;
+    invoke_exact_with(&mut m, handle, leaves, handle.ty(), args, 0)
 }

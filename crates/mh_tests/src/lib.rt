@@ -2,10 +2,16 @@
 #![tactic(auto)]
 
 #[cfg(test)]
+mod broken;
+#[cfg(test)]
 mod classes;
+#[cfg(test)]
+mod generated;
 #[cfg(test)]
 mod outside;
 #[cfg(test)]
 mod runs;
 #[cfg(test)]
 mod sites;
+#[cfg(test)]
+mod words;

@@ -1,10 +1,13 @@
 use mh_outside::{
-    HonestInputs, HonestSink, Inputs, MemoryInputs, MemorySink, ReadWhole, RealInputs, RealSink,
-    Sink, read_whole, write_whole,
+    Gate, HonestInputs, HonestSink, Inputs, MemoryInputs, MemorySink, ReadWhole, RealInputs,
+    RealSink, Sink, TestGate, read_whole, write_whole,
 };
 use std::alloc::Global;
 use std::collections::BTreeMap;
+use std::sync::atomic::{AtomicU64, Ordering};
 use std::test::Fail;
+use std::thread;
+use std::thread::Threads;
 
 /// A file of five bytes.
 fn five_bytes(alloc: Global) -> Result<MemoryInputs, Fail> {
@@ -79,4 +82,35 @@ fn real_files_fail_where_they_are_not_there(rt: HostRuntime) {
 fn real_output_takes_a_piece(rt: HostRuntime) {
     let mut sink = RealSink::new(&rt);
     assert!(rt; matches!(sink.write(b"taken\n"), Ok(1..=6)) && sink.faults == 0);
+}
+
+/// After how many others a thread records that goes through a gate.
+fn recorded_after(gate: &TestGate, count: &AtomicU64, thread: u32) -> u64 {
+    gate.before_record(thread, 0);
+    let others = count.fetch_add(1, Ordering::SeqCst);
+    gate.after_record(thread, 0);
+    others
+}
+
+/// The same of threads 0 and 1, which run beside each other.
+fn both_recorded_after<R: Threads>(rt: &R, gate: &TestGate) -> (u64, u64) {
+    let count = AtomicU64::new(0);
+    thread::join(
+        rt,
+        || recorded_after(gate, &count, 0),
+        || recorded_after(gate, &count, 1),
+    )
+}
+
+#[test]
+fn a_test_gate_lets_thread_1_record_before_thread_0(rt: HostRuntime) {
+    let gate = TestGate::new();
+    assert!(rt; both_recorded_after(&rt, &gate) == (1, 0) && !gate.gave_up());
+}
+
+#[test]
+fn a_test_gate_lets_other_threads_pass(rt: HostRuntime) {
+    let gate = TestGate::new();
+    let count = AtomicU64::new(0);
+    assert!(rt; recorded_after(&gate, &count, 2) == 0 && !gate.gave_up());
 }

@@ -1,3 +1,5 @@
+ghost use Rattle.std.specs.Prelude.{◌≡◌, [], IfOk};
+
 use mh_main::status::{DONE, NO_MEMORY, REFUSED, UNREAD, WRITE_FAILED};
 use mh_main::top;
 use mh_outside::{MemoryInputs, MemorySink, OpenGate};
@@ -7,11 +9,12 @@ use std::sync::Wait;
 use std::test::Fail;
 use std::thread::Threads;
 
-const LEAVES: &str = "class demo/Host java/lang/Object\nstatic demo/Host add (II)I iadd\n";
+pub(crate) const LEAVES: &str =
+    "class demo/Host java/lang/Object\nstatic demo/Host add (II)I iadd\n";
 
-const PLAN: &str = "thread\nexact leaf:demo/Host.add:(II)I (II)I i:1 i:2\n";
+pub(crate) const PLAN: &str = "thread\nexact leaf:demo/Host.add:(II)I (II)I i:1 i:2\n";
 
-const TEXT: &str = "thread 0\nreturns i:3 calls 0\nattempts 0 forms 1 types 0\n";
+pub(crate) const TEXT: &str = "thread 0\nreturns i:3 calls 0\nattempts 0 forms 1 types 0\n";
 
 const WORDS: [&str; 8] = [
     "--mode",
@@ -47,12 +50,15 @@ fn add_file(
     }
 }
 
-fn inputs(
+/// A manifest, no scripts and a plan, of which the reads of these numbers fail.
+pub(crate) fn inputs(
     alloc: Global,
     leaves: &str,
     plan: &str,
     fail: &[u64],
-) -> Result<MemoryInputs, AllocError> {
+) -> Result<MemoryInputs, AllocError>
+    ensures { IfOk result (λ inputs. inputs.fail.items ≡ fail.now) }
+{
     let mut files = BTreeMap::new(alloc);
     add_file(alloc, &mut files, "leaves.txt", leaves)?;
     add_file(alloc, &mut files, "scripts.txt", "")?;
@@ -65,7 +71,11 @@ fn inputs(
     })
 }
 
-fn sink(alloc: Global, fail: &[u64]) -> Result<MemorySink, AllocError> {
+/// An empty sink, of which the writes of these numbers fail.
+pub(crate) fn sink(alloc: Global, fail: &[u64]) -> Result<MemorySink, AllocError>
+    ensures empty { IfOk result (λ sink. sink.bytes.items ≡ []) }
+    ensures fail { IfOk result (λ sink. sink.fail.items ≡ fail.now) }
+{
     Ok(MemorySink {
         bytes: Vec::new(alloc),
         fail: Vec::from_slice(alloc, fail)?,

@@ -33,8 +33,8 @@ returns-in_err-form-clause-asks g c =
     c.in_err-form.field-0.0 c.from_residual-in_err-form.result
     c.requires.changes key (subst P c.form.ensures c.in_err-form.ensures.edits) c.from_residual-in_err-form.ensures.1
 
-pub invoke_edited-requires : goal.invoke_edited-requires
-invoke_edited-requires g c =
+pub invoke_edited_with-requires : goal.invoke_edited_with-requires
+invoke_edited_with-requires g c =
     let key : c.in_ok-key.key ≡ convert_key c.args.w.now.leaves.now.classes c.args.call.now c.args.handle.now.ty =
     c.in_ok-key.ensures ∙ ap₂ (λ (cs : List Class) (own : MethodTy). convert_key cs c.args.call.now own) c.classes-classes.ensures.classes c.ty.ensures.ty in
     let fields : c.in_ok-more.more.items ≡ convert_fields c.args.w.now.leaves.now.classes c.args.call.now c.args.handle.now.ty =
@@ -49,14 +49,14 @@ invoke_edited-requires g c =
           c.requires.stands.0 c.args.args.now c.args.n c.requires.stands.1 c.requires.typed c.ranges.n.fits;
     }
 
-pub returns-in_err-invoke_edited-clause-asks : goal.returns-in_err-invoke_edited-clause-asks
-returns-in_err-invoke_edited-clause-asks g c =
+pub returns-in_err-invoke_edited_with-clause-asks : goal.returns-in_err-invoke_edited_with-clause-asks
+returns-in_err-invoke_edited_with-clause-asks g c =
     let key : c.in_ok-key.key ≡ convert_key c.args.w.now.leaves.now.classes c.args.call.now c.args.handle.now.ty =
     c.in_ok-key.ensures ∙ ap₂ (λ (cs : List Class) (own : MethodTy). convert_key cs c.args.call.now own) c.classes-classes.ensures.classes c.ty.ensures.ty in
     let P : FormView → Type 0 = λ f. Edits (f.recipe ++ c.in_ok-key.key ∷ []) c.args.w.now.pass.now c.edit.new.self.pass.now (Ok c.in_ok-form.form) in
     asks-late c.args.w.now.leaves.now.classes c.args.call.now c.args.handle.now.ty c.args.handle.now.form.recipe c.in_ok-key.key c.args.w.now c.edit.new.self
-    c.in_ok-form.form c.from_residual-in_err-invoke_edited.result
-    c.requires.changes key (subst P c.form.ensures c.in_ok-form.ensures.edits) c.from_residual-in_err-invoke_edited.ensures.1
+    c.in_ok-form.form c.from_residual-in_err-invoke_edited_with.result
+    c.requires.changes key (subst P c.form.ensures c.in_ok-form.ensures.edits) c.from_residual-in_err-invoke_edited_with.ensures.1
 
 pub returns-clause-asks : goal.returns-clause-asks
 returns-clause-asks g c =
@@ -65,7 +65,7 @@ returns-clause-asks g c =
     let P : FormView → Type 0 = λ f. Edits (f.recipe ++ c.in_ok-key.key ∷ []) c.args.w.now.pass.now c.edit.new.self.pass.now (Ok c.in_ok-form.form) in
     asks-edited c.args.w.now.leaves.now.classes c.args.call.now c.args.handle.now.ty c.args.handle.now.form.recipe c.in_ok-key.key c.args.w.now c.edit.new.self
     c.requires.changes key
-    c.in_ok-form.form c.in_ok-invoke_edited.field-0 (subst P c.form.ensures c.in_ok-form.ensures.edits)
+    c.in_ok-form.form c.in_ok-invoke_edited_with.field-0 (subst P c.form.ensures c.in_ok-form.ensures.edits)
 
 pub returns-clause-answer : goal.returns-clause-answer
 returns-clause-answer g c t st =
@@ -78,4 +78,4 @@ returns-clause-answer g c t st =
     c.in_ok-form.ensures.edits.0 ∙ ap (λ (f : FormView). f.recipe ++ c.in_ok-key.key ∷ []) c.form.ensures in
     converted-answer c.args.w.now.leaves.now c.classes-classes.ensures.are c.args.call.now c.args.handle.now c.in_ok-form.form.now c.in_ok-key.key
     c.in_ok-more.more.items c.requires.row c.requires.changes key fields made
-    t c.args.args.now c.args.n c.in_ok-invoke_edited.field-0 st c.requires.typed c.ranges.n.fits c.in_ok-invoke_edited.ensures.run
+    t c.args.args.now c.args.n c.in_ok-invoke_edited_with.field-0 st c.requires.typed c.ranges.n.fits c.in_ok-invoke_edited_with.ensures.run

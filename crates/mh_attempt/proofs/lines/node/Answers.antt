@@ -1,26 +1,11 @@
-use Rattle.std.proofs.Common.{◌≡◌, sym, subst, ap, ◌∙◌, Result}
-use Rattle.mh_script.specs.declared.script.Operation.{Operation}
+use Rattle.std.proofs.Common.{sym, ap, ◌∙◌}
 use Rattle.mh_script.specs.declared.script.Operation.TheVariants as operation
-use Rattle.mh_handle.specs.declared.error.HandleError.{HandleError}
-use Rattle.mh_handle.specs.declared.handle.Handle.{Handle}
-use Rattle.mh_handle.specs.declared.work.Work.{Work}
-use Rattle.mh_handle.specs.Works.{leaves_of}
-use Rattle.mh_attempt.specs.Lines.{MakesNode}
-use Rattle.mh_link.specs.Operands.{Frame}
-use Rattle.mh_link.specs.Operations.{node_of}
-use Rattle.mh_attempt.specs.Asked.{AsksOrThrows}
-use Rattle.mh_attempt.specs.Recipes.{line_recipes}
+use Rattle.mh_attempt.proofs.LineOperations.{for-operation, asks-for}
 use Rattle.mh_attempt.proofs.lines.node.Goals as goal
-
--- the operation is this one
-for-operation : (old new : Work) (frame : Frame) (op made : Operation) (r : Result Handle HandleError) → op ≡ made →
-    MakesNode (node_of (leaves_of old) frame made) old new r → MakesNode (node_of (leaves_of old) frame op) old new r
-for-operation old new frame op made r is makes = subst (λ o. MakesNode (node_of (leaves_of old) frame o) old new r) (sym is) makes
 
 pub returns-in-Leaf-clause-node : goal.returns-in-Leaf-clause-node
 returns-in-Leaf-clause-node g c frame hold =
-    for-operation c.args.w.now c.leaf_line.new.w frame c.args.operation.now _ c.leaf_line.result
-    c.in-Leaf.is (c.leaf_line.ensures.node frame)
+    for-operation c.args.w.now c.leaf_line.new.w frame c.args.operation.now _ c.leaf_line.result c.in-Leaf.is (c.leaf_line.ensures.node frame)
 
 pub returns-in-Constant-clause-node : goal.returns-in-Constant-clause-node
 returns-in-Constant-clause-node g c frame hold =
@@ -29,8 +14,7 @@ returns-in-Constant-clause-node g c frame hold =
 
 pub returns-in-Bind-clause-node : goal.returns-in-Bind-clause-node
 returns-in-Bind-clause-node g c frame hold =
-    for-operation c.args.w.now c.bind_line.new.w frame c.args.operation.now _ c.bind_line.result
-    c.in-Bind.is (c.bind_line.ensures.node frame hold)
+    for-operation c.args.w.now c.bind_line.new.w frame c.args.operation.now _ c.bind_line.result c.in-Bind.is (c.bind_line.ensures.node frame hold)
 
 pub returns-in-Drop-clause-node : goal.returns-in-Drop-clause-node
 returns-in-Drop-clause-node g c frame hold =
@@ -45,38 +29,31 @@ returns-in-Permute-clause-node g c frame hold =
 
 pub returns-in-Filter-clause-node : goal.returns-in-Filter-clause-node
 returns-in-Filter-clause-node g c frame hold =
-    for-operation c.args.w.now c.filter_line.new.w frame c.args.operation.now _ c.filter_line.result
-    c.in-Filter.is (c.filter_line.ensures.node frame hold)
+    for-operation c.args.w.now c.filter_line.new.w frame c.args.operation.now _ c.filter_line.result c.in-Filter.is (c.filter_line.ensures.node frame hold)
 
 pub returns-in-Fold-clause-node : goal.returns-in-Fold-clause-node
 returns-in-Fold-clause-node g c frame hold =
-    for-operation c.args.w.now c.fold_line.new.w frame c.args.operation.now _ c.fold_line.result
-    c.in-Fold.is (c.fold_line.ensures.node frame hold)
+    for-operation c.args.w.now c.fold_line.new.w frame c.args.operation.now _ c.fold_line.result c.in-Fold.is (c.fold_line.ensures.node frame hold)
 
 pub returns-in-Collect-clause-node : goal.returns-in-Collect-clause-node
 returns-in-Collect-clause-node g c frame hold =
-    for-operation c.args.w.now c.collect_line.new.w frame c.args.operation.now _ c.collect_line.result
-    c.in-Collect.is (c.collect_line.ensures.node frame hold)
+    for-operation c.args.w.now c.collect_line.new.w frame c.args.operation.now _ c.collect_line.result c.in-Collect.is (c.collect_line.ensures.node frame hold)
 
 pub returns-in-Spread-clause-node : goal.returns-in-Spread-clause-node
 returns-in-Spread-clause-node g c frame hold =
-    for-operation c.args.w.now c.spread_line.new.w frame c.args.operation.now _ c.spread_line.result
-    c.in-Spread.is (c.spread_line.ensures.node frame hold)
+    for-operation c.args.w.now c.spread_line.new.w frame c.args.operation.now _ c.spread_line.result c.in-Spread.is (c.spread_line.ensures.node frame hold)
 
 pub returns-in-Gather-clause-node : goal.returns-in-Gather-clause-node
 returns-in-Gather-clause-node g c frame hold =
-    for-operation c.args.w.now c.gather_line.new.w frame c.args.operation.now _ c.gather_line.result
-    c.in-Gather.is (c.gather_line.ensures.node frame hold)
+    for-operation c.args.w.now c.gather_line.new.w frame c.args.operation.now _ c.gather_line.result c.in-Gather.is (c.gather_line.ensures.node frame hold)
 
 pub returns-in-AsType-clause-node : goal.returns-in-AsType-clause-node
 returns-in-AsType-clause-node g c frame hold =
-    for-operation c.args.w.now c.astype_line.new.w frame c.args.operation.now _ c.astype_line.result
-    c.in-AsType.is (c.astype_line.ensures.node frame hold)
+    for-operation c.args.w.now c.astype_line.new.w frame c.args.operation.now _ c.astype_line.result c.in-AsType.is (c.astype_line.ensures.node frame hold)
 
 pub returns-in-Guard-clause-node : goal.returns-in-Guard-clause-node
 returns-in-Guard-clause-node g c frame hold =
-    for-operation c.args.w.now c.guard_line.new.w frame c.args.operation.now _ c.guard_line.result
-    c.in-Guard.is (c.guard_line.ensures.node frame hold)
+    for-operation c.args.w.now c.guard_line.new.w frame c.args.operation.now _ c.guard_line.result c.in-Guard.is (c.guard_line.ensures.node frame hold)
 
 pub returns-in-Catch-clause-node : goal.returns-in-Catch-clause-node
 returns-in-Catch-clause-node g c frame hold =
@@ -86,24 +63,17 @@ returns-in-Catch-clause-node g c frame hold =
 
 -- ---- what is asked for
 
-asks-for : (old new : Work) (frame : Frame) (op made : Operation) (r : Result Handle HandleError) → op ≡ made →
-    AsksOrThrows (line_recipes (leaves_of old) frame made) old new r → AsksOrThrows (line_recipes (leaves_of old) frame op) old new r
-asks-for old new frame op made r is asks = subst (λ o. AsksOrThrows (line_recipes (leaves_of old) frame o) old new r) (sym is) asks
-
 pub returns-in-Leaf-clause-asks : goal.returns-in-Leaf-clause-asks
 returns-in-Leaf-clause-asks g c frame hold =
-    asks-for c.args.w.now c.leaf_line.new.w frame c.args.operation.now _ c.leaf_line.result
-    c.in-Leaf.is (c.leaf_line.ensures.asks frame)
+    asks-for c.args.w.now c.leaf_line.new.w frame c.args.operation.now _ c.leaf_line.result c.in-Leaf.is (c.leaf_line.ensures.asks frame)
 
 pub returns-in-Constant-clause-asks : goal.returns-in-Constant-clause-asks
 returns-in-Constant-clause-asks g c frame hold =
-    asks-for c.args.w.now c.constant_line.new.w frame c.args.operation.now _ c.constant_line.result
-    c.in-Constant.is (c.constant_line.ensures.asks frame hold)
+    asks-for c.args.w.now c.constant_line.new.w frame c.args.operation.now _ c.constant_line.result c.in-Constant.is (c.constant_line.ensures.asks frame hold)
 
 pub returns-in-Identity-clause-asks : goal.returns-in-Identity-clause-asks
 returns-in-Identity-clause-asks g c frame hold =
-    asks-for c.args.w.now c.identity_line.new.w frame c.args.operation.now _ c.identity_line.result
-    c.in-Identity.is (c.identity_line.ensures.asks frame hold)
+    asks-for c.args.w.now c.identity_line.new.w frame c.args.operation.now _ c.identity_line.result c.in-Identity.is (c.identity_line.ensures.asks frame hold)
 
 pub returns-in-Throw-clause-asks : goal.returns-in-Throw-clause-asks
 returns-in-Throw-clause-asks g c frame hold =
@@ -112,8 +82,7 @@ returns-in-Throw-clause-asks g c frame hold =
 
 pub returns-in-Bind-clause-asks : goal.returns-in-Bind-clause-asks
 returns-in-Bind-clause-asks g c frame hold =
-    asks-for c.args.w.now c.bind_line.new.w frame c.args.operation.now _ c.bind_line.result
-    c.in-Bind.is (c.bind_line.ensures.asks frame hold)
+    asks-for c.args.w.now c.bind_line.new.w frame c.args.operation.now _ c.bind_line.result c.in-Bind.is (c.bind_line.ensures.asks frame hold)
 
 pub returns-in-Drop-clause-asks : goal.returns-in-Drop-clause-asks
 returns-in-Drop-clause-asks g c frame hold =
@@ -128,8 +97,7 @@ returns-in-Permute-clause-asks g c frame hold =
 
 pub returns-in-Filter-clause-asks : goal.returns-in-Filter-clause-asks
 returns-in-Filter-clause-asks g c frame hold =
-    asks-for c.args.w.now c.filter_line.new.w frame c.args.operation.now _ c.filter_line.result
-    c.in-Filter.is (c.filter_line.ensures.asks frame hold)
+    asks-for c.args.w.now c.filter_line.new.w frame c.args.operation.now _ c.filter_line.result c.in-Filter.is (c.filter_line.ensures.asks frame hold)
 
 pub returns-in-FilterReturn-clause-asks : goal.returns-in-FilterReturn-clause-asks
 returns-in-FilterReturn-clause-asks g c frame hold =
@@ -138,33 +106,27 @@ returns-in-FilterReturn-clause-asks g c frame hold =
 
 pub returns-in-Fold-clause-asks : goal.returns-in-Fold-clause-asks
 returns-in-Fold-clause-asks g c frame hold =
-    asks-for c.args.w.now c.fold_line.new.w frame c.args.operation.now _ c.fold_line.result
-    c.in-Fold.is (c.fold_line.ensures.asks frame hold)
+    asks-for c.args.w.now c.fold_line.new.w frame c.args.operation.now _ c.fold_line.result c.in-Fold.is (c.fold_line.ensures.asks frame hold)
 
 pub returns-in-Collect-clause-asks : goal.returns-in-Collect-clause-asks
 returns-in-Collect-clause-asks g c frame hold =
-    asks-for c.args.w.now c.collect_line.new.w frame c.args.operation.now _ c.collect_line.result
-    c.in-Collect.is (c.collect_line.ensures.asks frame hold)
+    asks-for c.args.w.now c.collect_line.new.w frame c.args.operation.now _ c.collect_line.result c.in-Collect.is (c.collect_line.ensures.asks frame hold)
 
 pub returns-in-Spread-clause-asks : goal.returns-in-Spread-clause-asks
 returns-in-Spread-clause-asks g c frame hold =
-    asks-for c.args.w.now c.spread_line.new.w frame c.args.operation.now _ c.spread_line.result
-    c.in-Spread.is (c.spread_line.ensures.asks frame hold)
+    asks-for c.args.w.now c.spread_line.new.w frame c.args.operation.now _ c.spread_line.result c.in-Spread.is (c.spread_line.ensures.asks frame hold)
 
 pub returns-in-Gather-clause-asks : goal.returns-in-Gather-clause-asks
 returns-in-Gather-clause-asks g c frame hold =
-    asks-for c.args.w.now c.gather_line.new.w frame c.args.operation.now _ c.gather_line.result
-    c.in-Gather.is (c.gather_line.ensures.asks frame hold)
+    asks-for c.args.w.now c.gather_line.new.w frame c.args.operation.now _ c.gather_line.result c.in-Gather.is (c.gather_line.ensures.asks frame hold)
 
 pub returns-in-AsType-clause-asks : goal.returns-in-AsType-clause-asks
 returns-in-AsType-clause-asks g c frame hold =
-    asks-for c.args.w.now c.astype_line.new.w frame c.args.operation.now _ c.astype_line.result
-    c.in-AsType.is (c.astype_line.ensures.asks frame hold)
+    asks-for c.args.w.now c.astype_line.new.w frame c.args.operation.now _ c.astype_line.result c.in-AsType.is (c.astype_line.ensures.asks frame hold)
 
 pub returns-in-Guard-clause-asks : goal.returns-in-Guard-clause-asks
 returns-in-Guard-clause-asks g c frame hold =
-    asks-for c.args.w.now c.guard_line.new.w frame c.args.operation.now _ c.guard_line.result
-    c.in-Guard.is (c.guard_line.ensures.asks frame hold)
+    asks-for c.args.w.now c.guard_line.new.w frame c.args.operation.now _ c.guard_line.result c.in-Guard.is (c.guard_line.ensures.asks frame hold)
 
 pub returns-in-Catch-clause-asks : goal.returns-in-Catch-clause-asks
 returns-in-Catch-clause-asks g c frame hold =

@@ -7,4 +7,4 @@ pub returns-in-Err : goal.returns-in-Err
 returns-in-Err c =
     let bad = c.in-Err in
     let text = c.args.text.now in
-    no_type-tells plainly text (desc c.args.classes.now text) bad.error c.no_type.result bad.ensures c.no_type.ensures.memory c.no_type.ensures.thrown
+    no_type-tells plainly text (desc c.args.classes.now text) bad.error c.no_type.result bad.ensures.tells c.no_type.ensures.memory c.no_type.ensures.thrown

@@ -80,5 +80,6 @@ ran-requires-in-FailMod g t c κs within = (
 pub returns-in_ok-pass-in-FailMod : goal.returns-in_ok-pass-in-FailMod
 returns-in_ok-pass-in-FailMod g t c =
     pass-runs c.args.steps.now c.in-Some.rest.now c.in-FailMod.modulus c.in-FailMod.remainder c.args.end.now c.args.registers.now
-    c.in_ok-pass-in-FailMod.field-0 c.args.w.now c.ran-in-FailMod.new.w c.ran-in-FailMod.result (c.in-Some.ensures.cases.0 ∙ ap (λ s. s ∷ c.in-Some.rest.now) c.in-FailMod.is)
+    c.in_ok-pass-in-FailMod.field-0 c.args.w.now c.ran-in-FailMod.new.w c.ran-in-FailMod.result
+    (c.in-Some.ensures.cases.0 ∙ ap (λ s. s ∷ c.in-Some.rest.now) c.in-FailMod.is)
     c.in_ok-pass-in-FailMod.ensures c.ran-in-FailMod.ensures

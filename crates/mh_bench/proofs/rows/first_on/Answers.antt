@@ -1,7 +1,7 @@
-use Rattle.std.proofs.Common.{◌+◌, arith}
+use Rattle.std.proofs.Common.{◌^◌, arith}
 use Rattle.mh_steps.proofs.Rooms.{ready-first}
 use Rattle.mh_bench.proofs.rows.first_on.Goals as goal
 
 pub row_on-done-requires : goal.row_on-done-requires
 row_on-done-requires g c =
-    record { ready = ready-first _ c.args.start.seat (204 + c.args.turns) c.in_ok-pass.ensures c.requires.first (omega (arith, c.ranges.turns.fits)) }
+    record { ready = ready-first _ c.args.start.seat (2 ^ 33) c.in_ok-pass.ensures c.requires.first (omega arith) }

@@ -1,6 +1,6 @@
 use Rattle.std.proofs.Common.{◌-◌, length}
 use Rattle.mh_main.specs.Input.{most_sites}
-use Rattle.mh_main.specs.Words.{said}
+use Rattle.mh_words.specs.Options.{said}
 use Rattle.mh_main.proofs.ClassListing.{listed-all, sites-left}
 use Rattle.mh_main.proofs.Reaching.{others-among, others-stop}
 use Rattle.mh_main.proofs.listing.+list_classes.Goals as goal

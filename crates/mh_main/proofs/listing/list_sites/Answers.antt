@@ -1,6 +1,6 @@
 use Rattle.mh_main.specs.Input.{listing_input, most_sites, to_list}
 use Rattle.mh_main.specs.Stops.{Refuses}
-use Rattle.mh_main.specs.Words.{said}
+use Rattle.mh_words.specs.Options.{said}
 use Rattle.mh_main.proofs.ClassListing.{all-listed}
 use Rattle.mh_main.proofs.Reaching.{handed}
 use Rattle.mh_main.proofs.listing.list_sites.Goals as goal

@@ -1,14 +1,15 @@
 use Rattle.std.proofs.Common.{◌∙◌}
 use Rattle.mh_main.specs.Input.{named_input}
 use Rattle.mh_main.specs.Stops.{IsStopAmong, ReachesInput, Refuses}
-use Rattle.mh_main.specs.Words.{held_names, said}
+use Rattle.mh_words.specs.Options.{said}
+use Rattle.mh_words.specs.Words.{held_names}
 use Rattle.mh_main.proofs.Programs.{classes-among, classes-stop, has-jobs, jobs-are, plan-among, plan-stop, program-read, texts-mean}
 use Rattle.mh_main.proofs.Reaching.{handed}
 use Rattle.mh_main.proofs.reading.read_program.Goals as goal
 
 pub returns-in_err-jobs-clause-stop : goal.returns-in_err-jobs-clause-stop
 returns-in_err-jobs-clause-stop g c =
-    let names = held_names c.args.names in
+    let names = held_names c.args.names.now in
     let files = g.I.Inputs.told c.args.inputs.now in
     let faults = g.I.Inputs.faults c.args.inputs.now in
     let now = g.I.Inputs.faults c.read_jobs.new.inputs in
@@ -19,23 +20,23 @@ returns-in_err-jobs-clause-stop g c =
     c.from_residual-in_err-jobs.ensures.1
     (classes-among names files (g.I.Inputs.told c.read_scripts.new.inputs) faults (g.I.Inputs.faults c.read_scripts.new.inputs) now
     c.in_ok-leaves.leaves c.in_ok-scripts.scripts c.in_err-jobs.field-0.0
-    (λ n. two.keeps.told n ∙ one.keeps.told n) (λ n. two.no_fault n ∙ one.no_fault n) mean c.in_err-jobs.ensures.stop)
+    (λ n. two.keeps.told n ∙ one.keeps.told n) (λ n. two.no_fault n ∙ one.no_fault n) mean (rw c.deref.ensures.value at c.in_err-jobs.ensures.stop))
 
 pub returns-in_err-jobs-clause-refuses : goal.returns-in_err-jobs-clause-refuses
 returns-in_err-jobs-clause-refuses g c =
-    let names = held_names c.args.names in
+    let names = held_names c.args.names.now in
     let files = g.I.Inputs.told c.args.inputs.now in
     let one = c.in_ok-leaves.ensures in
     let two = c.in_ok-scripts.ensures in
     let mean = texts-mean names files (g.I.Inputs.told c.read_leaves.new.inputs) c.in_ok-leaves.leaves c.in_ok-scripts.scripts one.keeps.told one.ok two.ok in
-    handed c.from_residual-in_err-jobs.result c.in_err-jobs.field-0.0 (λ stop. Refuses (named_input names files) stop)
+    handed c.from_residual-in_err-jobs.result c.in_err-jobs.field-0.0 (λ stop. Refuses (named_input c.args.output names files) stop)
     c.from_residual-in_err-jobs.ensures.1
-    (classes-stop names files (g.I.Inputs.told c.read_scripts.new.inputs) c.in_ok-leaves.leaves c.in_ok-scripts.scripts c.in_err-jobs.field-0.0
-    (λ n. two.keeps.told n ∙ one.keeps.told n) mean c.in_err-jobs.ensures.refuses)
+    (classes-stop c.args.output names files (g.I.Inputs.told c.read_scripts.new.inputs) c.in_ok-leaves.leaves c.in_ok-scripts.scripts c.in_err-jobs.field-0.0
+    (λ n. two.keeps.told n ∙ one.keeps.told n) mean (rw c.deref.ensures.value at c.in_err-jobs.ensures.refuses))
 
 pub returns-in_err-plan-clause-stop : goal.returns-in_err-plan-clause-stop
 returns-in_err-plan-clause-stop g c =
-    let names = held_names c.args.names in
+    let names = held_names c.args.names.now in
     let files = g.I.Inputs.told c.args.inputs.now in
     let faults = g.I.Inputs.faults c.args.inputs.now in
     let now = g.I.Inputs.faults c.read_calls.new.inputs in
@@ -43,8 +44,8 @@ returns-in_err-plan-clause-stop g c =
     let two = c.in_ok-scripts.ensures in
     let three = c.in_ok-jobs.ensures in
     let mean = texts-mean names files (g.I.Inputs.told c.read_leaves.new.inputs) c.in_ok-leaves.leaves c.in_ok-scripts.scripts one.keeps.told one.ok two.ok in
-    let has = has-jobs (said c.args.names.classes.now) files (g.I.Inputs.told c.read_scripts.new.inputs) c.in_ok-leaves.leaves c.in_ok-scripts.scripts
-    c.in_ok-jobs.jobs (λ n. two.keeps.told n ∙ one.keeps.told n) three.ok in
+    let has = has-jobs (said c.args.names.now.classes.items) files (g.I.Inputs.told c.read_scripts.new.inputs) c.in_ok-leaves.leaves c.in_ok-scripts.scripts
+    c.in_ok-jobs.jobs (λ n. two.keeps.told n ∙ one.keeps.told n) (rw c.deref.ensures.value at three.ok) in
     handed c.from_residual-in_err-plan.result c.in_err-plan.field-0.0 (IsStopAmong (ReachesInput names files) faults now)
     c.from_residual-in_err-plan.ensures.1
     (plan-among names files faults (g.I.Inputs.faults c.read_jobs.new.inputs) now c.in_ok-leaves.leaves c.in_ok-scripts.scripts c.in_ok-jobs.jobs
@@ -52,39 +53,40 @@ returns-in_err-plan-clause-stop g c =
 
 pub returns-in_err-plan-clause-refuses : goal.returns-in_err-plan-clause-refuses
 returns-in_err-plan-clause-refuses g c =
-    let names = held_names c.args.names in
+    let names = held_names c.args.names.now in
     let files = g.I.Inputs.told c.args.inputs.now in
     let one = c.in_ok-leaves.ensures in
     let two = c.in_ok-scripts.ensures in
     let three = c.in_ok-jobs.ensures in
     let mean = texts-mean names files (g.I.Inputs.told c.read_leaves.new.inputs) c.in_ok-leaves.leaves c.in_ok-scripts.scripts one.keeps.told one.ok two.ok in
-    let has = has-jobs (said c.args.names.classes.now) files (g.I.Inputs.told c.read_scripts.new.inputs) c.in_ok-leaves.leaves c.in_ok-scripts.scripts
-    c.in_ok-jobs.jobs (λ n. two.keeps.told n ∙ one.keeps.told n) three.ok in
-    handed c.from_residual-in_err-plan.result c.in_err-plan.field-0.0 (λ stop. Refuses (named_input names files) stop)
+    let has = has-jobs (said c.args.names.now.classes.items) files (g.I.Inputs.told c.read_scripts.new.inputs) c.in_ok-leaves.leaves c.in_ok-scripts.scripts
+    c.in_ok-jobs.jobs (λ n. two.keeps.told n ∙ one.keeps.told n) (rw c.deref.ensures.value at three.ok) in
+    handed c.from_residual-in_err-plan.result c.in_err-plan.field-0.0 (λ stop. Refuses (named_input c.args.output names files) stop)
     c.from_residual-in_err-plan.ensures.1
-    (plan-stop names files (g.I.Inputs.told c.read_jobs.new.inputs) (g.I.Inputs.faults c.read_jobs.new.inputs) (g.I.Inputs.faults c.read_calls.new.inputs)
+    (plan-stop c.args.output names files (g.I.Inputs.told c.read_jobs.new.inputs) (g.I.Inputs.faults c.read_jobs.new.inputs)
+    (g.I.Inputs.faults c.read_calls.new.inputs)
     c.in_ok-leaves.leaves c.in_ok-scripts.scripts c.in_ok-jobs.jobs c.in_err-plan.field-0.0
     (λ n. three.keeps.told n ∙ two.keeps.told n ∙ one.keeps.told n) mean has c.in_err-plan.ensures.stop c.in_err-plan.ensures.refuses)
 
 pub returns-clause-ok : goal.returns-clause-ok
 returns-clause-ok g c =
-    let names = held_names c.args.names in
+    let names = held_names c.args.names.now in
     let files = g.I.Inputs.told c.args.inputs.now in
     let one = c.in_ok-leaves.ensures in
     let two = c.in_ok-scripts.ensures in
     let three = c.in_ok-jobs.ensures in
     let mean = texts-mean names files (g.I.Inputs.told c.read_leaves.new.inputs) c.in_ok-leaves.leaves c.in_ok-scripts.scripts one.keeps.told one.ok two.ok in
-    let has = has-jobs (said c.args.names.classes.now) files (g.I.Inputs.told c.read_scripts.new.inputs) c.in_ok-leaves.leaves c.in_ok-scripts.scripts
-    c.in_ok-jobs.jobs (λ n. two.keeps.told n ∙ one.keeps.told n) three.ok in
+    let has = has-jobs (said c.args.names.now.classes.items) files (g.I.Inputs.told c.read_scripts.new.inputs) c.in_ok-leaves.leaves c.in_ok-scripts.scripts
+    c.in_ok-jobs.jobs (λ n. two.keeps.told n ∙ one.keeps.told n) (rw c.deref.ensures.value at three.ok) in
     program-read names files (g.I.Inputs.told c.read_jobs.new.inputs)
-    (record { leaves = c.in_ok-leaves.leaves; scripts = c.in_ok-scripts.scripts; jobs = c.in_ok-jobs.jobs; plan = c.in_ok-plan.plan })
+    (record { leaves = c.in_ok-leaves.leaves; scripts = c.in_ok-scripts.scripts; jobs = c.in_ok-jobs.jobs; plan = c.in_ok-plan.plan; output = c.args.output })
     (λ n. three.keeps.told n ∙ two.keeps.told n ∙ one.keeps.told n) mean has c.in_ok-plan.ensures.ok
 
 pub returns-clause-runnable : goal.returns-clause-runnable
 returns-clause-runnable g c = record {
   calls = c.in_ok-plan.ensures.calls;
   limits = c.in_ok-plan.ensures.limits;
-  jobs = jobs-are c.in_ok-leaves.leaves c.in_ok-scripts.scripts (said c.args.names.classes.now) (g.I.Inputs.told c.read_scripts.new.inputs) c.in_ok-jobs.jobs
-      c.in_ok-jobs.ensures.ok;
+  jobs = jobs-are c.in_ok-leaves.leaves c.in_ok-scripts.scripts (said c.args.names.now.classes.items) (g.I.Inputs.told c.read_scripts.new.inputs)
+      c.in_ok-jobs.jobs (rw c.deref.ensures.value at c.in_ok-jobs.ensures.ok);
   few_sites = c.in_ok-jobs.ensures.few;
 }

@@ -1,8 +1,11 @@
-use Rattle.std.proofs.Common.{◌≡◌, ◌++◌, take, codes}
-use Rattle.std.specs.List.{flat_map}
-use Rattle.std.specs.Fmt.{decimal}
+use Rattle.std.proofs.Common.{◌≡◌, ◌++◌, ◌≤◌, take}
+use Rattle.mh_plan.specs.Text.{calls_text}
 use Rattle.mh_plan.proofs.printing.push_calls.Given as goal
 
-abbrev pub invariant-loop-next : goal.invariant-loop-next
-invariant-loop-next l =
-    l.text.items ≡ l.initial.text.items ++ flat_map (λ next. codes " " ++ decimal next.leaf.0) (take l.next-index l.others)
+-- the text of the calls so far, of which there is one at least
+abbrev pub invariant-loop-at : goal.invariant-loop-at
+invariant-loop-at l =
+    record {
+      some : 1 ≤ l.at;
+      text : l.text.items ≡ l.fn.text.items ++ calls_text (take l.at l.calls);
+    }

@@ -20,20 +20,21 @@ returns-in_err-handle-clause-asks g c =
 
 pub returns-clause-answer : goal.returns-clause-answer
 returns-clause-answer g c =
-    moved (λ (table : LeafTable) (t : Tree). IfOk c.invoke_generic-answer.result (IsAnswer (generic table t c.args.ty.now c.args.args.now 0)
+    moved (λ (table : LeafTable) (t : Tree). IfOk c.invoke_generic_with-answer.result (IsAnswer (generic table t c.args.ty.now c.args.args.now 0)
     (generic_keys table t c.args.ty.now)))
     c.args.w.now.leaves.now c.leaf_handle.new.w.leaves.now c.in_ok-handle.handle (tree.Leaf c.args.id)
-    (ap (λ leaves. leaves.now) c.in_ok-handle.ensures.goes_on.leaves) c.in_ok-handle.ensures.stands c.invoke_generic-answer.ensures.answer
+    (ap (λ leaves. leaves.now) c.in_ok-handle.ensures.goes_on.leaves) c.in_ok-handle.ensures.stands c.invoke_generic_with-answer.ensures.answer
 
 pub returns-clause-asks : goal.returns-clause-asks
 returns-clause-asks g c =
     asks-generic c.args.w.now.leaves.now c.leaf_handle.new.w.leaves.now (tree.Leaf c.args.id) c.in_ok-handle.handle c.args.ty.now
-    c.args.w.now c.leaf_handle.new.w c.invoke_generic-answer.new.w c.give_back.new.w c.invoke_generic-answer.result
+    c.args.w.now c.leaf_handle.new.w c.invoke_generic_with-answer.new.w c.give_back.new.w c.invoke_generic_with-answer.result
     (ap (λ leaves. leaves.now) c.in_ok-handle.ensures.goes_on.leaves) c.give_back.ensures.unchanged.pass c.in_ok-handle.ensures.stands
-    c.in_ok-handle.ensures.asks c.invoke_generic-answer.ensures.asks
+    c.in_ok-handle.ensures.asks c.invoke_generic_with-answer.ensures.asks
 
 pub returns-clause-goes_on : goal.returns-clause-goes_on
 returns-clause-goes_on g c =
-    goes_on-before 2 c.args.w.now c.invoke_generic-answer.new.w c.give_back.new.w
-    (goes_on-both 1 1 c.args.w.now c.leaf_handle.new.w c.invoke_generic-answer.new.w c.in_ok-handle.ensures.goes_on c.invoke_generic-answer.ensures.goes_on)
+    goes_on-before 2 c.args.w.now c.invoke_generic_with-answer.new.w c.give_back.new.w
+    (goes_on-both 1 1 c.args.w.now c.leaf_handle.new.w c.invoke_generic_with-answer.new.w c.in_ok-handle.ensures.goes_on
+    c.invoke_generic_with-answer.ensures.goes_on)
     c.give_back.ensures.unchanged

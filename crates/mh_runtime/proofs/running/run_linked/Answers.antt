@@ -35,7 +35,7 @@ returns-clause-run g c =
     c.in_ok-told.ensures.table
     (c.in_ok-told.ensures.results (table_of (length given.jobs) attempts) c.in_ok-told.ensures.serials)
     (c.in_ok-told.ensures.keys (table_of (length given.jobs) attempts) c.in_ok-told.ensures.serials)
-    (c.len.ensures ∙ (ap (λ (p : PassView). length p.asked) c.give_back-attempts.ensures.unchanged.pass
+    (c.len.ensures.count ∙ (ap (λ (p : PassView). length p.asked) c.give_back-attempts.ensures.unchanged.pass
     ∙ asked-count (run_edits given attempts (plan_edits given.leaves plan)) c.tell-told.new.w.pass.now
     (runs.asked [] (none-asked pass table (seat_at table 0) c.requires.pass))))
     c.in_ok-told.ensures.types

@@ -1,0 +1,45 @@
+-- Lists that are made up to a number: one item more.
+use Rattle.std.proofs.Common.{◌≡◌, ◌∙◌, ap, refl, ℕ, zero, suc, ◌+◌, List, [], ◌∷◌, ◌++◌, arith}
+use Rattle.std.specs.List.{flat_map, range_with_len}
+use Rattle.std.proofs.lemmas.List.{append-nil}
+use Rattle.std.proofs.lemmas.List.Concat.{flat_map-append}
+use Rattle.mh_generated.specs.Plan.{call_text, calls_text, thread_text, threads_text}
+
+-- numbers from one on: the last of one more
+range-more : (first count : ℕ) → range_with_len first (suc count) ≡ range_with_len first count ++ (first + count) ∷ []
+range-more first zero =
+    let e : first ≡ first + 0 = omega arith in ap (λ n. n ∷ []) e
+range-more first (suc count) =
+    let e : first + 1 + count ≡ first + suc count = omega arith in
+    ap (λ ns. first ∷ ns) (range-more (first + 1) count ∙ ap (λ n. range_with_len (first + 1) count ++ n ∷ []) e)
+
+-- the texts of numbers from 0 on: that of one more
+texts-more : (f : ℕ → List ℕ) (count : ℕ) → flat_map f (range_with_len 0 (count + 1)) ≡ flat_map f (range_with_len 0 count) ++ f count
+texts-more f count =
+    let more : count + 1 ≡ suc count = omega arith in
+    let last : 0 + count ≡ count = omega arith in
+    ap (λ n. flat_map f (range_with_len 0 n)) more
+    ∙ ap (flat_map f) (range-more 0 count ∙ ap (λ n. range_with_len 0 count ++ n ∷ []) last)
+    ∙ flat_map-append f (range_with_len 0 count) (count ∷ [])
+    ∙ ap (λ t. flat_map f (range_with_len 0 count) ++ t) (append-nil (f count))
+
+-- the lines of one call more
+pub calls_text_more : (sites thread count : ℕ) →
+    calls_text sites thread (count + 1) ≡ calls_text sites thread count ++ call_text sites thread count
+unfolding calls_text
+calls_text_more sites thread count = texts-more (call_text sites thread) count
+
+-- those of no calls
+pub calls_text_none : (sites thread : ℕ) → calls_text sites thread 0 ≡ []
+unfolding calls_text
+calls_text_none sites thread = refl
+
+-- the lines of one thread more
+pub threads_text_more : (sites count : ℕ) → threads_text sites (count + 1) ≡ threads_text sites count ++ thread_text sites count
+unfolding threads_text
+threads_text_more sites count = texts-more (thread_text sites) count
+
+-- those of no threads
+pub threads_text_none : (sites : ℕ) → threads_text sites 0 ≡ []
+unfolding threads_text
+threads_text_none sites = refl

@@ -1,0 +1,19 @@
+-- The input that is made from a number, as files.
+use Rattle.std.specs.Prelude.{ℕ, List, [], codes, if◌then◌else◌}
+use Rattle.std.specs.Str.{bytes_eq}
+use Rattle.mh_outside.specs.Told.{Told, file}
+use Rattle.mh_generated.specs.Texts.{manifest_text, scripts_text}
+use Rattle.mh_generated.specs.Sites.{class_file}
+use Rattle.mh_generated.specs.Plan.{plan_text}
+
+-- the bytes of the file of a name: the manifest, the scripts, the class file, or the plan; any other file is empty
+abbrev pub bytes_of : ℕ → List ℕ → List ℕ
+bytes_of number name =
+    if bytes_eq name (codes "leaves") then manifest_text
+    else (if bytes_eq name (codes "scripts") then scripts_text
+    else (if bytes_eq name (codes "class") then class_file number
+    else (if bytes_eq name (codes "plan") then plan_text number else [])))
+
+-- each file is told
+abbrev pub files_of : ℕ → List ℕ → Told
+files_of number name = file (bytes_of number name)

@@ -1,0 +1,175 @@
+use super::narrow::NarrowSink;
+use super::{INPUTS, TEXT, add_file, all_files, bytes_of, run};
+use mh_main::status::{DONE, REFUSED, UNREAD, WRITE_FAILED};
+use mh_outside::MemorySink;
+use std::alloc::{AllocError, Global};
+use std::collections::BTreeMap;
+use std::sync::Wait;
+use std::test::Fail;
+use std::thread::Threads;
+
+/// How many bytes the program asks for at a time.
+const PIECE: usize = 16_384;
+
+/// The input of each read of a run, in order. The manifest is longer than one piece, and the last
+/// read of each input finds its end.
+const READS: [&str; 11] = [
+    "leaves.txt",
+    "leaves.txt",
+    "leaves.txt",
+    "scripts.txt",
+    "scripts.txt",
+    "made.class",
+    "made.class",
+    "demo.class",
+    "demo.class",
+    "plan.txt",
+    "plan.txt",
+];
+
+/// All inputs, with a manifest that begins with a piece of empty lines.
+fn files(alloc: Global) -> Result<BTreeMap<String, Vec<u8>>, AllocError> {
+    let mut files = all_files(alloc)?;
+    let mut leaves = vec![in alloc; b'\n'; PIECE]?;
+    leaves.extend_from_slice(bytes_of("leaves.txt"))?;
+    add_file(alloc, &mut files, "leaves.txt", leaves)?;
+    Ok(files)
+}
+
+/// Whether a run of which a read fails has this status, and writes these pieces.
+fn answers<R: Threads + Wait + Sync>(
+    rt: &R,
+    alloc: Global,
+    read: u64,
+    status: u8,
+    pieces: &[&str],
+) -> Result<bool, Fail> {
+    let text = pieces.concat(alloc)?;
+    let fail = Vec::from_slice(alloc, &[read])?;
+    let mut sink = MemorySink {
+        bytes: Vec::new(alloc),
+        fail: Vec::new(alloc),
+        calls: 0,
+        faults: 0,
+    };
+    let found = run(rt, alloc, files(alloc)?, fail, &mut sink);
+    Ok(found == status && sink.bytes.as_slice() == text.as_bytes())
+}
+
+#[test]
+fn each_read_fails(rt: HostRuntime) -> Result<(), Fail> {
+    let alloc = rt.alloc();
+    for (read, name) in READS.iter().enumerate() {
+        let line = ["cannot read ", *name, "\n"];
+        assert!(rt;
+            answers(&rt, alloc, read as u64, UNREAD, &line)?,
+            "read {read}"
+        );
+    }
+    assert!(rt; answers(&rt, alloc, READS.len() as u64, DONE, &[TEXT])?);
+    Ok(())
+}
+
+/// What a run writes, a few bytes at a time.
+struct Text {
+    name: &'static str,
+    /// The inputs from this one on are not there.
+    absent: usize,
+    /// What stands after the plan.
+    line: &'static str,
+    status: u8,
+    text: &'static str,
+    /// In how many writes.
+    writes: u64,
+}
+
+static TEXTS: [Text; 3] = [
+    Text {
+        name: "a report",
+        absent: 5,
+        line: "",
+        status: DONE,
+        text: TEXT,
+        writes: 44,
+    },
+    Text {
+        name: "a refusal",
+        absent: 5,
+        line: "other\n",
+        status: REFUSED,
+        text: "refused plan.txt line 6 BadLine\n",
+        writes: 9,
+    },
+    Text {
+        name: "an input that cannot be read",
+        absent: 3,
+        line: "",
+        status: UNREAD,
+        text: "cannot read demo.class\n",
+        writes: 5,
+    },
+];
+
+/// The inputs of such a run.
+fn text_files(alloc: Global, row: &Text) -> Result<BTreeMap<String, Vec<u8>>, AllocError> {
+    let mut files = BTreeMap::new(alloc);
+    for name in INPUTS.iter().take(row.absent) {
+        let bytes = Vec::from_slice(alloc, bytes_of(name))?;
+        add_file(alloc, &mut files, name, bytes)?;
+    }
+    if let Some(plan) = files.get_mut("plan.txt") {
+        plan.extend_from_slice(row.line.as_bytes())?;
+    }
+    Ok(files)
+}
+
+/// The status of such a run of which a write fails, and what it wrote.
+fn written<R: Threads + Wait + Sync>(
+    rt: &R,
+    alloc: Global,
+    row: &Text,
+    write: u64,
+) -> Result<(u8, Vec<u8>), AllocError> {
+    let mut sink = NarrowSink::new(alloc, write);
+    let files = text_files(alloc, row)?;
+    let status = run(rt, alloc, files, Vec::new(alloc), &mut sink);
+    Ok((status, sink.bytes))
+}
+
+/// Whether such a run ends with the status of a failed write, and has written a front part.
+fn breaks_off<R: Threads + Wait + Sync>(
+    rt: &R,
+    alloc: Global,
+    row: &Text,
+    write: u64,
+) -> Result<bool, AllocError> {
+    let (status, bytes) = written(rt, alloc, row, write)?;
+    let text = row.text.as_bytes();
+    Ok(status == WRITE_FAILED && bytes.len() < text.len() && text.starts_with(&bytes))
+}
+
+/// Whether a run that makes no write of this number is as the row says.
+fn is_whole<R: Threads + Wait + Sync>(
+    rt: &R,
+    alloc: Global,
+    row: &Text,
+    write: u64,
+) -> Result<bool, AllocError> {
+    let (status, bytes) = written(rt, alloc, row, write)?;
+    Ok(status == row.status && bytes.as_slice() == row.text.as_bytes())
+}
+
+#[test]
+fn each_write_fails(rt: HostRuntime) -> Result<(), Fail> {
+    for row in &TEXTS {
+        for write in 0..row.writes {
+            assert!(rt;
+                breaks_off(&rt, rt.alloc(), row, write)?,
+                "{}, write {write}",
+                row.name
+            );
+        }
+        assert!(rt; is_whole(&rt, rt.alloc(), row, row.writes)?, "{}", row.name);
+    }
+    Ok(())
+}
