@@ -9,8 +9,6 @@ mod full;
 #[cfg(test)]
 mod playing;
 #[cfg(test)]
-mod random;
-#[cfg(test)]
 mod threads;
 #[cfg(test)]
 mod types;

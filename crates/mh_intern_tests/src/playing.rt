@@ -2,11 +2,12 @@ ghost use Rattle.std.specs.Prelude.{◌≡◌, ◌+◌, ◌≤◌, [], ◌∷◌
 ghost use Rattle.mh_seats.specs.Room.{limit};
 ghost use Rattle.mh_intern_tests.specs.Hands.{HasInHand, HasNewer};
 
-use crate::random::Random;
 use crate::types::{of_bucket_5, of_bucket_7};
 use mh_base::NoMemory;
 use mh_intern::{HeldType, InternError, TypeSeat, TypeTable};
 use mh_values::{MethodTy, is_same_method_type};
+use rand_core::utils::NextWord;
+use rand_pcg::Pcg32;
 use std::alloc::Global;
 use std::sync::Wait;
 use std::test::Fail;
@@ -16,9 +17,9 @@ use std::thread::{Threads, join};
 type Hand = (TypeSeat, HeldType);
 
 /// One of 40 types of bucket 7 and 40 of bucket 5: more than the slots that a bucket has.
-fn any_type(alloc: Global, random: &mut Random) -> Result<MethodTy, NoMemory> {
-    let number = random.below(40);
-    if random.below(2) == 0 {
+fn any_type(alloc: Global, random: &mut Pcg32) -> Result<MethodTy, NoMemory> {
+    let number = random.next_word() % 40;
+    if random.next_word() % 2 == 0 {
         of_bucket_7(alloc, number)
     } else {
         of_bucket_5(alloc, number)
@@ -41,7 +42,7 @@ fn turn<R: Wait>(
     alloc: Global,
     table: &TypeTable,
     hand: Hand,
-    random: &mut Random,
+    random: &mut Pcg32,
 ) -> Result<Hand, InternError>
     requires hand { HasInHand table.now hand.0 hand.1 }
     requires room { 1 ≤ hand.0.room }
@@ -49,7 +50,7 @@ fn turn<R: Wait>(
     ensures room { IfOk result (λ h. h.0.room ≡ hand.0.room) }
 {
     let (mut seat, held) = hand;
-    match random.below(3) {
+    match random.next_word() % 3 {
         0 => {
             let newer = table.dup(alloc, &mut seat, &held)?;
             release_older(table, &mut seat, &newer, held);
@@ -81,7 +82,7 @@ fn play<R: Wait>(
     ensures hand { IfOk result (λ h. HasInHand table.now h.0 h.1) }
     ensures room { IfOk result (λ h. h.0.room + 1 ≡ seat.room) }
 {
-    let mut random = Random { state: seed };
+    let mut random = Pcg32::new(seed, 0);
     let held = table.intern(rt, alloc, &mut seat, any_type(alloc, &mut random)?)?;
     let mut hand = (seat, held);
     for _ in 0..1000 {

@@ -2,7 +2,6 @@
 //! table of forms.
 #![tactic(auto)]
 
-#[cfg(test)]
 mod edits;
 #[cfg(test)]
 mod handles;
@@ -10,11 +9,7 @@ mod handles;
 mod linkages;
 #[cfg(test)]
 mod passes;
-#[cfg(test)]
 mod racing;
-#[cfg(test)]
-mod random;
-#[cfg(test)]
 mod task;
 #[cfg(test)]
 mod values;

@@ -5,10 +5,11 @@ ghost use Rattle.mh_handle.specs.Passes.{IsPassOf};
 ghost use Rattle.mh_thread_tests.specs.Lanes.{CanRun, HasRun};
 
 use crate::edits::{more_ints, root};
-use crate::random::Random;
 use crate::task::{Task, run_each};
 use mh_base::{NoMemory, Seq};
 use mh_handle::{EditError, FormPass, FormTable};
+use rand_core::utils::NextWord;
+use rand_pcg::Pcg32;
 use std::alloc::Global;
 use std::sync::Wait;
 use std::test::Fail;
@@ -72,12 +73,12 @@ fn edit_at_random<'t, R: Wait>(
     requires room { 200 ≤ pass.old.seat.room }
     ensures table { pass.new.table ≡ pass.old.table }
 {
-    let mut random = Random { state: seed };
+    let mut random = Pcg32::new(seed, 0);
     let mut all = Seq::new(alloc);
     for turn in 0..EDITS {
         let recipe = Recipe {
-            ints: random.below(KINDS),
-            more: 1 + random.below(KINDS),
+            ints: random.next_word() % KINDS,
+            more: 1 + random.next_word() % KINDS,
         };
         all.push(edit_by(rt, alloc, table, pass, recipe)?)?;
     }
