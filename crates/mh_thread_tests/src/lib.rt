@@ -10,6 +10,5 @@ mod linkages;
 #[cfg(test)]
 mod passes;
 mod racing;
-mod task;
 #[cfg(test)]
 mod values;

@@ -5,9 +5,9 @@ ghost use Rattle.mh_handle.specs.Passes.{IsPassOf};
 ghost use Rattle.mh_thread_tests.specs.Lanes.{CanRun, HasRun};
 
 use crate::edits::{more_ints, root};
-use crate::task::{Task, run_each};
 use mh_base::{NoMemory, Seq};
 use mh_handle::{EditError, FormPass, FormTable};
+use mh_threads::{Task, run_each};
 use rand_core::utils::NextWord;
 use rand_pcg::Pcg32;
 use std::alloc::Global;

@@ -1,12 +1,12 @@
-//! Work that many threads do, each on a lane of its own.
 ghost use Rattle.std.specs.Prelude.{◌≡◌, ℕ, ◌<◌, All, length, slice_index_or};
 
 use std::sync::Wait;
 use std::thread;
 use std::thread::Threads;
 
-/// What is done with each lane.
+/// What is done with each lane, by a thread that shares the task with those of the other lanes.
 pub trait Task {
+    /// What one thread works on.
     type Lane: Send;
 
     // A lane that may be run, and what it is afterwards.
@@ -14,12 +14,14 @@ pub trait Task {
 
     ghost done: { Self → Self.Lane → Self.Lane → Type 0 };
 
+    /// Works on a lane.
     fn run<R: Wait>(&self, rt: &R, lane: &mut Self::Lane)
         requires { ready self.now lane.old }
         ensures { done self.entry.now lane.old lane.new };
 }
 
-/// A thread for each lane.
+/// Runs the task on each lane, each in a thread. It returns when all are done, and takes no memory of
+/// its own. A thread that cannot be had is no refusal: its lane is run by the caller.
 pub fn run_each<T: Task + Sync, R: Threads + Wait + Sync>(rt: &R, task: &T, lanes: &mut [T::Lane])
     requires some { 0 < length lanes.old }
     requires ready { All (T.ready task.now) lanes.old }
