@@ -10,12 +10,13 @@ use Rattle.mh_handle.specs.Passes.{AsksFor, DrawsAtMostOne, IsFormOf, PassView, 
 use Rattle.mh_handle.specs.Works.{GoesOn, IsReady, IsUnchanged, Makes}
 
 pub goes_on-still : (w : Work) → GoesOn 0 w w
-goes_on-still w = record { forms = refl; leaves = refl; table = refl; learnt = λ recipe form found. found; room = omega arith }
+goes_on-still w = record { forms = refl; leaves = refl; borrow = refl; table = refl; learnt = λ recipe form found. found; room = omega arith }
 
 pub goes_on-both : (m n : ℕ) (a b c : Work) → GoesOn m a b → GoesOn n b c → GoesOn (m + n) a c
 goes_on-both m n a b c x y = record {
   forms = y.forms ∙ x.forms;
   leaves = y.leaves ∙ x.leaves;
+  borrow = y.borrow ∙ x.borrow;
   table = y.table ∙ x.table;
   learnt = λ recipe form found. y.learnt recipe form (x.learnt recipe form found);
   room = omega (arith, x.room, y.room);
@@ -24,21 +25,22 @@ goes_on-both m n a b c x y = record {
 -- where fewer numbers are drawn, at most so many are
 pub goes_on-more : (m n : ℕ) (a b : Work) → m ≤ n → GoesOn m a b → GoesOn n a b
 goes_on-more m n a b few x =
-    record { forms = x.forms; leaves = x.leaves; table = x.table; learnt = x.learnt; room = omega (arith, few, x.room) }
+    record { forms = x.forms; leaves = x.leaves; borrow = x.borrow; table = x.table; learnt = x.learnt; room = omega (arith, few, x.room) }
 
 -- ---- calls that leave all but the number of handles
 
 pub unchanged-still : (w : Work) → IsUnchanged w w
-unchanged-still w = record { alloc = refl; forms = refl; leaves = refl; pass = refl }
+unchanged-still w = record { alloc = refl; forms = refl; leaves = refl; borrow = refl; pass = refl }
 
 pub unchanged-both : (a b c : Work) → IsUnchanged a b → IsUnchanged b c → IsUnchanged a c
 unchanged-both a b c x y =
-    record { alloc = y.alloc ∙ x.alloc; forms = y.forms ∙ x.forms; leaves = y.leaves ∙ x.leaves; pass = y.pass ∙ x.pass }
+    record { alloc = y.alloc ∙ x.alloc; forms = y.forms ∙ x.forms; leaves = y.leaves ∙ x.leaves; borrow = y.borrow ∙ x.borrow; pass = y.pass ∙ x.pass }
 
 pub unchanged-goes_on : (a b : Work) → IsUnchanged a b → GoesOn 0 a b
 unchanged-goes_on a b x = record {
   forms = x.forms;
   leaves = x.leaves;
+  borrow = x.borrow;
   table = ap (λ (p : PassView). p.table) x.pass;
   learnt = subst (λ (p : PassView). (recipe : List Key) (form : FormView) → IsFormOf recipe a.pass.now form → IsFormOf recipe p form) (sym x.pass)
       (λ recipe form found. found);

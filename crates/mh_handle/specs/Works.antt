@@ -33,6 +33,7 @@ pub record IsUnchanged (old new : Work) : Type 0 where
   pub alloc : new.alloc ≡ old.alloc
   pub forms : new.forms ≡ old.forms
   pub leaves : new.leaves ≡ old.leaves
+  pub borrow : new.pass.ghost_name ≡ old.pass.ghost_name
   pub pass : new.pass.now ≡ old.pass.now
 
 -- what a call leaves of the number of handles that is handed so many of them and answers one: each that it was handed is a part of that one by then, or was
@@ -45,6 +46,7 @@ CountsHandles handed old new (Err error) = new.handles.now ≡ old.handles.now -
 pub record GoesOn (numbers : ℕ) (old new : Work) : Type 0 where
   pub forms : new.forms ≡ old.forms
   pub leaves : new.leaves ≡ old.leaves
+  pub borrow : new.pass.ghost_name ≡ old.pass.ghost_name
   pub table : new.pass.now.table ≡ old.pass.now.table
   pub learnt : StaysLearnt old.pass.now new.pass.now
   pub room : old.pass.now.seat.room ≤ new.pass.now.seat.room + numbers
