@@ -1,10 +1,11 @@
 -- What an edit leaves of a pass, by the recipes that were asked for.
-use Rattle.std.proofs.Common.{◌≡◌, refl, sym, ◌∙◌, ap, subst, ℕ, suc, ◌+◌, ◌^◌, ◌<◌, ◌≤◌, Bool, true, false, ◌||◌, List, [], ◌∷◌, ◌++◌, length, length-append, map, Some, ⊎_elim, arith}
-use Rattle.std.specs.Prelude.{slice_get}
+use Rattle.std.proofs.Common.{◌≡◌, refl, sym, ◌∙◌, ap, subst, ℕ, suc, ◌+◌, ◌<◌, ◌≤◌, Bool, true, false, ◌||◌, List, [], ◌∷◌, ◌++◌, length, length-append, map, Some, ⊎_elim, arith}
+use Rattle.std.specs.Prelude.{Contains, slice_get}
 use Rattle.std.specs.List.{IsDistinct}
 use Rattle.std.specs.Option.{option_map}
 use Rattle.std.specs.Set.{distinct_count}
 use Rattle.std.proofs.lemmas.List.{map-append, length-map}
+use Rattle.std.proofs.lemmas.List.Elements.{Contains-push}
 use Rattle.std.proofs.lemmas.Option.{slice_get-map}
 use Rattle.std.proofs.lemmas.Map.Keys.{IsDistinct-push, any_passes_from_place}
 use Rattle.std.proofs.lemmas.Map.Made.{length-from_keys}
@@ -15,7 +16,7 @@ use Rattle.mh_handle.specs.Index.{recipe_of}
 use Rattle.mh_handle.specs.Passes.{PassView, SeatView, AsksFor, Draws, DrawsAtMostOne, IsUnlearnt}
 use Rattle.mh_handle.specs.SameRecipes.{same_recipe}
 use Rattle.mh_handle.proofs.SameRecipes.{same_recipe-decides, same_recipe-equivalence}
-use Rattle.mh_attempt.specs.Asked.{asked_recipes, DrawsInOrder, HasAsked, AreTooMany}
+use Rattle.mh_attempt.specs.Asked.{asked_recipes, DrawsWithin, HasAsked, HasDrawn, IsFull}
 use Rattle.mh_attempt.proofs.RecipeCounts.{is_one, again, one-more}
 
 lacking : (forms : List FormView) (r : List Key) → Lacks recipe_of forms r → is_one (map recipe_of forms) r ≡ false
@@ -65,44 +66,57 @@ asked-more recipes old new f r has made asks =
     (λ (now : Lacks recipe_of old.asked f.recipe × (new.asked ≡ old.asked ++ f ∷ [])). asked-now recipes old new f r has now.0 now.1 made)
     asks
 
--- a number was drawn for a recipe that was not asked for, and none was left
-pub asked-full : (recipes : List (List Key)) (old : PassView) (new : SeatView) (r : List Key) (drawn : ℕ) → HasAsked recipes old → DrawsInOrder old →
-    Lacks recipe_of old.asked r → Draws drawn old.seat new → 16384 < drawn → AreTooMany (recipes ++ r ∷ [])
-asked-full recipes old new r drawn has in_order none draws past =
+-- ---- numbers
+
+-- a number was drawn for a recipe that was not asked for: no more were drawn than recipes differ
+drawn-last : (whole : ℕ) (recipes : List (List Key)) (old new : PassView) (r : List Key) (drawn : ℕ) → HasAsked recipes old → DrawsWithin whole old →
+    Lacks recipe_of old.asked r → Draws drawn old.seat new.seat → HasDrawn whole (recipes ++ r ∷ []) new
+drawn-last whole recipes old new r drawn has within none draws =
     let rs : List (List Key) = map recipe_of old.asked in
-    let next : drawn ≡ length old.seat.numbers + 1 = draws.next in_order.room in
+    let numbers : length new.seat.numbers ≡ length old.seat.numbers + 1 = ap length draws.numbers ∙ length-append old.seat.numbers (drawn ∷ []) in
+    let left : new.seat.room + 1 ≡ old.seat.room = draws.room in
     let long : length (rs ++ r ∷ []) ≡ length old.asked + 1 = length-append rs (r ∷ []) ∙ ap (λ n. n + 1) (length-map old.asked recipe_of) in
     let counted : length (rs ++ r ∷ []) ≡ distinct_count same_recipe (recipes ++ r ∷ []) =
     length-from_keys same_recipe-equivalence (rs ++ r ∷ []) (recipes ++ r ∷ [])
     (IsDistinct-push same_recipe-equivalence rs r has.once (lacking old.asked r none))
     (λ q. one-more rs r q ∙ (ap (λ b. b || same_recipe q r) (has.same q) ∙ sym (one-more recipes r q))) in
-    omega (arith, past, next, in_order.few, long, counted)
+    record {
+      few = omega (arith, within.few, numbers, long, counted);
+      room = omega (arith, within.room, numbers, left);
+    }
 
--- ---- numbers
+-- a number was drawn for a recipe that was not asked for, and none was left
+pub asked-full : (old new : PassView) (r : List Key) (drawn : ℕ) → Lacks recipe_of old.asked r → Draws drawn old.seat new.seat → 16384 < drawn →
+    IsFull (r ∷ []) drawn old new
+asked-full old new r drawn none draws past = (
+  λ whole within before has. drawn-last whole before old new r drawn has within none draws,
+  (past, subst (λ ns. Contains ns drawn) (sym draws.numbers) (Contains-push old.seat.numbers drawn)),
+)
 
-drawn-now : (old new : PassView) (f : FormView) (r : List Key) → DrawsInOrder old → new.asked ≡ old.asked ++ f ∷ [] → DrawsAtMostOne r old new →
-    DrawsInOrder new
-drawn-now old new f r in_order pushed draws =
+drawn-now : (whole : ℕ) (old new : PassView) (f : FormView) (r : List Key) → DrawsWithin whole old → new.asked ≡ old.asked ++ f ∷ [] →
+    DrawsAtMostOne r old new → DrawsWithin whole new
+drawn-now whole old new f r within pushed draws =
     let more : length new.asked ≡ length old.asked + 1 = ap length pushed ∙ length-append old.asked (f ∷ []) in
     ⊎_elim
     (λ (same : new.seat ≡ old.seat).
-    let few : length old.seat.numbers ≤ length new.asked = omega (arith, in_order.few, more) in
+    let few : length old.seat.numbers ≤ length new.asked = omega (arith, within.few, more) in
     record {
       few = subst (λ (s : SeatView). length s.numbers ≤ length new.asked) (sym same) few;
-      room = subst (λ (s : SeatView). length s.numbers + s.room ≡ 2 ^ 62) (sym same) in_order.room;
+      room = subst (λ (s : SeatView). length s.numbers + s.room ≡ whole) (sym same) within.room;
     })
     (λ (d : (number : ℕ) × Draws number old.seat new.seat × IsUnlearnt r old).
     let numbers : length new.seat.numbers ≡ length old.seat.numbers + 1 = ap length d.1.numbers ∙ length-append old.seat.numbers (d.0 ∷ []) in
     let left : new.seat.room + 1 ≡ old.seat.room = d.1.room in
     record {
-      few = omega (arith, in_order.few, more, numbers);
-      room = omega (arith, in_order.room, numbers, left);
+      few = omega (arith, within.few, more, numbers);
+      room = omega (arith, within.room, numbers, left);
     })
     draws
 
-pub drawn-more : (old new : PassView) (f : FormView) (r : List Key) → DrawsInOrder old → AsksFor f old new → DrawsAtMostOne r old new → DrawsInOrder new
-drawn-more old new f r in_order asks draws =
+pub drawn-more : (whole : ℕ) (old new : PassView) (f : FormView) (r : List Key) → DrawsWithin whole old → AsksFor f old new → DrawsAtMostOne r old new →
+    DrawsWithin whole new
+drawn-more whole old new f r within asks draws =
     ⊎_elim
-    (λ (before : Has recipe_of old.asked f.recipe f × (new ≡ old)). subst DrawsInOrder (sym before.1) in_order)
-    (λ (now : Lacks recipe_of old.asked f.recipe × (new.asked ≡ old.asked ++ f ∷ [])). drawn-now old new f r in_order now.1 draws)
+    (λ (before : Has recipe_of old.asked f.recipe f × (new ≡ old)). subst (DrawsWithin whole) (sym before.1) within)
+    (λ (now : Lacks recipe_of old.asked f.recipe × (new.asked ≡ old.asked ++ f ∷ [])). drawn-now whole old new f r within now.1 draws)
     asks

@@ -19,7 +19,7 @@ use Rattle.mh_link.specs.Linked.{assigning, stepped}
 use Rattle.mh_link.specs.Made.{unless_thrown}
 use Rattle.mh_link.specs.Operands.{Frame, handle}
 use Rattle.mh_link.specs.Operations.{node_of}
-use Rattle.mh_attempt.specs.Asked.{AsksOrThrows, HasAskedMore}
+use Rattle.mh_attempt.specs.Asked.{AsksOrThrows, HasAskedMore, IsFull}
 use Rattle.mh_attempt.specs.Lines.{MakesNode, passes}
 use Rattle.mh_attempt.specs.Recipes.{line_recipes, script_asked, script_recipes, step_asked}
 use Rattle.mh_attempt.specs.Registers.{Hold}
@@ -65,7 +65,7 @@ pub asks-after : {A : Type 0} (recipes more : List (List Key)) (old mid new : Wo
     HasAskedMore recipes old.pass.now mid.pass.now → AsksOrThrows more mid new r → AsksOrThrows (recipes ++ more) old new r
 asks-after recipes more old mid new (Ok a) first asks = asked_more-both recipes more old.pass.now mid.pass.now new.pass.now first asks
 asks-after recipes more old mid new (Err (Refused e)) first asks = asked_more-both recipes more old.pass.now mid.pass.now new.pass.now first asks
-asks-after recipes more old mid new (Err (FormsFull drawn)) first full = full-after recipes more old.pass.now mid.pass.now first full
+asks-after recipes more old mid new (Err (FormsFull drawn)) first full = full-after recipes more drawn old.pass.now mid.pass.now new.pass.now first full
 asks-after recipes more old mid new (Err NoMemory) first asks = tt
 
 -- the pass stays as it is when a handle is given back
@@ -73,7 +73,7 @@ pub asks-given_back : {A : Type 0} (recipes : List (List Key)) (old new back : W
     AsksOrThrows recipes old new r → AsksOrThrows recipes old back r
 asks-given_back recipes old new back (Ok a) same asks = subst (HasAskedMore recipes old.pass.now) (sym same) asks
 asks-given_back recipes old new back (Err (Refused e)) same asks = subst (HasAskedMore recipes old.pass.now) (sym same) asks
-asks-given_back recipes old new back (Err (FormsFull drawn)) same full = full
+asks-given_back recipes old new back (Err (FormsFull drawn)) same full = subst (IsFull recipes drawn old.pass.now) (sym same) full
 asks-given_back recipes old new back (Err NoMemory) same asks = tt
 
 -- what follows asks, over leaves that stayed
@@ -119,7 +119,7 @@ let-unasked old new name op steps e frame error makes asks =
         same-asks {A = Handle} (line_recipes leaves frame op ++ rest) (line_recipes leaves frame op) old new (Err (Refused exc))
         (ap (λ rs. line_recipes leaves frame op ++ rs) (untaken-recipes leaves name op steps e frame exc thrown.0)
         ∙ append-nil (line_recipes leaves frame op)) asked
-    cases (FormsFull drawn) made full = full-first (line_recipes leaves frame op) rest old.pass.now full
+    cases (FormsFull drawn) made full = full-first (line_recipes leaves frame op) rest drawn old.pass.now new.pass.now full
     cases NoMemory made asked = tt
 
 -- ---- `failmod`

@@ -29,27 +29,33 @@ asks-still old new same = subst (HasAskedMore [] old) (sym same) (asked_more-non
 pub asks-then : {A : Type 0} (recipes more : List (List Key)) (old mid new : Work) (r : Result A HandleError) →
     HasAskedMore recipes old.pass.now mid.pass.now → AsksIfMade more mid new r → AsksIfMade (recipes ++ more) old new r
 asks-then recipes more old mid new (Ok a) first asks = asked_more-both recipes more old.pass.now mid.pass.now new.pass.now first asks
-asks-then recipes more old mid new (Err (FormsFull drawn)) first asks = full-after recipes more old.pass.now mid.pass.now first asks
+asks-then recipes more old mid new (Err (FormsFull drawn)) first asks = full-after recipes more drawn old.pass.now mid.pass.now new.pass.now first asks
 asks-then recipes more old mid new (Err NoMemory) first asks = tt
 asks-then recipes more old mid new (Err (Refused e)) first asks = tt
 
 -- a call that stopped, whose error is handed on
 pub asks-stopped : {A : Type 0} (recipes more : List (List Key)) (old new : Work) (error : HandleError) (r : Result A HandleError) →
-    IsErrAnd r (λ x. x ≡ error) → HasStopped recipes old.pass.now error → AsksIfMade (recipes ++ more) old new r
+    IsErrAnd r (λ x. x ≡ error) → HasStopped recipes old.pass.now new.pass.now error → AsksIfMade (recipes ++ more) old new r
 asks-stopped recipes more old new error (Ok a) is stopped = absurd is
-asks-stopped recipes more old new error (Err x) is stopped = subst (HasStopped (recipes ++ more) old.pass.now) (sym is) (early error stopped)
+asks-stopped recipes more old new error (Err x) is stopped = subst (HasStopped (recipes ++ more) old.pass.now new.pass.now) (sym is) (early error stopped)
   where
-    early : (e : HandleError) → HasStopped recipes old.pass.now e → HasStopped (recipes ++ more) old.pass.now e
-    early (FormsFull drawn) full = full-first recipes more old.pass.now full
+    early : (e : HandleError) → HasStopped recipes old.pass.now new.pass.now e → HasStopped (recipes ++ more) old.pass.now new.pass.now e
+    early (FormsFull drawn) full = full-first recipes more drawn old.pass.now new.pass.now full
     early NoMemory full = tt
     early (Refused e) full = tt
+
+-- the pass stays as it is when handles are given back
+pub asks-unchanged : {A : Type 0} (recipes : List (List Key)) (old new back : Work) (r : Result A HandleError) → back.pass.now ≡ new.pass.now →
+    AsksIfMade recipes old new r → AsksIfMade recipes old back r
+asks-unchanged recipes old new back (Ok a) same asks = subst (HasAskedMore recipes old.pass.now) (sym same) asks
+asks-unchanged recipes old new back (Err error) same asks = subst (λ pass. HasStopped recipes old.pass.now pass error) (sym same) asks
 
 -- a check that refuses
 pub asks-refused : {A : Type 0} (recipes : List (List Key)) (old new : Work) (error : CheckError) (r : Result A HandleError) →
     IsErrAnd r (λ x. x ≡ of_check error) → AsksIfMade recipes old new r
 asks-refused recipes old new error (Ok a) is = absurd is
-asks-refused recipes old new check.NoMemory (Err x) is = subst (HasStopped recipes old.pass.now) (sym is) tt
-asks-refused recipes old new (check.Refused e) (Err x) is = subst (HasStopped recipes old.pass.now) (sym is) tt
+asks-refused recipes old new check.NoMemory (Err x) is = subst (HasStopped recipes old.pass.now new.pass.now) (sym is) tt
+asks-refused recipes old new (check.Refused e) (Err x) is = subst (HasStopped recipes old.pass.now new.pass.now) (sym is) tt
 
 -- ---- handles that are made
 
@@ -57,10 +63,9 @@ asks-refused recipes old new (check.Refused e) (Err x) is = subst (HasStopped re
 pub asks-made : (r : List Key) (old new : Work) (made : Result Handle HandleError) → Makes r old new made → AsksIfMade (r ∷ []) old new made
 asks-made r old new (Ok h) makes = record {
   asked = λ before has. asked-more before old.pass.now new.pass.now h.form r has makes.0 makes.1;
-  in_order = λ in_order. drawn-more old.pass.now new.pass.now h.form r in_order makes.1 makes.2;
+  within = λ whole within. drawn-more whole old.pass.now new.pass.now h.form r within makes.1 makes.2;
 }
-asks-made r old new (Err (FormsFull drawn)) makes = λ in_order before has.
-    asked-full before old.pass.now new.pass.now.seat r drawn has in_order makes.0.0 makes.1 makes.2
+asks-made r old new (Err (FormsFull drawn)) makes = asked-full old.pass.now new.pass.now r drawn makes.0.0 makes.1 makes.2
 asks-made r old new (Err NoMemory) makes = tt
 asks-made r old new (Err (Refused e)) makes = tt
 
@@ -99,7 +104,7 @@ asks-both first second third old new (Ok h) makes =
 asks-both first second third old new (Err (FormsFull drawn)) makes =
     ⊎_elim
     (λ (early : MakesFrom first second old new (Err (FormsFull drawn))).
-    full-first (unless_same first second) (third ∷ []) old.pass.now (asks-from first second old new (Err (FormsFull drawn)) early))
+    full-first (unless_same first second) (third ∷ []) drawn old.pass.now new.pass.now (asks-from first second old new (Err (FormsFull drawn)) early))
     (λ (late : (mid : Work) × (g : Handle) × MakesFrom first second old mid (Ok g) × Makes third mid new (Err (FormsFull drawn))).
     asks-then {A = Handle} (unless_same first second) (third ∷ []) old late.0 new (Err (FormsFull drawn)) (asks-from first second old late.0 (Ok late.1) late.2)
     (asks-made third late.0 new (Err (FormsFull drawn)) late.3))

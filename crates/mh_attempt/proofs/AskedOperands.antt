@@ -46,7 +46,7 @@ asks-leaf o l old new r is makes =
 
 -- the handles of operands could not be made
 pub asks-unmade : {A : Type 0} (leaves : LeafTable) (operands : List HandleOperand) (nodes : List Tree) (old new : Work) (error : HandleError)
-    (r : Result A HandleError) → IsErrAnd r (λ x. x ≡ error) → HasStopped (recipes_made leaves operands []) old.pass.now error →
+    (r : Result A HandleError) → IsErrAnd r (λ x. x ≡ error) → HasStopped (recipes_made leaves operands []) old.pass.now new.pass.now error →
     AsksIfMade (recipes_made leaves operands nodes) old new r
 asks-unmade leaves operands nodes old new error r is stopped =
     subst (λ rs. AsksIfMade rs old new r) (made-then leaves operands nodes)
@@ -54,7 +54,7 @@ asks-unmade leaves operands nodes old new error r is stopped =
 
 -- so that those of others were not made
 pub asks-unmade-both : {A : Type 0} (leaves : LeafTable) (operands others : List HandleOperand) (old new : Work) (error : HandleError)
-    (r : Result A HandleError) → IsErrAnd r (λ x. x ≡ error) → HasStopped (recipes_made leaves operands []) old.pass.now error →
+    (r : Result A HandleError) → IsErrAnd r (λ x. x ≡ error) → HasStopped (recipes_made leaves operands []) old.pass.now new.pass.now error →
     AsksIfMade (recipes_made leaves (operands ++ others) []) old new r
 asks-unmade-both leaves operands others old new error r is stopped =
     subst (λ rs. AsksIfMade rs old new r) (made-both leaves operands others)

@@ -36,7 +36,7 @@ asks-node leaves node asked old new (Ok h) makes asks =
     subst (λ m. HasAskedMore (map (recipe leaves) (unless_thrown m asked)) old.pass.now new.pass.now) (sym makes.1) (asks makes.0 makes.1)
 asks-node leaves node asked old new (Err NoMemory) makes asks = tt
 asks-node leaves node asked old new (Err (FormsFull drawn)) makes asks =
-    subst (λ m. IsFull (map (recipe leaves) (unless_thrown m asked)) old.pass.now) (sym makes.1) (asks makes.0 makes.1)
+    subst (λ m. IsFull (map (recipe leaves) (unless_thrown m asked)) drawn old.pass.now new.pass.now) (sym makes.1) (asks makes.0 makes.1)
 asks-node leaves node asked old new (Err (Refused e)) makes asks =
     subst (λ m. HasAskedMore (map (recipe leaves) (unless_thrown m asked)) old.pass.now new.pass.now) (sym makes.0)
     (asks-still old.pass.now new.pass.now makes.1.pass)

@@ -9,6 +9,7 @@ pub mod AskedUses
 pub mod Asking
 pub mod Beginnings
 pub mod Counting
+pub mod Crossing
 pub mod Endings
 pub mod JobCalls
 pub mod KnownHandles

@@ -1,13 +1,14 @@
--- How many recipes of a list differ, and of a longer one.
-use Rattle.std.proofs.Common.{◌≡◌, refl, sym, ◌∙◌, ap, ◌≤◌, Bool, true, false, ◌||◌, cond, List, [], ◌∷◌, ◌++◌, length, arith}
+-- How many recipes of a list differ, and of a longer one; and that no more numbers were drawn.
+use Rattle.std.proofs.Common.{◌≡◌, refl, sym, ◌∙◌, ap, ℕ, ◌≤◌, Bool, true, false, ◌||◌, cond, List, [], ◌∷◌, ◌++◌, arith}
 use Rattle.std.specs.List.{list_any, IsDistinct, AllByRecursion}
-use Rattle.std.specs.Set.{unique_keys}
+use Rattle.std.specs.Set.{distinct_count, unique_keys}
 use Rattle.std.proofs.lemmas.List.Folds.{list_any-append}
 use Rattle.std.proofs.lemmas.Map.Made.{length-le_from_is_member}
 use Rattle.mh_edit.specs.declared.key.Key.{Key}
+use Rattle.mh_handle.specs.Passes.{PassView}
 use Rattle.mh_handle.specs.SameRecipes.{same_recipe}
 use Rattle.mh_handle.proofs.SameRecipes.{same_recipe-decides, same_recipe-equivalence}
-use Rattle.mh_attempt.specs.Asked.{AreTooMany}
+use Rattle.mh_attempt.specs.Asked.{HasDrawn}
 
 -- whether a recipe is one of a list
 abbrev pub is_one : List (List Key) → List Key → Bool
@@ -76,14 +77,17 @@ once-distinct (r ∷ recipes) = cases (is_one recipes r) refl (once-distinct rec
 in-front : (recipes more : List (List Key)) (q : List Key) → is_one recipes q ≡ true → is_one (recipes ++ more) q ≡ true
 in-front recipes more q there = list_any-append (same_recipe q) recipes more ∙ ap (λ b. b || is_one more q) there
 
--- more recipes differ of a list that has the recipes of another one
-pub too_many-within : (recipes more : List (List Key)) → ((q : List Key) → is_one recipes q ≡ true → is_one more q ≡ true) → AreTooMany recipes →
-    AreTooMany more
-too_many-within recipes more within many =
-    let few : length (unique_keys same_recipe recipes) ≤ length (unique_keys same_recipe more) =
+-- of a list that has the recipes of another one, no fewer differ
+pub count-within : (recipes more : List (List Key)) → ((q : List Key) → is_one recipes q ≡ true → is_one more q ≡ true) →
+    distinct_count same_recipe recipes ≤ distinct_count same_recipe more
+count-within recipes more within =
     length-le_from_is_member same_recipe-equivalence (unique_keys same_recipe recipes) (unique_keys same_recipe more) (once-distinct recipes)
-    (λ q there. once-member more q ∙ within q (sym (once-member recipes q) ∙ there)) in
-    omega (arith, many, few)
+    (λ q there. once-member more q ∙ within q (sym (once-member recipes q) ∙ there))
 
-pub too_many-more : (recipes more : List (List Key)) → AreTooMany recipes → AreTooMany (recipes ++ more)
-too_many-more recipes more many = too_many-within recipes (recipes ++ more) (in-front recipes more) many
+-- no more numbers were drawn than recipes differ of a list that has the recipes of another one
+pub drawn-within : (whole : ℕ) (recipes more : List (List Key)) (pass : PassView) → ((q : List Key) → is_one recipes q ≡ true → is_one more q ≡ true) →
+    HasDrawn whole recipes pass → HasDrawn whole more pass
+drawn-within whole recipes more pass within drawn = record { few = omega (arith, drawn.few, count-within recipes more within); room = drawn.room }
+
+pub drawn-first : (whole : ℕ) (recipes more : List (List Key)) (pass : PassView) → HasDrawn whole recipes pass → HasDrawn whole (recipes ++ more) pass
+drawn-first whole recipes more pass drawn = drawn-within whole recipes (recipes ++ more) pass (in-front recipes more) drawn

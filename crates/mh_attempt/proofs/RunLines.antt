@@ -1,10 +1,12 @@
 -- Runs of scripts: what a line needs of what comes before it, and what it leaves with the lines that follow.
 use denote.Ref.{Bor}
-use Rattle.std.proofs.Common.{◌≡◌, sym, subst, ℕ, ◌-◌, List, ◌∷◌, Result, Ok, Err, arith}
+use Rattle.std.proofs.Common.{◌≡◌, sym, subst, ℕ, ◌-◌, List, ◌∷◌, length, Result, Ok, Err, arith}
 use Rattle.std.specs.Prelude.{IsErrAnd}
+use Rattle.std.proofs.lemmas.List.{nil_from_length}
 use Rattle.std.proofs.lemmas.List.Elements.{All-tail}
 use Rattle.mh_tree.specs.Tree.{Tree}
 use Rattle.mh_handle.specs.declared.error.HandleError.{HandleError}
+use Rattle.mh_handle.specs.declared.error.HandleError.TheVariants.{NoMemory, FormsFull, Refused}
 use Rattle.mh_handle.specs.declared.handle.Handle.{Handle}
 use Rattle.mh_handle.specs.declared.work.Work.{Work}
 use Rattle.mh_handle.specs.Stands.{Stands}
@@ -17,12 +19,13 @@ use Rattle.mh_script.specs.declared.script.Step.TheVariants as step
 use Rattle.mh_script.specs.Limits.{CanDivide}
 use Rattle.mh_attempt.specs.declared.registers.Assignment.{Assignment, out-Assignment}
 use Rattle.mh_attempt.specs.declared.registers.Registers.{Registers}
-use Rattle.mh_link.specs.Linked.{assigning, ran}
+use Rattle.mh_jobs.specs.Thrown.{OrThrown}
+use Rattle.mh_link.specs.Linked.{assigning, ended, ran}
 use Rattle.mh_link.specs.Operands.{Content, Frame, handle}
 use Rattle.mh_link.specs.Operations.{node_of}
 use Rattle.mh_attempt.specs.Asked.{AsksOrThrows}
-use Rattle.mh_attempt.specs.Lines.{MakesNode}
-use Rattle.mh_attempt.specs.Recipes.{line_recipes, script_recipes}
+use Rattle.mh_attempt.specs.Lines.{MakesNode, TellsTarget}
+use Rattle.mh_attempt.specs.Recipes.{end_recipes, line_recipes, script_recipes}
 use Rattle.mh_attempt.specs.Registers.{Hold, Holds, HoldSome}
 use Rattle.mh_attempt.specs.Runs.{MayRun, Runs, draws}
 use Rattle.mh_attempt.proofs.AskedLines.{asks-given_back, let-asks, let-unasked, rest-asks}
@@ -36,6 +39,26 @@ pub record MakesLine (registers : Registers) (op : Operation) (old new : Work) (
   pub handles : CountsHandles 0 old new r
   pub node : (frame : Frame) → Hold old.leaves.now registers frame → MakesNode (node_of old.leaves.now frame op) old new r
   pub asks : (frame : Frame) → Hold old.leaves.now registers frame → AsksOrThrows (line_recipes old.leaves.now frame op) old new r
+
+-- ---- the last line
+
+told-node : (node : OrThrown Tree) (old new : Work) (r : Result Handle HandleError) → MakesNode node old new r → TellsTarget node old r
+told-node node old new (Ok h) makes = makes
+told-node node old new (Err (Refused e)) makes = makes.0
+told-node node old new (Err (FormsFull drawn)) makes = tt
+told-node node old new (Err NoMemory) makes = tt
+
+-- no other line is left
+pub end-runs : (all : List Step) (e : End) (registers : Registers) (old new : Work) (r : Result Handle HandleError) → length all ≡ 0 → GoesOn 1 old new →
+    CountsHandles 0 old new r → ((frame : Frame) → Hold old.leaves.now registers frame → MakesNode (ended old.leaves.now e frame) old new r) →
+    ((frame : Frame) → Hold old.leaves.now registers frame → AsksOrThrows (end_recipes old.leaves.now e frame) old new r) → Runs all e registers old new r
+end-runs all e registers old new r is goes_on handles node asks =
+    subst (λ xs. Runs xs e registers old new r) (sym (nil_from_length all is)) (record {
+      goes_on = goes_on;
+      handles = handles;
+      target = λ frame hold. told-node (ended old.leaves.now e frame) old new r (node frame hold);
+      asks = asks;
+    })
 
 -- ---- before a line
 

@@ -7,7 +7,7 @@ use Rattle.mh_handle.specs.declared.error.EditError.TheVariants.{NoMemory, Forms
 use Rattle.mh_handle.specs.declared.work.Work.{Work}
 use Rattle.mh_handle.specs.SameRecipes.{same_recipe}
 use Rattle.mh_attempt.specs.Asked.{Asks}
-use Rattle.mh_attempt.proofs.RecipeCounts.{is_one, too_many-within}
+use Rattle.mh_attempt.proofs.RecipeCounts.{drawn-within, is_one}
 
 -- the same recipes stand in both
 abbrev pub HaveSame : List (List Key) → List (List Key) → Type 0
@@ -22,8 +22,12 @@ pub same-asked : {A : Type 0} (one other : List (List Key)) (old new : Work) (re
     Asks other old new result
 same-asked one other old new (Ok a) same asks = record {
   asked = λ before has. let more = asks.asked before has in record { once = more.once; same = λ r. more.same r ∙ same-after before one other same r };
-  in_order = asks.in_order;
+  within = asks.within;
 }
-same-asked one other old new (Err (FormsFull drawn)) same full = λ in_order before has.
-    too_many-within (before ++ one) (before ++ other) (λ r there. sym (same-after before one other same r) ∙ there) (full in_order before has)
+same-asked one other old new (Err (FormsFull drawn)) same full = (
+  λ whole within before has.
+      drawn-within whole (before ++ one) (before ++ other) new.pass.now (λ r there. sym (same-after before one other same r) ∙ there)
+      (full.0 whole within before has),
+  full.1,
+)
 same-asked one other old new (Err NoMemory) same asks = tt

@@ -1,6 +1,6 @@
 //! What an attempt records at a call site, and the calls of the site.
 
-ghost use Rattle.std.specs.Prelude.{◌≡◌, ◌-◌, slice_get, Some, IfOk};
+ghost use Rattle.std.specs.Prelude.{◌≡◌, ◌-◌, ◌≤◌, slice_get, Some, IfOk};
 ghost use Rattle.mh_values.specs.HasType.{HaveTypes};
 ghost use Rattle.mh_handle.specs.Answers.{IsAnswer};
 ghost use Rattle.mh_handle.specs.Works.{IsUnchanged};
@@ -14,6 +14,7 @@ use mh_form::Machine;
 use mh_handle::{Answer, Handle, Work};
 use mh_jobs::{Job, Run};
 use mh_leaves::Leaves;
+use mh_setonce::Keyed;
 use mh_values::{Exc, Items};
 use std::alloc::Global;
 use std::marker::{Model, PhantomData};
@@ -133,5 +134,49 @@ impl<'t, J: Run> Linkage<'t, J> {
         if let Linked::Target(target) = self.linked {
             target.give_back(w);
         }
+    }
+}
+
+/// A chain has one linkage for each site.
+impl<'t, J: Run> Keyed for Linkage<'t, J> {
+    type Key = u32;
+
+    ghost use Rattle.std.specs.Prelude.{◌≡◌, Some, slice_get};
+
+    ghost key_of = { λ l. l.job.site };
+
+    ghost hash_of = { λ site. site };
+
+    ghost row_size = { 1 };
+
+    ghost keeps = { λ l site. slice_get J.given.jobs site ≡ Some l.job };
+
+    fn has_key(&self, key: &u32) -> bool {
+        self.job.site == *key
+    }
+
+    fn same_key(&self, other: &Linkage<'t, J>) -> bool {
+        self.job.site == other.job.site
+    }
+
+    fn hash(&self) -> u32 {
+        self.job.site
+    }
+
+    fn hash_key(key: &u32) -> u32
+        ensures { result ≡ key.now }
+    {
+        *key
+    }
+
+    fn row_len() -> usize
+        ensures size { result ≡ 1 }
+        ensures some { 1 ≤ result }
+    {
+        1
+    }
+
+    fn kept(&self) {
+        let _job = self.job;
     }
 }

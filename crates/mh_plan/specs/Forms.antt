@@ -1,5 +1,5 @@
 -- Which forms a run makes and can need: one for each recipe.
-use Rattle.std.specs.Prelude.{ℕ, if◌then◌else◌, List, [], ◌∷◌, ◌++◌, Ok, Err}
+use Rattle.std.specs.Prelude.{ℕ, ◌*◌, if◌then◌else◌, List, [], ◌∷◌, ◌++◌, length, Ok, Err}
 use Rattle.std.specs.List.{flat_map, range_with_len}
 use Rattle.std.specs.Set.{distinct_count}
 use Rattle.mh_values.specs.declared.types.MethodTy.{MethodTy}
@@ -71,3 +71,7 @@ all_edits given threads =
 -- how many forms a run can need: the number of different recipes that it can make
 abbrev pub forms_needed : Given → List (List Call) → ℕ
 forms_needed given threads = distinct_count same_recipe (all_edits given threads)
+
+-- how many numbers of forms the threads of a run can draw: each thread one for each form that the run can need
+abbrev pub draws_needed : Given → List (List Call) → ℕ
+draws_needed given threads = length threads * forms_needed given threads

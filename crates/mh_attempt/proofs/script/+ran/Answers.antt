@@ -1,10 +1,18 @@
 use Rattle.std.proofs.Common.{◌∙◌, ap, ◌∷◌, refl, arith}
 use Rattle.mh_link.specs.Operands.{handle}
 use Rattle.mh_attempt.proofs.Rooms.{goes_on-none}
-use Rattle.mh_attempt.proofs.RunLines.{assigned-may, let-fails, let-runs, next-may}
+use Rattle.mh_attempt.proofs.RunLines.{assigned-may, end-runs, let-fails, let-runs, next-may}
 use Rattle.mh_attempt.proofs.RunRegisters.{follows-new, holds-new, number-held, numbered}
 use Rattle.mh_attempt.proofs.RunSerials.{pass-runs, serial-runs}
 use Rattle.mh_attempt.proofs.script.+ran.Goals as goal
+
+-- ---- the last line
+
+pub returns-in_default : goal.returns-in_default
+returns-in_default g t c =
+    let last = c.ended.ensures in
+    end-runs c.args.steps.now c.args.end.now c.args.registers.now c.args.w.now c.ended.new.w c.ended.result c.in_default.ensures.cases last.goes_on
+    last.handles last.node last.asks
 
 -- ---- `let`
 

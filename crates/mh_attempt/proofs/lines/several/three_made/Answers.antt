@@ -1,6 +1,8 @@
-use Rattle.std.proofs.Common.{arith, [], ◌∷◌, Ok, Err}
+use Rattle.std.proofs.Common.{◌∙◌, arith, [], ◌∷◌, Ok, Err}
 use Rattle.mh_handle.proofs.Going.{goes_on-before}
 use Rattle.mh_handle.specs.declared.handle.Handle.{Handle}
+use Rattle.mh_attempt.specs.Recipes.{recipes_made}
+use Rattle.mh_attempt.proofs.AskedNodes.{asks-unchanged}
 use Rattle.mh_attempt.proofs.AskedOperands.{asks-more, asks-unmade-both}
 use Rattle.mh_attempt.proofs.Rooms.{goes_on-sum}
 use Rattle.mh_attempt.proofs.lines.several.three_made.Goals as goal
@@ -30,5 +32,8 @@ returns-in-Ok-clause-asks g c =
 
 pub returns-in-Err-clause-asks : goal.returns-in-Err-clause-asks
 returns-in-Err-clause-asks g c =
-    asks-more {A = Handle} (c.args.first.now ∷ c.args.second.now ∷ []) (c.args.third.now ∷ []) c.args.w.now c.both_made.new.w c.made.new.w (Err c.in-Err.error)
-    c.both_made.ensures.goes_on.leaves c.in_ok-first.ensures.asks c.in-Err.ensures.asks
+    let w = c.args.w.now in
+    asks-unchanged {A = Handle} (recipes_made w.leaves.now (c.args.first.now ∷ c.args.second.now ∷ c.args.third.now ∷ []) []) w c.made.new.w
+    c.give_back-in-Err.new.w (Err c.in-Err.error) (c.give_back-in-Err.ensures.unchanged.pass ∙ c.give_back.ensures.unchanged.pass)
+    (asks-more {A = Handle} (c.args.first.now ∷ c.args.second.now ∷ []) (c.args.third.now ∷ []) w c.both_made.new.w c.made.new.w (Err c.in-Err.error)
+    c.both_made.ensures.goes_on.leaves c.in_ok-first.ensures.asks c.in-Err.ensures.asks)
