@@ -17,7 +17,7 @@ use Rattle.mh_handle.specs.Recipe.{at_type as keys_at, convert_keys, recipe}
 use Rattle.mh_handle.specs.Stands.{HandleView, Stands}
 use Rattle.mh_handle.proofs.SameRecipes.{same_recipe-equivalence}
 use Rattle.mh_astype.specs.Calls.{AsksBy, call_keys, unless_refused}
-use Rattle.mh_attempt.specs.Asked.{Asks, HasAsked, HasAskedMore}
+use Rattle.mh_attempt.specs.Asked.{Asks, HasAsked, HasAskedMore, IsFull}
 use Rattle.mh_attempt.proofs.AskedAfter.{asked_more-both, full-after, full-first}
 use Rattle.mh_attempt.proofs.AskedForms.{asked-again, asked-full, asked-more, drawn-more}
 use Rattle.mh_attempt.proofs.RecipeCounts.{is_one, one-more, or-true}
@@ -59,7 +59,7 @@ asks-again r old mid first = record {
   asked = λ before has. subst (λ rs. HasAsked rs mid) (append_assoc before (r ∷ []) (r ∷ []))
       (asked-again (before ++ r ∷ []) mid r (first.asked before has)
       (one-more before r r ∙ (ap (λ b. is_one before r || b) (same_recipe-equivalence.refl r) ∙ or-true (is_one before r))));
-  in_order = first.in_order;
+  within = first.within;
 }
 
 asks-none : (r : List Key) (old mid new : Work) (answer : Result Answer EditError) → HasAskedMore (r ∷ []) old.pass.now mid.pass.now →
@@ -78,19 +78,19 @@ asks-keys r [] old mid new (Err (FormsFull drawn)) first same = absurd same
 asks-keys r (k ∷ keys) old mid new (Ok a) first asks =
     asked_more-both (r ∷ []) ((r ++ k ∷ keys) ∷ []) old.pass.now mid.pass.now new.pass.now first (record {
       asked = λ before has. asked-more before mid.pass.now new.pass.now asks.0.0 (r ++ k ∷ keys) has asks.0.1 asks.0.2;
-      in_order = λ in_order. drawn-more mid.pass.now new.pass.now asks.0.0 (r ++ k ∷ keys) in_order asks.0.2 asks.1;
+      within = λ whole within. drawn-more whole mid.pass.now new.pass.now asks.0.0 (r ++ k ∷ keys) within asks.0.2 asks.1;
     })
 asks-keys r (k ∷ keys) old mid new (Err NoMemory) first asks = tt
 asks-keys r (k ∷ keys) old mid new (Err (FormsFull drawn)) first asks =
-    full-after (r ∷ []) ((r ++ k ∷ keys) ∷ []) old.pass.now mid.pass.now first
-    (λ in_order before has. asked-full before mid.pass.now new.pass.now.seat (r ++ k ∷ keys) drawn has in_order asks.0.0 asks.1 asks.2)
+    full-after (r ∷ []) ((r ++ k ∷ keys) ∷ []) drawn old.pass.now mid.pass.now new.pass.now first
+    (asked-full mid.pass.now new.pass.now (r ++ k ∷ keys) drawn asks.0.0 asks.1 asks.2)
 
 -- the pass stays as it is when the handle is given back
 pub asks-back : {A : Type 0} (recipes : List (List Key)) (old new new' : Work) (answer : Result A EditError) → new'.pass.now ≡ new.pass.now →
     Asks recipes old new answer → Asks recipes old new' answer
 asks-back recipes old new new' (Ok a) back asks = subst (HasAskedMore recipes old.pass.now) (sym back) asks
 asks-back recipes old new new' (Err NoMemory) back asks = tt
-asks-back recipes old new new' (Err (FormsFull drawn)) back asks = asks
+asks-back recipes old new new' (Err (FormsFull drawn)) back full = subst (IsFull recipes drawn old.pass.now) (sym back) full
 
 -- a generic call of what stands for a tree, and the handle given back
 pub asks-generic : (table table' : LeafTable) (t : Tree) (h : HandleView) (asked : MethodTy) (old mid new new' : Work) (answer : Result Answer EditError) →
@@ -115,17 +115,17 @@ asks-generic table table' t h asked old mid new new' answer same back st first a
 
 -- ---- errors that are handed on
 
-stops : (A B : Type 0) (r : List Key) (more : List (List Key)) (old new new' : Work) (e : EditError) → Asks {A = A} (r ∷ []) old new (Err e) →
-    Asks {A = B} (r ∷ more) old new' (Err e)
-stops A B r more old new new' NoMemory first = tt
-stops A B r more old new new' (FormsFull drawn) first = full-first (r ∷ []) more old.pass.now first
+stops : (A B : Type 0) (r : List Key) (more : List (List Key)) (old new : Work) (e : EditError) → Asks {A = A} (r ∷ []) old new (Err e) →
+    Asks {A = B} (r ∷ more) old new (Err e)
+stops A B r more old new NoMemory first = tt
+stops A B r more old new (FormsFull drawn) first = full-first (r ∷ []) more drawn old.pass.now new.pass.now first
 
 -- a call that stopped at its leaf
-pub stopped-early : {B : Type 0} (A : Type 0) (r : List Key) (more : List (List Key)) (old new new' : Work) (e : EditError) (answer : Result B EditError) →
-    IsErrAnd answer (λ x. x ≡ e) → Asks {A = A} (r ∷ []) old new (Err e) → Asks (r ∷ more) old new' answer
-stopped-early A r more old new new' e (Ok a) is first = absurd is
-stopped-early {B = B} A r more old new new' e (Err x) is first =
-    subst (λ error. Asks {A = B} (r ∷ more) old new' (Err error)) (sym is) (stops A B r more old new new' e first)
+pub stopped-early : {B : Type 0} (A : Type 0) (r : List Key) (more : List (List Key)) (old new : Work) (e : EditError) (answer : Result B EditError) →
+    IsErrAnd answer (λ x. x ≡ e) → Asks {A = A} (r ∷ []) old new (Err e) → Asks (r ∷ more) old new answer
+stopped-early A r more old new e (Ok a) is first = absurd is
+stopped-early {B = B} A r more old new e (Err x) is first =
+    subst (λ error. Asks {A = B} (r ∷ more) old new (Err error)) (sym is) (stops A B r more old new e first)
 
 -- ---- leaves that stay
 

@@ -1,92 +1,110 @@
 -- The ledger of a run.
-use Rattle.std.proofs.Common.{◌≡◌, refl, sym, ◌∙◌, ap, subst, ℕ, suc, zero, ◌+◌, Bool, true, false, ◌||◌, cond, List, [], ◌∷◌, Some, None, IsSome, arith}
-use Rattle.std.specs.Prelude.{◌==◌, Contains, slice_get, is_some, Option, find, option_map}
-use Rattle.std.specs.List.{range_with_len}
-use Rattle.std.proofs.lemmas.Bool.{eqb-true}
-use Rattle.std.proofs.lemmas.List.{length-map}
-use Rattle.std.proofs.lemmas.Option.{slice_get-map}
+use Rattle.std.proofs.Common.{◌≡◌, ◌≢◌, refl, sym, ◌∙◌, ap, subst, ℕ, ◌<◌, true, List, [], length, get_or, Some, None, IsSome, arith}
+use Rattle.std.specs.Prelude.{All, AllPairs, Contains, filter, is_some, slice_get, Option}
+use Rattle.std.specs.List.{flat_map}
+use Rattle.std.specs.Option.{option_flatten}
+use Rattle.std.proofs.lemmas.List.Elements.{All-contains, Contains-get_or}
+use Rattle.mh_jobs.specs.Given.{Given}
 use Rattle.mh_plan.specs.declared.attempt.Attempt.{Attempt}
-use Rattle.mh_plan.specs.Naming.{Naming}
-use Rattle.mh_runtime.specs.Ledger.{IsNamed, Ledger}
-use Rattle.mh_runtime.specs.Attempts.{is_attempted, serial_of, table_of, after_threads}
-use Rattle.mh_runtime.proofs.Attempting.{IsRunOf}
-use Rattle.mh_runtime.proofs.Places.{length-range}
-use Rattle.mh_runtime.proofs.Runs.{all-run}
+use Rattle.mh_plan.specs.declared.call.Call.{Call}
+use Rattle.mh_plan.specs.Naming.{first_places, naming_of, sites_named}
+use Rattle.mh_plan.specs.Results.{Serials, serial_at}
+use Rattle.mh_runtime.specs.Attempts.{AreRecorded, sites_of}
+use Rattle.mh_runtime.specs.Joined.{AreDone, AreInOrder, AreJoined, AreUsed, ThreadPasses}
+use Rattle.mh_runtime.specs.Ledger.{IsNamed, Ledger, attempted_by}
+use Rattle.mh_runtime.specs.Passes.{HasSerials, LinkPass}
+use Rattle.mh_runtime.proofs.Ordered.{in-all, in-ordered, serials-rise, thread-sites}
+use Rattle.mh_runtime.proofs.Owners.{IsThread, attempts_in, owner, passes-of, reached, thread-of}
+use Rattle.mh_runtime.proofs.Parts.{map-at}
+use Rattle.mh_runtime.proofs.Places.{place-Contains}
+use Rattle.mh_runtime.proofs.Rising.{apart-in}
+use Rattle.mh_runtime.proofs.Sites.{is_in}
 
--- ---- the serial of a site
-
-pub some-serial : (attempts : List Attempt) (site : ℕ) → is_some (serial_of attempts site) ≡ is_attempted attempts site
-some-serial [] site = refl
-some-serial (a ∷ attempts) site = cases (a.site == site) (some-serial attempts site)
-  where
-    cases : (b : Bool) → is_some (serial_of attempts site) ≡ is_attempted attempts site →
-        is_some (option_map (λ (x : Attempt). x.serial) (cond b (Some a) (find (λ x. x.site == site) attempts))) ≡ (b || is_attempted attempts site)
-    cases true rest = refl
-    cases false rest = rest
-
--- it is that of an attempt of the site
-pub own-serial : (attempts : List Attempt) (site serial : ℕ) → serial_of attempts site ≡ Some serial →
-    (a : Attempt) × Contains attempts a × (a.serial ≡ serial) × (a.site ≡ site)
-own-serial [] site serial is = cc
-own-serial (a ∷ attempts) site serial is = cases (a.site == site) refl is (own-serial attempts site serial)
-  where
-    cases : (b : Bool) → (a.site == site) ≡ b →
-        option_map (λ (x : Attempt). x.serial) (cond b (Some a) (find (λ x. x.site == site) attempts)) ≡ Some serial →
-        (serial_of attempts site ≡ Some serial → (x : Attempt) × Contains attempts x × (x.serial ≡ serial) × (x.site ≡ site)) →
-        (x : Attempt) × Contains (a ∷ attempts) x × (x.serial ≡ serial) × (x.site ≡ site)
-    cases true same is rest = (a, (0, omega arith, refl), cc is, eqb-true a.site site same)
-    cases false other is rest = let found = rest is in (found.0, (suc found.1.0, omega (arith, found.1.1), found.1.2), found.2, found.3)
-
-pub attempted-some : (attempts : List Attempt) (site serial : ℕ) → serial_of attempts site ≡ Some serial → true ≡ is_attempted attempts site
-attempted-some attempts site serial is = sym (ap is_some is) ∙ some-serial attempts site
-
-pub attempted-none : (attempts : List Attempt) (site : ℕ) → serial_of attempts site ≡ None → false ≡ is_attempted attempts site
-attempted-none attempts site is = sym (ap is_some is) ∙ some-serial attempts site
-
--- ---- the table
-
-range-at : (from n i k : ℕ) → slice_get (range_with_len from n) i ≡ Some k → k ≡ from + i
-range-at from zero i k is = cc
-range-at from (suc n) zero k is = let same : from ≡ k = cc is in omega (arith, same)
-range-at from (suc n) (suc i) k is = let next : k ≡ (from + 1) + i = range-at (from + 1) n i k is in omega (arith, next)
-
--- the entry of a site is the serial of its attempt
-pub entry-is : (sites : ℕ) (attempts : List Attempt) (site : ℕ) (entry : Option ℕ) → slice_get (table_of sites attempts) site ≡ Some entry →
-    serial_of attempts site ≡ entry
-entry-is sites attempts site entry is =
-    cases (slice_get (range_with_len 0 sites) site) refl
-    (sym (slice_get-map (serial_of attempts) (range_with_len 0 sites) site) ∙ is)
-  where
-    cases : (o : Option ℕ) → slice_get (range_with_len 0 sites) site ≡ o → option_map (serial_of attempts) o ≡ Some entry → serial_of attempts site ≡ entry
-    cases None at is = cc
-    cases (Some k) at is = let own : k ≡ 0 + site = range-at 0 sites site k at in let same : k ≡ site = omega (arith, own) in
-        ap (serial_of attempts) (sym same) ∙ cc is
-
--- ---- ledgers
-
+-- there is something
 pub the-some : {A : Type 0} (o : Option A) → is_some o ≡ true → (a : A) × (o ≡ Some a)
 the-some None is = cc
 the-some (Some a) is = (a, refl)
 
-pub run-ledger : (naming : Naming) (sites : ℕ) (attempts : List Attempt) → IsRunOf naming attempts → Ledger naming sites (table_of sites attempts) attempts
-run-ledger naming sites attempts run = record {
-  entries = length-map (range_with_len 0 sites) (serial_of attempts) ∙ length-range 0 sites;
-  serials = run.serials;
-  named = λ site entry at.
-      let is : serial_of attempts site ≡ entry = entry-is sites attempts site entry at in
-      let some : is_some entry ≡ is_attempted attempts site = ap is_some (sym is) ∙ some-serial attempts site in (
-        λ (h : IsSome entry).
-            let serial = the-some entry h in
-            let found = own-serial attempts site serial.0 (is ∙ serial.1) in
-            let r = run.reached found.0 found.1 in
-            (found.0.thread, r.0, r.1, subst (Contains r.0) found.3 r.2),
-        λ (h : IsNamed naming site). some ∙ run.named site h,
-      );
-  own = λ site serial at. own-serial attempts site serial (entry-is sites attempts site (Some serial) at);
-  once = λ i j d before within same. run.apart i j d before within;
-  reached = run.reached;
-  in_order = run.in_order;
-}
+-- what is known of the table: it has the entries of the pass that all were joined to, one for each site, and each serial is that of a recorded attempt
+pub record IsTable (sites : ℕ) (joined : LinkPass) (table : Serials) : Type 0 where
+  pub entries : length table ≡ sites
+  pub linked : (site : ℕ) → serial_at table site ≡ serial_at joined.linked site
+  pub own : AreRecorded joined table
 
-pub ledger : (naming : Naming) (sites : ℕ) → Ledger naming sites (table_of sites (after_threads 0 [] naming)) (after_threads 0 [] naming)
-ledger naming sites = run-ledger naming sites (after_threads 0 [] naming) (all-run naming)
+-- that of the pass itself
+pub own-table : (sites : ℕ) (joined : LinkPass) → length joined.linked ≡ sites → AreRecorded joined joined.linked → IsTable sites joined joined.linked
+own-table sites joined entries own = record { entries = entries; linked = λ site. refl; own = own }
+
+-- the table has the serials of all that any thread has linked
+pub has-serials : (all : List ThreadPasses) (joined : LinkPass) (sites : ℕ) (table : Serials) → AreJoined all joined → IsTable sites joined table →
+    All (λ p. HasSerials p.links.linked table) all
+has-serials all joined sites table is_joined is k d within site serial linked = is.linked site ∙ is_joined.linked k d within site serial linked
+
+module _ (given : Given) (threads : List (List Call)) (all : List ThreadPasses) (joined : LinkPass) (ordered : List Attempt) (sites : ℕ) (table : Serials)
+    (used : AreUsed given threads all) (done : AreDone given threads all) (is_joined : AreJoined all joined) (in_order : AreInOrder joined.attempts ordered)
+    (is : IsTable sites joined table) where
+  -- the order of all attempts
+  whole : AreInOrder (attempts_in all) ordered
+  whole = subst (λ attempts. AreInOrder attempts ordered) is_joined.attempts in_order
+
+  in-joined : (a : Attempt) → Contains ordered a → Contains (attempts_in all) a
+  in-joined a h = in-all given threads all used ordered whole a h
+
+  -- a site that is named is linked, and has a serial in the table
+  named-linked : (site : ℕ) → IsNamed (naming_of threads) site → is_some (serial_at table site) ≡ true
+  named-linked site h =
+      let found = map-at (λ calls. flat_map sites_named calls) threads h.0 h.1 h.2 in
+      let own = passes-of given threads all used h.0 found.0 found.1 in
+      let linked = done h.0 found.0 own.0 found.1 own.1 in
+      let some = the-some (serial_at own.0.links.linked site)
+      (All-contains (λ k. IsSome (serial_at own.0.links.linked k)) (flat_map sites_named found.0) site linked.linked
+      (subst (λ ks. Contains ks site) (sym found.2) h.3)) in
+      ap is_some (All-contains (λ (p : ThreadPasses). HasSerials p.links.linked table) all own.0
+      (has-serials all joined sites table is_joined is) (place-Contains all h.0 own.0 own.1) site some.0 some.1)
+
+  -- and the other way round
+  linked-named : (site : ℕ) → is_some (serial_at table site) ≡ true → IsNamed (naming_of threads) site
+  linked-named site h =
+      let some = the-some (serial_at table site) h in
+      let found = is.own site some.0 some.1 in
+      let r = reached given threads all used found.0 (subst (λ attempts. Contains attempts found.0) is_joined.attempts found.2) in
+      (found.0.thread, r.0, r.1, subst (Contains r.0) found.4 r.2)
+
+  -- no thread attempts a site twice
+  apart-sites : AllPairs (λ (a b : Attempt). a.thread ≡ b.thread → a.site ≢ b.site) ordered
+  apart-sites i j d below within same =
+      let early : i < length ordered = omega (arith, below, within) in
+      let a : Attempt = get_or ordered i d in
+      let b : Attempt = get_or ordered j d in
+      let own = owner given threads all used a (in-joined a (Contains-get_or ordered i d early)) in
+      let other = owner given threads all used b (in-joined b (Contains-get_or ordered j d within)) in
+      let there : Some own.0 ≡ Some other.0 = sym own.1.at ∙ (ap (slice_get all) same ∙ other.1.at) in
+      let one : own.0 ≡ other.0 = cc there in
+      apart-in (λ (x : Attempt). x.site) (λ (x : Attempt). x.serial) own.0.links.attempts own.1.used.run.apart a b own.2
+      (subst (λ (p : ThreadPasses). Contains p.links.attempts b) (sym one) other.2)
+      (serials-rise ordered in_order.serials i j d below within)
+
+  pub ledger : Ledger (naming_of threads) sites table ordered
+  ledger = record {
+    entries = is.entries;
+    serials = in_order.serials;
+    named = λ site entry at.
+        let here : serial_at table site ≡ entry = ap option_flatten at in (
+          λ h. linked-named site (ap is_some here ∙ h),
+          λ h. sym (ap is_some here) ∙ named-linked site h,
+        );
+    own = λ site serial at.
+        let found = is.own site serial (ap option_flatten at) in
+        let there : Contains (attempts_in all) found.0 = subst (λ attempts. Contains attempts found.0) is_joined.attempts found.2 in
+        (found.0, in-ordered given threads all used ordered whole found.0 there, found.3, found.4);
+    once = apart-sites;
+    reached = λ a h. reached given threads all used a (in-joined a h);
+    in_order = λ thread named at.
+        let found = map-at (λ calls. flat_map sites_named calls) threads thread named at in
+        let own = passes-of given threads all used thread found.0 found.1 in
+        let is_thread : IsThread given threads all thread own.0 = thread-of given threads all used thread own.0 own.1 in
+        let mine : attempted_by thread ordered ≡ sites_of own.0.links.attempts =
+        thread-sites given threads all used ordered whole thread own.0 is_thread in
+        subst (λ ks. attempted_by thread ordered ≡ filter (is_in (attempted_by thread ordered)) (first_places [] ks)) found.2
+        (subst (λ ks. ks ≡ filter (is_in ks) (first_places [] (flat_map sites_named found.0))) (sym mine) own.2.run.in_order);
+  }

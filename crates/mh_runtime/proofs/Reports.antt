@@ -1,38 +1,83 @@
 -- The report of a run, from what its parts tell.
-use Rattle.std.proofs.Common.{◌≡◌, sym, ◌∙◌, ap, subst, List, length}
+use Rattle.std.proofs.Common.{◌≡◌, sym, ◌∙◌, ap, subst, ℕ, ◌<◌, List, length, map, None, Some}
+use Rattle.std.specs.List.Sorted.{IsNonDecreasingBy, IsPermutation}
+use Rattle.mh_handle.specs.Passes.{TableView}
 use Rattle.mh_jobs.specs.Given.{Given}
+use Rattle.mh_attempt.specs.Asked.{HasAsked}
 use Rattle.mh_plan.specs.declared.attempt.Attempt.{Attempt}
 use Rattle.mh_plan.specs.declared.call.Call.{Call}
-use Rattle.mh_plan.specs.Forms.{forms}
-use Rattle.mh_plan.specs.Naming.{naming_of}
+use Rattle.mh_plan.specs.Forms.{draws_needed}
 use Rattle.mh_plan.specs.Recorded.{recorded, serials_of, types}
 use Rattle.mh_plan.specs.Results.{Serials, keys_said, results_of, results_said}
+use Rattle.mh_runtime.specs.declared.joining.Joined.{Joined}
+use Rattle.mh_runtime.specs.declared.lane.Lane.{Lane}
 use Rattle.mh_runtime.specs.declared.running.RunReport.{RunReport}
-use Rattle.mh_runtime.specs.Attempts.{attempts_of, table_of}
+use Rattle.mh_runtime.specs.Attempts.{AreRecorded}
+use Rattle.mh_runtime.specs.Joined.{AreDone, AreUsed, edits_of}
+use Rattle.mh_runtime.specs.Joining.{AreAllJoined, AreJoinedSoFar, IsJoinedRun, calls_of}
 use Rattle.mh_runtime.specs.Keys.{plan_keys}
-use Rattle.mh_runtime.specs.Ledger.{Ledger}
+use Rattle.mh_runtime.specs.Lanes.{passes_of}
+use Rattle.mh_runtime.specs.Passes.{LinkerView}
 use Rattle.mh_runtime.specs.Report.{IsReport}
-use Rattle.mh_runtime.proofs.Attempting.{IsRunOf}
-use Rattle.mh_runtime.proofs.Ledger.{run-ledger}
-use Rattle.mh_runtime.proofs.Runs.{all-run}
-use Rattle.mh_runtime.proofs.TableSteps.{serials-recorded}
+use Rattle.mh_runtime.proofs.Counted.{forms-asked}
+use Rattle.mh_runtime.proofs.ForkedLanes.{all-calls}
+use Rattle.mh_runtime.proofs.Numbers.{sorted-in_order}
+use Rattle.mh_runtime.proofs.RecordedSites.{serials-recorded}
+use Rattle.mh_runtime.proofs.RunLedger.{run-ledger}
+use Rattle.mh_runtime.proofs.ThreadSteps.{serials-self}
+use Rattle.mh_runtime.proofs.WholeJoin.{joined-all, joined-full}
 
-pub report-of : (given : Given) (plan : List (List Call)) (run : RunReport) (attempts : List Attempt) → attempts ≡ attempts_of (naming_of plan) →
-    run.attempts ≡ attempts → run.table ≡ recorded given (table_of (length given.jobs) attempts) →
-    results_said run.threads ≡ results_of given (table_of (length given.jobs) attempts) plan →
-    keys_said run.threads ≡ plan_keys given (table_of (length given.jobs) attempts) plan →
-    run.forms ≡ forms given plan attempts → run.types ≡ types given (table_of (length given.jobs) attempts) → IsReport given plan run
-report-of given plan run attempts made attempts_are table results keys forms_are types_are =
-    let entries : Serials = table_of (length given.jobs) attempts in
-    let serials : entries ≡ serials_of run.table = sym (ap serials_of table ∙ serials-recorded given entries) in
-    record {
-      ledger = subst (λ (t : Serials). Ledger (naming_of plan) (length given.jobs) t run.attempts) serials
-          (subst (λ (done : List Attempt). Ledger (naming_of plan) (length given.jobs) entries done) (sym attempts_are)
-          (run-ledger (naming_of plan) (length given.jobs) attempts
-          (subst (λ (done : List Attempt). IsRunOf (naming_of plan) done) (sym made) (all-run (naming_of plan)))));
-      table = table ∙ ap (recorded given) serials;
-      results = results ∙ ap (λ (t : Serials). results_of given t plan) serials;
-      keys = keys ∙ ap (λ (t : Serials). plan_keys given t plan) serials;
-      forms_are = forms_are ∙ ap (λ (done : List Attempt). forms given plan done) (sym attempts_are);
-      types_are = types_are ∙ ap (types given) serials;
+-- what the parts of a report tell of the joined passes
+pub record TellsRun {J : Type 0} (given : Given) (joined : Joined J) (run : RunReport) : Type 0 where
+  pub threads : run.threads ≡ joined.threads
+  pub table : run.table ≡ recorded given joined.links.linked
+  pub entries : length joined.links.linked ≡ length given.jobs
+  pub own : AreRecorded joined.links joined.links.linked
+  pub types_are : run.types ≡ types given joined.links.linked
+  pub forms_are : run.forms ≡ length joined.forms.asked
+  pub same : IsPermutation joined.links.attempts run.attempts
+  pub rising : IsNonDecreasingBy (λ (a : Attempt). a.serial) run.attempts
+
+module _ {J : Type 0} (given : Given) (linker : LinkerView) (table : TableView) (plan : List (List Call)) (joined : Joined J)
+    (all : AreAllJoined given linker table plan joined) where
+  abbrev lanes : List (Lane J)
+  lanes = all.1
+
+  calls_are : calls_of lanes ≡ plan
+  calls_are = all-calls given linker table plan all.0 lanes joined all.2 all.3
+
+  so_far : AreJoinedSoFar given linker table (length lanes) lanes joined
+  so_far = subst (λ n. AreJoinedSoFar given linker table n lanes joined) (sym all.3) all.2.so_far
+
+  -- a thread had no form left
+  pub full-run : (drawn : ℕ) → joined.full ≡ Some drawn → 16384 < draws_needed given plan
+  full-run drawn some = subst (λ threads. 16384 < draws_needed given threads) calls_are (joined-full given linker table lanes joined drawn some so_far)
+
+  module _ (run : RunReport) (none : joined.full ≡ None) (tells : TellsRun given joined run) where
+    whole : IsJoinedRun given lanes joined
+    whole = joined-all given linker table lanes joined none so_far
+
+    serials : joined.links.linked ≡ serials_of run.table
+    serials = sym (ap serials_of tells.table ∙ serials-recorded given joined.links.linked)
+
+    used : AreUsed given plan (map passes_of lanes)
+    used = subst (λ threads. AreUsed given threads (map passes_of lanes)) calls_are whole.used
+
+    pub report-of : IsReport given plan run
+    report-of = record {
+      ledger = run-ledger given plan (map passes_of lanes) joined.links run.attempts run.table used
+          (subst (λ threads. AreDone given threads (map passes_of lanes)) calls_are whole.done) whole.links tells.table tells.entries tells.own tells.same
+          tells.rising;
+      table = tells.table ∙ ap (recorded given) serials;
+      results = ap results_said tells.threads
+          ∙ (whole.results joined.links.linked (serials-self joined.links.linked)
+          ∙ (ap (results_of given joined.links.linked) calls_are ∙ ap (λ (t : Serials). results_of given t plan) serials));
+      keys = ap keys_said tells.threads
+          ∙ (whole.keys joined.links.linked (serials-self joined.links.linked)
+          ∙ (ap (plan_keys given joined.links.linked) calls_are ∙ ap (λ (t : Serials). plan_keys given t plan) serials));
+      forms_are = tells.forms_are
+          ∙ forms-asked given plan (map passes_of lanes) joined.links run.attempts whole.links
+          (sorted-in_order given plan (map passes_of lanes) used joined.links run.attempts whole.links tells.same tells.rising) joined.forms
+          (subst (λ threads. HasAsked (edits_of given threads (map passes_of lanes)) joined.forms) calls_are whole.asked);
+      types_are = tells.types_are ∙ ap (types given) serials;
     }

@@ -1,43 +1,50 @@
--- What steps of a run leave of a pass, one after the other.
-use Rattle.std.proofs.Common.{◌≡◌, sym, subst, List, [], ◌++◌, append-nil, append_assoc}
+-- What steps of a thread leave of its pass over the forms, one after the other.
+use Rattle.std.proofs.Common.{◌≡◌, sym, subst, List, [], ◌++◌, append-nil, append_assoc, Result, Ok, Err}
+use Rattle.std.specs.Prelude.{IsErrAnd}
 use Rattle.mh_edit.specs.declared.key.Key.{Key}
+use Rattle.mh_handle.specs.declared.error.EditError.{EditError}
+use Rattle.mh_handle.specs.declared.error.EditError.TheVariants.{NoMemory, FormsFull}
 use Rattle.mh_handle.specs.Passes.{PassView}
 use Rattle.mh_jobs.specs.Given.{Given}
-use Rattle.mh_attempt.specs.Asked.{AreTooMany, HasAsked}
-use Rattle.mh_attempt.proofs.RecipeCounts.{too_many-within}
-use Rattle.mh_attempt.proofs.RecipeSets.{AreAmong, among-first}
+use Rattle.mh_attempt.specs.Asked.{HasAsked}
+use Rattle.mh_attempt.proofs.RecipeCounts.{drawn-within}
+use Rattle.mh_attempt.proofs.RecipeSets.{AreAmong, each-among, among-first}
 use Rattle.mh_plan.specs.declared.attempt.Attempt.{Attempt}
-use Rattle.mh_runtime.specs.Asking.{HasRunFull, HasRunOn, run_edits}
-use Rattle.mh_runtime.proofs.RunRecipes.{edits-among}
+use Rattle.mh_runtime.specs.Asking.{HasRunOn, HasRunOut, RunStops, RunsOn, run_edits}
 
 module _ (given : Given) where
   -- no step
   pub runs-none : (attempts : List Attempt) (pass : PassView) → HasRunOn given attempts attempts [] pass pass
   runs-none attempts pass = record {
     asked = λ edits has. subst (λ rs. HasAsked (run_edits given attempts rs) pass) (sym (append-nil edits)) has;
-    in_order = λ in_order. in_order;
+    within = λ whole within. within;
   }
 
-  module _ (first second : List (List Key)) (a b c : List Attempt) (old : PassView) where
+  module _ (first second : List (List Key)) (a b c : List Attempt) (old mid new : PassView) (x : HasRunOn given a b first old mid) where
     -- two steps
-    pub runs-both : (mid new : PassView) → HasRunOn given a b first old mid → HasRunOn given b c second mid new → HasRunOn given a c (first ++ second) old new
-    runs-both mid new x y = record {
+    pub runs-both : HasRunOn given b c second mid new → HasRunOn given a c (first ++ second) old new
+    runs-both y = record {
       asked = λ edits has. subst (λ rs. HasAsked (run_edits given c rs) new) (append_assoc edits first second)
           (y.asked (edits ++ first) (x.asked edits has));
-      in_order = λ in_order. y.in_order (x.in_order in_order);
+      within = λ whole within. y.within whole (x.within whole within);
     }
 
-    -- no number was left in the second step
-    pub full-second : (mid : PassView) → HasRunOn given a b first old mid → HasRunFull given b c second mid → HasRunFull given a c (first ++ second) old
-    full-second mid x full = λ in_order edits has.
-        subst (λ rs. AreTooMany (run_edits given c rs)) (append_assoc edits first second)
-        (full (x.in_order in_order) (edits ++ first) (x.asked edits has))
+    -- the second step stopped, after which there could have been more calls
+    pub out-second : (more : List (List Key)) → HasRunOut given b c second mid new → HasRunOut given a c ((first ++ second) ++ more) old new
+    out-second more out = λ whole within edits has.
+        drawn-within whole (run_edits given c ((edits ++ first) ++ second)) (run_edits given c (edits ++ ((first ++ second) ++ more))) new
+        (subst (λ rs. AreAmong (run_edits given c ((edits ++ first) ++ second)) (run_edits given c rs)) (append_assoc edits (first ++ second) more)
+        (subst (λ rs. AreAmong (run_edits given c ((edits ++ first) ++ second)) (run_edits given c (rs ++ more))) (append_assoc edits first second)
+        (each-among _ ((edits ++ first) ++ second) _ (((edits ++ first) ++ second) ++ more) (λ q there. there)
+        (among-first ((edits ++ first) ++ second) more))))
+        (out whole (x.within whole within) (edits ++ first) (x.asked edits has))
 
-    -- no number was left in the first step, after which there could have been more attempts
-    pub full-first : (more : List Attempt) → c ≡ b ++ more → HasRunFull given a b first old → HasRunFull given a c (first ++ second) old
-    full-first more grown full = λ in_order edits has.
-        subst (λ attempts. AreTooMany (run_edits given attempts (edits ++ (first ++ second)))) (sym grown)
-        (too_many-within (run_edits given b (edits ++ first)) (run_edits given (b ++ more) (edits ++ (first ++ second)))
-        (edits-among given b more (edits ++ first) (edits ++ (first ++ second))
-        (subst (λ rs. AreAmong (edits ++ first) rs) (append_assoc edits first second) (among-first (edits ++ first) second)))
-        (full in_order edits has))
+    pub stops-second : (more : List (List Key)) (e : EditError) → RunStops given b c second mid new e → RunStops given a c ((first ++ second) ++ more) old new e
+    stops-second more NoMemory stopped = tt
+    stops-second more (FormsFull drawn) stopped = (out-second more stopped.0, stopped.1)
+
+  -- an error that is handed on
+  pub stops-run : {A : Type 0} (a b : List Attempt) (more : List (List Key)) (old new : PassView) (e : EditError) (r : Result A EditError) →
+      IsErrAnd r (λ x. x ≡ e) → RunStops given a b more old new e → RunsOn given a b more old new r
+  stops-run a b more old new e (Ok x) is stopped = absurd is
+  stops-run a b more old new e (Err x) is stopped = subst (RunStops given a b more old new) (sym is) stopped

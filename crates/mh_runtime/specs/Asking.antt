@@ -4,10 +4,9 @@ use Rattle.std.specs.List.{flat_map}
 use Rattle.mh_edit.specs.declared.key.Key.{Key}
 use Rattle.mh_handle.specs.declared.error.EditError.{EditError}
 use Rattle.mh_handle.specs.declared.error.EditError.TheVariants.{NoMemory, FormsFull}
-use Rattle.mh_handle.specs.declared.work.Work.{Work}
 use Rattle.mh_handle.specs.Passes.{PassView}
 use Rattle.mh_jobs.specs.Given.{Given}
-use Rattle.mh_attempt.specs.Asked.{AreTooMany, DrawsInOrder, HasAsked}
+use Rattle.mh_attempt.specs.Asked.{DrawsWithin, HasAsked, HasDrawn, IsOver}
 use Rattle.mh_plan.specs.declared.attempt.Attempt.{Attempt}
 use Rattle.mh_plan.specs.declared.call.Call.{Call}
 use Rattle.mh_plan.specs.Forms.{attempt_edits}
@@ -33,26 +32,27 @@ plan_draws threads = call_draws * calls_in threads
 abbrev pub run_edits : Given → List Attempt → List (List Key) → List (List Key)
 run_edits given attempts edits = flat_map (attempt_edits given) attempts ++ edits
 
--- where the recipes were asked for of the attempts before and of calls, whichever, those of the attempts after and of more calls are now, and numbers are
--- still drawn in order
+-- where the recipes were asked for of the attempts before and of calls, whichever, those of the attempts after and of more calls are now, and numbers were
+-- drawn for no others
 pub record HasRunOn (given : Given) (before after : List Attempt) (more : List (List Key)) (old new : PassView) : Type 0 where
   pub asked : (edits : List (List Key)) → HasAsked (run_edits given before edits) old → HasAsked (run_edits given after (edits ++ more)) new
-  pub in_order : DrawsInOrder old → DrawsInOrder new
+  pub within : (whole : ℕ) → DrawsWithin whole old → DrawsWithin whole new
 
--- no number was left for a form: where numbers are drawn in order, only if the recipes of the attempts after and of all those calls are too many
-abbrev pub HasRunFull : Given → List Attempt → List Attempt → List (List Key) → PassView → Type 0
-HasRunFull given before after more old =
-    DrawsInOrder old → (edits : List (List Key)) → HasAsked (run_edits given before edits) old → AreTooMany (run_edits given after (edits ++ more))
+-- calls have stopped: at most one number was drawn for each recipe of the attempts after and of all those calls
+abbrev pub HasRunOut : Given → List Attempt → List Attempt → List (List Key) → PassView → PassView → Type 0
+HasRunOut given before after more old new =
+    (whole : ℕ) → DrawsWithin whole old → (edits : List (List Key)) → HasAsked (run_edits given before edits) old
+    → HasDrawn whole (run_edits given after (edits ++ more)) new
 
--- what is known where calls stopped: for want of forms only in that case
-abbrev pub RunStops : Given → List Attempt → List Attempt → List (List Key) → PassView → EditError → Type 0
-RunStops given before after more old (FormsFull drawn) = HasRunFull given before after more old
-RunStops given before after more old NoMemory = Unit {0}
+-- what is known where calls stopped: for want of forms with a number that is no form's
+abbrev pub RunStops : Given → List Attempt → List Attempt → List (List Key) → PassView → PassView → EditError → Type 0
+RunStops given before after more old new (FormsFull drawn) = HasRunOut given before after more old new × IsOver drawn new
+RunStops given before after more old new NoMemory = Unit {0}
 
--- what calls leave that make these recipes, and with which the attempts before become those after
-abbrev pub RunsOn : {A : Type 0} → Given → List Attempt → List Attempt → List (List Key) → Work → Work → Result A EditError → Type 0
-RunsOn given before after more old new (Ok a) = HasRunOn given before after more old.pass.now new.pass.now
-RunsOn given before after more old new (Err e) = RunStops given before after more old.pass.now e
+-- what calls leave of a pass over the forms that make these recipes, and with which the attempts before become those after
+abbrev pub RunsOn : {A : Type 0} → Given → List Attempt → List Attempt → List (List Key) → PassView → PassView → Result A EditError → Type 0
+RunsOn given before after more old new (Ok a) = HasRunOn given before after more old new
+RunsOn given before after more old new (Err e) = RunStops given before after more old new e
 
 -- P holds where no number was left for a form
 abbrev pub IfFull : {A : Type 0} → Result A EditError → Type 0 → Type 0

@@ -1,45 +1,45 @@
--- The attempts of threads one after the other: the first call that names a site attempts it.
-use Rattle.std.specs.Prelude.{◌≡◌, ℕ, ◌+◌, ◌==◌, Bool, List, [], ◌∷◌, ◌++◌, if◌then◌else◌, Option, Some, length, map, fold, find, option_map}
-use Rattle.std.specs.List.{range_with_len, list_any}
+-- The attempts of one thread: the first call that names a site attempts it, unless the pass has learnt a linkage of that site by then.
+use Rattle.std.specs.Prelude.{◌≡◌, ◌≢◌, ℕ, ◌+◌, ◌<◌, ◌≤◌, ◌==◌, List, [], ◌++◌, length, map, filter, All, AllPairs, Contains, IsSome, Some}
+use Rattle.std.specs.List.{list_any}
 use Rattle.mh_plan.specs.declared.attempt.Attempt.{Attempt}
-use Rattle.mh_plan.specs.Naming.{Naming}
+use Rattle.mh_plan.specs.Naming.{first_places}
 use Rattle.mh_plan.specs.Results.{Serials, serial_at}
+use Rattle.mh_runtime.specs.Passes.{HasSerials, LinkPass}
 
--- the site was attempted
-abbrev pub is_attempted : List Attempt → ℕ → Bool
-is_attempted attempts site = list_any (λ a. a.site == site) attempts
+-- each of these sites has a serial
+abbrev pub AreLinked : Serials → List ℕ → Type 0
+AreLinked linked sites = All (λ site. IsSome (serial_at linked site)) sites
 
--- the attempt of a site by a thread after these
-abbrev pub next_attempt : ℕ → List Attempt → ℕ → Attempt
-next_attempt thread attempts site = record { thread = thread; site = site; serial = length attempts + 1 }
+-- the pass has attempted this site with this serial, and has recorded the attempt
+abbrev pub HasRecorded : LinkPass → ℕ → ℕ → Type 0
+HasRecorded pass site serial = (a : Attempt) × Contains pass.recorded a × Contains pass.attempts a × (a.serial ≡ serial) × (a.site ≡ site)
 
--- the attempts after a call of a thread that names a site: one more, where the site had none
-abbrev pub after_site : ℕ → List Attempt → ℕ → List Attempt
-after_site thread attempts site = if is_attempted attempts site then attempts else attempts ++ next_attempt thread attempts site ∷ []
+-- each serial is that of an attempt of its site that the pass has recorded
+abbrev pub AreRecorded : LinkPass → Serials → Type 0
+AreRecorded pass table = (site serial : ℕ) → serial_at table site ≡ Some serial → HasRecorded pass site serial
 
--- the attempts after calls of a thread that name these sites, in order
-abbrev pub after_sites : ℕ → List Attempt → List ℕ → List Attempt
-after_sites thread attempts sites = fold (after_site thread) attempts sites
+-- the sites of attempts, in order
+abbrev pub sites_of : List Attempt → List ℕ
+sites_of attempts = map (λ a. a.site) attempts
 
--- the attempts after threads whose calls name these sites, in order; the threads are counted from a number
-abbrev pub after_threads : ℕ → List Attempt → Naming → List Attempt
-after_threads thread attempts [] = attempts
-after_threads thread attempts (sites ∷ naming) = after_threads (thread + 1) (after_sites thread attempts sites) naming
+-- one thread has used the pass, whose calls name these sites: it has attempted no site twice, and sites in the order in which its calls first name them
+pub record IsThreadRun (sites : List ℕ) (pass : LinkPass) : Type 0 where
+  -- the attempts have the serials that were drawn, which rise
+  pub numbered : map (λ a. a.serial) pass.attempts ≡ pass.seat.numbers
+  pub rising : AllPairs (λ a b. a.serial < b.serial) pass.attempts
+  pub own : All (λ a. a.thread ≡ pass.thread) pass.attempts
+  pub apart : AllPairs (λ a b. a.site ≢ b.site) pass.attempts
+  pub reached : All (λ a. Contains sites a.site) pass.attempts
+  pub in_order : sites_of pass.attempts ≡ filter (λ k. list_any (λ s. s == k) (sites_of pass.attempts)) (first_places [] sites)
 
--- the attempts of a run whose threads' calls name these sites
-abbrev pub attempts_of : Naming → List Attempt
-attempts_of naming = after_threads 0 [] naming
+-- calls that name these sites were made, where those before were made to their end
+abbrev pub AttemptsMore : List ℕ → LinkPass → LinkPass → Type 0
+AttemptsMore more old new = (sites : List ℕ) → AreLinked old.linked sites → IsThreadRun sites old → IsThreadRun (sites ++ more) new
 
--- ---- tables
-
--- the serial of the attempt of a site, where it was attempted
-abbrev pub serial_of : List Attempt → ℕ → Option ℕ
-serial_of attempts site = option_map (λ a. a.serial) (find (λ a. a.site == site) attempts)
-
--- for each of so many sites the serial of its attempt
-abbrev pub table_of : ℕ → List Attempt → Serials
-table_of sites attempts = map (λ site. serial_of attempts site) (range_with_len 0 sites)
-
--- the table has the serial of each attempt at its site
-abbrev pub HasSerials : List Attempt → Serials → Type 0
-HasSerials attempts table = (site serial : ℕ) → serial_of attempts site ≡ Some serial → serial_at table site ≡ Some serial
+-- the pass stays with its linker and its thread, what it has linked stays so, and at most so many serials were drawn
+pub record GoesOnLinking (serials : ℕ) (old new : LinkPass) : Type 0 where
+  pub linker : new.linker ≡ old.linker
+  pub thread : new.thread ≡ old.thread
+  pub linked : HasSerials old.linked new.linked
+  pub room : old.seat.room ≤ new.seat.room + serials
+  pub whole : new.seat.room + length new.seat.numbers ≡ old.seat.room + length old.seat.numbers

@@ -1,8 +1,12 @@
 pub mod Asking
 pub mod Attempts
 pub mod Input
+pub mod Joined
+pub mod Joining
 pub mod Keys
+pub mod Lanes
 pub mod Ledger
 pub mod Linking
+pub mod Passes
 pub mod Report
 pub mod TypeNumbers

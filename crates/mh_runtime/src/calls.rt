@@ -1,4 +1,4 @@
-ghost use Rattle.std.specs.Prelude.{◌≡◌, ◌<◌, ◌∷◌, [], length, IfOk, OnOk};
+ghost use Rattle.std.specs.Prelude.{◌≡◌, ◌<◌, ◌≤◌, ◌∷◌, [], length, IfOk, OnOk};
 ghost use Rattle.mh_values.specs.HasType.{HaveTypes};
 ghost use Rattle.mh_tree.specs.Meaning.{exact, generic};
 ghost use Rattle.mh_tree.specs.Tree as tree;
@@ -10,16 +10,20 @@ ghost use Rattle.mh_attempt.specs.Asked.{Asks};
 ghost use Rattle.mh_plan.specs.Forms.{used_edits, call_edits};
 ghost use Rattle.mh_plan.specs.Naming.{sites_named};
 ghost use Rattle.mh_plan.specs.Results.{IsCallOf, Serials, result_of};
+ghost use Rattle.mh_jobs.specs.Jobs.{params_at};
 ghost use Rattle.mh_runtime.specs.Asking.{RunsOn, call_draws};
-ghost use Rattle.mh_runtime.specs.Attempts.{HasSerials, after_sites};
-ghost use Rattle.mh_runtime.specs.Keys.{keys_of};
+ghost use Rattle.mh_runtime.specs.Attempts.{AreLinked, AttemptsMore, GoesOnLinking};
+ghost use Rattle.mh_runtime.specs.Keys.{IsAnswerOf, keys_of};
 ghost use Rattle.mh_runtime.specs.Linking.{KeepsHandles, KeepsOthers};
+ghost use Rattle.mh_runtime.specs.Passes.{HasSerials};
 
-use crate::linker::Linker;
+use crate::context::Context;
+use crate::pass::Pass;
 use mh_astype::{invoke_exact_with, invoke_generic_with};
 use mh_form::Machine;
 use mh_handle::{Answer, EditError, Handle, HandleError, Work, leaf};
 use mh_jobs::Run;
+use mh_outside::Gate;
 use mh_plan::Call;
 use mh_values::{Items, LeafId, MethodTy};
 use std::sync::Wait;
@@ -99,35 +103,68 @@ fn call_generic<'t, R: Wait>(
     answer
 }
 
-/// Makes a call of a thread, in the machine that its calls have in common: of a leaf by a handle of it, as the first of its invocation, or of a
-/// call site by what is linked there, which is attempted now where no call before did. Each handle
-/// that is made is given back, also where no memory or no form was left, but for those of the
-/// linker's targets.
-pub(crate) fn call<'t, J: Run, R: Wait>(
-    m: &mut Machine,
-    w: &mut Work<'_, 't>,
-    rt: &R,
-    linker: &mut Linker<'t, J>,
-    thread: u32,
-    call: &Call,
-) -> Result<Answer, WorkError>
-    requires leaves { leaves_of w.old ≡ J.given.leaves }
-    requires call { IsCallOf J.given.leaves J.given.jobs call.now }
-    requires ready { IsReady w.old call_draws }
-    ensures goes_on { GoesOn call_draws w.old w.new }
-    ensures attempts { OnOk result
-        (linker.new ≡ after_sites thread linker.old (sites_named call.now)) }
-    ensures handles { KeepsOthers J.given linker.old linker.new w.old w.new }
+impl<'s, 't, J: Run, G: Gate> Context<'s, 't, J, G> {
+    // Calls a site: its target is called, or the recorded error is thrown.
+    fn call_site<R: Wait>(
+        &self,
+        m: &mut Machine,
+        w: &mut Work<'_, 't>,
+        rt: &R,
+        pass: &mut Pass<'s, 't, J>,
+        site: u32,
+        args: &Items,
+    ) -> Result<Answer, WorkError>
+        requires pass { pass.old.linker ≡ self.now.linker.now }
+        requires site { site < length J.given.jobs }
+        requires leaves { leaves_of w.old ≡ J.given.leaves }
+        requires typed { HaveTypes J.given.leaves.classes args.now (params_at J.given.jobs site) }
+        requires ready { IsReady w.old 256 }
+        requires room { 1 ≤ pass.old.seat.room }
+        ensures goes_on { GoesOn 256 w.old w.new }
+        ensures pass { GoesOnLinking 1 pass.old pass.new }
+        ensures attempts { AttemptsMore (site ∷ []) pass.old pass.new }
+        ensures answer { IfOk result (IsAnswerOf J.given pass.new.linked site args.now) }
+        ensures handles { KeepsOthers J.given pass.old.recorded pass.new.recorded w.old w.new }
+        ensures runs { RunsOn J.given pass.old.attempts pass.new.attempts []
+            w.old.pass.now w.new.pass.now result }
+    {
+        let linkage = self.linker.resolve(w, rt, pass, self.gate, site)?;
+        Ok(linkage.call_with(m, w.leaves, args)?)
+    }
 
-    // The answer is right under each table that has the serials of the attempts so far.
-    ensures answer { (table : Serials) → HasSerials linker.new table → IfOk result
-        (IsAnswer (result_of J.given table call.now) (keys_of J.given table call.now)) }
-    ensures runs { RunsOn J.given linker.old (after_sites thread linker.old (sites_named call.now))
-        (call_edits J.given.leaves call.now) w.old w.new result }
-{
-    match call {
-        Call::Exact(id, ty, args) => call_exact(m, w, rt, *id, ty, args),
-        Call::Generic(id, ty, args) => call_generic(m, w, rt, *id, ty, args),
-        Call::Indy(site, args) => linker.call_site(m, w, rt, thread, *site, args),
+    /// Makes a call of a thread, in the machine that its calls have in common: of a leaf by a handle
+    /// of it, as the first of its invocation, or of a call site by what is linked there, which is
+    /// attempted now where the pass has learnt no linkage of it. Each handle that is made is given
+    /// back, also where no memory or no form was left, but for those of recorded targets.
+    pub(crate) fn call<R: Wait>(
+        &self,
+        m: &mut Machine,
+        w: &mut Work<'_, 't>,
+        rt: &R,
+        pass: &mut Pass<'s, 't, J>,
+        call: &Call,
+    ) -> Result<Answer, WorkError>
+        requires pass { pass.old.linker ≡ self.now.linker.now }
+        requires leaves { leaves_of w.old ≡ J.given.leaves }
+        requires call { IsCallOf J.given.leaves J.given.jobs call.now }
+        requires ready { IsReady w.old call_draws }
+        requires room { 1 ≤ pass.old.seat.room }
+        ensures goes_on { GoesOn call_draws w.old w.new }
+        ensures pass { GoesOnLinking 1 pass.old pass.new }
+        ensures attempts { AttemptsMore (sites_named call.now) pass.old pass.new }
+        ensures linked { OnOk result (AreLinked pass.new.linked (sites_named call.now)) }
+        ensures handles { KeepsOthers J.given pass.old.recorded pass.new.recorded w.old w.new }
+
+        // The answer is right under each table that has the serials of what the pass has learnt.
+        ensures answer { (table : Serials) → HasSerials pass.new.linked table → IfOk result
+            (IsAnswer (result_of J.given table call.now) (keys_of J.given table call.now)) }
+        ensures runs { RunsOn J.given pass.old.attempts pass.new.attempts
+            (call_edits J.given.leaves call.now) w.old.pass.now w.new.pass.now result }
+    {
+        match call {
+            Call::Exact(id, ty, args) => call_exact(m, w, rt, *id, ty, args),
+            Call::Generic(id, ty, args) => call_generic(m, w, rt, *id, ty, args),
+            Call::Indy(site, args) => self.call_site(m, w, rt, pass, *site, args),
+        }
     }
 }

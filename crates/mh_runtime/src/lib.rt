@@ -1,12 +1,19 @@
-//! Runs of plans: each call by a handle, over one table of forms; each call site is linked once.
+//! Runs of plans: each call by a handle, over one table of forms; each call site is linked once, by
+//! whichever thread records first.
 #![tactic(auto)]
 
 mod calls;
+mod context;
 mod input;
+mod joining;
+mod lane;
 mod linker;
+mod ordering;
+mod pass;
 mod recording;
 mod running;
 mod types;
+mod walks;
 
 pub use calls::WorkError;
 pub use input::RunInput;

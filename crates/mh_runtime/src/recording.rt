@@ -1,16 +1,18 @@
-ghost use Rattle.std.specs.Prelude.{◌≡◌, ◌<◌, IfOk, OnOk, length, option_map};
+ghost use Rattle.std.specs.Prelude.{◌≡◌, ℕ, ◌<◌, IfOk, OnOk, Some, length, option_map};
 ghost use Rattle.mh_leaf.specs.LeafTable.{LeafTable};
 ghost use Rattle.mh_link.specs.Linked as meant;
 ghost use Rattle.mh_attempt.specs.Linkage.{IsLinkedBy};
 ghost use Rattle.mh_plan.specs.Recorded.{recorded, recorded_at, shown_of};
-ghost use Rattle.mh_runtime.specs.Attempts.{HasSerials, serial_of, table_of};
+ghost use Rattle.mh_plan.specs.Results.{serial_at};
+ghost use Rattle.mh_runtime.specs.Attempts.{AreRecorded};
 
-use crate::linker::Linker;
+use crate::pass::Pass;
 use mh_attempt::{Linkage, Linked};
 use mh_base::{Copied, NoMemory, Seq};
 use mh_jobs::Run;
 use mh_plan::{Recorded, Shown, Table};
 use std::alloc::Global;
+use std::sync::Wait;
 
 // What is linked, as it is shown.
 fn shown(alloc: Global, linked: &Linked<'_>) -> Result<Shown, NoMemory>
@@ -34,34 +36,62 @@ fn recorded<J: Run>(alloc: Global, linkage: &Linkage<'_, J>) -> Result<Recorded,
     })
 }
 
-// What is recorded at a site.
-fn recorded_site<J: Run>(
-    alloc: Global,
-    linker: &Linker<'_, J>,
-    site: usize,
-) -> Result<Option<Recorded>, NoMemory>
-    requires { site < length J.given.jobs }
-    ensures { IfOk result (λ entry. entry
-        ≡ option_map (recorded_at J.given site) (serial_of linker.now site)) }
+// For each site the serial of an attempt that the pass has recorded there, if it has.
+fn owners<J: Run>(alloc: Global, pass: &Pass<'_, '_, J>) -> Result<Vec<Option<u64>>, NoMemory>
+    ensures count { IfOk result (λ owners. length owners.items ≡ length J.given.jobs) }
+    ensures own { IfOk result (λ owners. AreRecorded pass.now owners.items) }
 {
-    match linker.find(site) {
-        Some(linkage) => Ok(Some(recorded(alloc, linkage)?)),
-        None => Ok(None),
+    let mut owners = vec![in alloc; None; pass.sites()]?;
+    for attempt in pass.recorded() {
+        owners[attempt.site as usize] = Some(attempt.serial);
     }
+    Ok(owners)
 }
 
-/// What is recorded at each site, by the sites' numbers.
-pub(crate) fn table<J: Run>(alloc: Global, linker: &Linker<'_, J>) -> Result<Table, NoMemory>
-    ensures table { IfOk result (λ table. table
-        ≡ recorded J.given (table_of (length J.given.jobs) linker.now)) }
-
-    // Each attempt is of a site of the table.
-    ensures serials { OnOk result
-        (HasSerials linker.now (table_of (length J.given.jobs) linker.now)) }
+// What is recorded at a site, by the attempt of this serial. No other attempt can have recorded
+// there, but a cell does not say so: no answer is made of any other linkage.
+fn recorded_site<J: Run, R: Wait>(
+    rt: &R,
+    alloc: Global,
+    pass: &Pass<'_, '_, J>,
+    site: u32,
+    owner: Option<u64>,
+) -> Result<Option<Recorded>, NoMemory>
+    requires { site < length J.given.jobs }
+    ensures entry { IfOk result (λ entry. entry
+        ≡ option_map (recorded_at J.given site) (serial_at pass.now.linked site)) }
+    ensures own { OnOk result ((serial : ℕ) → serial_at pass.now.linked site ≡ Some serial
+        → owner ≡ Some serial) }
 {
+    let Some(linkage) = pass.seen(site) else {
+        return Ok(None);
+    };
+    for _ in rt.forever() {
+        if owner == Some(linkage.serial()) {
+            return Ok(Some(recorded(alloc, linkage)?));
+        }
+    }
+    unreachable!()
+}
+
+/// What is recorded at each site, by the sites' numbers, in the view of a pass that all others were
+/// joined to.
+pub(crate) fn table<J: Run, R: Wait>(
+    rt: &R,
+    alloc: Global,
+    pass: &Pass<'_, '_, J>,
+) -> Result<Table, NoMemory>
+    ensures table { IfOk result (λ table. table ≡ recorded J.given pass.now.linked) }
+
+    // There is an entry for each site, and each is linked by an attempt that the pass has recorded.
+    ensures entries { OnOk result (length pass.now.linked ≡ length J.given.jobs) }
+    ensures own { OnOk result (AreRecorded pass.now pass.now.linked) }
+{
+    let owners = owners(alloc, pass)?;
     let mut table = Seq::new(alloc);
-    for site in 0..linker.sites() {
-        table.push(recorded_site(alloc, linker, site)?)?;
+    for site in 0..pass.sites() {
+        let number = u32::try_from(site).map_err(|_| NoMemory)?;
+        table.push(recorded_site(rt, alloc, pass, number, owners[site])?)?;
     }
     Ok(table)
 }

@@ -1,33 +1,38 @@
-ghost use Rattle.std.specs.Prelude.{◌≡◌, ◌<◌, ◌≤◌, [], All, length, IfOk, OnOk, flat_map};
-ghost use Rattle.mh_handle.specs.Passes.{pass_at, seat_at};
-ghost use Rattle.mh_handle.specs.Works.{GoesOn, IsReady, leaves_of};
+ghost use Rattle.std.specs.Prelude.{◌≡◌, ◌*◌, ◌<◌, ◌≤◌, length, IfOk};
 ghost use Rattle.mh_jobs.specs.Given.{AreJobs};
-ghost use Rattle.mh_plan.specs.Forms.{thread_edits, plan_edits, forms, forms_needed};
+ghost use Rattle.mh_plan.specs.Forms.{draws_needed, forms};
 ghost use Rattle.mh_plan.specs.Limits.{IsWithinLimits};
-ghost use Rattle.mh_plan.specs.Naming.{naming_of, sites_named};
+ghost use Rattle.mh_plan.specs.Naming.{naming_of};
 ghost use Rattle.mh_plan.specs.Recorded.{recorded, serials_of, types};
-ghost use Rattle.mh_plan.specs.Results.{IsCallOf, AreCallsOf, Serials, thread_results, results_of, thread_said, results_said, thread_keys_said, keys_said};
-ghost use Rattle.mh_runtime.specs.Asking.{IfFull, RunsOn, plan_draws, thread_draws};
-ghost use Rattle.mh_runtime.specs.Attempts.{HasSerials, after_sites, after_threads, table_of};
+ghost use Rattle.mh_plan.specs.Results.{AreCallsOf, keys_said, results_of, results_said};
+ghost use Rattle.mh_seats.specs.Room.{limit};
+ghost use Rattle.mh_runtime.specs.Asking.{IfFull};
 ghost use Rattle.mh_runtime.specs.Input.{given_by};
-ghost use Rattle.mh_runtime.specs.Keys.{thread_keys, plan_keys};
+ghost use Rattle.mh_runtime.specs.Keys.{plan_keys};
 ghost use Rattle.mh_runtime.specs.Ledger.{Ledger};
-ghost use Rattle.mh_runtime.specs.Linking.{KeepsHandles, KeepsOthers, most_sites};
+ghost use Rattle.mh_runtime.specs.Joining.{AreAllJoined, IsUnused, IsUnusedForms};
+ghost use Rattle.mh_runtime.specs.Passes.{most_sites};
 ghost use Rattle.mh_runtime.specs.Report.{IsReport};
 
-use crate::calls::{WorkError, call};
+use crate::calls::WorkError;
+use crate::context::Context;
 use crate::input::RunInput;
+use crate::joining::Joined;
 use crate::linker::Linker;
+use crate::ordering::by_serial;
+use crate::pass::Pass;
 use crate::recording::table;
 use crate::types::count_types;
 use mh_base::Seq;
-use mh_form::Machine;
-use mh_handle::{FormTable, LiveHandles, Work};
+use mh_handle::{FormPass, FormTable};
 use mh_jobs::Run;
-use mh_plan::{Answers, Attempts, Plan, Table, ThreadAnswers, ThreadCalls};
+use mh_outside::Gate;
+use mh_plan::{Attempts, Plan, Table, ThreadAnswers};
+use mh_threads::fork_join;
 use std::alloc::Global;
 use std::marker::Brand;
 use std::sync::Wait;
+use std::thread::Threads;
 
 /// What a run gave.
 #[derive(Debug, Drop)]
@@ -44,144 +49,69 @@ pub struct RunReport {
     pub types: u32,
 }
 
-// Makes the calls of a thread, in order and in one machine.
-fn run_thread<'t, J: Run, R: Wait>(
-    w: &mut Work<'_, 't>,
+// What a run gave whose threads were joined.
+fn report<'s, 't, J: Run, R: Wait, G>(
     rt: &R,
-    linker: &mut Linker<'t, J>,
-    thread: u32,
-    calls: &ThreadCalls,
-) -> Result<Answers, WorkError>
-    requires leaves { leaves_of w.old ≡ J.given.leaves }
-    requires calls { All (IsCallOf J.given.leaves J.given.jobs) calls.now }
-    requires ready { IsReady w.old (thread_draws calls.now) }
-    ensures goes_on { GoesOn (thread_draws calls.now) w.old w.new }
-    ensures attempts { OnOk result
-        (linker.new ≡ after_sites thread linker.old (flat_map sites_named calls.now)) }
-    ensures handles { KeepsOthers J.given linker.old linker.new w.old w.new }
-    ensures results { (table : Serials) → HasSerials linker.new table → IfOk result
-        (λ answers. thread_said answers ≡ thread_results J.given table calls.now) }
-    ensures keys { (table : Serials) → HasSerials linker.new table → IfOk result
-        (λ answers. thread_keys_said answers ≡ thread_keys J.given table calls.now) }
-    ensures runs { RunsOn J.given linker.old
-        (after_sites thread linker.old (flat_map sites_named calls.now))
-        (thread_edits J.given.leaves calls.now) w.old w.new result }
-{
-    let mut m = Machine::new(w.alloc);
-    let mut answers = Seq::new(w.alloc);
-    for next in calls.as_slice() {
-        answers.push(call(&mut m, w, rt, linker, thread, next)?)?;
-    }
-    Ok(answers)
-}
-
-// Makes the calls of all threads, one thread after the other.
-fn run_threads<'t, J: Run, R: Wait>(
-    w: &mut Work<'_, 't>,
-    rt: &R,
-    linker: &mut Linker<'t, J>,
-    plan: &Plan,
-) -> Result<ThreadAnswers, WorkError>
-    requires leaves { leaves_of w.old ≡ J.given.leaves }
-    requires calls { AreCallsOf J.given.leaves J.given.jobs plan.now }
-    requires limits { IsWithinLimits plan.now }
-    requires ready { IsReady w.old (plan_draws plan.now) }
-    ensures goes_on { GoesOn (plan_draws plan.now) w.old w.new }
-    ensures attempts { OnOk result (linker.new ≡ after_threads 0 linker.old (naming_of plan.now)) }
-    ensures handles { KeepsOthers J.given linker.old linker.new w.old w.new }
-    ensures results { (table : Serials) → HasSerials linker.new table → IfOk result
-        (λ threads. results_said threads ≡ results_of J.given table plan.now) }
-    ensures keys { (table : Serials) → HasSerials linker.new table → IfOk result
-        (λ threads. keys_said threads ≡ plan_keys J.given table plan.now) }
-    ensures runs { RunsOn J.given linker.old (after_threads 0 linker.old (naming_of plan.now))
-        (plan_edits J.given.leaves plan.now) w.old w.new result }
-{
-    let mut threads = Seq::new(w.alloc);
-    for thread in 0..plan.len() {
-        threads.push(run_thread(w, rt, linker, thread as u32, plan.get(thread))?)?;
-    }
-    Ok(threads)
-}
-
-// What a run gave beside its attempts and its forms.
-#[derive(Drop)]
-struct Told {
-    threads: ThreadAnswers,
-    table: Table,
-    types: u32,
-}
-
-// Runs a plan, and tells what it gave.
-fn tell<'t, J: Run, R: Wait>(
-    w: &mut Work<'_, 't>,
-    rt: &R,
-    linker: &mut Linker<'t, J>,
-    plan: &Plan,
-) -> Result<Told, WorkError>
-    requires leaves { leaves_of w.old ≡ J.given.leaves }
-    requires calls { AreCallsOf J.given.leaves J.given.jobs plan.now }
-    requires limits { IsWithinLimits plan.now }
-    requires ready { IsReady w.old (plan_draws plan.now) }
-    ensures attempts { OnOk result (linker.new ≡ after_threads 0 linker.old (naming_of plan.now)) }
-    ensures handles { KeepsOthers J.given linker.old linker.new w.old w.new }
-    ensures table { IfOk result
-        (λ told. told.table ≡ recorded J.given (table_of (length J.given.jobs) linker.new)) }
-    ensures serials { OnOk result
-        (HasSerials linker.new (table_of (length J.given.jobs) linker.new)) }
-    ensures types { IfOk result
-        (λ told. told.types ≡ types J.given (table_of (length J.given.jobs) linker.new)) }
-    ensures results { (table : Serials) → HasSerials linker.new table → IfOk result
-        (λ told. results_said told.threads ≡ results_of J.given table plan.now) }
-    ensures keys { (table : Serials) → HasSerials linker.new table → IfOk result
-        (λ told. keys_said told.threads ≡ plan_keys J.given table plan.now) }
-    ensures runs { RunsOn J.given linker.old (after_threads 0 linker.old (naming_of plan.now))
-        (plan_edits J.given.leaves plan.now) w.old w.new result }
-{
-    let threads = run_threads(w, rt, linker, plan)?;
-    let table = table(w.alloc, linker)?;
-    let types = count_types(w.alloc, linker)?;
-    Ok(Told {
-        threads,
-        table,
-        types,
-    })
-}
-
-// Runs a plan with a pass and a linker that are new, and gives back the linker's handles.
-fn run_linked<'t, J: Run, R: Wait>(
-    w: &mut Work<'_, 't>,
-    rt: &R,
-    linker: Linker<'t, J>,
-    plan: &Plan,
+    context: &Context<'s, 't, J, G>,
+    joined: Joined<'s, 't, J>,
 ) -> Result<RunReport, WorkError>
-    requires leaves { leaves_of w.old ≡ J.given.leaves }
-    requires calls { AreCallsOf J.given.leaves J.given.jobs plan.now }
-    requires limits { IsWithinLimits plan.now }
-    requires linker { linker ≡ [] }
-    requires pass { w.old.pass.now ≡ pass_at w.old.forms.now (seat_at w.old.forms.now 0) }
-    ensures handles { KeepsHandles w.old w.new }
-    ensures run { IfOk result (IsReport J.given plan.now) }
-    ensures full { IfFull result (16384 < forms_needed J.given plan.now) }
+    requires joined { AreAllJoined J.given context.now.linker.now context.now.forms.now
+        context.now.plan.now joined }
+    ensures run { IfOk result (IsReport J.given context.now.plan.now) }
+    ensures full { IfFull result (16384 < draws_needed J.given context.now.plan.now) }
 {
-    let mut linker = linker;
-    let told = tell(w, rt, &mut linker, plan);
-    let attempts = linker.give_back(w);
-    let told = told?;
+    let Joined {
+        links,
+        forms,
+        threads,
+        full,
+    } = joined;
+    if let Some(drawn) = full {
+        return Err(WorkError::FormsFull { drawn });
+    }
     Ok(RunReport {
-        threads: told.threads,
-        table: told.table,
-        attempts,
-        forms: w.pass.len(),
-        types: told.types,
+        threads,
+        table: table(rt, context.alloc, &links)?,
+        types: count_types(context.alloc, &links)?,
+        forms: forms.len(),
+        attempts: by_serial(links.into_attempts()),
     })
+}
+
+// Runs the plan with passes that are new.
+fn run_passes<'s, 't, J: Run + Send + Sync, R: Threads + Wait + Sync, G: Gate + Sync>(
+    rt: &R,
+    context: &Context<'s, 't, J, G>,
+    links: Pass<'s, 't, J>,
+    forms: FormPass<'t>,
+) -> Result<RunReport, WorkError>
+    requires leaves { context.now.leaves.now ≡ J.given.leaves }
+    requires calls { AreCallsOf J.given.leaves J.given.jobs context.now.plan.now }
+    requires limits { IsWithinLimits context.now.plan.now }
+    requires links { IsUnused J.given context.now.linker.now links }
+    requires links_room { links.seat.room ≡ limit }
+    requires forms { IsUnusedForms context.now.forms.now forms }
+    requires forms_room { forms.seat.room ≡ limit }
+    ensures run { IfOk result (IsReport J.given context.now.plan.now) }
+    ensures full { IfFull result (16384 < draws_needed J.given context.now.plan.now) }
+{
+    let mut joined = Joined {
+        links,
+        forms,
+        threads: Seq::new(context.alloc),
+        full: None,
+    };
+    fork_join(rt, context.alloc, context, &mut joined)?;
+    report(rt, context, joined)
 }
 
 // Runs a plan of what the run's type parameter names.
-fn run_named<J: Run, R: Wait>(
+fn run_named<J: Run + Send + Sync, R: Threads + Wait + Sync, G: Gate + Sync>(
     rt: &R,
     alloc: Global,
     input: &RunInput<'_>,
     plan: &Plan,
+    gate: &G,
 ) -> Result<RunReport, WorkError>
     requires named { given_by input.now ≡ J.given }
     requires calls { AreCallsOf J.given.leaves J.given.jobs plan.now }
@@ -189,39 +119,39 @@ fn run_named<J: Run, R: Wait>(
     requires jobs { AreJobs J.given }
     requires few { length J.given.jobs ≤ most_sites }
     ensures run { IfOk result (IsReport J.given plan.now) }
-    ensures full { IfFull result (16384 < forms_needed J.given plan.now) }
+    ensures full { IfFull result (16384 < draws_needed J.given plan.now) }
 {
     let (table, seat) = FormTable::new(alloc)?;
-    let mut pass = table.first_pass(alloc, seat)?;
-    let linker = Linker::<J>::new(alloc, input.jobs, input.scripts)?;
-    let mut handles = LiveHandles::new();
-    let mut w = Work {
+    let forms = table.first_pass(alloc, seat)?;
+    let (linker, seat) = Linker::<J>::new(alloc, input.jobs, input.scripts)?;
+    let links = Pass::new(alloc, &linker, seat, 0)?;
+    let context = Context {
         alloc,
+        linker: &linker,
         forms: &table,
-        pass: &mut pass,
         leaves: input.leaves,
-        handles: &mut handles,
+        plan,
+        gate,
     };
-    let report = run_linked(&mut w, rt, linker, plan);
-    let Work {
-        alloc: _,
-        forms: _,
-        pass: _,
-        leaves: _,
-        handles: _,
-    } = w;
-    report
+    run_passes(rt, &context, links, forms)
 }
 
-/// Runs the calls of a plan, one thread after the other, over one table, which has numbers for
-/// 16,384 forms. The plan is one of these leaves and call sites, and within the limits on threads
-/// and calls; there are at most 4,096 sites. Each site that a call names is linked once, at the
-/// first such call, and what that attempt records stays, an error too.
-pub fn run_plan<R: Wait>(
+/// Runs the calls of a plan, each thread beside the others, over one linker and one table of forms,
+/// which has numbers for 16,384 forms. The plan is one of these leaves and call sites, and within the
+/// limits on threads and calls; there are at most 4,096 sites.
+///
+/// A thread links a site at its first call of it, unless it finds it linked by another; what is
+/// recorded first stays, an error too, and each caller of the site gets it. The gate is called by a
+/// thread before and after it records.
+///
+/// Where a thread had no memory, that is the answer; else it is the error of the lowest thread that
+/// stopped.
+pub fn run_plan<R: Threads + Wait + Sync, G: Gate + Sync>(
     rt: &R,
     alloc: Global,
     input: &RunInput<'_>,
     plan: &Plan,
+    gate: &G,
 ) -> Result<RunReport, WorkError>
     requires calls { AreCallsOf input.now.leaves.now input.now.jobs.now plan.now }
     requires limits { IsWithinLimits plan.now }
@@ -239,7 +169,7 @@ pub fn run_plan<R: Wait>(
         (λ run. run.forms ≡ forms (given_by input.now) plan.now run.attempts) }
     ensures types { IfOk result
         (λ run. run.types ≡ types (given_by input.now) (serials_of run.table)) }
-    ensures full { IfFull result (16384 < forms_needed (given_by input.now) plan.now) }
+    ensures full { IfFull result (16384 < draws_needed (given_by input.now) plan.now) }
 {
-    run_named::<Brand, R>(rt, alloc, input, plan)
+    run_named::<Brand, R, G>(rt, alloc, input, plan, gate)
 }

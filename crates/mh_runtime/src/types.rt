@@ -7,10 +7,10 @@ ghost use Rattle.mh_link.specs.Linked as meant;
 ghost use Rattle.mh_link.specs.Linked.{held_by};
 ghost use Rattle.mh_attempt.specs.Linkage.{IsLinkedBy};
 ghost use Rattle.mh_plan.specs.Recorded.{held_at, types};
-ghost use Rattle.mh_runtime.specs.Attempts.{serial_of, table_of};
+ghost use Rattle.mh_plan.specs.Results.{serial_at};
 ghost use Rattle.mh_runtime.specs.TypeNumbers.{primitive_number, component_number, type_number, return_number, type_numbers, HasTypes};
 
-use crate::linker::Linker;
+use crate::pass::Pass;
 use mh_attempt::Linked;
 use mh_base::NoMemory;
 use mh_handle::Handle;
@@ -112,26 +112,26 @@ fn add_linked(alloc: Global, set: &mut NumberSet, linked: &Linked<'_>) -> Result
     }
 }
 
-// Puts the types that what is recorded at a site holds into a set.
+// Puts the types that what is linked at a site holds into a set.
 fn add_site<J: Run>(
     alloc: Global,
     set: &mut NumberSet,
-    linker: &Linker<'_, J>,
-    site: usize,
+    pass: &Pass<'_, '_, J>,
+    site: u32,
 ) -> Result<(), NoMemory>
     requires { site < length J.given.jobs }
     ensures { (types : List TypeValue) → HasTypes set.old types → OnOk result
-        (HasTypes set.new (types ++ held_at J.given site (serial_of linker.now site))) }
+        (HasTypes set.new (types ++ held_at J.given site (serial_at pass.now.linked site))) }
 {
-    match linker.find(site) {
+    match pass.seen(site) {
         Some(linkage) => add_linked(alloc, set, linkage.linked()),
         None => Ok(()),
     }
 }
 
-// A count as a report has it. What no `u32` can be is want of memory.
-fn as_count(number: usize) -> Result<u32, NoMemory>
-    ensures { IfOk result (λ count. count ≡ number) }
+// A number as a report has it. What no `u32` can be is want of memory.
+fn as_u32(number: usize) -> Result<u32, NoMemory>
+    ensures { IfOk result (λ same. same ≡ number) }
 {
     u32::try_from(number).or(Err(NoMemory))
 }
@@ -144,14 +144,14 @@ fn size(set: &NumberSet) -> usize
     set.len()
 }
 
-/// How many different types the recorded targets hold.
-pub(crate) fn count_types<J: Run>(alloc: Global, linker: &Linker<'_, J>) -> Result<u32, NoMemory>
-    ensures { IfOk result (λ count. count
-        ≡ types J.given (table_of (length J.given.jobs) linker.now)) }
+/// How many different types the targets hold that the pass has learnt.
+pub(crate) fn count_types<J: Run>(alloc: Global, pass: &Pass<'_, '_, J>) -> Result<u32, NoMemory>
+    ensures { IfOk result (λ count. count ≡ types J.given pass.now.linked) }
 {
     let mut set = BTreeSet::new(alloc);
-    for site in 0..linker.sites() {
-        add_site(alloc, &mut set, linker, site)?;
+    for site in 0..pass.sites() {
+        let number = as_u32(site)?;
+        add_site(alloc, &mut set, pass, number)?;
     }
-    as_count(size(&set))
+    as_u32(size(&set))
 }

@@ -15,7 +15,7 @@ use Rattle.mh_runtime.proofs.calls.call_generic.Goals as goal
 pub returns-in_err-handle-clause-asks : goal.returns-in_err-handle-clause-asks
 returns-in_err-handle-clause-asks g c =
     stopped-early Handle (recipe c.args.w.now.leaves.now (tree.Leaf c.args.id)) (used_edits c.args.w.now.leaves.now (tree.Leaf c.args.id) c.args.ty.now)
-    c.args.w.now c.leaf_handle.new.w c.leaf_handle.new.w c.in_err-handle.field-0.0 c.from_residual.result c.from_residual.ensures.1
+    c.args.w.now c.leaf_handle.new.w c.in_err-handle.field-0.0 c.from_residual.result c.from_residual.ensures.1
     c.in_err-handle.ensures.asks
 
 pub returns-clause-answer : goal.returns-clause-answer

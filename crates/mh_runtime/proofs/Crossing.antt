@@ -1,0 +1,66 @@
+-- A lane of a run may go to another thread, and threads may share what all of them use.
+use denote.RattleType.{RattleType}
+use denote.Ref.{NamedLft}
+use denote.Param.Send.{IsSend, IsSync, sendable}
+use Rattle.std.proofs.Crossing.{crosses}
+use Rattle.mh_setonce.proofs.chain.Chain.TheSendSync as chain
+use Rattle.mh_setonce.proofs.walk.Walk.TheSendSync as walk
+use Rattle.mh_tickets.proofs.seat.TicketSeat.TheSendSync as seat
+use Rattle.mh_handle.proofs.Crossing.{pass_send}
+use Rattle.mh_jobs.specs.declared.run.Run.{Ghosts}
+use Rattle.mh_attempt.proofs.Crossing.{linkage_send, linkage_sync}
+use Rattle.mh_plan.proofs.attempt.Attempt.TheSendSync as attempt
+use Rattle.mh_base.proofs.seq.Seq.TheSendSync as seq
+use Rattle.mh_base.specs.contracts.seq.Seq as Plan
+use Rattle.mh_handle.proofs.answer.Answer.TheSendSync as answer
+use Rattle.mh_handle.proofs.error.EditError.TheSendSync as error
+use Rattle.mh_handle.specs.contracts.answer.Answer as Answer
+use Rattle.mh_plan.specs.contracts.call.Call as Call
+use Rattle.mh_plan.proofs.call.Call.TheSendSync as call
+use Rattle.mh_jobs.proofs.jobs.Jobs.TheSendSync as jobs
+use Rattle.mh_script.proofs.scripts.Scripts.TheSendSync as scripts
+use Rattle.mh_tickets.proofs.tickets.Tickets.TheSendSync as tickets
+use Rattle.mh_runtime.specs.contracts.lane.Lane as Lane
+use Rattle.mh_runtime.specs.contracts.linker.Linker as Linker
+use Rattle.mh_runtime.specs.contracts.pass.Pass as Pass
+use Rattle.mh_runtime.specs.contracts.walks.SiteWalks as SiteWalks
+
+-- ---- passes, by what was shown of their parts, since a search that goes down through them all runs out of steps
+
+walks_send : (s t : NamedLft) (R : RattleType) (g : Ghosts R.Denot) → IsSend R → IsSync R → IsSend (SiteWalks.the_row s t R g)
+walks_send s t R g send sync =
+    let l = linkage_send t R g send sync in
+    let m = linkage_sync t R g send sync in
+    search (walk.the_send, chain.the_sync, crosses, sendable) depth 40
+
+pub links_send : (s t : NamedLft) (R : RattleType) (g : Ghosts R.Denot) → IsSend R → IsSync R → IsSend (Pass.the_row s t R g)
+links_send s t R g send sync =
+    let w = walks_send s t R g send sync in
+    let a = attempt.the_send in
+    let e = seat.the_send in
+    search (crosses, sendable) depth 20
+
+-- ---- lanes
+
+pub lane_send : (s t : NamedLft) (R : RattleType) (g : Ghosts R.Denot) → IsSend R → IsSync R → IsSend (Lane.the_row s t R g)
+lane_send s t R g send sync =
+    let l = links_send s t R g send sync in
+    let f = pass_send t in
+    let c = seq.the_sync Call.the_row call.the_sync in
+    let a = seq.the_send Answer.the_row answer.the_send in
+    let e = error.the_send in
+    search (crosses, sendable) depth 40
+
+-- ---- what threads share
+
+pub linker_sync : (t : NamedLft) (R : RattleType) (g : Ghosts R.Denot) → IsSend R → IsSync R → IsSync (Linker.the_row t R g)
+linker_sync t R g send sync =
+    let l = linkage_send t R g send sync in
+    let m = linkage_sync t R g send sync in
+    let j = jobs.the_sync in
+    let p = scripts.the_sync in
+    let k = tickets.the_sync in
+    search (chain.the_sync, crosses, sendable) depth 40
+
+pub plan_sync : IsSync (Plan.the_row (Plan.the_row Call.the_row))
+plan_sync = seq.the_sync (Plan.the_row Call.the_row) (seq.the_sync Call.the_row call.the_sync)

@@ -1,0 +1,110 @@
+-- What steps of a thread leave of its pass over the call sites.
+use Rattle.std.proofs.Common.{◌≡◌, ◌≢◌, refl, sym, ◌∙◌, ap, ap₂, subst, ℕ, ◌+◌, ◌<◌, List, [], ◌∷◌, ◌++◌, length, map, Option, None, Some, arith}
+use Rattle.std.specs.Prelude.{All, AllPairs, Contains, IsSome, filter}
+use Rattle.std.proofs.lemmas.List.{length-append}
+use Rattle.std.proofs.lemmas.List.Elements.{All-weaker, Contains-push}
+use Rattle.mh_tickets.specs.Seats.{Draws, SeatView}
+use Rattle.mh_attempt.specs.Linkage.{LinkageView}
+use Rattle.mh_plan.specs.declared.attempt.Attempt.{Attempt}
+use Rattle.mh_plan.specs.Naming.{first_places}
+use Rattle.mh_plan.specs.Results.{Serials, serial_at}
+use Rattle.mh_runtime.specs.Attempts.{AreLinked, AttemptsMore, GoesOnLinking, IsThreadRun, sites_of}
+use Rattle.mh_runtime.specs.Passes.{Begins, HasSerials, LearnsSites, LinkPass, attempt_of}
+use Rattle.mh_runtime.proofs.Sites.{is_in}
+use Rattle.mh_runtime.proofs.ThreadRuns.{not-linked, run-more, run-same}
+
+-- what is linked stays so
+linked-on : (a b : Serials) (sites : List ℕ) → HasSerials a b → AreLinked a sites → AreLinked b sites
+linked-on a b sites has all =
+    All-weaker (λ site. IsSome (serial_at a site)) (λ site. IsSome (serial_at b site)) (λ site some. one site (serial_at a site) refl some) sites all
+  where
+    one : (site : ℕ) (o : Option ℕ) → serial_at a site ≡ o → IsSome o → IsSome (serial_at b site)
+    one site None is some = absurd cc
+    one site (Some serial) is some = subst IsSome (sym (has site serial is)) refl
+
+-- ---- more is learnt
+
+pub goes-learns : (old new : LinkPass) → LearnsSites old new → GoesOnLinking 1 old new
+goes-learns old new learns = record {
+  linker = learns.linker;
+  thread = learns.thread;
+  linked = learns.linked;
+  room = omega (arith, ap (λ (s : SeatView). s.room) learns.seat);
+  whole = ap (λ (s : SeatView). s.room + length s.numbers) learns.seat;
+}
+
+-- nothing was learnt
+pub learns-none : (pass : LinkPass) → LearnsSites pass pass
+learns-none pass = record { linker = refl; thread = refl; linked = λ site serial is. is; attempts = refl; seat = refl }
+
+pub attempts-learn : (site : ℕ) (old new : LinkPass) → LearnsSites old new → AttemptsMore (site ∷ []) old new
+attempts-learn site old new learns sites linked run = run-same sites site old new run learns.thread learns.attempts learns.seat
+
+-- a thread's run is that of the pass that has learnt more
+run-learns : (sites : List ℕ) (old new : LinkPass) → LearnsSites old new → IsThreadRun sites old → IsThreadRun sites new
+run-learns sites old new learns run = record {
+  numbered = ap (map (λ (a : Attempt). a.serial)) learns.attempts ∙ (run.numbered ∙ ap (λ (s : SeatView). s.numbers) (sym learns.seat));
+  rising = subst (AllPairs (λ (a b : Attempt). a.serial < b.serial)) (sym learns.attempts) run.rising;
+  own = subst (λ n. All (λ (a : Attempt). a.thread ≡ n) new.attempts) (sym learns.thread)
+      (subst (All (λ (a : Attempt). a.thread ≡ old.thread)) (sym learns.attempts) run.own);
+  apart = subst (AllPairs (λ (a b : Attempt). a.site ≢ b.site)) (sym learns.attempts) run.apart;
+  reached = subst (All (λ (a : Attempt). Contains sites a.site)) (sym learns.attempts) run.reached;
+  in_order = subst (λ all. sites_of all ≡ filter (is_in (sites_of all)) (first_places [] sites)) (sym learns.attempts) run.in_order;
+}
+
+-- more is learnt first
+pub goes-learnt : (old mid new : LinkPass) → LearnsSites old mid → GoesOnLinking 1 mid new → GoesOnLinking 1 old new
+goes-learnt old mid new learns goes = record {
+  linker = goes.linker ∙ learns.linker;
+  thread = goes.thread ∙ learns.thread;
+  linked = λ site serial is. goes.linked site serial (learns.linked site serial is);
+  room = omega (arith, goes.room, ap (λ (s : SeatView). s.room) learns.seat);
+  whole = goes.whole ∙ ap (λ (s : SeatView). s.room + length s.numbers) learns.seat;
+}
+
+pub attempts-learnt : (more : List ℕ) (old mid new : LinkPass) → LearnsSites old mid → AttemptsMore more mid new → AttemptsMore more old new
+attempts-learnt more old mid new learns after sites linked run =
+    after sites (linked-on old.linked mid.linked sites learns.linked linked) (run-learns sites old mid learns run)
+
+-- ---- an attempt is begun, and more is learnt
+
+-- the attempt of a site that a pass begins
+abbrev pub begun_by : LinkPass → ℕ → ℕ → Attempt
+begun_by old site serial = record { thread = old.thread; site = site; serial = serial }
+
+pub begun-attempts : (site serial : ℕ) (old mid : LinkPass) → Begins site serial old mid → mid.attempts ≡ old.attempts ++ begun_by old site serial ∷ []
+begun-attempts site serial old mid begins = ap (λ (p : LinkPass). p.attempts) begins.1
+
+-- the attempt that made a linkage is the one that was begun
+pub begun-made : (site serial : ℕ) (old mid : LinkPass) (l : LinkageView) → Begins site serial old mid → l.job.site ≡ site → l.serial ≡ serial →
+    Contains mid.attempts (attempt_of mid.thread l)
+begun-made site serial old mid l begins own number =
+    let begun : Attempt = begun_by old site serial in
+    let thread : mid.thread ≡ old.thread = ap (λ (p : LinkPass). p.thread) begins.1 in
+    let same : attempt_of mid.thread l ≡ begun =
+    ap (λ t. record { thread = t; site = l.job.site; serial = l.serial }) thread
+    ∙ ap₂ (λ s n. record { thread = old.thread; site = s; serial = n }) own number in
+    subst (Contains mid.attempts) (sym same)
+    (subst (λ all. Contains all begun) (sym (begun-attempts site serial old mid begins)) (Contains-push old.attempts begun))
+
+module _ (site serial : ℕ) (old mid new : LinkPass) (begins : Begins site serial old mid) (learns : LearnsSites mid new) where
+  pub goes-begun : GoesOnLinking 1 old new
+  goes-begun = record {
+    linker = learns.linker ∙ ap (λ (p : LinkPass). p.linker) begins.1;
+    thread = learns.thread ∙ ap (λ (p : LinkPass). p.thread) begins.1;
+    linked = λ s n is. learns.linked s n (ap (λ (p : LinkPass). serial_at p.linked s) begins.1 ∙ is);
+    room = omega (arith, begins.0.room, ap (λ (s : SeatView). s.room) learns.seat);
+    whole = omega (
+      arith,
+      begins.0.room,
+      ap (λ (s : SeatView). s.room + length s.numbers) learns.seat,
+      ap length begins.0.numbers,
+      length-append old.seat.numbers (serial ∷ []),
+    );
+  }
+
+  pub attempts-begun : serial_at old.linked site ≡ None → AttemptsMore (site ∷ []) old new
+  attempts-begun none sites linked run =
+      run-more sites site old new run (learns.thread ∙ ap (λ (p : LinkPass). p.thread) begins.1) serial (not-linked old.linked sites site linked none)
+      (subst (λ (s : SeatView). Draws serial old.seat s) (sym learns.seat) begins.0)
+      (learns.attempts ∙ ap (λ (p : LinkPass). p.attempts) begins.1)

@@ -1,0 +1,69 @@
+-- Threads with what they have used, or lanes for them, and one more.
+use Rattle.std.proofs.Common.{◌≡◌, sym, ◌∙◌, ap, subst, ℕ, zero, suc, ◌+◌, ◌≤◌, List, [], ◌∷◌, ◌++◌, length, length-append, Some, ⊎_elim, arith}
+use Rattle.std.specs.Prelude.{slice_get}
+use Rattle.std.proofs.lemmas.Option.{slice_get_within}
+use Rattle.mh_handle.specs.Passes.{TableView}
+use Rattle.mh_jobs.specs.Given.{Given}
+use Rattle.mh_plan.specs.declared.call.Call.{Call}
+use Rattle.mh_plan.specs.Limits.{calls_in}
+use Rattle.mh_runtime.specs.declared.lane.Lane.{Lane}
+use Rattle.mh_runtime.specs.Joined.{AreDone, AreUsed, IsDoneBy, IsUsedBy, ThreadPasses}
+use Rattle.mh_runtime.specs.Joining.{AreFresh, IsFreshFor}
+use Rattle.mh_runtime.specs.Passes.{LinkerView}
+use Rattle.mh_runtime.proofs.Places.{at-push_cases}
+
+-- ---- pairs
+
+-- a relation holds of the items at each place of two lists
+abbrev pub Each : {X Y : Type 0} → (ℕ → X → Y → Type 0) → List X → List Y → Type 0
+Each {X} {Y} R xs ys = (i : ℕ) (x : X) (y : Y) → slice_get xs i ≡ Some x → slice_get ys i ≡ Some y → R i x y
+
+pub each-push : {X Y : Type 0} (R : ℕ → X → Y → Type 0) (xs : List X) (ys : List Y) (x : X) (y : Y) → length ys ≡ length xs → Each R xs ys →
+    R (length xs) x y → Each R (xs ++ x ∷ []) (ys ++ y ∷ [])
+each-push {X} {Y} R xs ys x y same each one i a b is there =
+    ⊎_elim
+    (λ (before : slice_get xs i ≡ Some a). ⊎_elim
+    (λ (old : slice_get ys i ≡ Some b). each i a b before old)
+    (λ (last : (i ≡ length ys) × (y ≡ b)). absurd (let w = slice_get_within xs i a before in omega (arith, w, last.0, same)))
+    (at-push_cases ys y i b there))
+    (λ (last : (i ≡ length xs) × (x ≡ a)). ⊎_elim
+    (λ (old : slice_get ys i ≡ Some b). absurd (let w = slice_get_within ys i b old in omega (arith, w, last.0, same)))
+    (λ (here : (i ≡ length ys) × (y ≡ b)).
+    subst (λ n. R n a b) (sym last.0) (subst (λ z. R (length xs) z b) last.1 (subst (R (length xs) x) here.1 one)))
+    (at-push_cases ys y i b there))
+    (at-push_cases xs x i a is)
+
+one-longer : {X Y : Type 0} (xs : List X) (ys : List Y) (x : X) (y : Y) → length ys ≡ length xs → length (ys ++ y ∷ []) ≡ length (xs ++ x ∷ [])
+one-longer xs ys x y same = length-append ys (y ∷ []) ∙ (ap (λ n. n + 1) same ∙ sym (length-append xs (x ∷ [])))
+
+-- ---- threads
+
+pub used-push : (given : Given) (threads : List (List Call)) (all : List ThreadPasses) (calls : List Call) (p : ThreadPasses) → AreUsed given threads all →
+    IsUsedBy given (length threads) calls p → AreUsed given (threads ++ calls ∷ []) (all ++ p ∷ [])
+used-push given threads all calls p used one = record {
+  count = one-longer threads all calls p used.count;
+  each = each-push (λ thread calls p. IsUsedBy given thread calls p) threads all calls p used.count used.each one;
+}
+
+pub done-push : (given : Given) (threads : List (List Call)) (all : List ThreadPasses) (calls : List Call) (p : ThreadPasses) →
+    length all ≡ length threads → AreDone given threads all → IsDoneBy given calls p → AreDone given (threads ++ calls ∷ []) (all ++ p ∷ [])
+done-push given threads all calls p same done one = each-push (λ thread calls p. IsDoneBy given calls p) threads all calls p same done one
+
+-- ---- lanes
+
+pub fresh-push : {J : Type 0} (given : Given) (linker : LinkerView) (table : TableView) (threads : List (List Call)) (lanes : List (Lane J))
+    (calls : List Call) (lane : Lane J) → AreFresh given linker table threads lanes → IsFreshFor given linker table (length threads) calls lane →
+    AreFresh given linker table (threads ++ calls ∷ []) (lanes ++ lane ∷ [])
+fresh-push given linker table threads lanes calls lane fresh one = record {
+  count = one-longer threads lanes calls lane fresh.count;
+  each = each-push (λ thread calls lane. IsFreshFor given linker table thread calls lane) threads lanes calls lane fresh.count fresh.each one;
+}
+
+-- no thread makes more calls than all together
+pub few-each : (threads : List (List Call)) (i : ℕ) (calls : List Call) → slice_get threads i ≡ Some calls → length calls ≤ calls_in threads
+few-each [] i calls is = cc
+few-each (first ∷ threads) zero calls is = let same : length first ≡ length calls = ap length (the first calls is) in omega (arith, same)
+  where
+    the : (a b : List Call) → Some a ≡ Some b → a ≡ b
+    the a b same = cc same
+few-each (first ∷ threads) (suc i) calls is = let rest = few-each threads i calls is in omega (arith, rest)

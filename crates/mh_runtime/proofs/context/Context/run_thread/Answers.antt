@@ -1,0 +1,98 @@
+use Rattle.std.proofs.Common.{sym, ◌∙◌, ap, subst, ◌+◌, ◌++◌, take, drop}
+use Rattle.std.specs.List.{flat_map}
+use Rattle.mh_handle.specs.Answers.{AnswerView, IsAnswer}
+use Rattle.mh_plan.specs.Forms.{call_edits, thread_edits}
+use Rattle.mh_plan.specs.Naming.{sites_named}
+use Rattle.mh_plan.specs.Results.{Serials, result_of, result_said}
+use Rattle.mh_runtime.specs.Asking.{HasRunOn, RunStops, call_draws, thread_draws}
+use Rattle.mh_runtime.specs.Attempts.{AreLinked, AttemptsMore}
+use Rattle.mh_runtime.specs.Keys.{keys_of}
+use Rattle.mh_runtime.specs.Passes.{HasSerials}
+use Rattle.mh_runtime.proofs.Repeating.{told-next}
+use Rattle.mh_runtime.proofs.Room.{calls-draw, goes-next}
+use Rattle.mh_runtime.proofs.RunSteps.{runs-both, stops-run, stops-second}
+use Rattle.mh_runtime.proofs.Items.{flat-all, flat-next, flat-whole}
+use Rattle.mh_runtime.proofs.ThreadSteps.{attempts-both, attempts-early, linked-both, links-both, serials-both}
+use Rattle.mh_runtime.proofs.HeldHandles.{keeps-both}
+use Rattle.mh_runtime.proofs.context.Context.run_thread.Goals as goal
+
+pub returns-in_err-call-clause-runs : goal.returns-in_err-call-clause-runs
+returns-in_err-call-clause-runs g c =
+    let given = g.J.Run.given in
+    let edits = call_edits given.leaves in
+    let items = c.as_slice-next-items.result.now in
+    let i = c.loop-next.next-index in
+    let e = c.in_err-call.field-0.0 in
+    stops-run given c.args.pass.now.attempts c.call.new.pass.attempts (thread_edits given.leaves c.args.calls.now) c.args.w.now.pass.now c.call.new.w.pass.now e
+    c.from_residual.result c.from_residual.ensures.1
+    (subst (λ rs. RunStops given c.args.pass.now.attempts c.call.new.pass.attempts rs c.args.w.now.pass.now c.call.new.w.pass.now e)
+    (sym (flat-whole edits items i c.next-item.result c.loop-next-test.true c.next-item.is) ∙ ap (flat_map edits) c.as_slice-next-items.ensures)
+    (stops-second given (flat_map edits (take i items)) (edits c.next-item.result) c.args.pass.now.attempts c.loop-next.pass.attempts c.call.new.pass.attempts
+    c.args.w.now.pass.now c.loop-next.w.pass.now c.call.new.w.pass.now c.loop-next.invariant.runs (flat_map edits (drop (i + 1) items)) e
+    c.in_err-call.ensures.runs))
+
+pub returns-in_err-call-clause-attempts : goal.returns-in_err-call-clause-attempts
+returns-in_err-call-clause-attempts g c =
+    let items = c.as_slice-next-items.result.now in
+    let i = c.loop-next.next-index in
+    subst (λ sites. AttemptsMore sites c.args.pass.now c.call.new.pass)
+    (sym (flat-whole sites_named items i c.next-item.result c.loop-next-test.true c.next-item.is) ∙ ap (flat_map sites_named) c.as_slice-next-items.ensures)
+    (attempts-early (flat_map sites_named (take i items) ++ sites_named c.next-item.result) (flat_map sites_named (drop (i + 1) items)) c.args.pass.now
+    c.call.new.pass
+    (attempts-both (flat_map sites_named (take i items)) (sites_named c.next-item.result) c.args.pass.now c.loop-next.pass c.call.new.pass
+    c.loop-next.invariant.pass.linked c.loop-next.invariant.linked c.loop-next.invariant.attempts c.call.ensures.attempts))
+
+pub returns-in_err-push-clause-attempts : goal.returns-in_err-push-clause-attempts
+returns-in_err-push-clause-attempts g c =
+    let items = c.as_slice-next-items.result.now in
+    let i = c.loop-next.next-index in
+    subst (λ sites. AttemptsMore sites c.args.pass.now c.call.new.pass)
+    (sym (flat-whole sites_named items i c.next-item.result c.loop-next-test.true c.next-item.is) ∙ ap (flat_map sites_named) c.as_slice-next-items.ensures)
+    (attempts-early (flat_map sites_named (take i items) ++ sites_named c.next-item.result) (flat_map sites_named (drop (i + 1) items)) c.args.pass.now
+    c.call.new.pass
+    (attempts-both (flat_map sites_named (take i items)) (sites_named c.next-item.result) c.args.pass.now c.loop-next.pass c.call.new.pass
+    c.loop-next.invariant.pass.linked c.loop-next.invariant.linked c.loop-next.invariant.attempts c.call.ensures.attempts))
+
+pub loop-next-preserved : goal.loop-next-preserved
+loop-next-preserved g c =
+    let given = g.J.Run.given in
+    let items = c.as_slice-next-items.result.now in
+    let i = c.loop-next.next-index in
+    let call = c.next-item.result in
+    let within = c.loop-next-test.true in
+    let is = c.next-item.is in
+    let start = c.args.pass.now in
+    let mid = c.loop-next.pass in
+    let end = c.call.new.pass in
+    let before : (table : Serials) → HasSerials end.linked table → HasSerials mid.linked table =
+    λ table has. serials-both mid.linked end.linked table c.call.ensures.pass.linked has in
+    let answer : (table : Serials) → HasSerials end.linked table → IsAnswer (result_of given table call) (keys_of given table call) c.in_ok-call.field-0 =
+    λ table has. c.in_ok-call.ensures.answer table has in
+    record {
+      goes_on = goes-next (λ call. call_draws) thread_draws calls-draw items i call c.args.w.now c.loop-next.w c.call.new.w within is
+          c.loop-next.invariant.goes_on c.call.ensures.goes_on;
+      pass = links-both i 1 start mid end c.loop-next.invariant.pass c.call.ensures.pass;
+      attempts = subst (λ sites. AttemptsMore sites start end) (sym (flat-next sites_named items i call within is))
+          (attempts-both (flat_map sites_named (take i items)) (sites_named call) start mid end c.loop-next.invariant.pass.linked
+          c.loop-next.invariant.linked c.loop-next.invariant.attempts c.call.ensures.attempts);
+      linked = subst (AreLinked end.linked) (sym (flat-next sites_named items i call within is))
+          (linked-both mid.linked end.linked (flat_map sites_named (take i items)) (sites_named call) c.call.ensures.pass.linked
+          c.loop-next.invariant.linked c.in_ok-call.ensures.linked);
+      handles = keeps-both given start.recorded mid.recorded end.recorded c.args.w.now c.loop-next.w c.call.new.w
+          c.loop-next.invariant.handles c.call.ensures.handles;
+      results = λ table has. told-next (result_of given table) result_said items i call c.loop-next.answers c.push.new.self c.in_ok-call.field-0
+          within is c.in_ok-push.ensures.ok (c.loop-next.invariant.results table (before table has)) (answer table has).ran_is;
+      keys = λ table has. told-next (keys_of given table) (λ (a : AnswerView). a.keys) items i call c.loop-next.answers c.push.new.self
+          c.in_ok-call.field-0 within is c.in_ok-push.ensures.ok (c.loop-next.invariant.keys table (before table has)) (answer table has).keys_are;
+      runs = subst (λ rs. HasRunOn given start.attempts end.attempts rs c.args.w.now.pass.now c.call.new.w.pass.now)
+          (sym (flat-next (call_edits given.leaves) items i call within is))
+          (runs-both given (flat_map (call_edits given.leaves) (take i items)) (call_edits given.leaves call) start.attempts mid.attempts end.attempts
+          c.args.w.now.pass.now c.loop-next.w.pass.now c.call.new.w.pass.now c.loop-next.invariant.runs c.in_ok-call.ensures.runs);
+    }
+
+pub returns-clause-runs : goal.returns-clause-runs
+returns-clause-runs g c =
+    subst (λ rs. HasRunOn g.J.Run.given c.args.pass.now.attempts c.loop-next.pass.attempts rs c.args.w.now.pass.now c.loop-next.w.pass.now)
+    (flat-all (call_edits g.J.Run.given.leaves) c.as_slice-next-items.result.now c.args.calls.now c.loop-next.next-index c.loop-next-test.false
+    c.as_slice-next-items.ensures)
+    c.loop-next.invariant.runs

@@ -1,0 +1,67 @@
+use Rattle.std.proofs.Common.{◌≡◌, ◌∙◌, ap, ap₂, refl, [], ◌∷◌, ◌++◌, arith}
+use Rattle.mh_plan.specs.declared.attempt.Attempt.{Attempt}
+use Rattle.mh_runtime.specs.Passes.{attempt_of}
+use Rattle.mh_runtime.proofs.LinkPasses.{held-push, pass-learns, pass-puts}
+use Rattle.mh_runtime.proofs.pass.Pass.record.Given as given
+use Rattle.mh_runtime.proofs.pass.Pass.record.Goals as goal
+
+-- the attempt that made the linkage
+made : (g : given.Over) (c : goal.After-push_reserved g) → Attempt
+made g c = record { thread = c.self.inside.thread; site = c.site.result; serial = c.serial.result }
+
+made-is : (g : given.Over) (c : goal.After-push_reserved g) → made g c ≡ attempt_of c.self.inside.thread c.args.linkage
+unfolding made
+made-is g c = ap₂ (λ s n. record { thread = c.self.inside.thread; site = s; serial = n }) c.site.ensures c.serial.ensures
+
+pub invariant_of-self-in-Ok-Mine : goal.invariant_of-self-in-Ok-Mine
+unfolding made
+invariant_of-self-in-Ok-Mine g c =
+    let put = rw c.in-Ok-Mine.field-0-is at c.in-Ok-Mine.ensures.put in
+    pass-puts g.J.Run.given c.self.inside.walks c.put.new.self c.self.inside.attempts.items c.self.inside.recorded.items c.put.ensures.linked
+    c.self.invariant c.self.inside.thread c.args.linkage c.in-Ok-Mine.recorded.now (made g c) c.push_reserved.new.self.items
+    (rw (← c.self.view_is) at c.requires.attempted) put.0 put.1 (made-is g c)
+    (c.push_reserved.ensures.items ∙ ap (λ xs. xs ++ made g c ∷ []) c.reserve.ensures.items)
+
+pub invariant_of-self-in-Ok-Theirs : goal.invariant_of-self-in-Ok-Theirs
+invariant_of-self-in-Ok-Theirs g c = rw c.reserve.ensures.items
+    (pass-learns g.J.Run.given c.self.inside.walks c.put.new.self c.self.inside.attempts.items c.self.inside.recorded.items c.put.ensures.linked
+    c.self.invariant)
+
+pub invariant_of-self-in-Err : goal.invariant_of-self-in-Err
+invariant_of-self-in-Err g c = rw c.reserve.ensures.items
+    (pass-learns g.J.Run.given c.self.inside.walks c.put.new.self c.self.inside.attempts.items c.self.inside.recorded.items c.put.ensures.linked
+    c.self.invariant)
+
+pub returns-in-Ok-Mine-clause-learns : goal.returns-in-Ok-Mine-clause-learns
+returns-in-Ok-Mine-clause-learns g c = rw (← c.self.view_is) (record {
+  linker = ap (λ cs. record { chains = cs; serials = c.self.inside.seat.tickets }) c.put.ensures.chains;
+  thread = refl;
+  linked = c.put.ensures.linked;
+  attempts = refl;
+  seat = refl;
+})
+
+pub returns-in-Ok-Mine-clause-handles : goal.returns-in-Ok-Mine-clause-handles
+unfolding made
+returns-in-Ok-Mine-clause-handles g c =
+    let more = held-push g.J.Run.given c.self.inside.recorded.items c.push_reserved.new.self.items (attempt_of c.self.inside.thread c.args.linkage)
+    (c.push_reserved.ensures.items ∙ ap₂ (λ xs a. xs ++ a ∷ []) c.reserve.ensures.items (made-is g c)) in
+    rw (← c.self.view_is) (omega (arith, more))
+
+pub returns-in-Ok-Theirs-clause-learns : goal.returns-in-Ok-Theirs-clause-learns
+returns-in-Ok-Theirs-clause-learns g c = rw (← c.self.view_is) (record {
+  linker = ap (λ cs. record { chains = cs; serials = c.self.inside.seat.tickets }) c.put.ensures.chains;
+  thread = refl;
+  linked = c.put.ensures.linked;
+  attempts = refl;
+  seat = refl;
+})
+
+pub returns-in-Err-clause-learns : goal.returns-in-Err-clause-learns
+returns-in-Err-clause-learns g c = rw (← c.self.view_is) (record {
+  linker = ap (λ cs. record { chains = cs; serials = c.self.inside.seat.tickets }) c.put.ensures.chains;
+  thread = refl;
+  linked = c.put.ensures.linked;
+  attempts = refl;
+  seat = refl;
+})

@@ -1,0 +1,74 @@
+-- What a lane of a run has: the passes of one thread, its calls, and what they gave.
+use Rattle.std.specs.Prelude.{◌≡◌, ℕ, ◌+◌, ◌≤◌, List, [], length, replicate, All, Option, None, Some, Result, Ok, Err}
+use Rattle.std.specs.List.{flat_map}
+use Rattle.mh_handle.specs.declared.answer.Answer.{Answer}
+use Rattle.mh_handle.specs.declared.error.EditError.{EditError}
+use Rattle.mh_handle.specs.declared.error.EditError.TheVariants.{NoMemory, FormsFull}
+use Rattle.mh_handle.specs.Joins as forms
+use Rattle.mh_handle.specs.Passes.{PassView, TableView}
+use Rattle.mh_handle.specs.Seats as forms_seat
+use Rattle.mh_tickets.specs.Seats.{new_seat}
+use Rattle.mh_jobs.specs.Given.{Given}
+use Rattle.mh_attempt.specs.Asked.{HasDrawn, IsOver}
+use Rattle.mh_plan.specs.declared.call.Call.{Call}
+use Rattle.mh_plan.specs.Forms.{thread_edits}
+use Rattle.mh_plan.specs.Plan.{most_calls}
+use Rattle.mh_plan.specs.Naming.{sites_named}
+use Rattle.mh_plan.specs.Results.{IsCallOf, Serials, thread_keys_said, thread_results, thread_said}
+use Rattle.mh_runtime.specs.declared.lane.Lane.{Lane}
+use Rattle.mh_runtime.specs.Asking.{run_edits}
+use Rattle.mh_runtime.specs.Attempts.{IsThreadRun}
+use Rattle.mh_runtime.specs.Joined.{IsDoneBy, ThreadPasses}
+use Rattle.mh_runtime.specs.Keys.{thread_keys}
+use Rattle.mh_runtime.specs.Passes.{HasSerials, LinkPass, LinkerView, split_room}
+
+-- the passes of a lane
+abbrev pub passes_of : {J : Type 0} → Lane J → ThreadPasses
+passes_of lane = record { links = lane.links; forms = lane.forms }
+
+-- the pass of a thread over call sites before it has run
+abbrev pub fresh_links : LinkerView → ℕ → ℕ → LinkPass
+fresh_links linker sites thread = record {
+  linker = linker;
+  thread = thread;
+  linked = replicate sites None;
+  attempts = [];
+  recorded = [];
+  seat = new_seat linker.serials split_room;
+}
+
+-- the pass of a thread over forms before it has run
+abbrev pub fresh_forms : TableView → PassView
+fresh_forms table = record { table = table; learnt = []; made = []; asked = []; seat = forms_seat.new_seat table forms.split_room }
+
+-- a lane that may be run, over this linker and this table of forms
+pub record CanRun {J : Type 0} (given : Given) (linker : LinkerView) (table : TableView) (lane : Lane J) : Type 0 where
+  pub links : lane.links ≡ fresh_links linker (length given.jobs) lane.links.thread
+  pub forms_are : lane.forms ≡ fresh_forms table
+  pub calls : All (IsCallOf given.leaves given.jobs) lane.calls.now
+  pub few : length lane.calls.now ≤ most_calls
+
+-- what calls gave that were made to their end: the results and the keys under each table that has the serials of what the thread has linked
+pub record HasAnswered (given : Given) (calls : List Call) (links : LinkPass) (answers : List Answer) : Type 0 where
+  pub results : (table : Serials) → HasSerials links.linked table → thread_said answers ≡ thread_results given table calls
+  pub keys : (table : Serials) → HasSerials links.linked table → thread_keys_said answers ≡ thread_keys given table calls
+
+-- the thread has drawn at most one number for each form that its calls and its attempts need
+abbrev pub DrawsFew : Given → List Call → ThreadPasses → Type 0
+DrawsFew given calls passes = HasDrawn split_room (run_edits given passes.links.attempts (thread_edits given.leaves calls)) passes.forms
+
+-- what is known of the passes by how the calls ended: for want of memory nothing
+abbrev pub EndsAs : Given → List Call → ThreadPasses → Option (Result (List Answer) EditError) → Type 0
+EndsAs given calls passes None = ⊥
+EndsAs given calls passes (Some (Ok answers)) = DrawsFew given calls passes × IsDoneBy given calls passes × HasAnswered given calls passes.links answers
+EndsAs given calls passes (Some (Err (FormsFull drawn))) = DrawsFew given calls passes × IsOver drawn passes.forms
+EndsAs given calls passes (Some (Err NoMemory)) = Unit {0}
+
+-- a lane that has run the calls of a thread
+pub record HasRun {J : Type 0} (given : Given) (linker : LinkerView) (table : TableView) (thread : ℕ) (calls : List Call) (lane : Lane J) : Type 0 where
+  pub linker_is : lane.links.linker ≡ linker
+  pub table_is : lane.forms.table ≡ table
+  pub thread_is : lane.links.thread ≡ thread
+  pub run : IsThreadRun (flat_map sites_named calls) lane.links
+  pub whole : lane.links.seat.room + length lane.links.seat.numbers ≡ split_room
+  pub ends : EndsAs given calls (passes_of lane) lane.ran

@@ -1,0 +1,178 @@
+-- What contracts see of a linker, which threads share, and of a pass, which each thread has of its own.
+use Rattle.std.specs.Prelude.{◌≡◌, ℕ, suc, ◌^◌, ◌<◌, ◌≤◌, ◌==◌, ◌⊎◌, List, [], ◌∷◌, ◌++◌, length, map, replicate, slice_get, All, Result, Ok, Err, Option, None, Some, option_map, Contains}
+use Rattle.std.specs.List.{find}
+use denote.Ref.{Bor}
+use Rattle.mh_setonce.specs.declared.put.Put.{Put}
+use Rattle.mh_setonce.specs.declared.put.Put.TheVariants.{Mine, Theirs}
+use Rattle.mh_setonce.specs.Views.{ChainView, WalkView}
+use Rattle.mh_setonce.specs.Walks.{Has, Meet}
+use Rattle.mh_tickets.specs.Seats.{Draws, SeatView, TicketsId, new_seat}
+use Rattle.mh_script.specs.declared.script.Script.{Script}
+use Rattle.mh_jobs.specs.declared.job.Job.{Job}
+use Rattle.mh_jobs.specs.Given.{Given, AreJobs}
+use Rattle.mh_attempt.specs.Linkage.{LinkageView}
+use Rattle.mh_plan.specs.declared.attempt.Attempt.{Attempt}
+use Rattle.mh_plan.specs.Results.{Serials, serial_at}
+
+-- how many call sites a run may have
+abbrev pub most_sites : ℕ
+most_sites = 4096
+
+-- ---- linkers
+
+-- the chains of the call sites, one for each, and the counter of the serials of attempts
+pub record LinkerView : Type 0 where
+  pub chains : List ChainView
+  pub serials : TicketsId
+
+-- what a linker has: the jobs and the scripts of the run, and a chain for each site
+pub record IsLinker (given : Given) (jobs : List Job) (scripts : List Script) (linker : LinkerView) : Type 0 where
+  pub jobs_are : jobs ≡ given.jobs
+  pub scripts_are : scripts ≡ given.scripts
+  pub are_jobs : AreJobs given
+  pub chains : length linker.chains ≡ length given.jobs
+  pub few : length given.jobs ≤ most_sites
+
+-- ---- passes
+
+-- a pass: its linker, its thread, the serial of the linkage that it has learnt of each site, the attempts made with it, those of them that it has recorded, and
+-- the seat through which it draws serials
+pub record LinkPass : Type 0 where
+  pub linker : LinkerView
+  pub thread : ℕ
+  pub linked : Serials
+  pub attempts : List Attempt
+  pub recorded : List Attempt
+  pub seat : SeatView
+
+-- the chains of walks
+abbrev pub chains_of : List (WalkView LinkageView) → List ChainView
+chains_of walks = map (λ w. w.chain) walks
+
+-- the site of a linkage
+abbrev pub site_of : LinkageView → ℕ
+site_of l = l.job.site
+
+-- the serial of the linkage of a site among these, where there is one
+abbrev pub serial_among : List LinkageView → ℕ → Option ℕ
+serial_among nodes site = option_map (λ l. l.serial) (find (λ l. l.job.site == site) nodes)
+
+-- the serials of the linkages that walks of the chains from this site on have learnt
+abbrev pub linked_from : ℕ → List (WalkView LinkageView) → Serials
+linked_from site [] = []
+linked_from site (w ∷ walks) = serial_among w.nodes site ∷ linked_from (suc site) walks
+
+-- the serial of the linkage that walks have learnt of each site, where they have
+abbrev pub linked_by : List (WalkView LinkageView) → Serials
+linked_by walks = linked_from 0 walks
+
+-- of two walks of one chain, one begins with the other
+abbrev pub DoMeet : List (WalkView LinkageView) → List (WalkView LinkageView) → Type 0
+DoMeet walks others = (c : ℕ) (a b : WalkView LinkageView) → slice_get walks c ≡ Some a → slice_get others c ≡ Some b → (n : ℕ) × Meet a.nodes b.nodes n
+
+-- the longer of two walks
+abbrev pub IsLongerWalk : WalkView LinkageView → WalkView LinkageView → WalkView LinkageView → Type 0
+IsLongerWalk walk other kept = ((kept ≡ walk) × (length other.nodes ≤ length walk.nodes)) ⊎ ((kept ≡ other) × (length walk.nodes < length other.nodes))
+
+-- the attempt is one of these, and its linkage is that of its site
+abbrev pub IsRecorded : Serials → List Attempt → Attempt → Type 0
+IsRecorded linked attempts a = Contains attempts a × (serial_at linked a.site ≡ Some a.serial)
+
+-- what a pass keeps: its attempts are of sites of the run, and those that it has recorded are linked
+pub record IsLinkPass (given : Given) (walks : List (WalkView LinkageView)) (attempts recorded : List Attempt) : Type 0 where
+  pub within : All (λ a. a.site < length given.jobs) attempts
+  pub recorded_are : All (IsRecorded (linked_by walks) attempts) recorded
+
+-- a pass that has learnt of no site, with a seat
+abbrev pub pass_at : LinkerView → ℕ → ℕ → SeatView → LinkPass
+pass_at linker thread sites seat = record {
+  linker = linker;
+  thread = thread;
+  linked = replicate sites None;
+  attempts = [];
+  recorded = [];
+  seat = seat;
+}
+
+-- how many serials a pass may draw that was split off
+abbrev pub split_room : ℕ
+split_room = 2 ^ 32
+
+-- the pass that is split off for a thread: it has learnt of the same sites, and has attempted none
+abbrev pub split_pass : ℕ → LinkPass → LinkPass
+split_pass thread pass = record {
+  linker = pass.linker;
+  thread = thread;
+  linked = pass.linked;
+  attempts = [];
+  recorded = [];
+  seat = new_seat pass.linker.serials split_room;
+}
+
+-- the pass with another seat
+abbrev pub with_seat : SeatView → LinkPass → LinkPass
+with_seat seat pass =
+    record { linker = pass.linker; thread = pass.thread; linked = pass.linked; attempts = pass.attempts; recorded = pass.recorded; seat = seat }
+
+-- ---- steps
+
+-- the table has each of these serials at its site
+abbrev pub HasSerials : Serials → Serials → Type 0
+HasSerials linked table = (site serial : ℕ) → serial_at linked site ≡ Some serial → serial_at table site ≡ Some serial
+
+-- this is the linkage of the site
+abbrev pub IsLinkageOf : Serials → ℕ → LinkageView → Type 0
+IsLinkageOf linked site l = (l.job.site ≡ site) × (serial_at linked site ≡ Some l.serial)
+
+-- this is the linkage of the site, if there is one
+abbrev pub FindsLinkage : Serials → ℕ → Option (Bor LinkageView) → Type 0
+FindsLinkage linked site None = serial_at linked site ≡ None
+FindsLinkage linked site (Some l) = IsLinkageOf linked site l.now
+
+-- what a chain has after a put of a linkage: ours, or another one of its site; ours is handed back then, and where there is no memory
+abbrev pub PutsNode : List LinkageView → LinkageView → Result (Put LinkageView) LinkageView → Type 0
+PutsNode nodes ours (Ok (Mine l)) = (l.now ≡ ours) × Has site_of nodes ours.job.site l.now
+PutsNode nodes ours (Ok (Theirs l back)) = (back ≡ ours) × Has site_of nodes ours.job.site l.now
+PutsNode nodes ours (Err back) = back ≡ ours
+
+-- the same, by the serial that is learnt of the site
+abbrev pub PutsLinkage : Serials → LinkageView → Result (Put LinkageView) LinkageView → Type 0
+PutsLinkage linked ours (Ok (Mine l)) = (l.now ≡ ours) × IsLinkageOf linked ours.job.site l.now
+PutsLinkage linked ours (Ok (Theirs l back)) = (back ≡ ours) × IsLinkageOf linked ours.job.site l.now
+PutsLinkage linked ours (Err back) = back ≡ ours
+
+-- the pass has learnt more of its linker's sites, and else is as it was, but for what it has recorded
+pub record LearnsSites (old new : LinkPass) : Type 0 where
+  pub linker : new.linker ≡ old.linker
+  pub thread : new.thread ≡ old.thread
+  pub linked : HasSerials old.linked new.linked
+  pub attempts : new.attempts ≡ old.attempts
+  pub seat : new.seat ≡ old.seat
+
+-- the attempt of a thread that made a linkage
+abbrev pub attempt_of : ℕ → LinkageView → Attempt
+attempt_of thread l = record { thread = thread; site = l.job.site; serial = l.serial }
+
+-- the pass has begun an attempt of a site with a serial that was drawn now
+abbrev pub Begins : ℕ → ℕ → LinkPass → LinkPass → Type 0
+Begins site serial old new =
+    Draws serial old.seat new.seat
+    × (new ≡ record {
+      linker = old.linker;
+      thread = old.thread;
+      linked = old.linked;
+      attempts = old.attempts ++ record { thread = old.thread; site = site; serial = serial } ∷ [];
+      recorded = old.recorded;
+      seat = new.seat;
+    })
+
+-- the pass has recorded nothing more, or this attempt
+abbrev pub RecordsAtMost : Attempt → LinkPass → LinkPass → Type 0
+RecordsAtMost a old new = (new.recorded ≡ old.recorded) ⊎ (new.recorded ≡ old.recorded ++ a ∷ [])
+
+-- the pass has what it had and what the other one had
+pub record HasBoth (old other new : LinkPass) : Type 0 where
+  pub mine : HasSerials old.linked new.linked
+  pub theirs : HasSerials other.linked new.linked
+  pub attempts : new.attempts ≡ old.attempts ++ other.attempts
+  pub recorded : new.recorded ≡ old.recorded ++ other.recorded
