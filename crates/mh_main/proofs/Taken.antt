@@ -1,7 +1,7 @@
 -- Inputs that are accepted, as far as they are told: none is refused or told not to be there, and a program that fits is run to its end.
 use Rattle.std.proofs.Common.{◌≡◌, ◌<◌, ◌≤◌, sym, subst, inl, inr, List, ℕ, Option, Some, arith}
 use Rattle.mh_outside.specs.Told.{Told}
-use Rattle.mh_plan.specs.Forms.{forms_needed}
+use Rattle.mh_plan.specs.Forms.{draws_needed}
 use Rattle.mh_main.specs.declared.program.Program.{Program}
 use Rattle.mh_words.specs.Words.{Command}
 use Rattle.mh_main.specs.Program.{given_of}
@@ -34,22 +34,22 @@ taken-there o command files P asked holds is = not-missing (input_of o files) P 
 
 -- ---- programs
 
-fits-few : (i : Input) (p : Program) → IfAccepted i (λ a. a ≡ program p) → AreAccepted i → FitsForms i → forms_needed (given_of p) p.plan ≤ most_forms
+fits-few : (i : Input) (p : Program) → IfAccepted i (λ a. a ≡ program p) → AreAccepted i → FitsForms i → draws_needed (given_of p) p.plan ≤ most_forms
 fits-few usage p is so fits = absurd so
 fits-few (refused line) p is so fits = absurd so
 fits-few (accepted a) p is so fits = subst NeedsFewForms is fits
 fits-few missing p is so fits = absurd so
 fits-few untold p is so fits = absurd so
 
--- a program whose calls need few forms is run to its end, or memory is wanting
+-- a program whose threads draw few numbers is run to its end, or memory is wanting
 pub run-done : (o : Option Command) (command : Command) (files : List ℕ → Told) (p : Program) (status : ℕ) → Some command ≡ o →
     IfAccepted (command_input command files) (λ a. a ≡ program p) → AreAccepted (input_of o files) → FitsForms (input_of o files) → IsDoneFullOrWant status →
-    (status ≡ forms_full → most_forms < forms_needed (given_of p) p.plan) → IsDoneOrWant status
+    (status ≡ forms_full → most_forms < draws_needed (given_of p) p.plan) → IsDoneOrWant status
 run-done o command files p status asked is so fits (inl done) full = inl done
 run-done o command files p status asked is so fits (inr (inl want)) full = inr want
 run-done o command files p status asked is so fits (inr (inr many)) full =
-    let few : forms_needed (given_of p) p.plan ≤ most_forms =
+    let few : draws_needed (given_of p) p.plan ≤ most_forms =
     fits-few (command_input command files) p is (subst (λ c. AreAccepted (input_of c files)) (sym asked) so)
     (subst (λ c. FitsForms (input_of c files)) (sym asked) fits) in
-    let more : most_forms < forms_needed (given_of p) p.plan = full many in
+    let more : most_forms < draws_needed (given_of p) p.plan = full many in
     absurd (omega arith)

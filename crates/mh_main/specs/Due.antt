@@ -6,7 +6,7 @@ use Rattle.mh_outside.specs.Told.{Told}
 use Rattle.mh_classfile.specs.Class.{Class}
 use Rattle.mh_listing.specs.Listing.{listing}
 use Rattle.mh_handle.specs.declared.answer.Answer.{Answer}
-use Rattle.mh_plan.specs.Forms.{forms_needed}
+use Rattle.mh_plan.specs.Forms.{draws_needed}
 use Rattle.mh_plan.specs.Naming.{naming_of}
 use Rattle.mh_plan.specs.Results.{Serials, results_of, results_said, keys_said}
 use Rattle.mh_runtime.specs.Keys.{plan_keys}
@@ -22,7 +22,7 @@ use Rattle.mh_main.specs.Stops.{IsReachedInput, unread_line}
 abbrev pub usage_line : List ℕ
 usage_line = codes "usage: mh --mode run --leaves F --scripts F --plan F [CLASS]... or --mode sites [CLASS]... or --mode gen --number N\n"
 
--- the line for a program whose calls need more forms than there are
+-- the line for a program whose threads can draw more numbers of forms than there are
 abbrev pub full_line : List ℕ
 full_line = codes "forms full\n"
 
@@ -66,11 +66,11 @@ IsOutputOf (listed classes) answer bytes = IsListingOf classes answer bytes
 abbrev pub Reports : List (List ℕ) → (List ℕ → Told) → TopAnswer → List ℕ → Type 0
 Reports words files answer bytes = IfAccepted (input words files) (λ a. IsOutputOf a answer bytes)
 
--- the line of a program whose calls need more forms than there are numbers for
+-- the line of a program whose threads can draw more numbers of forms than there are
 abbrev pub IsFullOf : Program → List ℕ → Type 0
-IsFullOf p bytes = (most_forms < forms_needed (given_of p) p.plan) × (bytes ≡ full_line)
+IsFullOf p bytes = (most_forms < draws_needed (given_of p) p.plan) × (bytes ≡ full_line)
 
--- what is due of a program: its report, or that it needs too many forms, and then nothing is answered
+-- what is due of a program: its report, or that its threads can draw too many numbers of forms, and then nothing is answered
 abbrev pub IsDueOf : Program → TopAnswer → List ℕ → Type 0
 IsDueOf p answer bytes = IsReportOf p answer bytes ⊎ (IsIdle answer × IsFullOf p bytes)
 
@@ -83,12 +83,12 @@ AreAnswers (listed classes) answer = answer.threads ≡ []
 abbrev pub AnswersCalls : List (List ℕ) → (List ℕ → Told) → TopAnswer → Type 0
 AnswersCalls words files answer = IfAccepted (input words files) (λ a. AreAnswers a answer)
 
--- a run of the program can need more forms than there are numbers for; a listing needs none
+-- the threads of the program can draw more numbers of forms than there are; a listing draws none
 abbrev pub NeedsManyForms : Accepted → Type 0
-NeedsManyForms (program p) = most_forms < forms_needed (given_of p) p.plan
+NeedsManyForms (program p) = most_forms < draws_needed (given_of p) p.plan
 NeedsManyForms (listed classes) = ⊥
 
--- the line of a program that the words and the files give and whose calls need more forms than there are numbers for
+-- the line of a program that the words and the files give and whose threads can draw more numbers of forms than there are
 abbrev pub FillsForms : List (List ℕ) → (List ℕ → Told) → List ℕ → Type 0
 FillsForms words files bytes = IfAccepted (input words files) NeedsManyForms × (bytes ≡ full_line)
 

@@ -12,7 +12,7 @@ use Rattle.mh_script.specs.Kinds.{kind_word as script_word}
 use Rattle.mh_script.specs.Scripts.{scripts}
 use Rattle.mh_jobs.specs.Given.{Given}
 use Rattle.mh_jobs.specs.Jobs.{jobs_of}
-use Rattle.mh_plan.specs.Forms.{forms_needed}
+use Rattle.mh_plan.specs.Forms.{draws_needed}
 use Rattle.mh_plan.specs.Plan.{plan, kind_word as plan_word}
 use Rattle.mh_generated.specs.Files.{files_of}
 use Rattle.mh_main.specs.declared.program.Output.{Output}
@@ -181,12 +181,12 @@ AreListed P (listed classes) = P classes
 abbrev pub most_forms : ℕ
 most_forms = 16384
 
--- a run of the program can need at most as many forms as there are numbers; a listing needs none
+-- the threads of the program can draw at most as many numbers of forms as there are; a listing draws none
 abbrev pub NeedsFewForms : Accepted → Type 0
-NeedsFewForms (program p) = forms_needed (given_of p) p.plan ≤ most_forms
+NeedsFewForms (program p) = draws_needed (given_of p) p.plan ≤ most_forms
 NeedsFewForms (listed classes) = Unit {0}
 
--- where they are told, the inputs are accepted, and what they give can need at most as many forms as there are numbers
+-- where they are told, the inputs are accepted, and the threads of what they give can draw at most as many numbers of forms as there are
 abbrev pub FitsForms : Input → Type 0
 FitsForms i = IfAccepted i NeedsFewForms
 

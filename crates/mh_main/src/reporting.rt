@@ -1,5 +1,5 @@
 ghost use Rattle.std.specs.Prelude.{◌≡◌, ◌<◌, IfOk, length, option_map};
-ghost use Rattle.mh_plan.specs.Forms.{forms, forms_needed};
+ghost use Rattle.mh_plan.specs.Forms.{forms, draws_needed};
 ghost use Rattle.mh_plan.specs.Limits.{IsWithinLimits, calls_in};
 ghost use Rattle.mh_plan.specs.Naming.{naming_of};
 ghost use Rattle.mh_plan.specs.Recorded.{recorded, serials_of, types};
@@ -18,11 +18,13 @@ use crate::status::DONE;
 use crate::sums::{Sums, calls_in, line, sum_of};
 use crate::{Output, Program, TopAnswer};
 use mh_base::{NoMemory, Seq};
+use mh_outside::Gate;
 use mh_plan::{Attempts, Recorded, Serials, Summary, Table, report};
 use mh_runtime::{RunInput, RunReport, WorkError, run_plan};
 use mh_values::Classes;
 use std::alloc::Global;
 use std::sync::Wait;
+use std::thread::Threads;
 
 // How many attempts there are. A number that does not fit counts as out of memory.
 fn count(attempts: &Attempts) -> Result<u32, NoMemory>
@@ -57,7 +59,12 @@ fn serials(alloc: Global, table: &Table) -> Result<Serials, NoMemory>
 }
 
 // The run of a program's plan.
-fn run<R: Wait>(rt: &R, alloc: Global, program: &Program) -> Result<RunReport, WorkError>
+fn run<R: Threads + Wait + Sync, G: Gate + Sync>(
+    rt: &R,
+    alloc: Global,
+    program: &Program,
+    gate: &G,
+) -> Result<RunReport, WorkError>
     requires { IsRunnable program.now }
     ensures ledger { IfOk result (λ run. Ledger (naming_of program.now.plan)
         (length program.now.jobs) (serials_of run.table) run.attempts) }
@@ -70,14 +77,14 @@ fn run<R: Wait>(rt: &R, alloc: Global, program: &Program) -> Result<RunReport, W
     ensures types { IfOk result
         (λ run. run.types ≡ types (given_of program.now) (serials_of run.table)) }
     ensures full { IfFull result
-        (most_forms < forms_needed (given_of program.now) program.now.plan) }
+        (most_forms < draws_needed (given_of program.now) program.now.plan) }
 {
     let input = RunInput {
         leaves: &program.leaves,
         scripts: &program.scripts,
         jobs: &program.jobs,
     };
-    run_plan(rt, alloc, &input, &program.plan)
+    run_plan(rt, alloc, &input, &program.plan, gate)
 }
 
 // The report on a run.
@@ -144,10 +151,11 @@ fn answered(table: Serials, run: RunReport) -> TopAnswer
 }
 
 /// What the run of a program's calls gives, where it is written, and its text.
-pub fn run_and_report<R: Wait>(
+pub fn run_and_report<R: Threads + Wait + Sync, G: Gate + Sync>(
     rt: &R,
     alloc: Global,
     program: &Program,
+    gate: &G,
 ) -> Result<(TopAnswer, Vec<u8>), WorkError>
     requires { IsRunnable program.now }
     ensures ledger { IfOk result (λ r. Ledger (naming_of program.now.plan)
@@ -156,9 +164,9 @@ pub fn run_and_report<R: Wait>(
     ensures text { IfOk result (λ r. r.1.items ≡ text program.now r.0.table r.0.attempts) }
     ensures status { IfOk result (λ r. r.0.status ≡ done) }
     ensures full { IfFull result
-        (most_forms < forms_needed (given_of program.now) program.now.plan) }
+        (most_forms < draws_needed (given_of program.now) program.now.plan) }
 {
-    let run = run(rt, alloc, program)?;
+    let run = run(rt, alloc, program, gate)?;
     let text = text_of(alloc, program, &run)?;
     let table = serials(alloc, &run.table)?;
     Ok((answered(table, run), text))

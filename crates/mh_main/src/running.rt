@@ -91,10 +91,11 @@ fn answer_report<S: Sink>(sink: &mut S, answer: TopAnswer, text: &[u8]) -> TopAn
 }
 
 // Runs a program, and writes its report, or that there are too few forms for it.
-fn run_program<R: Wait, S: Sink>(
+fn run_program<R: Threads + Wait + Sync, S: Sink, G: Gate + Sync>(
     rt: &R,
     alloc: Global,
     sink: &mut S,
+    gate: &G,
     program: &Program,
 ) -> TopAnswer
     requires { IsRunnable program.now }
@@ -111,7 +112,7 @@ fn run_program<R: Wait, S: Sink>(
     ensures status { result.status ≢ write_failed → IsDoneFullOrWant result.status }
     ensures fails { FailsWhere result.status (S.faults sink.old) (S.faults sink.new) }
 {
-    match run_and_report(rt, alloc, program) {
+    match run_and_report(rt, alloc, program, gate) {
         Ok((answer, text)) => answer_report(sink, answer, &text),
         Err(WorkError::NoMemory) => nothing_ran(alloc, NO_MEMORY),
         Err(WorkError::FormsFull { drawn: _ }) => {
@@ -188,15 +189,16 @@ fn answer_listing<S: Sink>(alloc: Global, sink: &mut S, text: &[u8]) -> TopAnswe
     }
 }
 
-/// The program: it reads what the words name, runs it, and writes what it gives. The gate, at which
-/// threads may be held, is not called yet: a run has one thread.
+/// The program: it reads what the words name, runs it, each thread beside the others, and writes what
+/// it gives. Each thread calls the gate before and after it records the linkage of a site; a gate may
+/// hold it there, and tells and changes nothing.
 pub fn top<'a, R: Threads + Wait + Sync, I: Inputs, S: Sink, G: Gate + Sync>(
     rt: &R,
     alloc: Global,
     words: &'a [&'a str],
     inputs: &mut I,
     sink: &mut S,
-    _gate: &G,
+    gate: &G,
 ) -> TopAnswer
     ensures known { IsStatus result.status }
 
@@ -261,7 +263,7 @@ pub fn top<'a, R: Threads + Wait + Sync, I: Inputs, S: Sink, G: Gate + Sync>(
     };
     match command {
         Command::Run(names) => match read_program(alloc, inputs, &names, Output::Report) {
-            Ok(program) => run_program(rt, alloc, sink, &program),
+            Ok(program) => run_program(rt, alloc, sink, gate, &program),
             Err(stop) => answer_stop(alloc, sink, stop),
         },
         Command::Sites(names) => match list_sites(alloc, inputs, &names) {
@@ -269,7 +271,7 @@ pub fn top<'a, R: Threads + Wait + Sync, I: Inputs, S: Sink, G: Gate + Sync>(
             Err(stop) => answer_stop(alloc, sink, stop),
         },
         Command::Generate(number) => match read_generated(alloc, number) {
-            Ok(made) => run_program(rt, alloc, sink, &made),
+            Ok(made) => run_program(rt, alloc, sink, gate, &made),
             Err(stop) => answer_stop(alloc, sink, stop),
         },
     }
