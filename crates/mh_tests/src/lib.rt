@@ -10,6 +10,8 @@ mod generated;
 #[cfg(test)]
 mod outside;
 #[cfg(test)]
+mod racing;
+#[cfg(test)]
 mod runs;
 #[cfg(test)]
 mod sites;
