@@ -3,5 +3,4 @@ pub mod Calling
 pub mod ConvertKeys
 pub mod Editing
 pub mod OwnCalls
-pub mod Trading
 pub mod Using

@@ -1,5 +1,4 @@
 pub mod Asked
-pub mod Errors
 pub mod Lines
 pub mod Linkage
 pub mod Recipes

@@ -2,7 +2,6 @@
 #![tactic(auto)]
 
 mod attempts;
-mod error;
 mod handle;
 mod lines;
 mod linkage;
@@ -12,5 +11,4 @@ mod script;
 mod thrown;
 
 pub use attempts::attempt;
-pub use error::WorkError;
 pub use linkage::{Linkage, Linked};

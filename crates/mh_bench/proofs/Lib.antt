@@ -1,2 +1,1 @@
 pub mod LettingGo
-pub mod Turns

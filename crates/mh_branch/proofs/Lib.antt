@@ -17,4 +17,3 @@ mod SpreadCall
 mod SpreadRules
 mod SpreadItems
 mod SpreadStands
-pub mod Trading

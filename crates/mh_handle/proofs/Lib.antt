@@ -32,5 +32,4 @@ pub mod Recipes
 pub mod Refusals
 pub mod SameRecipes
 pub mod Standing
-pub mod Trading
 pub mod TrivialConversions

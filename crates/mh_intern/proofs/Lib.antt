@@ -20,4 +20,3 @@ pub mod Dealing
 pub mod HoldCounts
 pub mod Trading
 pub mod Granting
-pub mod Exchanging

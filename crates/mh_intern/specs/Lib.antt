@@ -1,5 +1,4 @@
 pub mod Buckets
-pub mod Exchanges
 pub mod Held
 pub mod Lists
 pub mod Kinds

@@ -11,7 +11,6 @@ mod holding;
 mod keeper;
 mod kinds;
 mod list;
-mod many;
 mod seat;
 mod serve;
 mod table;

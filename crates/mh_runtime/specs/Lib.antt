@@ -9,3 +9,4 @@ pub mod Ledger
 pub mod Linking
 pub mod Passes
 pub mod Report
+pub mod TypeNumbers

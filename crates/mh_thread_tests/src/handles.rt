@@ -1,9 +1,8 @@
-ghost use Rattle.std.specs.Prelude.{◌≡◌, ◌≤◌};
+ghost use Rattle.std.specs.Prelude.{◌≤◌};
 ghost use Rattle.mh_handle.specs.Passes.{IsPassOf};
 
 use mh_base::NoMemory;
-use mh_handle::{Answer, Form, FormPass, FormTable, Handle, Work, leaf};
-use mh_intern::{TypeSeat, TypeTable};
+use mh_handle::{Answer, Form, FormPass, FormTable, Handle, LiveHandles, Work, leaf};
 use mh_leaves::{Leaves, read_manifest};
 use mh_values::{ClassId, Exc, LeafId};
 use std::alloc::Global;
@@ -19,51 +18,35 @@ pub(crate) fn one_leaf(alloc: Global) -> Result<Leaves, NoMemory> {
     read_manifest(alloc, MANIFEST).map_err(|_| NoMemory)
 }
 
-/// What threads share that make handles.
-#[derive(Drop, Clone, Copy)]
-pub(crate) struct Shared<'t> {
-    pub(crate) types: &'t TypeTable,
-    pub(crate) forms: &'t FormTable,
-    pub(crate) leaves: &'t Leaves,
-}
-
-/// The handle of the first leaf. It holds its type in the table of types.
+/// The handle of the first leaf.
 pub(crate) fn first_leaf<'t, R: Wait>(
     rt: &R,
     alloc: Global,
-    shared: Shared<'t>,
+    table: &'t FormTable,
     pass: &mut FormPass<'t>,
-    seat: &mut TypeSeat,
+    leaves: &'t Leaves,
 ) -> Option<Handle<'t>>
-    requires pass { IsPassOf shared.forms.now pass.old }
+    requires pass { IsPassOf table.now pass.old }
     requires room { 1 ≤ pass.old.seat.room }
-    requires seat { seat.old.table ≡ shared.types.now }
-    requires holds { 256 ≤ seat.old.room }
 {
-    let Shared {
-        types,
-        forms,
-        leaves,
-    } = shared;
     if leaves.count() == 0 {
         return None;
     }
+    let mut handles = LiveHandles::new();
     let mut work = Work {
         alloc,
-        types,
-        seat,
-        forms,
+        forms: table,
         pass,
         leaves,
+        handles: &mut handles,
     };
     let handle = leaf(&mut work, rt, LeafId(0)).ok();
     let Work {
         alloc: _,
-        types: _,
-        seat: _,
         forms: _,
         pass: _,
         leaves: _,
+        handles: _,
     } = work;
     handle
 }
@@ -83,38 +66,30 @@ fn sent<R: Threads>(rt: &R, handle: Handle<'_>) -> (u64, u64) {
 fn handles_and_forms_go_to_other_threads(rt: HostRuntime) -> Result<(), Fail> {
     let alloc = rt.alloc();
     let leaves = one_leaf(alloc)?;
-    let (types, mut seat) = TypeTable::new(alloc)?;
-    let (forms, form_seat) = FormTable::new(alloc)?;
-    let mut pass = forms.first_pass(alloc, form_seat)?;
-    let shared = Shared {
-        types: &types,
-        forms: &forms,
-        leaves: &leaves,
-    };
-    let handle = first_leaf(&rt, alloc, shared, &mut pass, &mut seat);
+    let (table, seat) = FormTable::new(alloc)?;
+    let mut pass = table.first_pass(alloc, seat)?;
+    let handle = first_leaf(&rt, alloc, &table, &mut pass, &leaves);
     assert!(rt; handle.map(|handle| sent(&rt, handle)) == Some((1, 1)));
     Ok(())
 }
 
 /// The number of the base of a table, and that of the form of a handle that another thread makes
-/// with the pass and the seat, over the same tables.
+/// with the pass, over the same table.
 fn made_beside<'t, R: Threads + Wait + Sync>(
     rt: &R,
     alloc: Global,
-    shared: Shared<'t>,
+    table: &'t FormTable,
     mut pass: FormPass<'t>,
-    mut seat: TypeSeat,
+    leaves: &'t Leaves,
 ) -> (u64, Option<u64>)
-    requires pass { IsPassOf shared.forms.now pass }
+    requires pass { IsPassOf table.now pass }
     requires room { 1 ≤ pass.seat.room }
-    requires seat { seat.table ≡ shared.types.now }
-    requires holds { 256 ≤ seat.room }
 {
     thread::join(
         rt,
-        move || shared.forms.base().number(),
+        move || table.base().number(),
         move || {
-            let handle = first_leaf(rt, alloc, shared, &mut pass, &mut seat);
+            let handle = first_leaf(rt, alloc, table, &mut pass, leaves);
             handle.map(|handle| number(&handle))
         },
     )
@@ -124,16 +99,9 @@ fn made_beside<'t, R: Threads + Wait + Sync>(
 fn threads_share_a_table_and_a_pass_goes_to_one(rt: HostRuntime) -> Result<(), Fail> {
     let alloc = rt.alloc();
     let leaves = one_leaf(alloc)?;
-    let (types, mut seat) = TypeTable::new(alloc)?;
-    let (forms, form_seat) = FormTable::new(alloc)?;
-    let pass = forms.first_pass(alloc, form_seat)?;
-    let shared = Shared {
-        types: &types,
-        forms: &forms,
-        leaves: &leaves,
-    };
-    let other = types.split(&mut seat, 1 << 32);
-    assert!(rt; made_beside(&rt, alloc, shared, pass, other) == (0, Some(1)));
+    let (table, seat) = FormTable::new(alloc)?;
+    let pass = table.first_pass(alloc, seat)?;
+    assert!(rt; made_beside(&rt, alloc, &table, pass, &leaves) == (0, Some(1)));
     Ok(())
 }
 
