@@ -10,8 +10,8 @@ ghost use Rattle.mh_words.specs.Options.{said};
 ghost use Rattle.mh_words.specs.Words.{command_of};
 ghost use Rattle.mh_main.specs.Input.{input, AreAccepted, FitsForms, IsMissing, IsRefused};
 ghost use Rattle.mh_main.specs.Stops.{InputsStill};
-ghost use Rattle.mh_main.specs.Status.{refused, usage_wanted, no_memory, forms_full, unread, write_failed, IsStatus, FailsWhere, IsUsageOrWant, IsRefusedOrWant, IsUnreadOrWant, IsDoneOrWant, IsDoneFullOrWant};
-ghost use Rattle.mh_main.specs.Due.{IsGenerated, FailsToRead, FillsForms, RefusesInput, RefusesWords, Writes};
+ghost use Rattle.mh_main.specs.Status.{refused, usage_wanted, no_memory, forms_full, types_full, unread, write_failed, IsStatus, FailsWhere, IsUsageOrWant, IsRefusedOrWant, IsUnreadOrWant, IsDoneOrWant, IsDoneFullOrWant};
+ghost use Rattle.mh_main.specs.Due.{IsGenerated, FailsToRead, FillsForms, FillsTypes, RefusesInput, RefusesWords, Writes};
 
 use mh_main::status::NO_MEMORY;
 use mh_main::top;
@@ -61,6 +61,9 @@ fn run<'a, R: Threads + Wait + Sync, I: Inputs, S: Sink>(
         → Keeps (S.taken sink.old) (S.taken sink.new) }
     ensures full { exit_status result ≡ forms_full
         → Writes (FillsForms (said words.now) (I.told inputs.old))
+        (S.taken sink.old) (S.taken sink.new) }
+    ensures types { exit_status result ≡ types_full
+        → Writes (FillsTypes (said words.now) (I.told inputs.old))
         (S.taken sink.old) (S.taken sink.new) }
     ensures unreadable { exit_status result ≡ unread
         → Writes (FailsToRead (command_of (said words.now)) (I.told inputs.old)

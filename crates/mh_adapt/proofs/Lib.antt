@@ -14,3 +14,4 @@ mod PartRuns
 mod PartSuits
 mod Parted
 mod PermuteStands
+mod Trading

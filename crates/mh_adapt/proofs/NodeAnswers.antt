@@ -10,11 +10,9 @@ use Rattle.mh_edit.specs.Fit.{fits}
 use Rattle.mh_handle.specs.declared.error.HandleError.{HandleError}
 use Rattle.mh_handle.specs.declared.growth.Growth.{Growth}
 use Rattle.mh_handle.specs.declared.handle.Handle.{Handle}
-use Rattle.mh_handle.specs.declared.work.Work.{Work}
 use Rattle.mh_handle.specs.Grows.{GainsNode, Grows, GrowsBy}
 use Rattle.mh_handle.specs.Parts.{PartsView}
 use Rattle.mh_handle.specs.Stands.{HandleView, HasShape, Stands, handle_body}
-use Rattle.mh_handle.specs.Works.{CountsHandles}
 use Rattle.mh_adapt.specs.Parts.{AddsNode}
 
 module _ (t : HandleView) (k : Key) (fields : List Field) (by : Growth) (adds : AddsNode t k fields by) where
@@ -36,9 +34,6 @@ module _ (t : HandleView) (k : Key) (fields : List Field) (by : Growth) (adds : 
   pub node-gains : (r : Result Handle HandleError) → GrowsBy t by r → IfOk r (GainsNode t)
   node-gains (Ok h) grows = let g = node-grows h grows in record { weighed = g.weighed; holds = g.holds ∙ append-nil t.sides }
   node-gains (Err e) grows = grows
-
-  pub node-counts : (old new : Work) (r : Result Handle HandleError) → CountsHandles (1 + by.parts.count) old new r → CountsHandles 1 old new r
-  node-counts old new r counts = subst (λ (p : PartsView). CountsHandles (1 + p.count) old new r) adds.parts counts
 
   pub node-stands :
       (table : LeafTable) (tree : Tree) (r : Result Handle HandleError) →

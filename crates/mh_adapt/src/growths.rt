@@ -74,6 +74,7 @@ pub(crate) fn filter_growth<'t>(
     filter: &Handle<'t>,
 ) -> Result<Growth<'t>, CheckError>
     ensures shaped { IsShaped target.now }
+    ensures part { IsShaped filter.now }
     ensures tells { TellsPart
         (filter_row target.now.ty target.now.weight position filter.now.ty filter.now.weight)
         target.now (collect_key position filter.now.ty) filter.now result }
@@ -90,6 +91,7 @@ pub(crate) fn filterret_growth<'t>(
     filter: &Handle<'t>,
 ) -> Result<Growth<'t>, CheckError>
     ensures shaped { IsShaped target.now }
+    ensures part { IsShaped filter.now }
     ensures tells { TellsPart
         (filterret_row target.now.ty target.now.weight filter.now.ty filter.now.weight)
         target.now (filterret_key filter.now.ty) filter.now result }
@@ -107,6 +109,7 @@ pub(crate) fn fold_growth<'t>(
     combiner: &Handle<'t>,
 ) -> Result<Growth<'t>, CheckError>
     ensures shaped { IsShaped target.now }
+    ensures part { IsShaped combiner.now }
     ensures tells { TellsPart
         (fold_row target.now.ty target.now.weight position combiner.now.ty combiner.now.weight)
         target.now (fold_key position combiner.now.ty) combiner.now result }
@@ -124,6 +127,7 @@ pub(crate) fn collect_growth<'t>(
     filter: &Handle<'t>,
 ) -> Result<Growth<'t>, CheckError>
     ensures shaped { IsShaped target.now }
+    ensures part { IsShaped filter.now }
     ensures tells { TellsPart
         (collect_row target.now.ty target.now.weight position filter.now.ty filter.now.weight)
         target.now (collect_key position filter.now.ty) filter.now result }

@@ -5,7 +5,8 @@ ghost use Rattle.mh_tree.specs.Tree as tree;
 ghost use Rattle.mh_handle.specs.Grows.{GainsNode};
 ghost use Rattle.mh_handle.specs.Obeys.{Obeys};
 ghost use Rattle.mh_handle.specs.Recipe.{recipe};
-ghost use Rattle.mh_handle.specs.Works.{CountsHandles, IsReady, GoesOn, Makes, StandsIn, classes_of, leaves_of};
+ghost use Rattle.mh_handle.specs.Works.{GoesOn, HoldsTypes, IsReady, Makes, StandsIn, TradesTypes};
+ghost use Rattle.mh_handle.specs.Works.{classes_of, leaves_of, types_in};
 
 use crate::nodes::{bind_growth, drop_growth, permute_growth};
 use mh_handle::{Handle, HandleError, Work};
@@ -23,12 +24,15 @@ pub fn bind<'t, R: Wait>(
     value: Value,
 ) -> Result<Handle<'t>, HandleError>
     requires ready { IsReady w.old 1 }
+    requires held { HoldsTypes w.old target.held }
     ensures goes_on { GoesOn 1 w.old w.new }
     ensures obeys { Obeys (bind_row (classes_of w.old)
         target.entry.ty target.entry.weight position value) result }
     ensures makes { (a : Tree) → StandsIn w.old target.entry a
         → Makes (recipe (leaves_of w.old) (tree.Bind a position value)) w.old w.new result }
-    ensures handles { CountsHandles 1 w.old w.new result }
+    ensures types { TradesTypes (types_in
+        (bind_row (classes_of w.old) target.entry.ty target.entry.weight position value))
+        target.entry.held w.old w.new result }
     ensures gains { IfOk result (GainsNode target.entry) }
     ensures stands { (a : Tree) → StandsIn w.old target.entry a
         → IfOk result (λ h. StandsIn w.old h (tree.Bind a position value)) }
@@ -50,13 +54,16 @@ pub fn drop_args<'t, R: Wait>(
     value_types: &Tys,
 ) -> Result<Handle<'t>, HandleError>
     requires ready { IsReady w.old 1 }
+    requires held { HoldsTypes w.old target.held }
     ensures goes_on { GoesOn 1 w.old w.new }
     ensures obeys { Obeys
         (drop_row target.entry.ty target.entry.weight position value_types.now) result }
     ensures makes { (a : Tree) → StandsIn w.old target.entry a
         → Makes (recipe (leaves_of w.old) (tree.Drop a position value_types.now)) w.old w.new
         result }
-    ensures handles { CountsHandles 1 w.old w.new result }
+    ensures types { TradesTypes (types_in
+        (drop_row target.entry.ty target.entry.weight position value_types.now))
+        target.entry.held w.old w.new result }
     ensures gains { IfOk result (GainsNode target.entry) }
     ensures stands { (a : Tree) → StandsIn w.old target.entry a
         → IfOk result (λ h. StandsIn w.old h (tree.Drop a position value_types.now)) }
@@ -78,12 +85,15 @@ pub fn permute<'t, R: Wait>(
     reorder: &[u8],
 ) -> Result<Handle<'t>, HandleError>
     requires ready { IsReady w.old 1 }
+    requires held { HoldsTypes w.old target.held }
     ensures goes_on { GoesOn 1 w.old w.new }
     ensures obeys { Obeys
         (permute_row target.entry.ty target.entry.weight ty.now reorder.now) result }
     ensures makes { (a : Tree) → StandsIn w.old target.entry a
         → Makes (recipe (leaves_of w.old) (tree.Permute a ty.now reorder.now)) w.old w.new result }
-    ensures handles { CountsHandles 1 w.old w.new result }
+    ensures types { TradesTypes (types_in
+        (permute_row target.entry.ty target.entry.weight ty.now reorder.now))
+        target.entry.held w.old w.new result }
     ensures gains { IfOk result (GainsNode target.entry) }
     ensures stands { (a : Tree) → StandsIn w.old target.entry a
         → IfOk result (λ h. StandsIn w.old h (tree.Permute a ty.now reorder.now)) }

@@ -1,12 +1,14 @@
 //! A handle and the part that joins it: an adapter is made of both, or both are given back.
 
-ghost use Rattle.std.specs.Prelude.{◌≡◌, ◌≤◌, ◌++◌, ◌∷◌, [], Err, IsTrue};
+ghost use Rattle.std.specs.Prelude.{◌≡◌, ◌≤◌, ◌+◌, ◌++◌, ◌∷◌, [], Err, IsTrue, length};
 ghost use Rattle.mh_edit.specs.Applied.{applied};
 ghost use Rattle.mh_edit.specs.Fit.{fits};
+ghost use Rattle.mh_intern.specs.Exchanges.{Exchanges};
 ghost use Rattle.mh_handle.specs.Errors.{of_check};
 ghost use Rattle.mh_handle.specs.Parts.{no_parts};
 ghost use Rattle.mh_handle.specs.Stands.{HasShape, handle_body};
-ghost use Rattle.mh_handle.specs.Works.{CountsHandles, GoesOn, IsAccepted, IsReady, IsUnchanged, Makes};
+ghost use Rattle.mh_handle.specs.Works.{GoesOn, HoldsTypes, IsAccepted, IsReady, IsUnchanged};
+ghost use Rattle.mh_handle.specs.Works.{Makes, TradesTypes};
 ghost use Rattle.mh_adapt.specs.Parts.{GrowsByPart};
 
 use mh_base::NoMemory;
@@ -21,12 +23,15 @@ pub(crate) fn refused_with<'t>(
     part: Handle<'t>,
     error: CheckError,
 ) -> Result<Handle<'t>, HandleError>
+    requires of_types { w.old.seat.now.table ≡ w.old.types.now }
+    requires held { HoldsTypes w.old (target.held ++ part.held) }
     ensures unchanged { IsUnchanged w.old w.new }
     ensures error { result ≡ Err (of_check error) }
-    ensures handles { CountsHandles 2 w.old w.new result }
+    ensures types { Exchanges [] (target.entry.held ++ part.entry.held) []
+        w.old.seat.now w.new.seat.now }
 {
-    part.give_back(w);
-    target.refused(w, error)
+    target.give_back(w);
+    part.refused(w, error)
 }
 
 /// The handle after the edit, with the part. Both are given back where none is made.
@@ -41,12 +46,15 @@ pub(crate) fn grown_with<'t, R: Wait>(
     requires fits { IsTrue (fits by.key (handle_body target)) }
     requires shaped { HasShape (applied by.key (handle_body target)) by.ty }
     requires light { by.weight ≤ 256 }
+    requires few { length target.held + length part.held ≤ by.weight }
     requires ready { IsReady w.old 1 }
+    requires held { HoldsTypes w.old (target.held ++ part.held) }
     ensures goes_on { GoesOn 1 w.old w.new }
     ensures makes { Makes (target.entry.form.recipe ++ by.entry.key ∷ []) w.old w.new result }
     ensures accepted { IsAccepted result }
     ensures grows { GrowsByPart target.entry by.entry part.entry result }
-    ensures handles { CountsHandles 2 w.old w.new result }
+    ensures types { TradesTypes (by.entry.ty ∷ []) (target.entry.held ++ part.entry.held)
+        w.old w.new result }
 {
     let mut by = by;
     match by.parts.push(w, part) {

@@ -1,11 +1,12 @@
-ghost use Rattle.std.specs.Prelude.{IfOk};
+ghost use Rattle.std.specs.Prelude.{◌++◌, IfOk};
 ghost use Rattle.mh_tree.specs.Rows.{collect_row, filter_row, filterret_row, fold_row};
 ghost use Rattle.mh_tree.specs.Tree.{Tree};
 ghost use Rattle.mh_tree.specs.Tree as tree;
 ghost use Rattle.mh_handle.specs.Grows.{GainsPart};
 ghost use Rattle.mh_handle.specs.Obeys.{Obeys};
 ghost use Rattle.mh_handle.specs.Recipe.{recipe};
-ghost use Rattle.mh_handle.specs.Works.{CountsHandles, IsReady, GoesOn, Makes, StandsIn, leaves_of};
+ghost use Rattle.mh_handle.specs.Works.{GoesOn, HoldsTypes, IsReady, Makes, StandsIn, TradesTypes};
+ghost use Rattle.mh_handle.specs.Works.{leaves_of, types_in};
 
 use crate::growths::{collect_growth, filter_growth, filterret_growth, fold_growth};
 use crate::joining::{grown_with, refused_with};
@@ -23,13 +24,16 @@ pub fn filter<'t, R: Wait>(
     filter: Handle<'t>,
 ) -> Result<Handle<'t>, HandleError>
     requires ready { IsReady w.old 1 }
+    requires held { HoldsTypes w.old (target.held ++ filter.held) }
     ensures goes_on { GoesOn 1 w.old w.new }
     ensures obeys { Obeys (filter_row target.entry.ty target.entry.weight position
         filter.entry.ty filter.entry.weight) result }
     ensures makes { (a b : Tree) → StandsIn w.old target.entry a
         → StandsIn w.old filter.entry b
         → Makes (recipe (leaves_of w.old) (tree.FilterArg a position b)) w.old w.new result }
-    ensures handles { CountsHandles 2 w.old w.new result }
+    ensures types { TradesTypes (types_in (filter_row target.entry.ty target.entry.weight
+        position filter.entry.ty filter.entry.weight))
+        (target.entry.held ++ filter.entry.held) w.old w.new result }
     ensures gains { IfOk result (GainsPart filter.entry target.entry) }
     ensures stands { (a b : Tree) → StandsIn w.old target.entry a
         → StandsIn w.old filter.entry b
@@ -51,13 +55,16 @@ pub fn filterret<'t, R: Wait>(
     filter: Handle<'t>,
 ) -> Result<Handle<'t>, HandleError>
     requires ready { IsReady w.old 1 }
+    requires held { HoldsTypes w.old (target.held ++ filter.held) }
     ensures goes_on { GoesOn 1 w.old w.new }
     ensures obeys { Obeys (filterret_row target.entry.ty target.entry.weight
         filter.entry.ty filter.entry.weight) result }
     ensures makes { (a b : Tree) → StandsIn w.old target.entry a
         → StandsIn w.old filter.entry b
         → Makes (recipe (leaves_of w.old) (tree.FilterRet a b)) w.old w.new result }
-    ensures handles { CountsHandles 2 w.old w.new result }
+    ensures types { TradesTypes (types_in
+        (filterret_row target.entry.ty target.entry.weight filter.entry.ty filter.entry.weight))
+        (target.entry.held ++ filter.entry.held) w.old w.new result }
     ensures gains { IfOk result (GainsPart filter.entry target.entry) }
     ensures stands { (a b : Tree) → StandsIn w.old target.entry a
         → StandsIn w.old filter.entry b
@@ -81,13 +88,16 @@ pub fn fold<'t, R: Wait>(
     combiner: Handle<'t>,
 ) -> Result<Handle<'t>, HandleError>
     requires ready { IsReady w.old 1 }
+    requires held { HoldsTypes w.old (target.held ++ combiner.held) }
     ensures goes_on { GoesOn 1 w.old w.new }
     ensures obeys { Obeys (fold_row target.entry.ty target.entry.weight position
         combiner.entry.ty combiner.entry.weight) result }
     ensures makes { (a b : Tree) → StandsIn w.old target.entry a
         → StandsIn w.old combiner.entry b
         → Makes (recipe (leaves_of w.old) (tree.Fold a position b)) w.old w.new result }
-    ensures handles { CountsHandles 2 w.old w.new result }
+    ensures types { TradesTypes (types_in (fold_row target.entry.ty target.entry.weight
+        position combiner.entry.ty combiner.entry.weight))
+        (target.entry.held ++ combiner.entry.held) w.old w.new result }
     ensures gains { IfOk result (GainsPart combiner.entry target.entry) }
     ensures stands { (a b : Tree) → StandsIn w.old target.entry a
         → StandsIn w.old combiner.entry b
@@ -111,13 +121,16 @@ pub fn collect<'t, R: Wait>(
     filter: Handle<'t>,
 ) -> Result<Handle<'t>, HandleError>
     requires ready { IsReady w.old 1 }
+    requires held { HoldsTypes w.old (target.held ++ filter.held) }
     ensures goes_on { GoesOn 1 w.old w.new }
     ensures obeys { Obeys (collect_row target.entry.ty target.entry.weight position
         filter.entry.ty filter.entry.weight) result }
     ensures makes { (a b : Tree) → StandsIn w.old target.entry a
         → StandsIn w.old filter.entry b
         → Makes (recipe (leaves_of w.old) (tree.Collect a position b)) w.old w.new result }
-    ensures handles { CountsHandles 2 w.old w.new result }
+    ensures types { TradesTypes (types_in (collect_row target.entry.ty target.entry.weight
+        position filter.entry.ty filter.entry.weight))
+        (target.entry.held ++ filter.entry.held) w.old w.new result }
     ensures gains { IfOk result (GainsPart filter.entry target.entry) }
     ensures stands { (a b : Tree) → StandsIn w.old target.entry a
         → StandsIn w.old filter.entry b

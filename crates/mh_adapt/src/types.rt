@@ -82,6 +82,7 @@ pub(crate) fn filter_type<'t>(
     filter: &Handle<'t>,
 ) -> Result<MethodTy, CheckError>
     ensures shaped { IsShaped target.now }
+    ensures part { IsShaped filter.now }
     ensures tells { Tells result (filter_row
         target.now.ty target.now.weight position filter.now.ty filter.now.weight) }
 {
@@ -103,6 +104,7 @@ pub(crate) fn filterret_type<'t>(
     filter: &Handle<'t>,
 ) -> Result<MethodTy, CheckError>
     ensures shaped { IsShaped target.now }
+    ensures part { IsShaped filter.now }
     ensures tells { Tells result (filterret_row
         target.now.ty target.now.weight filter.now.ty filter.now.weight) }
 {
@@ -124,6 +126,7 @@ pub(crate) fn fold_type<'t>(
     combiner: &Handle<'t>,
 ) -> Result<MethodTy, CheckError>
     ensures shaped { IsShaped target.now }
+    ensures part { IsShaped combiner.now }
     ensures tells { Tells result (fold_row
         target.now.ty target.now.weight position combiner.now.ty combiner.now.weight) }
 {
@@ -146,6 +149,7 @@ pub(crate) fn collect_type<'t>(
     filter: &Handle<'t>,
 ) -> Result<MethodTy, CheckError>
     ensures shaped { IsShaped target.now }
+    ensures part { IsShaped filter.now }
     ensures tells { Tells result (collect_row
         target.now.ty target.now.weight position filter.now.ty filter.now.weight) }
 {

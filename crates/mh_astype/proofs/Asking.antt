@@ -11,7 +11,7 @@ use Rattle.mh_tree.specs.Rows.{TypeOrRefusal, astype_row}
 use Rattle.mh_tree.specs.Use.{use_row, used_as}
 use Rattle.mh_tree.proofs.RowParts.{astype_row-parts}
 use Rattle.mh_handle.specs.declared.error.HandleError.{HandleError}
-use Rattle.mh_handle.specs.declared.error.HandleError.TheVariants.{NoMemory, FormsFull, Refused}
+use Rattle.mh_handle.specs.declared.error.HandleError.TheVariants.{NoMemory, FormsFull, TypesFull, Refused}
 use Rattle.mh_handle.specs.declared.handle.Handle.{Handle}
 use Rattle.mh_handle.specs.Converting.{IsUsedAs, convert_fields}
 use Rattle.mh_handle.specs.Obeys.{Obeys}
@@ -44,6 +44,7 @@ pub used-obeys :
 used-obeys row classes asked old (Ok h) is accepted used = is ∙ ap Ok (sym used.ty)
 used-obeys row classes asked old (Err NoMemory) is accepted used = tt
 used-obeys row classes asked old (Err (FormsFull drawn)) is accepted used = (asked, is)
+used-obeys row classes asked old (Err (TypesFull bucket)) is accepted used = (asked, is)
 used-obeys row classes asked old (Err (Refused e)) is accepted used = absurd accepted
 
 -- the handle itself, where it has the type

@@ -50,11 +50,15 @@ pub use Rattle.mh_astype.proofs.OwnCalls.{
 
 -- ---- a form that converts, on the handle's own fields
 
+-- the handle that the form makes with its own fields and the added ones
+abbrev pub used_view : MethodTy → HandleView → FormView → List Field → HandleView
+used_view asked h f fields = record { ty = asked; weight = 1 + h.weight; sides = h.sides; form = f; fields = h.fields ++ fields; held = [] }
+
 pub converted-used :
     (classes : List Class) (asked : MethodTy) (h : HandleView) (f : FormView) (key : Key) (fields : List Field) →
     trivial classes asked h.ty ≡ false → key ≡ convert_key classes asked h.ty → fields ≡ convert_fields classes asked h.ty →
     f.recipe ≡ h.form.recipe ++ key ∷ [] →
-    IsUsedAs classes asked h (record { ty = asked; weight = 1 + h.weight; sides = h.sides; form = f; fields = h.fields ++ fields })
+    IsUsedAs classes asked h (used_view asked h f fields)
 converted-used classes asked h f key fields is k fs made = record {
   ty = refl;
   weight = refl;
@@ -69,23 +73,16 @@ module _
     h.ty)
     (fs : fields ≡ convert_fields table.classes asked h.ty) (made : f.recipe ≡ h.form.recipe ++ key ∷ [])
   where
-    converted-stands : (t : Tree) → Stands table h t → Stands table (record {
-      ty = asked;
-      weight = 1 + h.weight;
-      sides = h.sides;
-      form = f;
-      fields =
-          h.fields ++ fields;
-    }) (AsType t asked)
+    converted-stands : (t : Tree) → Stands table h t → Stands table (used_view asked h f fields) (AsType t asked)
     converted-stands t st =
-        astype-stands table are asked asked h (record { ty = asked; weight = 1 + h.weight; sides = h.sides; form = f; fields = h.fields ++ fields }) t row
+        astype-stands table are asked asked h (used_view asked h f fields) t row
         (converted-used table.classes asked h f key fields is k fs made) st
 
     pub converted-runs :
         (t : Tree) (args : List Value) (n : ℕ) → Stands table h t → HaveTypes table.classes args asked.params → n < 2 ^ 32 →
         typed_ran table.classes asked.ret (run_on table (body_of f.recipe) (h.fields ++ fields) (map erased args) n) ≢ Stuck
     converted-runs t args n st have low =
-        typed_run-well_formed table (record { ty = asked; weight = 1 + h.weight; sides = h.sides; form = f; fields = h.fields ++ fields }) (AsType t asked) args
+        typed_run-well_formed table (used_view asked h f fields) (AsType t asked) args
         n (converted-stands t st) have low
 
     pub converted-answer :
@@ -95,7 +92,7 @@ module _
     converted-answer t args n a st have low answer = record {
       ran_is =
           answer.ran_is
-          ∙ typed_run-stands table (record { ty = asked; weight = 1 + h.weight; sides = h.sides; form = f; fields = h.fields ++ fields }) (AsType t asked) args
+          ∙ typed_run-stands table (used_view asked h f fields) (AsType t asked) args
           n (converted-stands t st) have low;
       keys_are = answer.keys_are ∙ ap length (converted-stands t st).made;
     }

@@ -3,4 +3,5 @@ pub mod Calling
 pub mod ConvertKeys
 pub mod Editing
 pub mod OwnCalls
+pub mod Trading
 pub mod Using

@@ -1,5 +1,5 @@
 -- What is known where a handle is used as another type.
-use Rattle.std.proofs.Common.{◌≡◌, ◌≢◌, sym, ap, ◌∙◌, subst, ◌+◌, Bool, true, false, cond, List, [], ◌∷◌, ◌++◌, length, length-append, Result, Ok, Err, IfOk, inl, inr, arith}
+use Rattle.std.proofs.Common.{◌≡◌, ◌≢◌, sym, ap, ◌∙◌, subst, ◌+◌, ◌≤◌, Bool, true, false, cond, List, [], ◌∷◌, ◌++◌, length, length-append, Result, Ok, Err, IfOk, inl, inr, arith}
 use Rattle.std.proofs.lemmas.List.{append-nil}
 use Rattle.mh_values.specs.declared.class.Class.{Class}
 use Rattle.mh_values.specs.declared.types.MethodTy.{MethodTy}
@@ -21,10 +21,10 @@ use Rattle.mh_handle.specs.declared.growth.Growth.{Growth}
 use Rattle.mh_handle.specs.Grows.{GrowsBy}
 use Rattle.mh_handle.specs.Parts.{PartsView}
 use Rattle.mh_handle.specs.Recipe.{convert_keys}
-use Rattle.mh_handle.specs.Stands.{HandleView, Stands}
-use Rattle.mh_handle.specs.Works.{CountsHandles, GoesOn, IsUnchanged, Makes}
+use Rattle.mh_handle.specs.Stands.{HandleView, IsShaped, Stands}
+use Rattle.mh_handle.specs.Works.{GoesOn, HoldsTypes, IsUnchanged, Makes, TradesTypes}
 use Rattle.mh_handle.proofs.AsTypeStands.{astype-stands}
-use Rattle.mh_handle.proofs.Going.{goes_on-more, goes_on-still, unchanged-still}
+use Rattle.mh_handle.proofs.Going.{goes_on-more, goes_on-still}
 use Rattle.mh_handle.proofs.Refusals.{check-makes}
 use Rattle.mh_astype.specs.Use.{AddsConversions, AsksNothing, MakesFrom}
 pub use Rattle.mh_astype.proofs.ConvertKeys.{convert-fits, convert-shaped, convert_key, fields-kept, kept-shaped, keys-changed, keys-kept, light, trivial}
@@ -54,8 +54,25 @@ module _ (classes : List Class) (asked : MethodTy) (old : HandleView) (by : Grow
   }
   used-grown (Err e) is g = tt
 
-  pub used-counts : (w new : Work) (r : Result Handle HandleError) → CountsHandles (1 + by.parts.count) w new r → CountsHandles 1 w new r
-  used-counts w new r counts = subst (λ (p : PartsView). CountsHandles (1 + p.count) w new r) adds.parts counts
+  -- the holds of the handle are all that are handed over
+  pub used-trades : (w new : Work) (r : Result Handle HandleError) → TradesTypes (by.ty ∷ []) (old.held ++ by.parts.held) w new r →
+      TradesTypes (asked ∷ []) old.held w new r
+  used-trades w new r trades =
+      let all : old.held ++ by.parts.held ≡ old.held = ap (λ (p : PartsView). old.held ++ p.held) adds.parts ∙ append-nil old.held in
+      subst (λ l. TradesTypes (asked ∷ []) l w new r) all
+      (subst (λ (t : MethodTy). TradesTypes (t ∷ []) (old.held ++ by.parts.held) w new r) adds.ty trades)
+
+  -- it holds no more types than it has nodes
+  pub used-few : IsShaped old → length old.held + length by.parts.held ≤ by.weight
+  used-few shaped =
+      let none : length by.parts.held ≡ 0 = ap (λ (p : PartsView). length p.held) adds.parts in
+      omega (arith, none, shaped.few, adds.weight)
+
+  -- the holds that are handed over are those of the handle
+  pub used-held : (w : Work) → HoldsTypes w old.held → HoldsTypes w (old.held ++ by.parts.held)
+  used-held w held =
+      let all : old.held ++ by.parts.held ≡ old.held = ap (λ (p : PartsView). old.held ++ p.held) adds.parts ∙ append-nil old.held in
+      subst (HoldsTypes w) (sym all) held
 
 -- ---- the work
 
@@ -71,12 +88,12 @@ makes-changed classes asked own recipe key old new r is k makes =
     let keys : key ∷ [] ≡ convert_keys classes asked own = ap (λ v. v ∷ []) k ∙ sym (keys-changed classes asked own is) in
     subst (λ ks. MakesFrom recipe (recipe ++ ks) old new r) keys (inr (differs recipe [] key, makes))
 
-pub makes-kept : (classes : List Class) (asked own : MethodTy) (recipe : List Key) (w : Work) (h : HandleView) → trivial classes asked own ≡ true →
-    MakesFrom recipe (recipe ++ convert_keys classes asked own) w w (Ok h)
-makes-kept classes asked own recipe w h is =
-    inl (ap (λ ks. recipe ++ ks) (keys-kept classes asked own is) ∙ append-nil recipe, unchanged-still w)
+-- where nothing is converted the recipe stays, so no form is asked for
+pub makes-kept : (classes : List Class) (asked own : MethodTy) (recipe : List Key) (a b : Work) (r : Result Handle HandleError) →
+    trivial classes asked own ≡ true → AsksNothing a b r → MakesFrom recipe (recipe ++ convert_keys classes asked own) a b r
+makes-kept classes asked own recipe a b r is same = inl (ap (λ ks. recipe ++ ks) (keys-kept classes asked own is) ∙ append-nil recipe, same)
 
--- what leaves all but the number of handles asks for nothing
+-- what leaves all but the seat of types asks for nothing
 asks-nothing : (old new : Work) (e : CheckError) → IsUnchanged old new → AsksNothing old new (Err (of_check e))
 asks-nothing old new check.NoMemory same = same
 asks-nothing old new (check.Refused e) same = same

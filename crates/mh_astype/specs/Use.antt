@@ -1,8 +1,9 @@
 -- What a handle becomes that is used as a type, and what that leaves of a thread's work.
-use Rattle.std.specs.Prelude.{◌≡◌, ◌≢◌, ◌+◌, ◌⊎◌, List, [], ◌++◌, if◌then◌else◌, Result, Err}
+use Rattle.std.specs.Prelude.{◌≡◌, ◌≢◌, ℕ, ◌+◌, ◌⊎◌, List, [], ◌++◌, if◌then◌else◌, Result, Err}
 use Rattle.mh_values.specs.declared.class.Class.{Class}
 use Rattle.mh_values.specs.declared.types.MethodTy.{MethodTy}
 use Rattle.mh_values.specs.Same.{is_same_method_type}
+use Rattle.mh_tree.specs.Rows.{astype_row}
 use Rattle.mh_tree.specs.Use.{use_weight}
 use Rattle.mh_form.specs.declared.field.Field.{Field}
 use Rattle.mh_edit.specs.declared.key.Key.{Key}
@@ -16,7 +17,7 @@ use Rattle.mh_handle.specs.Converting.{convert_fields}
 use Rattle.mh_handle.specs.Parts.{no_parts}
 use Rattle.mh_handle.specs.Recipe.{convert_keys, entries_of, ret_entry_of}
 use Rattle.mh_handle.specs.Stands.{HandleView}
-use Rattle.mh_handle.specs.Works.{IsUnchanged, Makes}
+use Rattle.mh_handle.specs.Works.{IsUnchanged, Makes, types_in}
 
 -- the key of the conversions, none where nothing changes
 abbrev pub use_keys : List Class → MethodTy → MethodTy → List Key
@@ -33,6 +34,10 @@ pub record IsUse (classes : List Class) (asked : MethodTy) (old new : HandleView
   pub recipe : new.form.recipe ≡ old.form.recipe ++ use_keys classes old.ty asked
   pub fields : new.fields ≡ old.fields ++ use_fields classes old.ty asked
 
+-- the types of the nodes that a use as a type makes: that type, where it is another
+abbrev pub used_types : List Class → MethodTy → ℕ → MethodTy → List MethodTy
+used_types classes own weight asked = if is_same_method_type own asked then [] else types_in (astype_row classes own weight asked)
+
 -- what the conversions to a type add to a handle: one to its weight, their key, and a field for each that changes something
 pub record AddsConversions (classes : List Class) (asked : MethodTy) (t : HandleView) (by : Growth) : Type 0 where
   pub ty : by.ty ≡ asked
@@ -40,7 +45,7 @@ pub record AddsConversions (classes : List Class) (asked : MethodTy) (t : Handle
   pub key : by.key ≡ Convert (entries_of classes asked.params t.ty.params) (ret_entry_of classes t.ty.ret asked.ret)
   pub parts : by.parts ≡ record no_parts { fields = convert_fields classes asked t.ty }
 
--- what a call leaves of the work that asks for no form: all but the number of handles as it was
+-- what a call leaves of the work that asks for no form: all but the seat of types as it was
 abbrev pub AsksNothing : Work → Work → Result Handle HandleError → Type 0
 AsksNothing old new (Err (FormsFull drawn)) = ⊥
 AsksNothing old new result = IsUnchanged old new

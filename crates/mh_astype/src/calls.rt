@@ -109,7 +109,7 @@ fn invoke_converted<'t, R: Wait>(
     requires stands { StandsForSome (leaves_of w.old) handle.now }
     requires ready { IsReady w.old 1 }
     ensures goes_on { GoesOn 1 w.old w.new }
-    ensures handles { w.new.handles.now ≡ w.old.handles.now }
+    ensures seat { w.new.seat.now ≡ w.old.seat.now }
     ensures asks { AsksBy handle.now.form.recipe
         (convert_keys (classes_of w.old) call.now handle.now.ty) w.old w.new result }
     ensures answer { (t : Tree) → StandsIn w.old handle.now t
@@ -140,7 +140,7 @@ fn invoke_used<'t, R: Wait>(
     requires stands { StandsForSome (leaves_of w.old) handle.now }
     requires ready { IsReady w.old 1 }
     ensures goes_on { GoesOn 1 w.old w.new }
-    ensures handles { w.new.handles.now ≡ w.old.handles.now }
+    ensures seat { w.new.seat.now ≡ w.old.seat.now }
     ensures asks { AsksBy handle.now.form.recipe
         (convert_keys (classes_of w.old) call.now handle.now.ty) w.old w.new result }
     ensures answer { (t : Tree) → StandsIn w.old handle.now t
@@ -186,7 +186,7 @@ pub fn invoke_generic<'t, R: Wait>(
     requires stands { StandsForSome (leaves_of w.old) handle.now }
     requires ready { IsReady w.old 1 }
     ensures goes_on { GoesOn 1 w.old w.new }
-    ensures handles { w.new.handles.now ≡ w.old.handles.now }
+    ensures seat { w.new.seat.now ≡ w.old.seat.now }
     ensures asks { AsksBy handle.now.form.recipe
         (call_keys (classes_of w.old) handle.now.ty handle.now.weight call.now) w.old w.new result }
     ensures answer { (t : Tree) → StandsIn w.old handle.now t → IfOk result
@@ -211,7 +211,7 @@ pub fn invoke_generic_with<'t, R: Wait>(
     requires stands { StandsForSome (leaves_of w.old) handle.now }
     requires ready { IsReady w.old 1 }
     ensures goes_on { GoesOn 1 w.old w.new }
-    ensures handles { w.new.handles.now ≡ w.old.handles.now }
+    ensures seat { w.new.seat.now ≡ w.old.seat.now }
     ensures asks { AsksBy handle.now.form.recipe
         (call_keys (classes_of w.old) handle.now.ty handle.now.weight call.now) w.old w.new result }
     ensures answer { (t : Tree) → StandsIn w.old handle.now t → IfOk result

@@ -1,4 +1,4 @@
-ghost use Rattle.std.specs.Prelude.{◌≡◌, ◌++◌, ◌&&◌, IfOk, IsTrue, Ok, false, true};
+ghost use Rattle.std.specs.Prelude.{◌≡◌, ◌++◌, ◌∷◌, ◌&&◌, [], IfOk, IsTrue, Ok, false, true};
 ghost use Rattle.mh_values.specs.Same.{is_same_method_type};
 ghost use Rattle.mh_convert.specs.Conversion.{is_trivial_ret};
 ghost use Rattle.mh_values.specs.Classes.{AreClasses};
@@ -10,11 +10,12 @@ ghost use Rattle.mh_handle.specs.Converting.{IsUsedAs};
 ghost use Rattle.mh_handle.specs.Recipe.{are_trivial, convert_keys, recipe};
 ghost use Rattle.mh_handle.specs.Obeys.{Obeys};
 ghost use Rattle.mh_handle.specs.Stands.{IsShaped};
-ghost use Rattle.mh_handle.specs.Works.{CountsHandles, IsReady, GoesOn, IsAccepted, StandsIn, classes_of, leaves_of};
-ghost use Rattle.mh_astype.specs.Use.{AddsConversions, IsUse, MakesFrom};
+ghost use Rattle.mh_handle.specs.Works.{GoesOn, HoldsTypes, IsAccepted, IsReady};
+ghost use Rattle.mh_handle.specs.Works.{StandsIn, TradesTypes, classes_of, leaves_of};
+ghost use Rattle.mh_astype.specs.Use.{AddsConversions, IsUse, MakesFrom, used_types};
 
 use crate::conversions::{convert_fields, convert_key, is_trivial};
-use mh_base::{NoMemory, Shared};
+use mh_base::NoMemory;
 use mh_handle::{Growth, Handle, HandleError, Parts, Work};
 use mh_tree::{CheckError, check_astype};
 use mh_values::{MethodTy, is_same_method_type};
@@ -64,12 +65,13 @@ fn converted<'t, R: Wait>(
     requires changes { (are_trivial (classes_of w.old) ty.params target.ty.params && is_trivial_ret
         (classes_of w.old) target.ty.ret ty.ret) ≡ false }
     requires ready { IsReady w.old 1 }
+    requires held { HoldsTypes w.old target.held }
     ensures goes_on { GoesOn 1 w.old w.new }
     ensures makes { MakesFrom target.entry.form.recipe (target.entry.form.recipe
         ++ convert_keys (classes_of w.old) ty target.entry.ty) w.old w.new result }
     ensures accepted { IsAccepted result }
     ensures used { IfOk result (IsUsedAs (classes_of w.old) ty target.entry) }
-    ensures handles { CountsHandles 1 w.old w.new result }
+    ensures types { TradesTypes (ty ∷ []) target.entry.held w.old w.new result }
 {
     match conversions(w, &target, ty) {
         Ok(by) => target.grown(w, rt, by),
@@ -78,8 +80,9 @@ fn converted<'t, R: Wait>(
 }
 
 /// The handle as one of the type, where no conversion to it changes anything.
-fn kept<'t>(
+fn kept<'t, R: Wait>(
     w: &mut Work<'_, 't>,
+    rt: &R,
     target: Handle<'t>,
     ty: MethodTy,
 ) -> Result<Handle<'t>, HandleError>
@@ -87,17 +90,21 @@ fn kept<'t>(
     requires keeps { (are_trivial (classes_of w.old) ty.params target.ty.params && is_trivial_ret
         (classes_of w.old) target.ty.ret ty.ret) ≡ true }
     requires shaped { IsShaped target }
+    requires ready { IsReady w.old 1 }
+    requires held { HoldsTypes w.old target.held }
     ensures goes_on { GoesOn 1 w.old w.new }
     ensures makes { MakesFrom target.entry.form.recipe (target.entry.form.recipe
         ++ convert_keys (classes_of w.old) ty target.entry.ty) w.old w.new result }
     ensures accepted { IsAccepted result }
     ensures used { IfOk result (IsUsedAs (classes_of w.old) ty target.entry) }
-    ensures handles { CountsHandles 1 w.old w.new result }
+    ensures types { TradesTypes (ty ∷ []) target.entry.held w.old w.new result }
 {
     let weight = 1 + target.weight();
-    match Shared::new(w.alloc, ty) {
-        Ok(ty) => Ok(target.retyped(ty, weight)),
-        Err(NoMemory) => target.refused(w, CheckError::NoMemory),
+    // No form is asked for, so only memory and the table of types can be short.
+    match target.retyped(w, rt, ty, weight) {
+        Ok(made) => Ok(made),
+        Err(HandleError::TypesFull { bucket }) => Err(HandleError::TypesFull { bucket }),
+        Err(_) => Err(HandleError::NoMemory),
     }
 }
 
@@ -110,15 +117,16 @@ fn used<'t, R: Wait>(
 ) -> Result<Handle<'t>, HandleError>
     requires row { astype_row (classes_of w.old) target.ty target.weight ty ≡ Ok ty }
     requires ready { IsReady w.old 1 }
+    requires held { HoldsTypes w.old target.held }
     ensures goes_on { GoesOn 1 w.old w.new }
     ensures makes { MakesFrom target.entry.form.recipe (target.entry.form.recipe
         ++ convert_keys (classes_of w.old) ty target.entry.ty) w.old w.new result }
     ensures accepted { IsAccepted result }
     ensures used { IfOk result (IsUsedAs (classes_of w.old) ty target.entry) }
-    ensures handles { CountsHandles 1 w.old w.new result }
+    ensures types { TradesTypes (ty ∷ []) target.entry.held w.old w.new result }
 {
     if is_trivial(&ty, target.ty(), w.leaves.classes()) {
-        kept(w, target, ty)
+        kept(w, rt, target, ty)
     } else {
         converted(w, rt, target, ty)
     }
@@ -136,6 +144,7 @@ pub fn as_type<'t, R: Wait>(
     ty: &MethodTy,
 ) -> Result<Handle<'t>, HandleError>
     requires ready { IsReady w.old 1 }
+    requires held { HoldsTypes w.old target.held }
     ensures goes_on { GoesOn 1 w.old w.new }
     ensures obeys { Obeys (use_row (classes_of w.old) target.entry.ty target.entry.weight ty.now)
         result }
@@ -143,7 +152,9 @@ pub fn as_type<'t, R: Wait>(
         → MakesFrom (recipe (leaves_of w.old) t)
         (recipe (leaves_of w.old) (used_as target.entry.ty ty.now t)) w.old w.new result }
     ensures same { IsTrue (is_same_method_type target.entry.ty ty.now) → result ≡ Ok target.entry }
-    ensures handles { CountsHandles 1 w.old w.new result }
+    ensures types { TradesTypes
+        (used_types (classes_of w.old) target.entry.ty target.entry.weight ty.now)
+        target.entry.held w.old w.new result }
     ensures used { IfOk result (IsUse (classes_of w.old) ty.now target.entry) }
     ensures stands { (t : Tree) → StandsIn w.old target.entry t
         → IfOk result (λ r. StandsIn w.old r (used_as target.entry.ty ty.now t)) }

@@ -6,7 +6,7 @@ use Rattle.mh_leaf.specs.LeafTable.{LeafTable}
 use Rattle.mh_tree.specs.Tree.{Tree}
 use Rattle.mh_edit.specs.declared.key.Key.{Key}
 use Rattle.mh_handle.specs.declared.error.HandleError.{HandleError}
-use Rattle.mh_handle.specs.declared.error.HandleError.TheVariants.{NoMemory, FormsFull, Refused}
+use Rattle.mh_handle.specs.declared.error.HandleError.TheVariants.{NoMemory, FormsFull, TypesFull, Refused}
 use Rattle.mh_handle.specs.declared.handle.Handle.{Handle}
 use Rattle.mh_handle.specs.declared.work.Work.{Work}
 use Rattle.mh_handle.specs.Recipe.{recipe}
@@ -19,13 +19,13 @@ use Rattle.mh_link.specs.Linked.{assigning, stepped}
 use Rattle.mh_link.specs.Made.{unless_thrown}
 use Rattle.mh_link.specs.Operands.{Frame, handle}
 use Rattle.mh_link.specs.Operations.{node_of}
-use Rattle.mh_attempt.specs.Asked.{AsksOrThrows, HasAskedMore, IsFull}
+use Rattle.mh_attempt.specs.Asked.{AsksOrThrows, HasAskedMore, HasStoppedAt, IsFull}
 use Rattle.mh_attempt.specs.Lines.{MakesNode, passes}
 use Rattle.mh_attempt.specs.Recipes.{line_recipes, script_asked, script_recipes, step_asked}
 use Rattle.mh_attempt.specs.Registers.{Hold}
 use Rattle.mh_attempt.specs.declared.registers.Registers.{Registers}
 use Rattle.mh_attempt.proofs.Running.{pass-stepped}
-use Rattle.mh_attempt.proofs.AskedAfter.{asked_more-both, full-after, full-first}
+use Rattle.mh_attempt.proofs.AskedAfter.{asked_more-both, full-after, full-first, stopped-after, stopped-first}
 
 -- ---- the recipes of lines
 
@@ -66,6 +66,8 @@ pub asks-after : {A : Type 0} (recipes more : List (List Key)) (old mid new : Wo
 asks-after recipes more old mid new (Ok a) first asks = asked_more-both recipes more old.pass.now mid.pass.now new.pass.now first asks
 asks-after recipes more old mid new (Err (Refused e)) first asks = asked_more-both recipes more old.pass.now mid.pass.now new.pass.now first asks
 asks-after recipes more old mid new (Err (FormsFull drawn)) first full = full-after recipes more drawn old.pass.now mid.pass.now new.pass.now first full
+asks-after recipes more old mid new (Err (TypesFull bucket)) first stopped =
+    stopped-after recipes more old.pass.now mid.pass.now new.pass.now first stopped
 asks-after recipes more old mid new (Err NoMemory) first asks = tt
 
 -- the pass stays as it is when a handle is given back
@@ -74,6 +76,7 @@ pub asks-given_back : {A : Type 0} (recipes : List (List Key)) (old new back : W
 asks-given_back recipes old new back (Ok a) same asks = subst (HasAskedMore recipes old.pass.now) (sym same) asks
 asks-given_back recipes old new back (Err (Refused e)) same asks = subst (HasAskedMore recipes old.pass.now) (sym same) asks
 asks-given_back recipes old new back (Err (FormsFull drawn)) same full = subst (IsFull recipes drawn old.pass.now) (sym same) full
+asks-given_back recipes old new back (Err (TypesFull bucket)) same stopped = subst (HasStoppedAt recipes old.pass.now) (sym same) stopped
 asks-given_back recipes old new back (Err NoMemory) same asks = tt
 
 -- what follows asks, over leaves that stayed
@@ -120,6 +123,7 @@ let-unasked old new name op steps e frame error makes asks =
         (ap (λ rs. line_recipes leaves frame op ++ rs) (untaken-recipes leaves name op steps e frame exc thrown.0)
         ∙ append-nil (line_recipes leaves frame op)) asked
     cases (FormsFull drawn) made full = full-first (line_recipes leaves frame op) rest drawn old.pass.now new.pass.now full
+    cases (TypesFull bucket) made stopped = stopped-first (line_recipes leaves frame op) rest old.pass.now new.pass.now stopped
     cases NoMemory made asked = tt
 
 -- ---- `failmod`

@@ -5,7 +5,7 @@ use Rattle.mh_edit.specs.declared.key.Key.{Key}
 use Rattle.mh_tree.specs.declared.error.CheckError.{CheckError}
 use Rattle.mh_tree.specs.declared.error.CheckError.TheVariants as check
 use Rattle.mh_handle.specs.declared.error.HandleError.{HandleError}
-use Rattle.mh_handle.specs.declared.error.HandleError.TheVariants.{NoMemory, FormsFull, Refused}
+use Rattle.mh_handle.specs.declared.error.HandleError.TheVariants.{NoMemory, FormsFull, TypesFull, Refused}
 use Rattle.mh_handle.specs.declared.handle.Handle.{Handle}
 use Rattle.mh_handle.specs.declared.work.Work.{Work}
 use Rattle.mh_handle.specs.Errors.{of_check}
@@ -16,7 +16,7 @@ use Rattle.mh_handle.proofs.SameRecipes.{same_recipe-decides}
 use Rattle.mh_astype.specs.Use.{AsksNothing, MakesFrom}
 use Rattle.mh_branch.specs.Spreading.{MakesBoth}
 use Rattle.mh_attempt.specs.Asked.{AsksIfMade, HasAskedMore, HasStopped}
-use Rattle.mh_attempt.proofs.AskedAfter.{asked_more-none, asked_more-both, full-after, full-first}
+use Rattle.mh_attempt.proofs.AskedAfter.{asked_more-none, asked_more-both, full-after, full-first, stopped-after, stopped-first, stopped-still}
 use Rattle.mh_attempt.proofs.AskedForms.{asked-full, asked-more, drawn-more}
 
 -- ---- calls one after the other
@@ -31,6 +31,7 @@ pub asks-then : {A : Type 0} (recipes more : List (List Key)) (old mid new : Wor
 asks-then recipes more old mid new (Ok a) first asks = asked_more-both recipes more old.pass.now mid.pass.now new.pass.now first asks
 asks-then recipes more old mid new (Err (FormsFull drawn)) first asks = full-after recipes more drawn old.pass.now mid.pass.now new.pass.now first asks
 asks-then recipes more old mid new (Err NoMemory) first asks = tt
+asks-then recipes more old mid new (Err (TypesFull bucket)) first asks = stopped-after recipes more old.pass.now mid.pass.now new.pass.now first asks
 asks-then recipes more old mid new (Err (Refused e)) first asks = tt
 
 -- a call that stopped, whose error is handed on
@@ -42,6 +43,7 @@ asks-stopped recipes more old new error (Err x) is stopped = subst (HasStopped (
     early : (e : HandleError) → HasStopped recipes old.pass.now new.pass.now e → HasStopped (recipes ++ more) old.pass.now new.pass.now e
     early (FormsFull drawn) full = full-first recipes more drawn old.pass.now new.pass.now full
     early NoMemory full = tt
+    early (TypesFull bucket) stopped = stopped-first recipes more old.pass.now new.pass.now stopped
     early (Refused e) full = tt
 
 -- the pass stays as it is when handles are given back
@@ -66,6 +68,7 @@ asks-made r old new (Ok h) makes = record {
   within = λ whole within. drawn-more whole old.pass.now new.pass.now h.form r within makes.1 makes.2;
 }
 asks-made r old new (Err (FormsFull drawn)) makes = asked-full old.pass.now new.pass.now r drawn makes.0.0 makes.1 makes.2
+asks-made r old new (Err (TypesFull bucket)) makes = stopped-still (r ∷ []) old.pass.now new.pass.now makes
 asks-made r old new (Err NoMemory) makes = tt
 asks-made r old new (Err (Refused e)) makes = tt
 
@@ -76,6 +79,7 @@ unless_same before after = if same_recipe after before then [] else after ∷ []
 asks-nothing : (old new : Work) (made : Result Handle HandleError) → AsksNothing old new made → AsksIfMade [] old new made
 asks-nothing old new (Ok h) same = asks-still old.pass.now new.pass.now same.pass
 asks-nothing old new (Err (FormsFull drawn)) same = absurd same
+asks-nothing old new (Err (TypesFull bucket)) same = stopped-still [] old.pass.now new.pass.now same.pass
 asks-nothing old new (Err NoMemory) same = tt
 asks-nothing old new (Err (Refused e)) same = tt
 
@@ -108,6 +112,15 @@ asks-both first second third old new (Err (FormsFull drawn)) makes =
     (λ (late : (mid : Work) × (g : Handle) × MakesFrom first second old mid (Ok g) × Makes third mid new (Err (FormsFull drawn))).
     asks-then {A = Handle} (unless_same first second) (third ∷ []) old late.0 new (Err (FormsFull drawn)) (asks-from first second old late.0 (Ok late.1) late.2)
     (asks-made third late.0 new (Err (FormsFull drawn)) late.3))
+    makes
+asks-both first second third old new (Err (TypesFull bucket)) makes =
+    ⊎_elim
+    (λ (early : MakesFrom first second old new (Err (TypesFull bucket))).
+    stopped-first (unless_same first second) (third ∷ []) old.pass.now new.pass.now (asks-from first second old new (Err (TypesFull bucket)) early))
+    (λ (late : (mid : Work) × (g : Handle) × MakesFrom first second old mid (Ok g) × Makes third mid new (Err (TypesFull bucket))).
+    asks-then {A = Handle} (unless_same first second) (third ∷ []) old late.0 new (Err (TypesFull bucket))
+    (asks-from first second old late.0 (Ok late.1) late.2)
+    (asks-made third late.0 new (Err (TypesFull bucket)) late.3))
     makes
 asks-both first second third old new (Err NoMemory) makes = tt
 asks-both first second third old new (Err (Refused e)) makes = tt

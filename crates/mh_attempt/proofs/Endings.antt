@@ -12,7 +12,7 @@ use Rattle.mh_tree.specs.Tree.{Tree}
 use Rattle.mh_tree.specs.Rows.{illegal, mismatch}
 use Rattle.mh_tree.specs.Typing.{type_of}
 use Rattle.mh_handle.specs.declared.error.HandleError.{HandleError}
-use Rattle.mh_handle.specs.declared.error.HandleError.TheVariants.{NoMemory, FormsFull, Refused}
+use Rattle.mh_handle.specs.declared.error.HandleError.TheVariants.{NoMemory, FormsFull, TypesFull, Refused}
 use Rattle.mh_handle.specs.declared.handle.Handle.{Handle}
 use Rattle.mh_handle.specs.declared.work.Work.{Work}
 use Rattle.mh_handle.specs.Errors.{of_check}
@@ -73,6 +73,8 @@ unfolding back
 returned-node old new r frame t own asked (Ok h) held typed is same accepted stands =
     (t, returned-is old.leaves.now r frame t own asked held typed is ∙ ap (λ b. require b (mismatch old.leaves.now.classes own asked) >> Ok t) same, stands)
 returned-node old new r frame t own asked (Err (FormsFull drawn)) held typed is same accepted stands =
+    (t, returned-is old.leaves.now r frame t own asked held typed is ∙ ap (λ b. require b (mismatch old.leaves.now.classes own asked) >> Ok t) same)
+returned-node old new r frame t own asked (Err (TypesFull bucket)) held typed is same accepted stands =
     (t, returned-is old.leaves.now r frame t own asked held typed is ∙ ap (λ b. require b (mismatch old.leaves.now.classes own asked) >> Ok t) same)
 returned-node old new r frame t own asked (Err NoMemory) held typed is same accepted stands = tt
 returned-node old new r frame t own asked (Err (Refused e)) held typed is same accepted stands = absurd accepted

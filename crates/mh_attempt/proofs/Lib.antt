@@ -1,3 +1,4 @@
+pub mod Adding
 pub mod AskedAfter
 pub mod AskedAmong
 pub mod AskedForms
@@ -8,9 +9,9 @@ pub mod AskedOperations
 pub mod AskedUses
 pub mod Asking
 pub mod Beginnings
-pub mod Counting
 pub mod Crossing
 pub mod Endings
+pub mod Holding
 pub mod JobCalls
 pub mod KnownHandles
 pub mod KnownLines

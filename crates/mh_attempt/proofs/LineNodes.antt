@@ -10,7 +10,7 @@ use Rattle.mh_tree.specs.Rows.{TypeOrRefusal}
 use Rattle.mh_tree.specs.Tree.{Tree}
 use Rattle.mh_tree.specs.Typing.{type_of}
 use Rattle.mh_handle.specs.declared.error.HandleError.{HandleError}
-use Rattle.mh_handle.specs.declared.error.HandleError.TheVariants.{NoMemory, FormsFull, Refused}
+use Rattle.mh_handle.specs.declared.error.HandleError.TheVariants.{NoMemory, FormsFull, TypesFull, Refused}
 use Rattle.mh_handle.specs.declared.handle.Handle.{Handle}
 use Rattle.mh_handle.specs.declared.work.Work.{Work}
 use Rattle.mh_handle.specs.Errors.{of_check}
@@ -52,6 +52,7 @@ pub unmade-node : (old new : Work) (t : Tree) (own : MethodTy) (error : HandleEr
     MakesNode (typed old.leaves.now t) old new (Err error)
 unmade-node old new t own NoMemory is h = tt
 unmade-node old new t own (FormsFull drawn) is h = (t, typed-is old.leaves.now t own is)
+unmade-node old new t own (TypesFull bucket) is h = (t, typed-is old.leaves.now t own is)
 unmade-node old new t own (Refused e) is h = absurd h
 
 is_refused : (own : MethodTy) (e : Exc) (m : TypeOrRefusal) → m ≡ Ok own → m ≡ Err e → ⊥
@@ -65,6 +66,7 @@ made-node old mid new t own rule (Ok h) same is by obeys stands =
     (t, typed-is old.leaves.now t own is, subst (λ leaves. Stands leaves h t) (ap (λ leaves. leaves.now) same) stands)
 made-node old mid new t own rule (Err NoMemory) same is by obeys stands = tt
 made-node old mid new t own rule (Err (FormsFull drawn)) same is by obeys stands = (t, typed-is old.leaves.now t own is)
+made-node old mid new t own rule (Err (TypesFull bucket)) same is by obeys stands = (t, typed-is old.leaves.now t own is)
 made-node old mid new t own rule (Err (Refused e)) same is by obeys stands = absurd (is_refused own e rule (sym by ∙ is) obeys)
 
 -- a node that is equal

@@ -21,6 +21,7 @@ use Rattle.mh_attempt.specs.Recipes.{attempt_recipes, script_asked, script_recip
 use Rattle.mh_attempt.specs.Registers.{HasLeaves, Hold}
 use Rattle.mh_attempt.specs.Runs.{MayRun, draws}
 use Rattle.mh_attempt.proofs.Rooms.{ready-less}
+use Rattle.mh_attempt.proofs.RunRegisters.{kept-none}
 
 -- ---- a call of a bootstrap method
 
@@ -37,6 +38,7 @@ start-may w script steps registers is runs ready are none low =
     subst (λ xs. MayRun xs registers w) (sym is) (record {
       ready = ready-less w 256 (draws script.steps) (omega (arith, few)) ready;
       holds = (at_start registers.call.now registers.serial, start-holds w.leaves.now registers are none);
+      kept = kept-none w.seat.now registers none;
       divide = runs.divide;
       serial = low;
     })

@@ -3,6 +3,7 @@ use denote.Ref.{Bor}
 use Rattle.std.proofs.Common.{◌≡◌, arith, zero, suc, ◌<◌, ◌≤◌, length, get_or, refl, sym, ◌∙◌, ap, subst, ℕ, List, [], ◌∷◌, true, false, Option, Some, None, Ok, Err}
 use Rattle.std.specs.Prelude.{if◌then◌else◌, slice_get, option_map, ok_or}
 use Rattle.std.specs.Str.{bytes_eq}
+use Rattle.mh_intern.specs.Views.{SeatView}
 use Rattle.mh_leaf.specs.LeafTable.{LeafTable}
 use Rattle.mh_jobs.specs.declared.job.Argument.{Argument}
 use Rattle.mh_jobs.specs.declared.job.BootstrapCall.{BootstrapCall}
@@ -12,7 +13,7 @@ use Rattle.mh_attempt.specs.declared.registers.Content.{Content as Found}
 use Rattle.mh_attempt.specs.declared.registers.Held.{Held}
 use Rattle.mh_attempt.specs.declared.registers.Registers.{Registers}
 use Rattle.mh_link.specs.Operands.{Content, Frame, content, content_of, last_assigned, no_argument}
-use Rattle.mh_attempt.specs.Registers.{AreAssigned, Hold, Holds, HoldsLast, IsContent, IsLeafOf}
+use Rattle.mh_attempt.specs.Registers.{AreAssigned, AreKeptIn, Hold, Holds, HoldsLast, IsContent, IsKeptIn, IsLeafOf}
 use Rattle.mh_attempt.specs.Told.{TellsBy}
 
 get-some : {A : Type 0} (xs : List A) (n : ℕ) (a : A) → n < length xs → ((d : A) → a ≡ get_or xs n d) → slice_get xs n ≡ Some a
@@ -94,3 +95,15 @@ last-before leaves name (c ∷ cs) last a r some named rest are =
     (ap (λ (b : Bor Assignment). bytes_eq (out-Assignment b.now).name.now name) same ∙ named) in
     subst (λ t. HoldsLast leaves r (if t then Some c.1 else last_assigned name cs)) (sym is)
     (rest cs (subst (λ (b : Bor Assignment). AreAssigned leaves (out-Assignment b.now).before cs) same are.4))
+
+-- ---- what the seat of types holds
+
+-- the last assignment is of a handle whose types are held, and so are those before it
+pub last-kept : (seat : SeatView) (n : ℕ) (last : Bor Assignment) → AreKeptIn seat n (Some last) →
+    IsKeptIn seat (out-Assignment last.now).held × ((m : ℕ) × AreKeptIn seat m (out-Assignment last.now).before)
+last-kept seat zero last kept = absurd (is_there last (sym kept))
+last-kept seat (suc n) last kept =
+    let same = same_assignment kept.0 last (sym kept.1) in (
+      subst (λ (b : Bor Assignment). IsKeptIn seat (out-Assignment b.now).held) same kept.2,
+      (n, subst (λ (b : Bor Assignment). AreKeptIn seat n (out-Assignment b.now).before) same kept.3),
+    )

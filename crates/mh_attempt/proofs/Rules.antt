@@ -8,7 +8,7 @@ use Rattle.mh_tree.specs.Tree.{Tree, weight}
 use Rattle.mh_tree.specs.Typing.{type_of, with_type}
 use Rattle.mh_edit.specs.declared.key.Key.{Key}
 use Rattle.mh_handle.specs.declared.error.HandleError.{HandleError}
-use Rattle.mh_handle.specs.declared.error.HandleError.TheVariants.{NoMemory, FormsFull, Refused}
+use Rattle.mh_handle.specs.declared.error.HandleError.TheVariants.{NoMemory, FormsFull, TypesFull, Refused}
 use Rattle.mh_handle.specs.declared.handle.Handle.{Handle}
 use Rattle.mh_handle.specs.declared.work.Work.{Work}
 use Rattle.mh_handle.specs.Obeys.{Obeys}
@@ -25,6 +25,7 @@ pub node-of-root : (old new : Work) (node : Tree) (keys : List Key) (r : Result 
 node-of-root old new node keys (Ok h) obeys makes stands = (node, typed-is old.leaves.now node h.ty obeys, stands)
 node-of-root old new node keys (Err NoMemory) obeys makes stands = tt
 node-of-root old new node keys (Err (FormsFull drawn)) obeys makes stands = (node, typed-is old.leaves.now node obeys.0 obeys.1)
+node-of-root old new node keys (Err (TypesFull bucket)) obeys makes stands = (node, typed-is old.leaves.now node obeys.0 obeys.1)
 node-of-root old new node keys (Err (Refused e)) obeys makes stands = (ap (λ m. m >>= (λ (o : MethodTy). Ok node)) obeys, makes)
 
 -- of a leaf, which is never refused
@@ -33,6 +34,7 @@ pub node-of-leaf : (old new : Work) (node : Tree) (own : MethodTy) (r : Result H
 node-of-leaf old new node own (Ok h) is accepted stands = (node, typed-is old.leaves.now node own is, stands)
 node-of-leaf old new node own (Err NoMemory) is accepted stands = tt
 node-of-leaf old new node own (Err (FormsFull drawn)) is accepted stands = (node, typed-is old.leaves.now node own is)
+node-of-leaf old new node own (Err (TypesFull bucket)) is accepted stands = (node, typed-is old.leaves.now node own is)
 node-of-leaf old new node own (Err (Refused e)) is accepted stands = absurd accepted
 
 -- ---- of one part

@@ -34,7 +34,7 @@ serial-runs all steps name e registers a old new r is rest follows held =
     λ frame hold. follows-hold old.leaves.now registers a name frame (numbered frame.serial) follows hold (held frame hold) in
     subst (λ xs. Runs xs e registers old new r) (sym is) (record {
       goes_on = goes_on-more (draws steps) (draws (step.Serial name ∷ steps)) old new (omega arith) rest.goes_on;
-      handles = rest.handles;
+      types = rest.types;
       target = λ frame hold. rest.target _ (after frame hold);
       asks = λ frame hold. rest.asks _ (after frame hold);
     })
@@ -49,7 +49,7 @@ pass-runs all steps modulus remainder e registers u old new r is passed rest =
     let leaves = old.leaves.now in
     subst (λ xs. Runs xs e registers old new r) (sym is) (record {
       goes_on = goes_on-more (draws steps) (draws (step.FailMod modulus remainder ∷ steps)) old new (omega arith) rest.goes_on;
-      handles = rest.handles;
+      types = rest.types;
       target = λ frame hold.
           same-target (ran leaves (step.FailMod modulus remainder ∷ steps) e frame) (ran leaves steps e frame) old r
           (ap (λ m. m >>= ran leaves steps e) (pass-stepped leaves modulus remainder registers.serial frame u hold.serial passed)) (rest.target frame hold);

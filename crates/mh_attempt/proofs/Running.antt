@@ -4,7 +4,7 @@ use Rattle.mh_values.specs.declared.value.Exc.{Exc}
 use Rattle.mh_leaf.specs.LeafTable.{LeafTable}
 use Rattle.mh_tree.specs.Tree.{Tree}
 use Rattle.mh_handle.specs.declared.error.HandleError.{HandleError}
-use Rattle.mh_handle.specs.declared.error.HandleError.TheVariants.{NoMemory, FormsFull, Refused}
+use Rattle.mh_handle.specs.declared.error.HandleError.TheVariants.{NoMemory, FormsFull, TypesFull, Refused}
 use Rattle.mh_handle.specs.declared.handle.Handle.{Handle}
 use Rattle.mh_handle.specs.declared.work.Work.{Work}
 use Rattle.mh_handle.specs.Stands.{Stands}
@@ -46,6 +46,7 @@ tells-over : (target : OrThrown Tree) (old mid : Work) (r : Result Handle Handle
 tells-over target old mid (Ok h) same tells = (tells.0, tells.1, subst (λ leaves. Stands leaves.now h tells.0) same tells.2)
 tells-over target old mid (Err (Refused e)) same tells = tells
 tells-over target old mid (Err (FormsFull drawn)) same tells = tells
+tells-over target old mid (Err (TypesFull bucket)) same tells = tells
 tells-over target old mid (Err NoMemory) same tells = tells
 
 -- of a target that is equal
@@ -67,4 +68,5 @@ pub let-untold : (leaves : LeafTable) (old new : Work) (name : List ℕ) (op : O
     MakesNode (node_of leaves frame op) old new (Err error) → TellsTarget (ran leaves (step.Let name op ∷ steps) e frame) old (Err error)
 let-untold leaves old new name op steps e frame (Refused exc) makes = let-thrown leaves name op steps e frame exc makes.0
 let-untold leaves old new name op steps e frame (FormsFull drawn) makes = tt
+let-untold leaves old new name op steps e frame (TypesFull bucket) makes = tt
 let-untold leaves old new name op steps e frame NoMemory makes = tt

@@ -4,7 +4,7 @@ use Rattle.std.specs.Prelude.{IsErrAnd, slice_get}
 use Rattle.std.specs.Option.{option_map_or}
 use Rattle.mh_leaf.specs.LeafTable.{LeafTable}
 use Rattle.mh_edit.specs.declared.key.Key.{Key}
-use Rattle.mh_handle.specs.declared.error.EditError.{EditError}
+use Rattle.mh_attempt.specs.declared.error.WorkError.{WorkError}
 use Rattle.mh_handle.specs.declared.work.Work.{Work}
 use Rattle.mh_handle.specs.Recipe.{recipe}
 use Rattle.mh_script.specs.declared.script.Script.{Script}
@@ -24,7 +24,7 @@ site-edits given job serial named =
     ap (λ o. option_map_or (λ j. edits (recipe given.leaves) given.leaves given.scripts j serial) o []) named
 
 -- the forms of an attempt are those of its edits
-pub asks-edits : {A : Type 0} (given : Given) (scripts : List Script) (leaves : LeafTable) (job : Job) (serial : ℕ) (old new : Work) (r : Result A EditError) →
+pub asks-edits : {A : Type 0} (given : Given) (scripts : List Script) (leaves : LeafTable) (job : Job) (serial : ℕ) (old new : Work) (r : Result A WorkError) →
     scripts ≡ given.scripts → leaves ≡ given.leaves → slice_get given.jobs job.site ≡ Some job → IsJob given.leaves given.scripts job →
     Asks (attempt_recipes leaves scripts job serial) old new r → Asks (edits_at (recipe given.leaves) given job.site serial) old new r
 asks-edits given scripts leaves job serial old new r same same' named is asks =
@@ -37,8 +37,8 @@ asks-edits given scripts leaves job serial old new r same same' named is asks =
     (λ q. sym (edits-same given.leaves given.scripts job serial is q)) asked)
 
 -- and where an error is handed on
-pub edits-stopped : {A : Type 0} (given : Given) (scripts : List Script) (leaves : LeafTable) (job : Job) (serial : ℕ) (old new : Work) (error : EditError)
-    (r : Result A EditError) → IsErrAnd r (λ x. x ≡ error) → scripts ≡ given.scripts → leaves ≡ given.leaves → slice_get given.jobs job.site ≡ Some job →
+pub edits-stopped : {A : Type 0} (given : Given) (scripts : List Script) (leaves : LeafTable) (job : Job) (serial : ℕ) (old new : Work) (error : WorkError)
+    (r : Result A WorkError) → IsErrAnd r (λ x. x ≡ error) → scripts ≡ given.scripts → leaves ≡ given.leaves → slice_get given.jobs job.site ≡ Some job →
     IsJob given.leaves given.scripts job → Asks {A = A} (attempt_recipes leaves scripts job serial) old new (Err error) →
     Asks (edits_at (recipe given.leaves) given job.site serial) old new r
 edits-stopped given scripts leaves job serial old new error (Ok a) handed same same' named is asks = absurd handed

@@ -3,11 +3,11 @@ use Rattle.std.specs.Prelude.{◌≡◌, ℕ, ◌+◌, ◌<◌, ◌≤◌, List,
 use Rattle.std.specs.List.{list_any, IsDistinct}
 use Rattle.std.specs.Set.{distinct_count}
 use Rattle.mh_edit.specs.declared.key.Key.{Key}
-use Rattle.mh_handle.specs.declared.error.EditError.{EditError}
-use Rattle.mh_handle.specs.declared.error.EditError.TheVariants as edit
 use Rattle.mh_handle.specs.declared.error.HandleError.{HandleError}
 use Rattle.mh_handle.specs.declared.error.HandleError.TheVariants as handle
 use Rattle.mh_handle.specs.declared.work.Work.{Work}
+use Rattle.mh_attempt.specs.declared.error.WorkError.{WorkError}
+use Rattle.mh_attempt.specs.declared.error.WorkError.TheVariants as work
 use Rattle.mh_handle.specs.Index.{recipe_of}
 use Rattle.mh_handle.specs.Passes.{PassView}
 use Rattle.mh_handle.specs.SameRecipes.{same_recipe}
@@ -50,21 +50,24 @@ abbrev pub IsFull : List (List Key) → ℕ → PassView → PassView → Type 0
 IsFull recipes drawn old new = HasStoppedAt recipes old new × IsOver drawn new
 
 -- what a call leaves that asks for forms of these recipes
-abbrev pub Asks : {A : Type 0} → List (List Key) → Work → Work → Result A EditError → Type 0
+abbrev pub Asks : {A : Type 0} → List (List Key) → Work → Work → Result A WorkError → Type 0
 Asks recipes old new (Ok a) = HasAskedMore recipes old.pass.now new.pass.now
-Asks recipes old new (Err (edit.FormsFull drawn)) = IsFull recipes drawn old.pass.now new.pass.now
-Asks recipes old new (Err edit.NoMemory) = Unit {0}
+Asks recipes old new (Err (work.FormsFull drawn)) = IsFull recipes drawn old.pass.now new.pass.now
+Asks recipes old new (Err (work.TypesFull bucket)) = HasStoppedAt recipes old.pass.now new.pass.now
+Asks recipes old new (Err work.NoMemory) = Unit {0}
 
 -- the same of a call that may throw, where these are the recipes up to what is thrown
 abbrev pub AsksOrThrows : {A : Type 0} → List (List Key) → Work → Work → Result A HandleError → Type 0
 AsksOrThrows recipes old new (Ok a) = HasAskedMore recipes old.pass.now new.pass.now
 AsksOrThrows recipes old new (Err (handle.Refused e)) = HasAskedMore recipes old.pass.now new.pass.now
 AsksOrThrows recipes old new (Err (handle.FormsFull drawn)) = IsFull recipes drawn old.pass.now new.pass.now
+AsksOrThrows recipes old new (Err (handle.TypesFull bucket)) = HasStoppedAt recipes old.pass.now new.pass.now
 AsksOrThrows recipes old new (Err handle.NoMemory) = Unit {0}
 
 -- a call has stopped that asks for forms of these recipes; where it was refused, another clause says that it leaves the pass as it was
 abbrev pub HasStopped : List (List Key) → PassView → PassView → HandleError → Type 0
 HasStopped recipes old new (handle.FormsFull drawn) = IsFull recipes drawn old new
+HasStopped recipes old new (handle.TypesFull bucket) = HasStoppedAt recipes old new
 HasStopped recipes old new error = Unit {0}
 
 -- what a call leaves that asks for forms of these recipes, and for none where it is refused

@@ -9,7 +9,7 @@ use Rattle.mh_tree.specs.Rows.{illegal}
 use Rattle.mh_tree.specs.Tree.{Tree}
 use Rattle.mh_tree.specs.Typing.{type_of}
 use Rattle.mh_handle.specs.declared.error.HandleError.{HandleError}
-use Rattle.mh_handle.specs.declared.error.HandleError.TheVariants.{NoMemory, FormsFull, Refused}
+use Rattle.mh_handle.specs.declared.error.HandleError.TheVariants.{NoMemory, FormsFull, TypesFull, Refused}
 use Rattle.mh_handle.specs.declared.handle.Handle.{Handle}
 use Rattle.mh_handle.specs.declared.work.Work.{Work}
 use Rattle.mh_handle.specs.Stands.{Stands}
@@ -23,12 +23,13 @@ typed leaves t = do
   own ← type_of leaves t
   Ok t
 
--- a handle that stands for the tree, or the exception in its place, which leaves all but the number of handles as it was; a full table comes only where there
+-- a handle that stands for the tree, or the exception in its place, which leaves all but the seat of types as it was; a table is full only where there
 -- is a tree, and want of memory tells nothing
 abbrev pub MakesNode : OrThrown Tree → Work → Work → Result Handle HandleError → Type 0
 MakesNode node old new (Ok h) = (t : Tree) × (node ≡ Ok t) × Stands old.leaves.now h t
 MakesNode node old new (Err (Refused e)) = (node ≡ Err e) × IsUnchanged old new
 MakesNode node old new (Err (FormsFull drawn)) = (t : Tree) × (node ≡ Ok t)
+MakesNode node old new (Err (TypesFull bucket)) = (t : Tree) × (node ≡ Ok t)
 MakesNode node old new (Err NoMemory) = Unit {0}
 
 -- ---- lines that make no node

@@ -1,8 +1,13 @@
 -- What an attempt records at a call site, and what it answers to calls.
-use Rattle.std.specs.Prelude.{◌≡◌, ℕ, List, map, length, Some, slice_get}
+use Rattle.std.specs.Prelude.{◌≡◌, ℕ, List, [], map, length, Some, slice_get, Result, Ok, Err}
+use Rattle.mh_values.specs.declared.types.MethodTy.{MethodTy}
+use Rattle.mh_intern.specs.Exchanges.{entries_of}
+use Rattle.mh_intern.specs.Held.{on_type, times_type}
+use Rattle.mh_intern.specs.Views.{HoldView}
 use Rattle.mh_leaf.specs.LeafTable.{LeafTable}
 use Rattle.mh_tree.specs.Tree.{Tree}
 use Rattle.mh_edit.specs.declared.key.Key.{Key}
+use Rattle.mh_handle.specs.declared.work.Work.{Work}
 use Rattle.mh_handle.specs.Recipe.{recipe}
 use Rattle.mh_handle.specs.Stands.{Stands}
 use Rattle.mh_jobs.specs.declared.job.BootstrapCall.{BootstrapCall}
@@ -11,10 +16,11 @@ use Rattle.mh_script.specs.declared.script.Script.{Script}
 use Rattle.mh_jobs.specs.Given.{Given, IsJob}
 use Rattle.mh_jobs.specs.Thrown.{OrThrown, ◌>>=◌}
 use Rattle.mh_link.specs.Linked as meant
-use Rattle.mh_link.specs.Linked.{Target, Error, at_start, called_script, linked, ran}
+use Rattle.mh_link.specs.Linked.{Target, Error, at_start, called_script, held_by, linked, ran}
 use Rattle.mh_link.specs.Made.{unless_thrown}
 use Rattle.mh_link.specs.Sites.{linked_at}
 use Rattle.mh_attempt.specs.Recipes.{script_asked}
+use Rattle.mh_attempt.specs.Several.{Adds}
 use Rattle.mh_attempt.specs.declared.linkage.Linked.{Linked}
 use Rattle.mh_attempt.specs.declared.linkage.Linked.TheVariants as held
 
@@ -33,10 +39,16 @@ target_recipes leaves scripts serial call =
 
 -- ---- linkages
 
--- a linkage: the job of its call site, and the number of the attempt
+-- a linkage: the job of its call site, the number of the attempt, and the holds of its target, if it has one
 pub record LinkageView : Type 0 where
   pub job : Job
   pub serial : ℕ
+  pub held : List HoldView
+
+-- the holds of what is linked
+abbrev pub held_in : Linked → List HoldView
+held_in (held.Target h) = h.held
+held_in (held.Error e) = []
 
 -- what is held is what is linked: a handle that stands for the target, or the error
 abbrev pub IsLinkedBy : LeafTable → Linked → meant.Linked → Type 0
@@ -44,16 +56,26 @@ IsLinkedBy leaves (held.Target h) (Target t) = Stands leaves h t
 IsLinkedBy leaves (held.Error e) (Error f) = e ≡ f
 IsLinkedBy leaves _ _ = ⊥
 
+-- these are holds of these types, each as often
+abbrev pub HasTypes : List HoldView → List MethodTy → Type 0
+HasTypes holds types = (t : MethodTy) → on_type t (entries_of holds) ≡ times_type t types
+
 -- the job is one of the run's, and what is held is what the attempt of that number links at its site
 pub record IsLinkage (given : Given) (job : Job) (serial : ℕ) (recorded : Linked) : Type 0 where
   pub named : slice_get given.jobs job.site ≡ Some job
   pub is_job : IsJob given.leaves given.scripts job
   pub right : IsLinkedBy given.leaves recorded (linked given.leaves given.scripts job serial)
+  -- it holds the types that such a target holds
+  pub holds : HasTypes (held_in recorded) (held_by given.leaves (linked given.leaves given.scripts job serial))
 
--- how many handles a linkage holds
-abbrev pub target_count : meant.Linked → ℕ
-target_count (Target t) = 1
-target_count (Error e) = 0
+-- what an attempt leaves of the seat: the holds of what it has linked more, or none
+abbrev pub AddsLinked : {E : Type 0} → Work → Work → Result Linked E → Type 0
+AddsLinked old new (Ok linked) = Adds (held_in linked) old new
+AddsLinked old new (Err e) = Adds [] old new
+
+abbrev pub AddsLinkage : {E : Type 0} → Work → Work → Result LinkageView E → Type 0
+AddsLinkage old new (Ok linkage) = Adds linkage.held old new
+AddsLinkage old new (Err e) = Adds [] old new
 
 -- how many keys the form has that a call runs: none runs where an error is recorded
 abbrev pub keys_of : LeafTable → meant.Linked → ℕ

@@ -1,9 +1,11 @@
 -- When what a run of a script holds stands for a frame, whose method handles are trees.
 use denote.Ref.{Bor}
-use Rattle.std.specs.Prelude.{◌≡◌, ℕ, ◌<◌, List, [], ◌∷◌, length, Option, Some, None, slice_get}
+use Rattle.std.specs.Prelude.{◌≡◌, ℕ, zero, suc, ◌<◌, List, [], ◌∷◌, length, Option, Some, None, slice_get}
 use Rattle.mh_values.specs.declared.types.Ty.{Ty}
 use Rattle.mh_values.specs.declared.value.Num.TheVariants as num
 use Rattle.mh_values.specs.declared.value.Value.TheVariants as values
+use Rattle.mh_intern.specs.Exchanges.{AreHeld}
+use Rattle.mh_intern.specs.Views.{SeatView}
 use Rattle.mh_leaf.specs.LeafTable.{LeafTable}
 use Rattle.mh_tree.specs.Tree.{Tree}
 use Rattle.mh_tree.specs.Tree as tree
@@ -96,6 +98,33 @@ node_made (operand.Held h) = []
 abbrev pub node_held : Found → List Tree
 node_held (found.Handle o) = node_made o
 node_held other = []
+
+-- ---- what the seat of types holds
+
+-- an operand that is held is one whose types the seat holds
+abbrev pub IsHeldIn : SeatView → HandleOperand → Type 0
+IsHeldIn seat (operand.Held h) = AreHeld seat h.now.held
+IsHeldIn seat (operand.Leaf l) = Unit {0}
+
+-- the same of what was found in a register
+abbrev pub IsFoundIn : SeatView → Found → Type 0
+IsFoundIn seat (found.Handle o) = IsHeldIn seat o
+IsFoundIn seat other = Unit {0}
+
+-- and of what a line assigned
+abbrev pub IsKeptIn : SeatView → Held → Type 0
+IsKeptIn seat (held.Handle h) = AreHeld seat h.now.held
+IsKeptIn seat (held.Number n) = Unit {0}
+
+-- so many assignments, the latest first, are of such handles
+abbrev pub AreKeptIn : SeatView → ℕ → Option (Bor Assignment) → Type 0
+AreKeptIn seat zero last = last ≡ None
+AreKeptIn seat (suc n) last =
+    (a : Bor Assignment) × (last ≡ Some a) × IsKeptIn seat (out-Assignment a.now).held × AreKeptIn seat n (out-Assignment a.now).before
+
+-- the seat holds the types of all handles that lines have assigned
+abbrev pub AreKept : SeatView → Registers → Type 0
+AreKept seat registers = (n : ℕ) × AreKeptIn seat n registers.assigned
 
 -- ---- classes
 

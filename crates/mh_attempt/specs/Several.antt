@@ -1,7 +1,11 @@
 -- What is left of the work where handles of several operands are made.
-use Rattle.std.specs.Prelude.{◌≡◌, ℕ, ◌+◌, Result, Ok, Err}
+use Rattle.std.specs.Prelude.{List, [], ◌++◌, Result, Ok, Err}
+use Rattle.mh_values.specs.declared.types.MethodTy.{MethodTy}
+use Rattle.mh_intern.specs.Exchanges.{Exchanges}
+use Rattle.mh_intern.specs.Views.{HoldView}
 use Rattle.mh_handle.specs.declared.error.HandleError.{HandleError}
 use Rattle.mh_handle.specs.declared.error.HandleError.TheVariants.{Refused}
+use Rattle.mh_handle.specs.declared.handle.Handle.{Handle}
 use Rattle.mh_handle.specs.declared.work.Work.{Work}
 
 -- nothing is refused by a rule
@@ -9,7 +13,21 @@ abbrev pub AreAccepted : {A : Type 0} → Result A HandleError → Type 0
 AreAccepted (Err (Refused e)) = ⊥
 AreAccepted made = Unit {0}
 
--- so many handles more, or none where one of them cannot be made
-abbrev pub CountsMade : {A E : Type 0} → ℕ → Work → Work → Result A E → Type 0
-CountsMade number old new (Ok made) = new.handles.now ≡ number + old.handles.now
-CountsMade number old new (Err error) = new.handles.now ≡ old.handles.now
+-- the seat has these holds more
+abbrev pub Adds : List HoldView → Work → Work → Type 0
+Adds came old new = (asks : List MethodTy) × Exchanges asks [] came old.seat.now new.seat.now
+
+-- the holds of a handle more, or none where it cannot be made
+abbrev pub AddsTypes : {E : Type 0} → Work → Work → Result Handle E → Type 0
+AddsTypes old new (Ok h) = Adds h.held old new
+AddsTypes old new (Err error) = Adds [] old new
+
+-- those of two
+abbrev pub AddsBoth : {E : Type 0} → Work → Work → Result (Handle × Handle) E → Type 0
+AddsBoth old new (Ok made) = Adds (made.0.held ++ made.1.held) old new
+AddsBoth old new (Err error) = Adds [] old new
+
+-- and of three
+abbrev pub AddsThree : {E : Type 0} → Work → Work → Result (Handle × Handle × Handle) E → Type 0
+AddsThree old new (Ok made) = Adds (made.0.held ++ made.1.held ++ made.2.held) old new
+AddsThree old new (Err error) = Adds [] old new

@@ -2,23 +2,24 @@
 
 ghost use Rattle.std.specs.Prelude.{◌≡◌, ◌≤◌, ◌<◌, ◌^◌, length, slice_get, Some, IfOk};
 ghost use Rattle.mh_handle.specs.Recipe.{recipe};
-ghost use Rattle.mh_handle.specs.Works.{CountsHandles, GoesOn, IsReady, leaves_of};
+ghost use Rattle.mh_handle.specs.Works.{GoesOn, IsReady, leaves_of};
 ghost use Rattle.mh_jobs.specs.Given.{IsJob};
 ghost use Rattle.mh_jobs.specs.Thrown.{caused, recorded};
-ghost use Rattle.mh_link.specs.Linked.{linked, outcome};
-ghost use Rattle.mh_link.specs.Sites.{edits_at, linked_at};
+ghost use Rattle.mh_link.specs.Linked.{held_by, linked, outcome};
+ghost use Rattle.mh_link.specs.Sites.{edits_at};
 ghost use Rattle.mh_attempt.specs.Asked.{Asks, AsksOrThrows};
-ghost use Rattle.mh_attempt.specs.Linkage.{IsLinkedBy, target_count, target_of, target_recipes};
+ghost use Rattle.mh_attempt.specs.Linkage.{AddsLinkage, AddsLinked, HasTypes, IsLinkedBy, held_in, target_of, target_recipes};
 ghost use Rattle.mh_attempt.specs.Lines.{TellsTarget};
 ghost use Rattle.mh_attempt.specs.Recipes.{attempt_recipes};
 ghost use Rattle.mh_attempt.specs.Registers.{HasLeaves};
-ghost use Rattle.mh_attempt.specs.Several.{CountsMade};
+ghost use Rattle.mh_attempt.specs.Several.{AddsTypes};
 
+use crate::error::WorkError;
 use crate::linkage::{Linkage, Linked};
 use crate::registers::Registers;
 use crate::script::ran;
 use mh_base::{Copied, Frozen, NoMemory, Seq};
-use mh_handle::{EditError, Handle, HandleError, Work};
+use mh_handle::{Handle, HandleError, Work};
 use mh_jobs::{BootstrapCall, Job, Run};
 use mh_script::Scripts;
 use mh_values::{Cause, ClassId, Classes, Exc, ExcParts};
@@ -67,7 +68,7 @@ fn called<'f, 't: 'f, R: Wait>(
     requires leaves { HasLeaves (leaves_of w.old) call.now }
     requires serial { serial < 2 ^ 63 }
     ensures goes_on { GoesOn 256 w.old w.new }
-    ensures handles { CountsHandles 0 w.old w.new result }
+    ensures types { AddsTypes w.old w.new result }
     ensures target { TellsTarget (target_of (leaves_of w.old) scripts.now serial call.now)
         w.old result }
     ensures asks { AsksOrThrows (target_recipes (leaves_of w.old) scripts.now serial call.now)
@@ -95,7 +96,7 @@ fn target<'t, R: Wait>(
     requires job { IsJob (leaves_of w.old) scripts.now job.now }
     requires serial { serial < 2 ^ 63 }
     ensures goes_on { GoesOn 256 w.old w.new }
-    ensures handles { CountsHandles 0 w.old w.new result }
+    ensures types { AddsTypes w.old w.new result }
     ensures target { TellsTarget (outcome (leaves_of w.old) scripts.now job.now serial)
         w.old result }
     ensures asks { AsksOrThrows (attempt_recipes (leaves_of w.old) scripts.now job.now serial)
@@ -114,40 +115,47 @@ fn link<'t, R: Wait>(
     scripts: &Scripts,
     job: &Job,
     serial: u64,
-) -> Result<Linked<'t>, EditError>
+) -> Result<Linked<'t>, WorkError>
     requires ready { IsReady w.old 256 }
     requires job { IsJob (leaves_of w.old) scripts.now job.now }
     requires serial { serial < 2 ^ 63 }
     ensures goes_on { GoesOn 256 w.old w.new }
-    ensures handles { CountsMade
-        (target_count (linked (leaves_of w.old) scripts.now job.now serial)) w.old w.new result }
+    ensures types { AddsLinked w.old w.new result }
     ensures linked { IfOk result (λ made. IsLinkedBy (leaves_of w.old) made
         (linked (leaves_of w.old) scripts.now job.now serial)) }
+    ensures holds { IfOk result (λ made. HasTypes (held_in made)
+        (held_by (leaves_of w.old) (linked (leaves_of w.old) scripts.now job.now serial))) }
     ensures asks { Asks (attempt_recipes (leaves_of w.old) scripts.now job.now serial)
         w.old w.new result }
 {
     match target(w, rt, scripts, job, serial) {
-        Ok(target) => Ok(Linked::Target(target)),
+        Ok(target) => {
+            // It holds its type and those of its sides.
+            let _ty = target.ty();
+            Ok(Linked::Target(target))
+        }
         Err(HandleError::Refused(exc)) => {
             let error = recorded(w.alloc, w.classes(), exc)?;
             Ok(Linked::Error(error))
         }
-        Err(HandleError::NoMemory) => Err(EditError::NoMemory),
-        Err(HandleError::FormsFull { drawn }) => Err(EditError::FormsFull { drawn }),
+        Err(HandleError::NoMemory) => Err(WorkError::NoMemory),
+        Err(HandleError::FormsFull { drawn }) => Err(WorkError::FormsFull { drawn }),
+        Err(HandleError::TypesFull { bucket }) => Err(WorkError::TypesFull { bucket }),
     }
 }
 
 /// Attempts to link the call site of a job, with a serial number that no other attempt of the run
 /// has: the script's lines are carried out, and what comes of them is recorded, an exception as an
-/// error. It answers `FormsFull` where no number is left for a form that the script asks for; that
-/// records nothing. The handles that the lines made are given back, but for the target.
+/// error. It answers `FormsFull` where no number is left for a form that the script asks for, and
+/// `TypesFull` where the bucket of a type is full of others that are held; that records nothing. The
+/// handles that the lines made are given back, but for the target.
 pub fn attempt<'t, J: Run, R: Wait>(
     w: &mut Work<'_, 't>,
     rt: &R,
     scripts: &Scripts,
     job: &'t Job,
     serial: u64,
-) -> Result<Linkage<'t, J>, EditError>
+) -> Result<Linkage<'t, J>, WorkError>
     requires named { slice_get J.given.jobs job.now.site ≡ Some job.now }
     requires scripts { scripts.now ≡ J.given.scripts }
     requires leaves { leaves_of w.old ≡ J.given.leaves }
@@ -156,8 +164,7 @@ pub fn attempt<'t, J: Run, R: Wait>(
     requires ready { IsReady w.old 256 }
     ensures of { IfOk result (λ l. (l.job ≡ job.now) × (l.serial ≡ serial)) }
     ensures goes_on { GoesOn 256 w.old w.new }
-    ensures handles { CountsMade (target_count (linked_at J.given job.now.site serial))
-        w.old w.new result }
+    ensures types { AddsLinkage w.old w.new result }
     ensures asks { Asks (edits_at (recipe J.given.leaves) J.given job.now.site serial)
         w.old w.new result }
 {

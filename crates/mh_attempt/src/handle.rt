@@ -4,10 +4,11 @@ ghost use Rattle.std.specs.Prelude.{◌≡◌, ◌≤◌, [], ◌∷◌, Ok, IfO
 ghost use Rattle.mh_leaf.specs.LeafTable.{LeafTable};
 ghost use Rattle.mh_tree.specs.Tree.{Tree, weight};
 ghost use Rattle.mh_tree.specs.Typing.{type_of};
-ghost use Rattle.mh_handle.specs.Works.{CountsHandles, IsReady, GoesOn, IsAccepted, StandsIn, leaves_of};
+ghost use Rattle.mh_handle.specs.Works.{IsReady, GoesOn, IsAccepted, StandsIn, leaves_of};
 ghost use Rattle.mh_attempt.specs.Asked.{AsksIfMade};
 ghost use Rattle.mh_attempt.specs.Recipes.{recipes_made};
-ghost use Rattle.mh_attempt.specs.Registers.{StandsFor, StandsForSome};
+ghost use Rattle.mh_attempt.specs.Registers.{IsHeldIn, StandsFor, StandsForSome};
+ghost use Rattle.mh_attempt.specs.Several.{AddsTypes};
 
 use mh_handle::{Handle, HandleError, Work, leaf};
 use mh_leaves::Leaves;
@@ -51,9 +52,10 @@ impl<'f, 't> HandleOperand<'f, 't> {
     pub fn made<R: Wait>(&self, w: &mut Work<'_, 't>, rt: &R) -> Result<Handle<'t>, HandleError>
         requires ready { IsReady w.old 1 }
         requires stands { StandsForSome (leaves_of w.old) self.now }
+        requires held { IsHeldIn w.old.seat.now self.now }
         ensures goes_on { GoesOn 1 w.old w.new }
         ensures accepted { IsAccepted result }
-        ensures handles { CountsHandles 0 w.old w.new result }
+        ensures types { AddsTypes w.old w.new result }
         ensures asks { AsksIfMade (recipes_made (leaves_of w.old) (self.now ∷ []) [])
             w.old w.new result }
         ensures stands { (t : Tree) → StandsFor (leaves_of w.old) self.now t

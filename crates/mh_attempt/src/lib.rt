@@ -2,6 +2,7 @@
 #![tactic(auto)]
 
 mod attempts;
+mod error;
 mod handle;
 mod lines;
 mod linkage;
@@ -11,4 +12,5 @@ mod script;
 mod thrown;
 
 pub use attempts::attempt;
+pub use error::WorkError;
 pub use linkage::{Linkage, Linked};

@@ -1,12 +1,12 @@
 //! The lines of a script that make method handles.
 
-ghost use Rattle.mh_handle.specs.Works.{CountsHandles, GoesOn, IsReady, leaves_of};
+ghost use Rattle.mh_handle.specs.Works.{GoesOn, IsReady, leaves_of};
 ghost use Rattle.mh_attempt.specs.Asked.{AsksOrThrows};
 ghost use Rattle.mh_attempt.specs.Lines.{MakesNode};
 ghost use Rattle.mh_link.specs.Operands.{Frame};
 ghost use Rattle.mh_link.specs.Operations.{node_of};
 ghost use Rattle.mh_attempt.specs.Recipes.{line_recipes};
-ghost use Rattle.mh_attempt.specs.Registers.{Hold, HoldSome};
+ghost use Rattle.mh_attempt.specs.Registers.{AreKept, Hold, HoldSome};
 
 mod arrays;
 mod branches;
@@ -15,6 +15,8 @@ mod parts;
 mod roots;
 mod several;
 mod uses;
+
+ghost use Rattle.mh_attempt.specs.Several.{AddsTypes};
 
 use crate::registers::Registers;
 use arrays::{gather_line, spread_line};
@@ -37,8 +39,9 @@ pub(crate) fn node<'t, R: Wait>(
 ) -> Result<Handle<'t>, HandleError>
     requires ready { IsReady w.old 4 }
     requires registers { HoldSome (leaves_of w.old) registers.now }
+    requires kept { AreKept w.old.seat.now registers.now }
     ensures goes_on { GoesOn 4 w.old w.new }
-    ensures handles { CountsHandles 0 w.old w.new result }
+    ensures types { AddsTypes w.old w.new result }
     ensures node { (frame : Frame) → Hold (leaves_of w.old) registers.now frame → MakesNode
         (node_of (leaves_of w.old) frame operation.now) w.old w.new result }
     ensures asks { (frame : Frame) → Hold (leaves_of w.old) registers.now frame → AsksOrThrows

@@ -1,13 +1,14 @@
 //! What an attempt records at a call site, and the calls of the site.
 
-ghost use Rattle.std.specs.Prelude.{◌≡◌, ◌-◌, ◌≤◌, slice_get, Some, IfOk};
+ghost use Rattle.std.specs.Prelude.{◌≡◌, ◌≤◌, [], slice_get, Some, IfOk};
 ghost use Rattle.mh_values.specs.HasType.{HaveTypes};
 ghost use Rattle.mh_handle.specs.Answers.{IsAnswer};
-ghost use Rattle.mh_handle.specs.Works.{IsUnchanged};
+ghost use Rattle.mh_intern.specs.Exchanges.{Exchanges};
+ghost use Rattle.mh_handle.specs.Works.{HoldsTypes, IsUnchanged};
 ghost use Rattle.mh_jobs.specs.Jobs.{params_at};
-ghost use Rattle.mh_link.specs.Linked.{site_call};
+ghost use Rattle.mh_link.specs.Linked.{held_by, site_call};
 ghost use Rattle.mh_link.specs.Sites.{linked_at};
-ghost use Rattle.mh_attempt.specs.Linkage.{IsLinkage, IsLinkedBy, site_keys, target_count};
+ghost use Rattle.mh_attempt.specs.Linkage.{HasTypes, IsLinkage, IsLinkedBy, held_in, site_keys};
 
 use mh_base::{Copied, NoMemory};
 use mh_form::Machine;
@@ -38,11 +39,11 @@ pub struct Linkage<'t, J: Run> {
 }
 
 impl<'t, J: Run> Model for Linkage<'t, J> {
-    ghost use Rattle.mh_attempt.specs.Linkage.{LinkageView, IsLinkage};
+    ghost use Rattle.mh_attempt.specs.Linkage.{IsLinkage, LinkageView, held_in};
 
     ghost Value = { LinkageView };
 
-    ghost view = { λ l. record { job = l.job.now; serial = l.serial } };
+    ghost view = { λ l. record { job = l.job.now; serial = l.serial; held = held_in l.linked } };
 
     ghost invariant = { λ l. IsLinkage J.given l.job.now l.serial l.linked };
 }
@@ -51,7 +52,8 @@ impl<'t, J: Run> Linkage<'t, J> {
     /// What was linked for a job.
     pub(crate) fn new(job: &'t Job, serial: u64, linked: Linked<'t>) -> Linkage<'t, J>
         requires { IsLinkage J.given job.now serial linked }
-        ensures { (result.job ≡ job.now) × (result.serial ≡ serial) }
+        ensures job { (result.job ≡ job.now) × (result.serial ≡ serial) }
+        ensures held { result.held ≡ held_in linked.entry }
     {
         Linkage {
             job,
@@ -125,11 +127,21 @@ impl<'t, J: Run> Linkage<'t, J> {
         }
     }
 
-    /// Gives up the linkage: the handle of the target is counted no more. It takes no memory.
+    /// The types of the holds that the linkage has: those that its target holds. It does nothing when
+    /// it runs.
+    pub fn types_held(&self)
+        ensures { HasTypes self.now.held
+            (held_by J.given.leaves (linked_at J.given self.now.job.site self.now.serial)) }
+    {
+        let _linked = &self.linked;
+    }
+
+    /// Gives up the linkage, with the types that its target holds. It takes no memory.
     pub fn give_back(self, w: &mut Work<'_, 't>)
+        requires of_types { w.old.seat.now.table ≡ w.old.types.now }
+        requires held { HoldsTypes w.old self.held }
         ensures unchanged { IsUnchanged w.old w.new }
-        ensures handles { w.new.handles.now ≡ w.old.handles.now
-            - target_count (linked_at J.given self.entry.job.site self.entry.serial) }
+        ensures types { Exchanges [] self.entry.held [] w.old.seat.now w.new.seat.now }
     {
         if let Linked::Target(target) = self.linked {
             target.give_back(w);

@@ -1,15 +1,16 @@
 //! What a run of a script holds, and what its registers stand for.
 
-ghost use Rattle.std.specs.Prelude.{◌≡◌, ◌<◌, ℕ, List, [], Some, IfOk, codes};
+ghost use Rattle.std.specs.Prelude.{◌≡◌, ◌<◌, ℕ, List, [], Some, IfOk, IfSome, codes};
 ghost use Rattle.mh_values.specs.Class.{class_cast_class};
 ghost use Rattle.mh_values.specs.Exception.{saying};
+ghost use Rattle.mh_intern.specs.Views.{SeatView};
 ghost use Rattle.mh_leaf.specs.LeafTable.{LeafTable};
 ghost use Rattle.mh_jobs.specs.declared.job.Argument.TheVariants as argument;
 ghost use Rattle.mh_script.specs.declared.operand.Register.TheVariants as register;
 ghost use Rattle.mh_link.specs.Made.{leaf_among, node_of_use};
 ghost use Rattle.mh_link.specs.Operands as operands;
 ghost use Rattle.mh_link.specs.Operands.{Frame, content, content_of, no_argument, as_handle, as_value, as_method_type, as_class, handle_in, value_in, type_in, method_type_in, last_assigned};
-ghost use Rattle.mh_attempt.specs.Registers.{Hold, Holds, AreAssigned, IsContent, HoldsLast, StandsFor, IsLeafOf, class_in, node_held, node_made};
+ghost use Rattle.mh_attempt.specs.Registers.{AreAssigned, AreKept, AreKeptIn, Hold, Holds, HoldsLast, IsContent, IsFoundIn, IsHeldIn, IsKeptIn, IsLeafOf, StandsFor, class_in, node_held, node_made};
 ghost use Rattle.mh_attempt.specs.Told.{Tells, TellsBy, Throws};
 
 use crate::handle::HandleOperand;
@@ -58,9 +59,11 @@ pub(crate) enum Content<'f, 't> {
 
 // What was assigned last under a name, up to an assignment.
 fn last_assigned<'f, 't>(last: &'f Assignment<'f, 't>, name: &[u8]) -> Option<Held<'f, 't>>
-    ensures { (leaves : LeafTable) (assigned : List (List ℕ × operands.Content))
+    ensures holds { (leaves : LeafTable) (assigned : List (List ℕ × operands.Content))
         → AreAssigned leaves (Some last.entry) assigned
         → HoldsLast leaves result (last_assigned name.now assigned) }
+    ensures kept { (seat : SeatView) (n : ℕ) → AreKeptIn seat n (Some last.entry)
+        → IfSome result (IsKeptIn seat) }
 {
     if last.name == name {
         return Some(last.held);
@@ -76,6 +79,7 @@ fn content_held<'f, 't>(held: Held<'f, 't>) -> Content<'f, 't>
     ensures holds { (leaves : LeafTable) (meant : operands.Content) → Holds leaves held.entry meant
         → IsContent leaves result meant }
     ensures makes { node_held result ≡ [] }
+    ensures kept { (seat : SeatView) → IsKeptIn seat held.entry → IsFoundIn seat result }
 {
     match held {
         Held::Handle(handle) => Content::Handle(HandleOperand::Held(handle)),
@@ -88,6 +92,7 @@ fn content_of<'f, 't>(alloc: Global, argument: &'f Argument) -> Result<Content<'
     ensures holds { (leaves : LeafTable) → IsLeafOf leaves argument.now
         → IfOk result (λ found. IsContent leaves found (content_of argument.now)) }
     ensures makes { IfOk result (λ found. node_held found ≡ leaf_among (Some argument.now)) }
+    ensures kept { (seat : SeatView) → IfOk result (IsFoundIn seat) }
 {
     Ok(match argument {
         Argument::Value(value) => Content::Value(value.copy(alloc)?),
@@ -120,6 +125,7 @@ fn as_handle<'f, 't>(
         → IsContent leaves held.entry meant
         → TellsBy (StandsFor leaves) result (as_handle meant) }
     ensures makes { IfOk result (λ operand. node_made operand ≡ node_held held.entry) }
+    ensures kept { (seat : SeatView) → IsFoundIn seat held.entry → IfOk result (IsHeldIn seat) }
 {
     match held {
         Content::Handle(operand) => Ok(operand),
@@ -168,6 +174,7 @@ impl<'f, 't> Registers<'f, 't> {
         ensures makes { (leaves : LeafTable) (frame : Frame) → Hold leaves self.now frame
             → IfOk result
             (λ found. node_held found ≡ node_of_use frame (register.Argument number)) }
+        ensures kept { (seat : SeatView) → IfOk result (IsFoundIn seat) }
     {
         match self.call.arguments.as_slice().get(number as usize) {
             Some(argument) => {
@@ -180,8 +187,10 @@ impl<'f, 't> Registers<'f, 't> {
 
     // What was assigned last under a name.
     fn held(&self, name: &[u8]) -> Option<Held<'f, 't>>
-        ensures { (leaves : LeafTable) (frame : Frame) → Hold leaves self.now frame
+        ensures holds { (leaves : LeafTable) (frame : Frame) → Hold leaves self.now frame
             → HoldsLast leaves result (last_assigned name.now frame.assigned) }
+        ensures kept { (seat : SeatView) → AreKept seat self.now
+            → IfSome result (IsKeptIn seat) }
     {
         match self.assigned {
             Some(last) => last_assigned(last, name),
@@ -194,6 +203,7 @@ impl<'f, 't> Registers<'f, 't> {
         ensures holds { (leaves : LeafTable) (frame : Frame) → Hold leaves self.now frame
             → TellsBy (IsContent leaves) result (content frame (register.Assigned name.now)) }
         ensures makes { IfOk result (λ found. node_held found ≡ []) }
+        ensures kept { (seat : SeatView) → AreKept seat self.now → IfOk result (IsFoundIn seat) }
     {
         match self.held(name) {
             Some(held) => Ok(content_held(held)),
@@ -208,6 +218,7 @@ impl<'f, 't> Registers<'f, 't> {
             → TellsBy (IsContent leaves) result (content frame register.now) }
         ensures makes { (leaves : LeafTable) (frame : Frame) → Hold leaves self.now frame
             → IfOk result (λ found. node_held found ≡ node_of_use frame register.now) }
+        ensures kept { (seat : SeatView) → AreKept seat self.now → IfOk result (IsFoundIn seat) }
     {
         match register {
             Register::SiteType => Ok(Content::MethodType(&self.call.ty)),
@@ -227,6 +238,7 @@ impl<'f, 't> Registers<'f, 't> {
             → TellsBy (StandsFor leaves) result (handle_in frame register.now) }
         ensures makes { (leaves : LeafTable) (frame : Frame) → Hold leaves self.now frame
             → IfOk result (λ operand. node_made operand ≡ node_of_use frame register.now) }
+        ensures kept { (seat : SeatView) → AreKept seat self.now → IfOk result (IsHeldIn seat) }
     {
         let held = self.content(alloc, register)?;
         as_handle(alloc, held)

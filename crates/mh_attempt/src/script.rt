@@ -2,15 +2,16 @@
 
 ghost use Rattle.std.specs.Prelude.{◌≤◌};
 ghost use Rattle.mh_script.specs.declared.script.End.TheVariants as end;
-ghost use Rattle.mh_handle.specs.Works.{CountsHandles, IsReady, GoesOn, leaves_of};
+ghost use Rattle.mh_handle.specs.Works.{IsReady, GoesOn, leaves_of};
 ghost use Rattle.mh_attempt.specs.Asked.{AsksOrThrows};
 ghost use Rattle.mh_attempt.specs.Lines.{MakesNode, passes, raised};
 ghost use Rattle.mh_link.specs.Linked.{ended};
 ghost use Rattle.mh_link.specs.Operands.{Frame};
 ghost use Rattle.mh_attempt.specs.Recipes.{end_recipes};
-ghost use Rattle.mh_attempt.specs.Registers.{Hold, HoldSome};
+ghost use Rattle.mh_attempt.specs.Registers.{AreKept, Hold, HoldSome};
 ghost use Rattle.mh_attempt.specs.Runs.{MayRun, Runs};
 ghost use Rattle.mh_attempt.specs.Told.{Tells};
+ghost use Rattle.mh_attempt.specs.Several.{AddsTypes};
 
 use crate::lines::node;
 use crate::names::class_of;
@@ -60,8 +61,9 @@ fn returned<'t, R: Wait>(
 ) -> Result<Handle<'t>, HandleError>
     requires ready { IsReady w.old 1 }
     requires registers { HoldSome (leaves_of w.old) registers.now }
+    requires kept { AreKept w.old.seat.now registers.now }
     ensures goes_on { GoesOn 1 w.old w.new }
-    ensures handles { CountsHandles 0 w.old w.new result }
+    ensures types { AddsTypes w.old w.new result }
     ensures node { (frame : Frame) → Hold (leaves_of w.old) registers.now frame
         → MakesNode (ended (leaves_of w.old) (end.Return register.now) frame) w.old w.new result }
     ensures asks { (frame : Frame) → Hold (leaves_of w.old) registers.now frame → AsksOrThrows
@@ -84,8 +86,9 @@ fn ended<'t, R: Wait>(
 ) -> Result<Handle<'t>, HandleError>
     requires ready { IsReady w.old 1 }
     requires registers { HoldSome (leaves_of w.old) registers.now }
+    requires kept { AreKept w.old.seat.now registers.now }
     ensures goes_on { GoesOn 1 w.old w.new }
-    ensures handles { CountsHandles 0 w.old w.new result }
+    ensures types { AddsTypes w.old w.new result }
     ensures node { (frame : Frame) → Hold (leaves_of w.old) registers.now frame
         → MakesNode (ended (leaves_of w.old) end.now frame) w.old w.new result }
     ensures asks { (frame : Frame) → Hold (leaves_of w.old) registers.now frame → AsksOrThrows

@@ -1,14 +1,18 @@
 //! Call sites that a script links, and what comes of a call, as texts.
 
-ghost use Rattle.std.specs.Prelude.{◌≡◌, ◌≤◌, ◌^◌, slice_get, Some, IfOk, IsTrue};
+ghost use Rattle.std.specs.Prelude.{◌≡◌, ◌≤◌, ◌^◌, [], slice_get, Some, IfOk, IsTrue};
+ghost use Rattle.mh_seats.specs.Room.{limit};
+ghost use Rattle.mh_intern.specs.Views.{new_seat};
 ghost use Rattle.mh_handle.specs.Passes.{seat_at};
-ghost use Rattle.mh_handle.specs.Works.{IsReady, leaves_of};
+ghost use Rattle.mh_handle.specs.Works.{GoesOn, IsReady, leaves_of};
 ghost use Rattle.mh_jobs.specs.Given.{IsJob};
+ghost use Rattle.mh_steps.specs.Adds.{Adds};
 
-use mh_attempt::{Linkage, Linked, attempt};
+use mh_attempt::{Linkage, Linked, WorkError, attempt};
 use mh_base::NoMemory;
 use mh_classfile::read;
-use mh_handle::{Answer, EditError, FormTable, LiveHandles, Work};
+use mh_handle::{Answer, FormTable, Work};
+use mh_intern::{TypeSeat, TypeTable};
 use mh_jobs::{Job, Run, job_of};
 use mh_jobs_tests::files::{Constants, LINKED, Site, class_file};
 use mh_leaves::{Leaves, read_manifest};
@@ -44,6 +48,13 @@ pub(crate) struct Attempt {
 struct Turn {
     serial: u64,
     arguments: &'static [&'static str],
+}
+
+/// What comes of an attempt, and how many types are held once its linkage was given back.
+#[derive(Drop)]
+struct Came {
+    text: Vec<u8>,
+    types: u32,
 }
 
 /// The script `made/Boot.link` of these lines.
@@ -144,22 +155,24 @@ fn is_serial(serial: u64) -> bool
     1 <= serial && serial <= 1 << 62
 }
 
-/// What comes of an attempt for a job of the run that `J` names.
+/// What comes of an attempt for a job of the run that `J` names. The linkage is given back.
 fn attempt_text<'t, J: Run, R: Wait>(
     w: &mut Work<'_, 't>,
     rt: &R,
     scripts: &Scripts,
     job: &'t Job,
     turn: Turn,
-) -> Result<Vec<u8>, EditError>
+) -> Result<Vec<u8>, WorkError>
     requires named { slice_get J.given.jobs job.now.site ≡ Some job.now }
     requires scripts { scripts.now ≡ J.given.scripts }
     requires leaves { leaves_of w.old ≡ J.given.leaves }
     requires job { IsJob J.given.leaves J.given.scripts job.now }
     requires ready { IsReady w.old 256 }
+    ensures goes_on { GoesOn 256 w.old w.new }
+    ensures types { Adds [] [] w.old.seat.now w.new.seat.now }
 {
     if !is_serial(turn.serial) {
-        return Err(EditError::NoMemory);
+        return Err(WorkError::NoMemory);
     }
     let leaves = w.leaves;
     let linkage = attempt::<J, R>(w, rt, scripts, job, turn.serial)?;
@@ -168,42 +181,47 @@ fn attempt_text<'t, J: Run, R: Wait>(
     Ok(text?)
 }
 
-/// The same on a table of its own.
+/// The same on tables of its own.
 fn named_text<'t, J: Run, R: Wait>(
     rt: &R,
     start: Start<'t>,
+    held: &mut TypeSeat,
     scripts: &Scripts,
     job: &'t Job,
     turn: Turn,
-) -> Result<Vec<u8>, EditError>
+) -> Result<Vec<u8>, WorkError>
     requires named { slice_get J.given.jobs job.now.site ≡ Some job.now }
     requires scripts { scripts.now ≡ J.given.scripts }
     requires leaves { start.leaves.now ≡ J.given.leaves }
     requires job { IsJob J.given.leaves J.given.scripts job.now }
     requires first { start.seat ≡ seat_at start.table.now 0 }
+    requires held { held.old ≡ new_seat start.types.now limit }
+    ensures types { Adds [] [] held.old held.new }
 {
     let Start {
         alloc,
         table,
         seat,
+        types,
         leaves,
     } = start;
     let mut pass = table.first_pass(alloc, seat)?;
-    let mut handles = LiveHandles::new();
     let mut w = Work {
         alloc,
+        types,
+        seat: held,
         forms: table,
         pass: &mut pass,
         leaves,
-        handles: &mut handles,
     };
     let text = attempt_text::<J, R>(&mut w, rt, scripts, job, turn);
     let Work {
         alloc: _,
+        types: _,
+        seat: _,
         forms: _,
         pass: _,
         leaves: _,
-        handles: _,
     } = w;
     text
 }
@@ -212,25 +230,28 @@ fn named_text<'t, J: Run, R: Wait>(
 fn job_text<'t, R: Wait>(
     rt: &R,
     start: Start<'t>,
+    held: &mut TypeSeat,
     scripts: &Scripts,
     job: &'t Job,
     turn: Turn,
-) -> Result<Vec<u8>, EditError>
+) -> Result<Vec<u8>, WorkError>
     requires job { IsJob start.leaves.now scripts.now job.now }
     requires site { job.now.site ≡ 0 }
     requires first { start.seat ≡ seat_at start.table.now 0 }
+    requires held { held.old ≡ new_seat start.types.now limit }
+    ensures types { Adds [] [] held.old held.new }
 {
-    named_text::<Brand, R>(rt, start, scripts, job, turn)
+    named_text::<Brand, R>(rt, start, held, scripts, job, turn)
 }
 
 /// What comes of a case.
-fn case_text<R: Wait>(
+fn came_of<R: Wait>(
     rt: &R,
     alloc: Global,
     leaves: &Leaves,
     attempt: Attempt,
     case: &Case,
-) -> Result<Vec<u8>, EditError> {
+) -> Result<Came, WorkError> {
     let site = Site {
         ty: case.ty,
         argument: attempt.argument,
@@ -242,27 +263,33 @@ fn case_text<R: Wait>(
     };
     let scripts = scripts_of(alloc, case.lines)?;
     let job = job_for(alloc, leaves, &scripts, site)?;
+    let (types, mut held) = TypeTable::new(alloc)?;
     let (table, seat) = FormTable::new(alloc)?;
     let start = Start {
         alloc,
         table: &table,
         seat,
+        types: &types,
         leaves,
     };
-    job_text(rt, start, &scripts, &job, turn)
+    let text = job_text(rt, start, &mut held, &scripts, &job, turn)?;
+    Ok(Came {
+        text,
+        types: types.close(held),
+    })
 }
 
-/// The name of the first case that does not end as is wanted.
+/// The name of the first case that does not end as is wanted, or after which a type is still held.
 pub(crate) fn first_failing<R: Wait>(
     rt: &R,
     alloc: Global,
     attempt: Attempt,
     cases: &[Case],
-) -> Result<Option<&'static str>, EditError> {
+) -> Result<Option<&'static str>, WorkError> {
     let leaves = read_manifest(alloc, MANIFEST).map_err(|_| NoMemory)?;
     for case in cases {
-        let text = case_text(rt, alloc, &leaves, attempt, case)?;
-        if text.as_slice() != case.wanted.as_bytes() {
+        let came = came_of(rt, alloc, &leaves, attempt, case)?;
+        if came.text.as_slice() != case.wanted.as_bytes() || came.types != 0 {
             return Ok(Some(case.name));
         }
     }

@@ -1,1 +1,2 @@
 pub mod LettingGo
+pub mod Turns

@@ -1,9 +1,12 @@
 //! Handles and forms, which are made and called.
 
-ghost use Rattle.std.specs.Prelude.{◌≡◌, ◌≤◌, ◌+◌, ◌^◌, length, IfOk};
+ghost use Rattle.std.specs.Prelude.{◌≡◌, ◌≤◌, ◌+◌, ◌^◌, [], length, IfOk};
 ghost use Rattle.mh_values.specs.HasType.{HaveTypes};
+ghost use Rattle.mh_seats.specs.Room.{limit};
+ghost use Rattle.mh_intern.specs.Views.{new_seat};
 ghost use Rattle.mh_handle.specs.Passes.{seat_at};
-ghost use Rattle.mh_handle.specs.Works.{IsReady};
+ghost use Rattle.mh_handle.specs.Works.{HoldsTypes, IsReady};
+ghost use Rattle.mh_steps.specs.Adds.{Adds};
 ghost use Rattle.mh_handle.specs.Stands.{StandsForSome};
 
 use crate::forms::{forms, splits};
@@ -12,7 +15,8 @@ use mh_astype::{invoke_exact, invoke_exact_on};
 use mh_base::{Frozen, NoMemory, Seq};
 use mh_edit::Key;
 use mh_form::Machine;
-use mh_handle::{FormTable, Handle, HandleError, LiveHandles, Work};
+use mh_handle::{FormTable, Handle, HandleError, Work};
+use mh_intern::{TypeSeat, TypeTable};
 use mh_leaves::{Leaves, read_manifest};
 use mh_steps::{ADD, Joined, MANIFEST, Root, SAME, Start, Step, TEXT, Typed, are_typed, made};
 use mh_values::{Items, LeafId, Num, Value};
@@ -191,6 +195,8 @@ fn edit_each<'t, R: Wait>(
     turns: u32,
 ) -> Result<u64, HandleError>
     requires ready { IsReady w.old turns }
+    ensures types { w.new.types ≡ w.old.types }
+    ensures seat { w.new.seat.now ≡ w.old.seat.now }
 {
     if handle.ty().params.is_empty() {
         return Ok(0);
@@ -210,7 +216,10 @@ fn bind_each<'t, R: Wait>(
     handle: &Handle<'t>,
     turns: u32,
 ) -> Result<u64, HandleError>
-    requires ready { IsReady w.old turns }
+    requires ready { IsReady w.old (1 + turns) }
+    requires held { HoldsTypes w.old handle.now.held }
+    ensures of_types { w.new.seat.now.table ≡ w.new.types.now }
+    ensures types { Adds [] [] w.old.seat.now w.new.seat.now }
 {
     let mut sum: u64 = 0;
     for turn in 0..turns {
@@ -275,7 +284,7 @@ fn edits<'t, R: Wait>(w: &mut Work<'_, 't>, rt: &R, turns: u32) -> Result<u64, H
 
 /// Makes a handle, and binds so many copies of it.
 fn binds<'t, R: Wait>(w: &mut Work<'_, 't>, rt: &R, turns: u32) -> Result<u64, HandleError>
-    requires ready { IsReady w.old (204 + turns) }
+    requires ready { IsReady w.old (205 + turns) }
 {
     let handle = made(w, rt, Root::Leaf(ADD), &[FILTERED])?;
     let sum = bind_each(w, rt, &handle, turns);
@@ -390,31 +399,40 @@ fn row_on<'t, R: Wait>(
 }
 
 /// The work of a row, so many times, by the first pass over a table.
-fn first_on<R: Wait>(rt: &R, start: Start<'_>, row: Row, turns: u32) -> Result<u64, HandleError>
+fn first_on<R: Wait>(
+    rt: &R,
+    start: Start<'_>,
+    held: &mut TypeSeat,
+    row: Row,
+    turns: u32,
+) -> Result<u64, HandleError>
     requires first { start.seat ≡ seat_at start.table.now 0 }
+    requires held { held.old ≡ new_seat start.types.now limit }
 {
     let Start {
         alloc,
         table,
         seat,
+        types,
         leaves,
     } = start;
     let mut pass = table.first_pass(alloc, seat)?;
-    let mut handles = LiveHandles::new();
     let mut w = Work {
         alloc,
+        types,
+        seat: held,
         forms: table,
         pass: &mut pass,
         leaves,
-        handles: &mut handles,
     };
     let done = row_on(&mut w, rt, row, turns);
     let Work {
         alloc: _,
+        types: _,
+        seat: _,
         forms: _,
         pass: _,
         leaves: _,
-        handles: _,
     } = w;
     done
 }
@@ -427,14 +445,16 @@ fn once<R: Wait>(
     row: Row,
     turns: u32,
 ) -> Result<u64, HandleError> {
+    let (types, mut held) = TypeTable::new(alloc)?;
     let (table, seat) = FormTable::new(alloc)?;
     let start = Start {
         alloc,
         table: &table,
         seat,
+        types: &types,
         leaves,
     };
-    first_on(rt, start, row, turns)
+    first_on(rt, start, &mut held, row, turns)
 }
 
 /// The leaves of all rows.

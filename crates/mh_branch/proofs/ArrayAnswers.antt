@@ -1,5 +1,5 @@
 -- What the call of a gather answers, from what it adds to the handle that it adapts.
-use Rattle.std.proofs.Common.{◌≡◌, sym, subst, ap, ◌∙◌, ℕ, ◌+◌, ◌-◌, ◌≤◌, Bool, ◌&&◌, List, [], ◌∷◌, ◌++◌, append-nil, length, replicate, Option, Some, Result, Ok, Err, IfOk, codes, nat_lt}
+use Rattle.std.proofs.Common.{◌≡◌, sym, subst, ap, ◌∙◌, ℕ, ◌+◌, ◌-◌, ◌≤◌, Bool, ◌&&◌, List, [], ◌∷◌, ◌++◌, append-nil, length, replicate, Option, Some, Result, Ok, Err, IfOk, codes, nat_lt, arith}
 use Rattle.std.specs.Prelude.{slice_get, IsTrue}
 use Rattle.mh_values.specs.declared.class.Class.{Class}
 use Rattle.mh_values.specs.declared.types.Comp.{Comp}
@@ -26,8 +26,9 @@ use Rattle.mh_handle.specs.Parts.{PartsView}
 use Rattle.mh_handle.specs.declared.work.Work.{Work}
 use Rattle.mh_handle.specs.Recipe.{at_some, recipe}
 use Rattle.mh_handle.specs.Stands.{HandleView, HasShape, IsShaped, Stands, handle_body}
-use Rattle.mh_handle.specs.Works.{CountsHandles, Makes}
+use Rattle.mh_handle.specs.Works.{HoldsTypes, Makes, TradesTypes, types_in}
 use Rattle.mh_handle.proofs.Limits.{limited-low}
+use Rattle.mh_handle.proofs.Trading.{trades-row}
 use Rattle.mh_branch.specs.Growths.{IsGather, TellsGather, gather_keys}
 use Rattle.mh_branch.proofs.ArrayFits.{gather-fits}
 use Rattle.mh_branch.proofs.ArrayShapes.{gather-shaped}
@@ -81,8 +82,25 @@ module _ (classes : List Class) (h : HandleView) (array : Option Ty) (count : �
       ap (λ x. x ∷ []) adds.key ∙ sym (ap (λ o. at_some o (λ d. key.Gather count (basic_of (item_type d)))) some) in
       subst (λ ks. Makes ks old new r) (λ i. st.made i ++ keys i) makes
 
-  pub gather-counts : (old new : Work) (r : Result Handle HandleError) → CountsHandles (1 + by.parts.count) old new r → CountsHandles 1 old new r
-  gather-counts old new r counts = subst (λ (p : PartsView). CountsHandles (1 + p.count) old new r) adds.parts counts
+  -- the holds of the handle are all that are handed over
+  all-held : h.held ++ by.parts.held ≡ h.held
+  all-held = ap (λ (p : PartsView). h.held ++ p.held) adds.parts ∙ append-nil h.held
+
+  pub gather-held : (w : Work) → HoldsTypes w h.held → HoldsTypes w (h.held ++ by.parts.held)
+  gather-held w held = subst (HoldsTypes w) (sym all-held) held
+
+  -- it holds no more types than it has nodes
+  pub gather-few : IsShaped h → length h.held + length by.parts.held ≤ by.weight
+  gather-few shaped =
+      let none : length by.parts.held ≡ 0 = ap (λ (p : PartsView). length p.held) adds.parts in
+      omega (arith, none, shaped.few, adds.weight)
+
+  -- the type that the rule gives is asked for
+  pub gather-trades : (old new : Work) (r : Result Handle HandleError) → TradesTypes (by.ty ∷ []) (h.held ++ by.parts.held) old new r →
+      TradesTypes (types_in (gather_row classes h.ty h.weight array count)) h.held old new r
+  gather-trades old new r trades =
+      trades-row (gather_row classes h.ty h.weight array count) by.ty h.held old new r tells.0
+      (subst (λ l. TradesTypes (by.ty ∷ []) l old new r) all-held trades)
 
   pub gather-gains : (r : Result Handle HandleError) → GrowsBy h by r → IfOk r (GainsNode h)
   gather-gains (Ok x) grows = record {

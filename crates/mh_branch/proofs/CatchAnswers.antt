@@ -1,5 +1,5 @@
 -- What the call of a catch answers, from what the catch is and its parts.
-use Rattle.std.proofs.Common.{◌≡◌, sym, subst, ap, ◌∙◌, ◌+◌, ◌≤◌, true, ◌&&◌, List, [], ◌∷◌, length, Some, Result, Ok, Err, IfOk, codes, arith}
+use Rattle.std.proofs.Common.{◌≡◌, sym, subst, ap, ◌∙◌, ◌+◌, ◌≤◌, true, ◌&&◌, List, [], ◌∷◌, ◌++◌, length, length-append, Result, Ok, Err, IfOk, codes, arith}
 use Rattle.std.specs.Prelude.{IsTrue}
 use Rattle.std.proofs.lemmas.List.{length-map}
 use Rattle.mh_values.specs.declared.class.Class.{Class}
@@ -8,14 +8,12 @@ use Rattle.mh_values.specs.declared.types.Ty.{Ty}
 use Rattle.mh_values.specs.declared.types.MethodTy.{MethodTy}
 use Rattle.mh_values.specs.Class.{is_subclass, throwable_class}
 use Rattle.mh_values.specs.Classes.{AreClasses}
-use Rattle.mh_values.specs.Same.{begins_with_types, is_same_method_type, is_same_return}
 use Rattle.mh_leaf.specs.LeafTable.{LeafTable}
-use Rattle.mh_leaf.specs.Outcome.{boolean_type}
-use Rattle.mh_tree.specs.Rows.{catch_row, guard_row, handles, illegal, limited, takes_exception}
+use Rattle.mh_tree.specs.Rows.{catch_row, handles, illegal, limited, takes_exception}
 use Rattle.mh_tree.specs.Tree.{Tree}
 use Rattle.mh_tree.specs.Tree as tree
 use Rattle.mh_tree.proofs.Provided.{provided-parts}
-use Rattle.mh_tree.proofs.RowParts.{catch_row-parts, guard_row-parts}
+use Rattle.mh_tree.proofs.RowParts.{catch_row-parts}
 use Rattle.mh_form.specs.Body.{nothing}
 use Rattle.mh_form.specs.Erasure.{basic_of}
 use Rattle.mh_edit.specs.Fit.{fits}
@@ -24,14 +22,12 @@ use Rattle.mh_handle.specs.declared.handle.Handle.{Handle}
 use Rattle.mh_handle.specs.Parts.{PartsView}
 use Rattle.mh_handle.specs.declared.work.Work.{Work}
 use Rattle.mh_handle.specs.Recipe.{at_type, recipe}
-use Rattle.mh_handle.specs.Stands.{HandleView, Stands}
+use Rattle.mh_handle.specs.Stands.{HandleView, IsShaped, Stands}
 use Rattle.mh_handle.specs.Works.{Makes}
 use Rattle.mh_handle.proofs.Limits.{limited-low}
 use Rattle.mh_branch.specs.declared.growths.Branch.{Branch}
-use Rattle.mh_branch.specs.Growths.{AreCatchParts, AreGuardParts, HasBranches, HasHandler, RootsBranch, catch_key, guard_key}
-use Rattle.mh_branch.proofs.Branching.{first-few}
+use Rattle.mh_branch.specs.Growths.{AreCatchParts, HasHandler, RootsBranch, catch_key}
 use Rattle.mh_branch.proofs.CatchStands.{catch-fits, catch-stands, handler-few}
-use Rattle.mh_branch.proofs.GuardStands.{guard-fits, guard-stands}
 
 module _ (classes : List Class) (t : HandleView) (class : ClassId) (h : HandleView) (u : MethodTy) (row : catch_row classes t.ty t.weight class h.ty
     h.weight ≡ Ok u) where
@@ -83,6 +79,13 @@ module _ (classes : List Class) (t : HandleView) (class : ClassId) (h : HandleVi
         subst (λ ks. Makes ks old new r) (ap (λ k. k ∷ []) target-key ∙ keys) makes
 
     module _ (parts : PartsView) (are : AreCatchParts t class h parts) where
+      -- the branch holds no more types than it has nodes
+      pub catch-held : IsShaped t × IsShaped h → 1 + length parts.held ≤ b.weight
+      catch-held shaped =
+          let many : length parts.held ≡ length (t.held ++ h.held) = ap length are.held in
+          let all = length-append t.held h.held in
+          omega (arith, many, all, shaped.0.few, shaped.1.few, weight)
+
       pub catch-gains : (r : Result Handle HandleError) → RootsBranch b parts r → IfOk r (HasHandler t class h)
       catch-gains (Ok x) g =
           let f = are.fields in

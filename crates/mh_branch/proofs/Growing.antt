@@ -1,5 +1,5 @@
 -- The parts of a branch, added one after the other.
-use Rattle.std.proofs.Common.{◌≡◌, ap, ◌∙◌, ◌+◌, [], ◌∷◌, ◌++◌, Result, Ok, Err, IfOk}
+use Rattle.std.proofs.Common.{◌≡◌, ap, ◌∙◌, [], ◌∷◌, ◌++◌, Result, Ok, Err, IfOk}
 use Rattle.mh_base.specs.declared.memory.NoMemory.{NoMemory}
 use Rattle.mh_values.specs.declared.class.ClassId.{ClassId}
 use Rattle.mh_form.specs.declared.field.Field.TheVariants as field
@@ -21,11 +21,11 @@ guard-parts c t e none one all bare a more =
     let first : one.fields ≡ x ∷ [] = a.fields.1 ∙ ap (λ (p : PartsView). p.fields ++ x ∷ []) bare in
     let second : more.0.fields ≡ x ∷ y ∷ [] = b.fields.1 ∙ ap (λ fs. fs ++ y ∷ []) first in
     let sides : one.sides ≡ held_by c = a.sides ∙ ap (λ (p : PartsView). p.sides ++ held_by c) bare in
-    let counts : one.count ≡ 1 = a.count ∙ ap (λ (p : PartsView). p.count + 1) bare in
+    let held : one.held ≡ c.held = a.held ∙ ap (λ (p : PartsView). p.held ++ c.held) bare in
     record {
       fields = (x, y, z, d.fields.1 ∙ ap (λ fs. fs ++ z ∷ []) second, a.fields.2, b.fields.2, d.fields.2);
       sides = d.sides ∙ ap (λ s. s ++ held_by e) (b.sides ∙ ap (λ s. s ++ held_by t) sides);
-      count = d.count ∙ ap (λ n. n + 1) (b.count ∙ ap (λ n. n + 1) counts);
+      held = d.held ∙ ap (λ l. l ++ e.held) (b.held ∙ ap (λ l. l ++ t.held) held);
     }
 
 catch-parts : (t : HandleView) (class : ClassId) (h : HandleView) (none one all : PartsView) → none ≡ no_parts → AddsHandle t none one →
@@ -35,11 +35,11 @@ catch-parts t class h none one all bare a d =
     let z = d.fields.0 in
     let first : one.fields ≡ x ∷ [] = a.fields.1 ∙ ap (λ (p : PartsView). p.fields ++ x ∷ []) bare in
     let sides : one.sides ≡ held_by t = a.sides ∙ ap (λ (p : PartsView). p.sides ++ held_by t) bare in
-    let counts : one.count ≡ 1 = a.count ∙ ap (λ (p : PartsView). p.count + 1) bare in
+    let held : one.held ≡ t.held = a.held ∙ ap (λ (p : PartsView). p.held ++ t.held) bare in
     record {
       fields = (x, z, d.fields.1 ∙ ap (λ fs. (fs ++ field.Class class ∷ []) ++ z ∷ []) first, a.fields.2, d.fields.2);
       sides = d.sides ∙ ap (λ s. s ++ held_by h) sides;
-      count = d.count ∙ ap (λ n. n + 1) counts;
+      held = d.held ∙ ap (λ l. l ++ h.held) held;
     }
 
 module _ (none one : PartsView) (bare : none ≡ no_parts) (r : Result PartsView NoMemory) where

@@ -17,3 +17,4 @@ mod SpreadCall
 mod SpreadRules
 mod SpreadItems
 mod SpreadStands
+pub mod Trading

@@ -1,5 +1,5 @@
 -- What the check of a spread tells of its rule, and what its two edits leave of the work.
-use Rattle.std.proofs.Common.{◌≡◌, refl, sym, subst, ap, ◌∙◌, ℕ, ◌+◌, ◌≤◌, Bool, true, false, cond, List, [], ◌++◌, append-nil, length, Option, Some, None, Result, Ok, Err, codes, nat_le, inl, inr, ⊎_elim, arith}
+use Rattle.std.proofs.Common.{◌≡◌, refl, sym, subst, ap, ap₂, ◌∙◌, ℕ, Bool, true, false, cond, List, [], ◌∷◌, ◌++◌, append-nil, length, Option, Some, None, Result, Ok, Err, codes, nat_le, inl, inr, ⊎_elim, arith}
 use Rattle.std.specs.Prelude.{IsErrAnd}
 use Rattle.std.specs.Option.{option_map_or}
 use Rattle.mh_values.specs.declared.class.Class.{Class}
@@ -19,18 +19,17 @@ use Rattle.mh_tree.specs.Typing.{type_of, with_type}
 use Rattle.mh_tree.specs.Use.{items_used_as, spread_use_row, taking_items, use_row, use_weight, used_as}
 use Rattle.mh_edit.specs.declared.key.Key.{Key}
 use Rattle.mh_handle.specs.declared.error.HandleError.{HandleError}
-use Rattle.mh_handle.specs.declared.error.HandleError.TheVariants.{NoMemory, FormsFull, Refused}
+use Rattle.mh_handle.specs.declared.error.HandleError.TheVariants.{NoMemory, FormsFull, TypesFull, Refused}
 use Rattle.mh_handle.specs.declared.handle.Handle.{Handle}
 use Rattle.mh_handle.specs.declared.work.Work.{Work}
 use Rattle.mh_handle.specs.Errors.{of_check}
 use Rattle.mh_handle.specs.Obeys.{Obeys}
-use Rattle.mh_handle.specs.Parts.{PartsView, no_parts}
-use Rattle.mh_handle.specs.Works.{CountsHandles, GoesOn, IsAccepted, IsUnchanged, Makes}
+use Rattle.mh_handle.specs.Works.{GoesOn, IsAccepted, IsReady, IsUnchanged, Makes, types_in}
 use Rattle.mh_handle.specs.Recipe.{at_type, convert_keys, recipe}
-use Rattle.mh_astype.specs.Use.{MakesFrom}
+use Rattle.mh_astype.specs.Use.{MakesFrom, used_types}
 use Rattle.mh_astype.proofs.Using.{makes-refused}
 use Rattle.mh_branch.specs.declared.spreading.Spreading.{Spreading}
-use Rattle.mh_branch.specs.Spreading.{IsSpreading, MakesBoth, MakesSpread, TellsSpreading}
+use Rattle.mh_branch.specs.Spreading.{IsSpreading, MakesBoth, MakesSpread, TellsSpreading, spread_types}
 
 module _ (classes : List Class) (t : MethodTy) (weight : ℕ) (array : Option Ty) (count : ℕ) where
   refusal : Exc
@@ -56,6 +55,15 @@ module _ (classes : List Class) (t : MethodTy) (weight : ℕ) (array : Option Ty
       at-use s.component s.asked is.component is.within is.asked
       ∙ (ap (λ r. with_type r (λ a. spread_row a (use_weight t weight s.asked) array count)) is.used ∙ is.own)
 
+  -- the types of the nodes that the spread makes
+  pub types-are : (s : Spreading) → IsSpreading classes t weight array count s →
+      spread_types classes t weight array count ≡ used_types classes t weight s.asked ++ s.own ∷ []
+  types-are s is =
+      let first : option_map_or (λ c. used_types classes t weight (taking_items t c count)) (component_of array) [] ≡ used_types classes t weight s.asked =
+      ap (λ o. option_map_or (λ c. used_types classes t weight (taking_items t c count)) o []) is.component
+      ∙ ap (λ m. used_types classes t weight m) (sym is.asked) in
+      ap₂ (λ (a b : List MethodTy). a ++ b) first (ap types_in (spreading-row s is))
+
   pub refusal-tells : (e : CheckError) → TellsSpreading classes t weight array count (Err e) → Tells (Err e) (spread_use_row classes t weight array count)
   refusal-tells check.NoMemory tells = tt
   refusal-tells (check.Refused e) tells = tells
@@ -76,6 +84,7 @@ module _ (classes : List Class) (t : MethodTy) (weight : ℕ) (array : Option Ty
   used-error u asked e (Ok h) row used obeys is = absurd is
   used-error u asked NoMemory (Err x) row used obeys is = subst (λ v. Obeys (spread_use_row classes t weight array count) (Err v)) (sym is) tt
   used-error u asked (FormsFull drawn) (Err x) row used obeys is = subst (λ v. Obeys (spread_use_row classes t weight array count) (Err v)) (sym is) (u, row)
+  used-error u asked (TypesFull bucket) (Err x) row used obeys is = subst (λ v. Obeys (spread_use_row classes t weight array count) (Err v)) (sym is) (u, row)
   used-error u asked (Refused e) (Err x) row used obeys is = let both : ◌≡◌ {A = TypeOrRefusal} (Ok asked) (Err e) = sym used ∙ obeys in absurd cc
 
   -- a tree that is used as the type that was asked for takes the items
@@ -83,9 +92,14 @@ module _ (classes : List Class) (t : MethodTy) (weight : ℕ) (array : Option Ty
       used_as t asked a ≡ items_used_as t array count a
   items-are c asked a some is = ap (λ m. used_as t m a) is ∙ sym (ap (λ o. option_map_or (λ d. used_as t (taking_items t d count) a) o a) some)
 
--- one number is left of two
-pub room-left : (old mid : Work) → 2 ≤ old.pass.now.seat.room → GoesOn 1 old mid → 1 ≤ mid.pass.now.seat.room
-room-left old mid room goes = omega (arith, room, goes.room)
+-- one number is left of two, and the types of one handle may be held
+pub ready-left : (old mid : Work) → IsReady old 2 → GoesOn 1 old mid → IsReady mid 1
+ready-left old mid ready goes = record {
+  of_table = goes.table ∙ (ready.of_table ∙ sym (ap (λ f. f.now) goes.forms));
+  room = omega (arith, ready.room, goes.room);
+  of_types = goes.seat ∙ (ready.of_types ∙ sym (ap (λ t. t.now) goes.types));
+  holds = omega (arith, ready.holds, goes.holds);
+}
 
 -- ---- the two edits
 
@@ -116,21 +130,9 @@ makes-none own array count t old new e r is same =
     (subst (λ second. MakesBoth (recipe table t) second third old new (Err (of_check e))) (sym keyed.1)
     (refused-both (recipe table t) keyed.0 third old new e same))
 
--- a refusal leaves all but the number of handles as it was
+-- a refusal leaves all but the seat of types as it was
 from-refused : (first second : List Key) (old new : Work) (e : Exc) → MakesFrom first second old new (Err (Refused e)) → IsUnchanged old new
 from-refused first second old new e makes = ⊎_elim (λ same. same.1) (λ other. other.1) makes
-
--- ---- the number of handles
-
-pub counts-first : (old new : Work) (e : HandleError) (r : Result Handle HandleError) → CountsHandles {A = Handle} 1 old new (Err e) →
-    IsErrAnd r (λ x. x ≡ e) → CountsHandles 1 old new r
-counts-first old new e (Ok h) counts is = absurd is
-counts-first old new e (Err x) counts is = counts
-
-pub counts-second : (old mid new : Work) (parts : PartsView) (g : Handle) (r : Result Handle HandleError) → parts ≡ no_parts →
-    CountsHandles {E = HandleError} 1 old mid (Ok g) → CountsHandles (1 + parts.count) mid new r → CountsHandles 1 old new r
-counts-second old mid new parts g (Ok h) none first second = omega (arith, first, second, ap (λ (p : PartsView). p.count) none)
-counts-second old mid new parts g (Err e) none first second = omega (arith, first, second, ap (λ (p : PartsView). p.count) none)
 
 -- an error of the first edit
 pub makes-first : (first second third : List Key) (old new : Work) (e : HandleError) (r : Result Handle HandleError) →
@@ -138,6 +140,7 @@ pub makes-first : (first second third : List Key) (old new : Work) (e : HandleEr
 makes-first first second third old new e (Ok h) makes is = absurd is
 makes-first first second third old new NoMemory (Err x) makes is = subst (λ v. MakesBoth first second third old new (Err v)) (sym is) (inl makes)
 makes-first first second third old new (FormsFull drawn) (Err x) makes is = subst (λ v. MakesBoth first second third old new (Err v)) (sym is) (inl makes)
+makes-first first second third old new (TypesFull bucket) (Err x) makes is = subst (λ v. MakesBoth first second third old new (Err v)) (sym is) (inl makes)
 makes-first first second third old new (Refused e) (Err x) makes is =
     subst (λ v. MakesBoth first second third old new (Err v)) (sym is) (from-refused first second old new e makes)
 
@@ -146,4 +149,5 @@ pub makes-second : (first second third : List Key) (old mid new : Work) (g : Han
 makes-second first second third old mid new g (Ok h) from makes accepted = (mid, g, from, makes)
 makes-second first second third old mid new g (Err NoMemory) from makes accepted = inr (mid, g, from, makes)
 makes-second first second third old mid new g (Err (FormsFull drawn)) from makes accepted = inr (mid, g, from, makes)
+makes-second first second third old mid new g (Err (TypesFull bucket)) from makes accepted = inr (mid, g, from, makes)
 makes-second first second third old mid new g (Err (Refused e)) from makes accepted = absurd accepted

@@ -9,6 +9,8 @@ use Rattle.mh_values.specs.Array.{item_type}
 use Rattle.mh_tree.specs.declared.error.CheckError.{CheckError}
 use Rattle.mh_tree.specs.Check.{Tells}
 use Rattle.mh_tree.specs.Rows.{catch_row, component_of, gather_row, guard_row}
+use Rattle.mh_intern.specs.Exchanges.{Exchanges}
+use Rattle.mh_intern.specs.Views.{HoldView}
 use Rattle.mh_form.specs.declared.field.Field.{Field}
 use Rattle.mh_form.specs.declared.field.Field.TheVariants as field
 use Rattle.mh_form.specs.Erasure.{basic_of, shape_of}
@@ -64,18 +66,18 @@ AddsHandler class handler old new = AddsHandle handler (record old { fields = ol
 pub record AreGuardParts (test target fallback : HandleView) (parts : PartsView) : Type 0 where
   pub fields : (c b o : Field) × (parts.fields ≡ c ∷ b ∷ o ∷ []) × IsPartOf test c × IsPartOf target b × IsPartOf fallback o
   pub sides : parts.sides ≡ held_by test ++ held_by target ++ held_by fallback
-  pub count : parts.count ≡ 3
+  pub held : parts.held ≡ test.held ++ target.held ++ fallback.held
 
 -- the parts of a catch: the target first, then the class of exceptions, then the handler
 pub record AreCatchParts (target : HandleView) (class : ClassId) (handler : HandleView) (parts : PartsView) : Type 0 where
   pub fields : (b h : Field) × (parts.fields ≡ b ∷ field.Class class ∷ h ∷ []) × IsPartOf target b × IsPartOf handler h
   pub sides : parts.sides ≡ held_by target ++ held_by handler
-  pub count : parts.count ≡ 2
+  pub held : parts.held ≡ target.held ++ handler.held
 
--- what a call leaves of the number of handles that makes parts of so many of them: where it fails each was given back
-abbrev pub CountsParts : {A E : Type 0} → ℕ → Work → Work → Result A E → Type 0
-CountsParts handed old new (Ok parts) = new.handles.now ≡ old.handles.now
-CountsParts handed old new (Err error) = new.handles.now ≡ old.handles.now - handed
+-- what a call leaves of the seat of types that makes parts of handles with these holds: where it fails all are handed back
+abbrev pub TradesParts : {A E : Type 0} → List HoldView → Work → Work → Result A E → Type 0
+TradesParts held old new (Ok parts) = new.seat.now ≡ old.seat.now
+TradesParts held old new (Err error) = Exchanges [] held [] old.seat.now new.seat.now
 
 -- a guard before its parts are there, with the type that its rule gives, or its very refusal; want of memory tells nothing
 abbrev pub TellsGuard : HandleView → HandleView → HandleView → Result Branch CheckError → Type 0

@@ -1,5 +1,6 @@
 -- What a spread asks of the handle that it adapts: its items are passed as by a use of the handle as another type.
-use Rattle.std.specs.Prelude.{◌≡◌, ℕ, nat_le, ◌⊎◌, List, length, true, Option, Some, Result, Ok, Err}
+use Rattle.std.specs.Prelude.{◌≡◌, ℕ, nat_le, ◌⊎◌, List, [], ◌++◌, length, true, Option, Some, Result, Ok, Err}
+use Rattle.std.specs.Option.{option_map_or}
 use Rattle.mh_values.specs.declared.class.Class.{Class}
 use Rattle.mh_values.specs.declared.types.Ty.{Ty}
 use Rattle.mh_values.specs.declared.types.MethodTy.{MethodTy}
@@ -15,9 +16,9 @@ use Rattle.mh_handle.specs.declared.error.HandleError.TheVariants.{Refused}
 use Rattle.mh_handle.specs.declared.handle.Handle.{Handle}
 use Rattle.mh_handle.specs.declared.work.Work.{Work}
 use Rattle.mh_handle.specs.Recipe.{recipe}
-use Rattle.mh_handle.specs.Works.{IsUnchanged, Makes}
+use Rattle.mh_handle.specs.Works.{IsUnchanged, Makes, types_in}
 use Rattle.mh_branch.specs.declared.spreading.Spreading.{Spreading}
-use Rattle.mh_astype.specs.Use.{MakesFrom}
+use Rattle.mh_astype.specs.Use.{MakesFrom, used_types}
 
 -- what a spread is found to be: the array's component, the type as which the handle is used, and the type of the new handle
 pub record IsSpreading (classes : List Class) (t : MethodTy) (weight : ℕ) (array : Option Ty) (count : ℕ) (s : Spreading) : Type 0 where
@@ -32,6 +33,11 @@ abbrev pub TellsSpreading : List Class → MethodTy → ℕ → Option Ty → �
 TellsSpreading classes t weight array count (Ok s) = IsSpreading classes t weight array count s
 TellsSpreading classes t weight array count (Err (check.Refused e)) = spread_use_row classes t weight array count ≡ Err e
 TellsSpreading classes t weight array count (Err check.NoMemory) = Unit {0}
+
+-- the types of the nodes that a spread makes: the use as the type that takes the items, where that is another, and the spread
+abbrev pub spread_types : List Class → MethodTy → ℕ → Option Ty → ℕ → List MethodTy
+spread_types classes t weight array count =
+    option_map_or (λ c. used_types classes t weight (taking_items t c count)) (component_of array) [] ++ types_in (spread_use_row classes t weight array count)
 
 -- the weight of a use as a type, or its very refusal
 abbrev pub TellsUse : List Class → MethodTy → ℕ → MethodTy → Result ℕ CheckError → Type 0

@@ -9,7 +9,8 @@ ghost use Rattle.mh_handle.specs.Obeys.{Obeys};
 ghost use Rattle.mh_handle.specs.Stands.{IsShaped};
 ghost use Rattle.mh_handle.specs.Recipe.{recipe};
 ghost use Rattle.mh_branch.specs.Growths.{TellsGather};
-ghost use Rattle.mh_handle.specs.Works.{CountsHandles, IsReady, GoesOn, Makes, StandsIn, classes_of, leaves_of};
+ghost use Rattle.mh_handle.specs.Works.{GoesOn, HoldsTypes, IsReady, Makes, StandsIn};
+ghost use Rattle.mh_handle.specs.Works.{TradesTypes, classes_of, leaves_of, types_in};
 
 use mh_edit::Key;
 use mh_form::{Field, basic_of};
@@ -87,12 +88,15 @@ pub fn gather<'t, R: Wait>(
     count: u8,
 ) -> Result<Handle<'t>, HandleError>
     requires ready { IsReady w.old 1 }
+    requires held { HoldsTypes w.old target.held }
     ensures goes_on { GoesOn 1 w.old w.new }
     ensures obeys { Obeys (gather_row (classes_of w.old)
         target.entry.ty target.entry.weight array count) result }
     ensures makes { (a : Tree) → StandsIn w.old target.entry a
         → Makes (recipe (leaves_of w.old) (tree.Gather a array count)) w.old w.new result }
-    ensures handles { CountsHandles 1 w.old w.new result }
+    ensures types { TradesTypes (types_in
+        (gather_row (classes_of w.old) target.entry.ty target.entry.weight array count))
+        target.entry.held w.old w.new result }
     ensures gains { IfOk result (GainsNode target.entry) }
     ensures stands { (a : Tree) → StandsIn w.old target.entry a
         → IfOk result (λ h. StandsIn w.old h (tree.Gather a array count)) }

@@ -1,4 +1,4 @@
-ghost use Rattle.std.specs.Prelude.{◌≤◌, ◌∷◌, [], IfOk, IsTrue};
+ghost use Rattle.std.specs.Prelude.{◌≤◌, ◌+◌, ◌++◌, ◌∷◌, [], IfOk, IsTrue, length};
 ghost use Rattle.mh_values.specs.Classes.{AreClasses};
 ghost use Rattle.mh_tree.specs.Check.{Tells};
 ghost use Rattle.mh_tree.specs.Rows.{guard_row, catch_row};
@@ -9,9 +9,11 @@ ghost use Rattle.mh_edit.specs.Applied.{applied};
 ghost use Rattle.mh_edit.specs.Fit.{fits};
 ghost use Rattle.mh_handle.specs.Obeys.{Obeys};
 ghost use Rattle.mh_handle.specs.Recipe.{recipe};
-ghost use Rattle.mh_handle.specs.Stands.{HasShape};
-ghost use Rattle.mh_handle.specs.Works.{CountsHandles, IsAccepted, IsReady, GoesOn, Makes, StandsIn, classes_of, leaves_of};
-ghost use Rattle.mh_branch.specs.Growths.{HasBranches, HasHandler, RootsBranch, TellsCatch, TellsGuard};
+ghost use Rattle.mh_handle.specs.Stands.{HasShape, IsShaped};
+ghost use Rattle.mh_handle.specs.Works.{GoesOn, HoldsTypes, IsAccepted, IsReady, Makes, StandsIn};
+ghost use Rattle.mh_handle.specs.Works.{TradesTypes, classes_of, leaves_of, types_in};
+ghost use Rattle.mh_branch.specs.Growths.{HasBranches, HasHandler, RootsBranch};
+ghost use Rattle.mh_branch.specs.Growths.{TellsCatch, TellsGuard};
 
 use crate::growths::{Branch, catch_key, catch_parts, guard_key, guard_parts};
 use mh_handle::{Growth, Handle, HandleError, Parts, Work};
@@ -26,7 +28,8 @@ fn guard_type<'t>(
     target: &Handle<'t>,
     fallback: &Handle<'t>,
 ) -> Result<MethodTy, CheckError>
-    ensures { Tells result (guard_row test.now.ty test.now.weight
+    ensures shaped { IsShaped test.now × IsShaped target.now × IsShaped fallback.now }
+    ensures tells { Tells result (guard_row test.now.ty test.now.weight
         target.now.ty target.now.weight fallback.now.ty fallback.now.weight) }
 {
     check_guard(
@@ -49,6 +52,7 @@ fn catch_type<'t>(
     handler: &Handle<'t>,
 ) -> Result<MethodTy, CheckError>
     ensures are { AreClasses (classes_of w.now) }
+    ensures shaped { IsShaped target.now × IsShaped handler.now }
     ensures tells { Tells result (catch_row (classes_of w.now) target.now.ty target.now.weight class
         handler.now.ty handler.now.weight) }
 {
@@ -70,7 +74,8 @@ fn guard_branch<'t>(
     target: &Handle<'t>,
     fallback: &Handle<'t>,
 ) -> Result<Branch, CheckError>
-    ensures { TellsGuard test.now target.now fallback.now result }
+    ensures shaped { IsShaped test.now × IsShaped target.now × IsShaped fallback.now }
+    ensures tells { TellsGuard test.now target.now fallback.now result }
 {
     let ty = guard_type(w, test, target, fallback)?;
     let key = guard_key(w.alloc, &ty, test)?;
@@ -89,6 +94,7 @@ fn catch_branch<'t>(
     handler: &Handle<'t>,
 ) -> Result<Branch, CheckError>
     ensures are { AreClasses (classes_of w.now) }
+    ensures shaped { IsShaped target.now × IsShaped handler.now }
     ensures tells { TellsCatch (classes_of w.now) target.now class handler.now result }
 {
     let ty = catch_type(w, target, class, handler)?;
@@ -110,12 +116,14 @@ fn branch_of<'t, R: Wait>(
     requires fits { IsTrue (fits branch.key nothing) }
     requires shaped { HasShape (applied branch.key nothing) branch.ty }
     requires light { branch.weight ≤ 256 }
+    requires few { 1 + length parts.held ≤ branch.weight }
     requires ready { IsReady w.old 1 }
+    requires held { HoldsTypes w.old parts.held }
     ensures goes_on { GoesOn 1 w.old w.new }
     ensures makes { Makes (branch.key ∷ []) w.old w.new result }
     ensures accepted { IsAccepted result }
     ensures roots { RootsBranch branch parts.entry result }
-    ensures handles { CountsHandles parts.entry.count w.old w.new result }
+    ensures types { TradesTypes (branch.ty ∷ []) parts.entry.held w.old w.new result }
 {
     let Branch { ty, weight, key } = branch;
     let by = Growth {
@@ -138,13 +146,17 @@ pub fn guard<'t, R: Wait>(
     fallback: Handle<'t>,
 ) -> Result<Handle<'t>, HandleError>
     requires ready { IsReady w.old 1 }
+    requires held { HoldsTypes w.old (test.held ++ target.held ++ fallback.held) }
     ensures goes_on { GoesOn 1 w.old w.new }
     ensures obeys { Obeys (guard_row test.entry.ty test.entry.weight
         target.entry.ty target.entry.weight fallback.entry.ty fallback.entry.weight) result }
     ensures makes { (a b d : Tree) → StandsIn w.old test.entry a
         → StandsIn w.old target.entry b → StandsIn w.old fallback.entry d
         → Makes (recipe (leaves_of w.old) (tree.Guard a b d)) w.old w.new result }
-    ensures handles { CountsHandles 3 w.old w.new result }
+    ensures types { TradesTypes (types_in
+        (guard_row test.entry.ty test.entry.weight target.entry.ty target.entry.weight
+        fallback.entry.ty fallback.entry.weight))
+        (test.entry.held ++ target.entry.held ++ fallback.entry.held) w.old w.new result }
     ensures gains { IfOk result (HasBranches test.entry target.entry fallback.entry) }
     ensures stands { (a b d : Tree) → StandsIn w.old test.entry a
         → StandsIn w.old target.entry b → StandsIn w.old fallback.entry d
@@ -175,13 +187,17 @@ pub fn catch<'t, R: Wait>(
     handler: Handle<'t>,
 ) -> Result<Handle<'t>, HandleError>
     requires ready { IsReady w.old 1 }
+    requires held { HoldsTypes w.old (target.held ++ handler.held) }
     ensures goes_on { GoesOn 1 w.old w.new }
     ensures obeys { Obeys (catch_row (classes_of w.old) target.entry.ty target.entry.weight class
         handler.entry.ty handler.entry.weight) result }
     ensures makes { (a b : Tree) → StandsIn w.old target.entry a
         → StandsIn w.old handler.entry b
         → Makes (recipe (leaves_of w.old) (tree.Catch a class b)) w.old w.new result }
-    ensures handles { CountsHandles 2 w.old w.new result }
+    ensures types { TradesTypes (types_in
+        (catch_row (classes_of w.old) target.entry.ty target.entry.weight class
+        handler.entry.ty handler.entry.weight))
+        (target.entry.held ++ handler.entry.held) w.old w.new result }
     ensures gains { IfOk result (HasHandler target.entry class handler.entry) }
     ensures stands { (a b : Tree) → StandsIn w.old target.entry a
         → StandsIn w.old handler.entry b → IfOk result

@@ -1,9 +1,10 @@
 //! What branches are made of: their type, weight and key, and then their parts.
 
-ghost use Rattle.std.specs.Prelude.{◌≡◌, ◌≤◌, ◌+◌, length, IfOk};
+ghost use Rattle.std.specs.Prelude.{◌≡◌, ◌≤◌, ◌++◌, length, IfOk};
 ghost use Rattle.mh_handle.specs.Parts.{AddsHandle};
-ghost use Rattle.mh_handle.specs.Works.{IsUnchanged};
-ghost use Rattle.mh_branch.specs.Growths.{AddsHandler, AddsHandles, AreCatchParts, AreGuardParts, CountsParts, catch_key, guard_key};
+ghost use Rattle.mh_handle.specs.Works.{HoldsTypes, IsUnchanged};
+ghost use Rattle.mh_branch.specs.Growths.{AddsHandler, AddsHandles, AreCatchParts, AreGuardParts};
+ghost use Rattle.mh_branch.specs.Growths.{TradesParts, catch_key, guard_key};
 
 use mh_base::NoMemory;
 use mh_edit::Key;
@@ -59,9 +60,11 @@ fn with_part<'t>(
     parts: Parts<'t>,
     part: Handle<'t>,
 ) -> Result<Parts<'t>, NoMemory>
+    requires of_types { w.old.seat.now.table ≡ w.old.types.now }
+    requires held { HoldsTypes w.old (parts.held ++ part.held) }
     ensures unchanged { IsUnchanged w.old w.new }
     ensures adds { IfOk result (AddsHandle part.entry parts.entry) }
-    ensures handles { CountsParts (1 + parts.entry.count) w.old w.new result }
+    ensures types { TradesParts (parts.entry.held ++ part.entry.held) w.old w.new result }
 {
     let mut parts = parts;
     match parts.push(w, part) {
@@ -80,9 +83,12 @@ fn with_two<'t>(
     first: Handle<'t>,
     second: Handle<'t>,
 ) -> Result<Parts<'t>, NoMemory>
+    requires of_types { w.old.seat.now.table ≡ w.old.types.now }
+    requires held { HoldsTypes w.old (parts.held ++ first.held ++ second.held) }
     ensures unchanged { IsUnchanged w.old w.new }
     ensures adds { IfOk result (AddsHandles first.entry second.entry parts.entry) }
-    ensures handles { CountsParts (2 + parts.entry.count) w.old w.new result }
+    ensures types { TradesParts (parts.entry.held ++ first.entry.held ++ second.entry.held)
+        w.old w.new result }
 {
     match with_part(w, parts, first) {
         Ok(parts) => with_part(w, parts, second),
@@ -100,9 +106,11 @@ fn with_handler<'t>(
     class: ClassId,
     handler: Handle<'t>,
 ) -> Result<Parts<'t>, NoMemory>
+    requires of_types { w.old.seat.now.table ≡ w.old.types.now }
+    requires held { HoldsTypes w.old (parts.held ++ handler.held) }
     ensures unchanged { IsUnchanged w.old w.new }
     ensures adds { IfOk result (AddsHandler class handler.entry parts.entry) }
-    ensures handles { CountsParts (1 + parts.entry.count) w.old w.new result }
+    ensures types { TradesParts (parts.entry.held ++ handler.entry.held) w.old w.new result }
 {
     let mut parts = parts;
     match parts.push_field(Field::Class(class)) {
@@ -122,9 +130,12 @@ pub(crate) fn guard_parts<'t>(
     target: Handle<'t>,
     fallback: Handle<'t>,
 ) -> Result<Parts<'t>, NoMemory>
+    requires of_types { w.old.seat.now.table ≡ w.old.types.now }
+    requires held { HoldsTypes w.old (test.held ++ target.held ++ fallback.held) }
     ensures unchanged { IsUnchanged w.old w.new }
     ensures parts { IfOk result (AreGuardParts test.entry target.entry fallback.entry) }
-    ensures handles { CountsParts 3 w.old w.new result }
+    ensures types { TradesParts (test.entry.held ++ target.entry.held ++ fallback.entry.held)
+        w.old w.new result }
 {
     let none = Parts::new(w.alloc);
     match with_part(w, none, test) {
@@ -144,9 +155,11 @@ pub(crate) fn catch_parts<'t>(
     class: ClassId,
     handler: Handle<'t>,
 ) -> Result<Parts<'t>, NoMemory>
+    requires of_types { w.old.seat.now.table ≡ w.old.types.now }
+    requires held { HoldsTypes w.old (target.held ++ handler.held) }
     ensures unchanged { IsUnchanged w.old w.new }
     ensures parts { IfOk result (AreCatchParts target.entry class handler.entry) }
-    ensures handles { CountsParts 2 w.old w.new result }
+    ensures types { TradesParts (target.entry.held ++ handler.entry.held) w.old w.new result }
 {
     let none = Parts::new(w.alloc);
     match with_part(w, none, target) {

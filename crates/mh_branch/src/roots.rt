@@ -1,10 +1,11 @@
-ghost use Rattle.std.specs.Prelude.{◌≡◌, IfOk, Ok, Some};
+ghost use Rattle.std.specs.Prelude.{◌≡◌, [], IfOk, Ok, Some};
 ghost use Rattle.mh_convert.specs.Conversion.{fit};
 ghost use Rattle.mh_tree.specs.Rows.{constant_row, identity_row, throw_row};
 ghost use Rattle.mh_tree.specs.Tree as tree;
 ghost use Rattle.mh_handle.specs.Obeys.{Obeys};
 ghost use Rattle.mh_handle.specs.Recipe.{recipe};
-ghost use Rattle.mh_handle.specs.Works.{CountsHandles, IsReady, GoesOn, Makes, StandsIn, classes_of, leaves_of};
+ghost use Rattle.mh_handle.specs.Works.{GoesOn, IsReady, Makes, StandsIn};
+ghost use Rattle.mh_handle.specs.Works.{TradesTypes, classes_of, leaves_of, types_in};
 
 use mh_convert::fit;
 use mh_edit::Key;
@@ -38,7 +39,8 @@ pub fn constant<'t, R: Wait>(
     ensures goes_on { GoesOn 1 w.old w.new }
     ensures obeys { Obeys (constant_row (classes_of w.old) ty value) result }
     ensures makes { Makes (recipe (leaves_of w.old) (tree.Constant ty value)) w.old w.new result }
-    ensures handles { CountsHandles 0 w.old w.new result }
+    ensures types { TradesTypes (types_in (constant_row (classes_of w.old) ty value)) []
+        w.old w.new result }
     ensures stands { IfOk result (λ h. StandsIn w.old h (tree.Constant ty value)) }
 {
     let classes = w.leaves.classes();
@@ -68,7 +70,7 @@ pub fn identity<'t, R: Wait>(
     ensures goes_on { GoesOn 1 w.old w.new }
     ensures obeys { Obeys (identity_row ty) result }
     ensures makes { Makes (recipe (leaves_of w.old) (tree.Identity ty)) w.old w.new result }
-    ensures handles { CountsHandles 0 w.old w.new result }
+    ensures types { TradesTypes (types_in (identity_row ty)) [] w.old w.new result }
     ensures stands { IfOk result (λ h. StandsIn w.old h (tree.Identity ty)) }
 {
     let own = check_identity(w.alloc, ty, w.leaves.classes())?;
@@ -96,7 +98,8 @@ pub fn throw<'t, R: Wait>(
     ensures goes_on { GoesOn 1 w.old w.new }
     ensures obeys { Obeys (throw_row (classes_of w.old) ret class) result }
     ensures makes { Makes (recipe (leaves_of w.old) (tree.Throw ret class)) w.old w.new result }
-    ensures handles { CountsHandles 0 w.old w.new result }
+    ensures types { TradesTypes (types_in (throw_row (classes_of w.old) ret class)) []
+        w.old w.new result }
     ensures stands { IfOk result (λ h. StandsIn w.old h (tree.Throw ret class)) }
 {
     let own = check_throw(w.alloc, ret, class, w.classes())?;

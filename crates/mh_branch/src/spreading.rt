@@ -5,8 +5,9 @@ ghost use Rattle.mh_tree.specs.Tree.{Tree};
 ghost use Rattle.mh_tree.specs.Tree as tree;
 ghost use Rattle.mh_tree.specs.Use.{items_used_as, spread_use_row, taking_items};
 ghost use Rattle.mh_handle.specs.Obeys.{Obeys};
-ghost use Rattle.mh_handle.specs.Works.{CountsHandles, IsReady, GoesOn, StandsIn, classes_of};
-ghost use Rattle.mh_branch.specs.Spreading.{TellsUse, TellsSpreading, MakesSpread};
+ghost use Rattle.mh_handle.specs.Works.{GoesOn, HoldsTypes, IsReady, StandsIn};
+ghost use Rattle.mh_handle.specs.Works.{TradesTypes, classes_of};
+ghost use Rattle.mh_branch.specs.Spreading.{TellsUse, TellsSpreading, MakesSpread, spread_types};
 
 use mh_astype::as_type;
 use mh_base::{NoMemory, Seq};
@@ -154,12 +155,15 @@ pub fn spread<'t, R: Wait>(
     count: u8,
 ) -> Result<Handle<'t>, HandleError>
     requires ready { IsReady w.old 2 }
+    requires held { HoldsTypes w.old target.held }
     ensures goes_on { GoesOn 2 w.old w.new }
     ensures obeys { Obeys (spread_use_row (classes_of w.old)
         target.entry.ty target.entry.weight array count) result }
     ensures makes { (a : Tree) → StandsIn w.old target.entry a
         → MakesSpread target.entry.ty array count a w.old w.new result }
-    ensures handles { CountsHandles 1 w.old w.new result }
+    ensures types { TradesTypes
+        (spread_types (classes_of w.old) target.entry.ty target.entry.weight array count)
+        target.entry.held w.old w.new result }
     ensures sides { IfOk result (λ h. h.sides ≡ target.entry.sides) }
     ensures stands { (a : Tree) → StandsIn w.old target.entry a
         → IfOk result (λ h. StandsIn w.old h

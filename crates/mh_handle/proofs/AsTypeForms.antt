@@ -36,6 +36,7 @@ module _
       sides = h.sides;
       form = record { number = number; recipe = h.form.recipe ++ keys };
       fields = fields;
+      held = [];
     }
 
     recipe-made : (keys : List Key) → convert_keys table.classes asked h.ty ≡ keys → h.form.recipe ++ keys ≡ recipe table (AsType t asked)

@@ -15,6 +15,7 @@ use Rattle.mh_form.specs.Erasure.{basic_ret_of}
 use Rattle.mh_edit.specs.declared.key.Key.TheVariants.{Convert}
 use Rattle.mh_edit.specs.Law.{ret_fields}
 use Rattle.mh_handle.specs.Recipe.{are_trivial, convert_keys, entries_of, ret_entry_of}
+use Rattle.mh_intern.specs.Views.{HoldView}
 use Rattle.mh_handle.specs.Stands.{HandleView, Stands}
 use Rattle.mh_handle.specs.Converting.{IsUsedAs, convert_fields, convs_of, ret_fields_of}
 use Rattle.mh_handle.proofs.TrivialConversions.{none-converted}
@@ -63,6 +64,22 @@ module _
         []) (h.fields ++ fs)) (AsType t asked)) (sym fields)
         (with-key table are asked u h t row st number keys))
 
+-- what a handle stands for does not depend on the holds that it has
+stands-holding : (table : LeafTable) (h : HandleView) (held : List HoldView) (t : Tree) →
+    Stands table (record { ty = h.ty; weight = h.weight; sides = h.sides; form = h.form; fields = h.fields; held = held }) t → Stands table h t
+stands-holding table h held t st = record {
+  typed = st.typed;
+  weighed = st.weighed;
+  made = st.made;
+  holds = st.holds;
+  fielded = st.fielded;
+  shaped = st.shaped;
+  begun = st.begun;
+  runs = st.runs;
+  well_formed = st.well_formed;
+  returns = st.returns;
+}
+
 pub astype-stands :
     (table : LeafTable) → AreClasses table.classes → (asked u : MethodTy) (old new : HandleView) (t : Tree) →
     astype_row table.classes old.ty old.weight asked ≡ Ok u →
@@ -74,14 +91,17 @@ astype-stands table are asked u old new t row used st =
     let P : HandleView → Type 0 = λ h. Stands table h (AsType t asked) in
     let made : HandleView = viewed table are asked u old t row st new.form.number (convert_keys table.classes asked old.ty)
     (old.fields ++ convert_fields table.classes asked old.ty) in
-    let is : new ≡ made =
+    let bare : HandleView =
+    record { ty = new.ty; weight = new.weight; sides = new.sides; form = new.form; fields = new.fields; held = [] } in
+    let is : bare ≡ made =
     λ i. record {
       ty = used.ty i;
       weight = used.weight i;
       sides = used.sides i;
       form = record { number = new.form.number; recipe = used.recipe i };
       fields = used.fields i;
+      held = [];
     } in
-    subst P (sym is)
+    stands-holding table new [] (AsType t asked) (subst P (sym is)
     (as-type table are asked u old t row st new.form.number (are_trivial table.classes asked.params old.ty.params && is_trivial_ret table.classes old.ty.ret
-    asked.ret) refl)
+    asked.ret) refl))

@@ -32,4 +32,5 @@ pub mod Recipes
 pub mod Refusals
 pub mod SameRecipes
 pub mod Standing
+pub mod Trading
 pub mod TrivialConversions

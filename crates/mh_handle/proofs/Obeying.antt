@@ -49,6 +49,7 @@ pub grown-obeys :
 grown-obeys row old t weight sides k fields (Ok h) is accepted grows = is ∙ ap Ok (sym grows.typed)
 grown-obeys row old t weight sides k fields (Err handle.NoMemory) is accepted grows = tt
 grown-obeys row old t weight sides k fields (Err (handle.FormsFull drawn)) is accepted grows = (t, is)
+grown-obeys row old t weight sides k fields (Err (handle.TypesFull bucket)) is accepted grows = (t, is)
 grown-obeys row old t weight sides k fields (Err (handle.Refused e)) is accepted grows = absurd accepted
 
 -- ---- want of memory

@@ -1,4 +1,4 @@
--- A call that answers with the error of a check, after which all but the number of handles is as it was.
+-- A call that answers with the error of a check, after which all but the seat of types is as it was.
 use Rattle.std.proofs.Common.{◌≡◌, refl, sym, subst, ℕ, List, Result, Err, IfOk, arith}
 use Rattle.std.specs.Prelude.{IsErrAnd}
 use Rattle.mh_tree.specs.declared.error.CheckError.{CheckError}
@@ -11,11 +11,11 @@ use Rattle.mh_handle.specs.declared.work.Work.{Work}
 use Rattle.mh_handle.specs.Errors.{of_check}
 use Rattle.mh_handle.specs.Obeys.{Obeys}
 use Rattle.mh_handle.specs.Works.{GoesOn, IsUnchanged, Makes}
-use Rattle.mh_handle.proofs.Going.{goes_on-more, makes-after, unchanged-goes_on}
+use Rattle.mh_handle.proofs.Going.{Seated, goes_on-more, makes-after, unchanged-goes_on}
 use Rattle.mh_handle.proofs.Obeying.{refused-makes, refused-obeys}
 
-pub unchanged-goes : (numbers : ℕ) (old new : Work) → IsUnchanged old new → GoesOn numbers old new
-unchanged-goes numbers old new same = goes_on-more 0 numbers old new (omega arith) (unchanged-goes_on old new same)
+pub unchanged-goes : (numbers : ℕ) (old new : Work) → IsUnchanged old new → Seated 0 old new → GoesOn numbers old new
+unchanged-goes numbers old new same seated = goes_on-more 0 numbers old new (omega arith) (unchanged-goes_on 0 old new same seated)
 
 module _ (old new : Work) (e : CheckError) (r : Result Handle HandleError) (is : r ≡ Err (of_check e)) where
   error-is : IsErrAnd r (λ x. x ≡ of_check e)

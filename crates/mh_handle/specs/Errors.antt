@@ -1,4 +1,6 @@
 -- Errors of the calls below, as errors of the calls that make handles.
+use Rattle.mh_intern.specs.declared.error.InternError.{InternError}
+use Rattle.mh_intern.specs.declared.error.InternError.TheVariants as intern
 use Rattle.mh_tree.specs.declared.error.CheckError.{CheckError}
 use Rattle.mh_tree.specs.declared.error.CheckError.TheVariants as check
 use Rattle.mh_handle.specs.declared.error.EditError.{EditError}
@@ -15,3 +17,8 @@ of_edit (edit.FormsFull drawn) = handle.FormsFull drawn
 abbrev pub of_check : CheckError → HandleError
 of_check check.NoMemory = handle.NoMemory
 of_check (check.Refused e) = handle.Refused e
+
+-- a type that was not interned
+abbrev pub of_intern : InternError → HandleError
+of_intern intern.NoMemory = handle.NoMemory
+of_intern (intern.TypesFull bucket) = handle.TypesFull bucket

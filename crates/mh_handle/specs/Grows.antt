@@ -20,7 +20,7 @@ pub record Grows (old new : HandleView) (ty : MethodTy) (weight : ℕ) (sides : 
 
 -- a form with fields and side types, of which a handle is made
 abbrev pub untyped : FormView → List MethodTy → List Field → HandleView
-untyped form sides fields = record { ty = record { params = []; ret = None }; weight = 0; sides = sides; form = form; fields = fields }
+untyped form sides fields = record { ty = record { params = []; ret = None }; weight = 0; sides = sides; form = form; fields = fields; held = [] }
 
 -- the form that does nothing, of which roots are made
 abbrev pub base_handle : HandleView

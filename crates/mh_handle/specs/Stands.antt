@@ -1,9 +1,11 @@
 -- Handles as contracts see them, and when a handle stands for a tree.
-use Rattle.std.specs.Prelude.{◌≡◌, ◌≢◌, ℕ, ◌<◌, ◌^◌, List, length, map, Ok, false, not, ◌&&◌, ◌==◌, is_some}
+use Rattle.std.specs.Prelude.{◌≡◌, ◌≢◌, ℕ, ◌<◌, ◌≤◌, ◌^◌, List, ◌∷◌, length, map, Ok, false, not, ◌&&◌, ◌==◌, is_some}
 use Rattle.mh_values.specs.declared.types.MethodTy.{MethodTy}
 use Rattle.mh_values.specs.declared.value.Value.{Value}
 use Rattle.mh_values.specs.Computation.{Stuck}
 use Rattle.mh_values.specs.HasType.{HaveTypes}
+use Rattle.mh_intern.specs.Exchanges.{types_of}
+use Rattle.mh_intern.specs.Views.{HoldView}
 use Rattle.mh_leaf.specs.LeafTable.{LeafTable}
 use Rattle.mh_tree.specs.Tree.{Tree, weight}
 use Rattle.mh_tree.specs.Typing.{type_of, sides}
@@ -17,13 +19,14 @@ use Rattle.mh_edit.specs.Fit.{is_nothing}
 use Rattle.mh_handle.specs.Form.{FormView, body_of}
 use Rattle.mh_handle.specs.Recipe.{recipe}
 
--- a handle: its type, the weight of its tree, the types of its side parts, its form and its fields
+-- a handle: its type, the weight of its tree, the types of its side parts, its form and its fields, and its holds of types
 pub record HandleView : Type 0 where
   pub ty : MethodTy
   pub weight : ℕ
   pub sides : List MethodTy
   pub form : FormView
   pub fields : List Field
+  pub held : List HoldView
 
 -- what the handle's form does
 abbrev pub handle_body : HandleView → FormBody
@@ -41,10 +44,13 @@ IsMade body = (length body.names == 0 && not (is_some body.out)) ≡ false
 abbrev pub HasShape : FormBody → MethodTy → Type 0
 HasShape body t = body.params ≡ map basic_of t.params
 
--- the handle's form was made by a key, and takes what the handle's type says
+-- the handle's form was made by a key, and takes what the handle's type says; it holds its type and those of its side parts, no more than its tree has nodes
 pub record IsShaped (h : HandleView) : Type 0 where
   pub made : is_nothing (handle_body h) ≡ false
   pub params : HasShape (handle_body h) h.ty
+  pub holds : types_of h.held ≡ h.ty ∷ h.sides
+  pub few : length h.held ≤ h.weight
+  pub light : h.weight ≤ 256
 
 -- the handle stands for the tree: it is made as the tree is, and on all arguments of its type it does what the tree does
 pub record Stands (table : LeafTable) (h : HandleView) (t : Tree) : Type 0 where

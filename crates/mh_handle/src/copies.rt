@@ -1,21 +1,27 @@
-ghost use Rattle.std.specs.Prelude.{◌≡◌, ◌-◌, IfOk, map};
+ghost use Rattle.std.specs.Prelude.{◌≡◌, ◌∷◌, [], IfOk, map};
 ghost use Rattle.mh_leaf.specs.LeafTable.{LeafTable};
 ghost use Rattle.mh_tree.specs.Tree.{Tree};
 ghost use Rattle.mh_form.specs.Run.{sense};
-ghost use Rattle.mh_handle.specs.Stands.{Stands};
-ghost use Rattle.mh_handle.specs.Works.{CountsHandles, IsUnchanged};
+ghost use Rattle.mh_intern.specs.Exchanges.{Exchanges};
+ghost use Rattle.mh_handle.specs.Stands.{IsShaped, Stands};
+ghost use Rattle.mh_handle.specs.Works.{HoldsTypes, IsReady, IsUnchanged, CopiesTypes, TradesPair};
 
 use crate::handle::Handle;
 use crate::work::Work;
 use mh_base::NoMemory;
 use mh_form::copy_fields;
+use mh_intern::HeldType;
 
 impl<'t> Handle<'t> {
-    /// A copy of the handle, which stands for what the handle stands for, and is counted. It asks for
-    /// no edit.
+    /// A copy of the handle, which stands for what the handle stands for, and holds what it holds.
+    /// It asks for no type and no edit.
     pub fn copy(&self, w: &mut Work<'_, 't>) -> Result<Handle<'t>, NoMemory>
+        requires ready { IsReady w.old 1 }
+        requires held { HoldsTypes w.old self.now.held }
+        ensures shaped { IsShaped self.now }
         ensures unchanged { IsUnchanged w.old w.new }
-        ensures handles { CountsHandles 0 w.old w.new result }
+        ensures types { CopiesTypes w.old.seat.now result w.new.seat.now }
+        ensures held { IfOk result (λ h. h.held ≡ self.now.held) }
         ensures form { IfOk result (λ h. h.form ≡ self.now.form) }
         ensures ty { IfOk result (λ h. h.ty ≡ self.now.ty) }
         ensures weight { IfOk result (λ h. h.weight ≡ self.now.weight) }
@@ -25,21 +31,44 @@ impl<'t> Handle<'t> {
         ensures stands { (table : LeafTable) (t : Tree) → Stands table self.now t
             → IfOk result (λ h. Stands table h t) }
     {
-        if !w.handles.has_room(0) {
-            return Err(NoMemory);
-        }
-        let ty = self.ty.share()?;
-        let sides = self.sides.copy()?;
         let fields = copy_fields(w.alloc, self.bound.fields.as_slice())?;
-        w.handles.replace(0);
-        Ok(Handle::of(ty, self.weight, sides, self.form, fields))
+        let (own, sides) = self.holds_again(w)?;
+        Ok(Handle::of(own, self.weight, sides, self.form, fields))
     }
 
-    /// Gives up the handle, with the types that it holds: it is counted no more. It takes no memory.
-    pub fn give_back(self, w: &mut Work<'_, 't>)
+    // One hold more of each type that the handle holds.
+    fn holds_again(&self, w: &mut Work<'_, 't>) -> Result<(HeldType, Vec<HeldType>), NoMemory>
+        requires ready { IsReady w.old 1 }
+        requires held { HoldsTypes w.old self.now.held }
         ensures unchanged { IsUnchanged w.old w.new }
-        ensures handles { w.new.handles.now ≡ w.old.handles.now - 1 }
+        ensures same { IfOk result (λ held. held.0 ∷ held.1.items ≡ self.now.held) }
+        ensures types { TradesPair w.old.seat.now result w.new.seat.now }
     {
-        w.handles.remove(1);
+        let own = w.hold_again(&self.own)?;
+        match w.hold_all_again(self.sides.as_slice()) {
+            Ok(sides) => Ok((own, sides)),
+            Err(NoMemory) => {
+                w.let_go(own);
+                Err(NoMemory)
+            }
+        }
+    }
+
+    /// Gives up the handle, with the types that it holds. It takes no memory.
+    pub fn give_back(self, w: &mut Work<'_, 't>)
+        requires of_types { w.old.seat.now.table ≡ w.old.types.now }
+        requires held { HoldsTypes w.old self.held }
+        ensures unchanged { IsUnchanged w.old w.new }
+        ensures types { Exchanges [] self.entry.held [] w.old.seat.now w.new.seat.now }
+    {
+        let Handle {
+            own,
+            weight: _,
+            sides,
+            form: _,
+            bound: _,
+        } = self;
+        w.let_go(own);
+        w.let_all_go(sides);
     }
 }

@@ -2,6 +2,7 @@ ghost use Rattle.std.specs.Prelude.{◌≡◌};
 ghost use Rattle.mh_handle.specs.declared.error.EditError.TheVariants.{NoMemory};
 
 use mh_base::NoMemory;
+use mh_intern::InternError;
 use mh_tree::CheckError;
 use mh_values::Exc;
 use std::fmt;
@@ -40,6 +41,8 @@ pub enum HandleError {
     NoMemory,
     /// The table has no number left for a form: the number drawn is above 16,384.
     FormsFull { drawn: u64 },
+    /// The bucket of a type, from 0 to 63, is full of other types that are held.
+    TypesFull { bucket: u32 },
     /// The combinator is refused with this exception.
     Refused(Exc),
 }
@@ -63,6 +66,19 @@ impl From<EditError> for HandleError {
         match error {
             EditError::NoMemory => HandleError::NoMemory,
             EditError::FormsFull { drawn } => HandleError::FormsFull { drawn },
+        }
+    }
+}
+
+impl From<InternError> for HandleError {
+    ghost use Rattle.mh_handle.specs.Errors.{of_intern};
+
+    ghost from_gives = { λ error e. e ≡ of_intern error };
+
+    fn from(error: InternError) -> Self {
+        match error {
+            InternError::NoMemory => HandleError::NoMemory,
+            InternError::TypesFull { bucket } => HandleError::TypesFull { bucket },
         }
     }
 }

@@ -1,24 +1,25 @@
-ghost use Rattle.std.specs.Prelude.{◌≡◌, ◌+◌, ◌-◌, ◌^◌, ◌<◌, ◌≤◌, ◌++◌, ◌∷◌, [], IfOk, IsTrue};
+ghost use Rattle.std.specs.Prelude.{◌≡◌, ◌+◌, ◌≤◌, ◌++◌, ◌∷◌, [], IfOk, OnOk, OnErr, IsTrue, length};
 ghost use Rattle.mh_form.specs.Body.{nothing};
 ghost use Rattle.mh_edit.specs.Applied.{applied};
 ghost use Rattle.mh_edit.specs.Fit.{fits};
+ghost use Rattle.mh_intern.specs.Exchanges.{types_of};
 ghost use Rattle.mh_handle.specs.Form.{body_of};
 ghost use Rattle.mh_handle.specs.Stands.{HasShape, handle_body};
 ghost use Rattle.mh_handle.specs.Grows.{GrowsBy, base_handle, untyped};
-ghost use Rattle.mh_handle.specs.Parts.{IsPartOf};
-ghost use Rattle.mh_handle.specs.Works.{CountsHandles, IsReady, IsUnchanged, GoesOn, Makes, IsAccepted};
+ghost use Rattle.mh_handle.specs.Works.{GoesOn, HoldsTypes, IsAccepted, IsReady, Makes, MakesForm, TradesForm, TradesTypes};
 
 use crate::error::HandleError;
 use crate::form::Form;
-use crate::handle::{Handle, MethodTys};
+use crate::handle::Handle;
 use crate::parts::Parts;
 use crate::work::Work;
-use mh_base::{NoMemory, Seq, Shared};
+use mh_base::NoMemory;
 use mh_edit::Key;
 use mh_form::{Bound, Field, Fields};
+use mh_intern::HeldType;
 use mh_values::MethodTy;
 use std::alloc::Global;
-use std::sync::{Arc, Wait};
+use std::sync::Wait;
 
 /// What a combinator adds to the handle that it adapts: the key of the edit, and the fields and
 /// parts that go with it; and the type and the weight of the new handle.
@@ -30,82 +31,41 @@ pub struct Growth<'t> {
     pub parts: Parts<'t>,
 }
 
-/// What a handle is made from: a form with its fields, the types of its side parts, and the number
-/// of handles that it was, which is 0 for the base of all forms.
+/// What a handle is made from: a form with its fields, and the types of its side parts.
 #[derive(Drop)]
 struct Untyped<'t> {
     form: &'t Form,
     fields: Fields<'t>,
-    sides: MethodTys,
-    count: u32,
+    sides: Vec<HeldType>,
 }
 
-/// The handle that an edit makes, which is not counted yet.
-fn edited<'t, R: Wait>(
+/// The type of a handle, which is held, and its form.
+fn typed_form<'t, R: Wait>(
     w: &mut Work<'_, 't>,
     rt: &R,
-    from: Untyped<'t>,
-    by: Growth<'t>,
-) -> Result<Handle<'t>, HandleError>
-    requires fits { IsTrue (fits by.key (body_of from.form.now.recipe)) }
-    requires shaped { HasShape (applied by.key (body_of from.form.now.recipe)) by.ty }
-    requires light { by.weight ≤ 256 }
+    ty: MethodTy,
+    form: &'t Form,
+    key: Key,
+) -> Result<(HeldType, &'t Form), HandleError>
+    requires fits { IsTrue (fits key (body_of form.now.recipe)) }
     requires ready { IsReady w.old 1 }
     ensures goes_on { GoesOn 1 w.old w.new }
-    ensures makes { Makes (from.entry.form.now.recipe ++ by.entry.key ∷ []) w.old w.new result }
-    ensures accepted { IsAccepted result }
-    ensures grows { GrowsBy
-        (untyped from.entry.form.now from.entry.sides from.entry.fields.items) by.entry result }
-    ensures handles { w.new.handles.now ≡ w.old.handles.now }
-    ensures room { IfOk result (λ _.
-        1 + w.old.handles.now - (from.entry.count + by.entry.parts.count) < 2 ^ 64) }
+    ensures makes { MakesForm (form.entry.now.recipe ++ key ∷ []) w.old w.new result }
+    ensures ty { IfOk result (λ made. made.0.entry.ty ≡ ty) }
+    ensures types { TradesForm ty w.old w.new result }
 {
-    let handed = u64::from(from.count) + u64::from(by.parts.count());
-    if !w.handles.has_room(handed) {
-        return Err(HandleError::NoMemory);
-    }
-    let Untyped {
-        form,
-        fields,
-        sides,
-        count: _,
-    } = from;
-    let Growth {
-        ty,
-        weight,
-        key,
-        parts,
-    } = by;
-    let (fields, sides) = joined(fields, sides, parts)?;
-    let ty = Shared::new(w.alloc, ty)?;
-    let form = w.edit(rt, form, key)?;
-    Ok(Handle::of(ty, weight, sides, form, fields))
-}
-
-/// Counts a handle that was made in the place of so many, or gives those back.
-fn counted<'t>(
-    w: &mut Work<'_, 't>,
-    handed: u64,
-    made: Result<Handle<'t>, HandleError>,
-) -> Result<Handle<'t>, HandleError>
-    requires room { IfOk made (λ _. 1 + w.old.handles.now - handed < 2 ^ 64) }
-    ensures unchanged { IsUnchanged w.old w.new }
-    ensures same { result ≡ made.entry }
-    ensures handles { CountsHandles handed w.old w.new result }
-{
-    match made {
-        Ok(handle) => {
-            w.handles.replace(handed);
-            Ok(handle)
-        }
+    let own = w.hold(rt, ty)?;
+    match w.edit(rt, form, key) {
+        Ok(form) => Ok((own, form)),
         Err(error) => {
-            w.handles.remove(handed);
-            Err(error)
+            w.let_go(own);
+            Err(HandleError::from(error))
         }
     }
 }
 
-/// The handle that an edit makes in the place of those that it is made from.
+/// The handle that an edit makes of what it is made from. The types of the side parts are given back
+/// where none is made.
 fn made_from<'t, R: Wait>(
     w: &mut Work<'_, 't>,
     rt: &R,
@@ -115,17 +75,46 @@ fn made_from<'t, R: Wait>(
     requires fits { IsTrue (fits by.key (body_of from.form.now.recipe)) }
     requires shaped { HasShape (applied by.key (body_of from.form.now.recipe)) by.ty }
     requires light { by.weight ≤ 256 }
+    requires few { 1 + length from.sides.items + length by.parts.held ≤ by.weight }
     requires ready { IsReady w.old 1 }
+    requires held { HoldsTypes w.old (from.sides.items ++ by.parts.held) }
     ensures goes_on { GoesOn 1 w.old w.new }
     ensures makes { Makes (from.entry.form.now.recipe ++ by.entry.key ∷ []) w.old w.new result }
     ensures accepted { IsAccepted result }
-    ensures grows { GrowsBy
-        (untyped from.entry.form.now from.entry.sides from.entry.fields.items) by.entry result }
-    ensures handles { CountsHandles (from.entry.count + by.entry.parts.count) w.old w.new result }
+    ensures grows { GrowsBy (untyped from.entry.form.now (types_of from.entry.sides.items)
+        from.entry.fields.items) by.entry result }
+    ensures types { TradesTypes (by.entry.ty ∷ []) (from.entry.sides.items ++ by.entry.parts.held)
+        w.old w.new result }
 {
-    let handed = u64::from(from.count) + u64::from(by.parts.count());
-    let made = edited(w, rt, from, by);
-    counted(w, handed, made)
+    let Untyped {
+        form,
+        fields,
+        mut sides,
+    } = from;
+    let Growth {
+        ty,
+        weight,
+        key,
+        parts,
+    } = by;
+    let Parts {
+        fields: more,
+        held: mut added,
+    } = parts;
+    match joined(fields, more, &mut sides, &mut added) {
+        Ok(fields) => match typed_form(w, rt, ty, form, key) {
+            Ok((own, form)) => Ok(Handle::of(own, weight, sides, form, fields)),
+            Err(error) => {
+                w.let_all_go(sides);
+                Err(error)
+            }
+        },
+        Err(NoMemory) => {
+            w.let_all_go(sides);
+            w.let_all_go(added);
+            Err(HandleError::NoMemory)
+        }
+    }
 }
 
 impl<'t> Handle<'t> {
@@ -140,15 +129,18 @@ impl<'t> Handle<'t> {
         requires fits { IsTrue (fits by.key (handle_body self)) }
         requires shaped { HasShape (applied by.key (handle_body self)) by.ty }
         requires light { by.weight ≤ 256 }
+        requires few { length self.held + length by.parts.held ≤ by.weight }
         requires ready { IsReady w.old 1 }
+        requires held { HoldsTypes w.old (self.held ++ by.parts.held) }
         ensures goes_on { GoesOn 1 w.old w.new }
         ensures makes { Makes (self.entry.form.recipe ++ by.entry.key ∷ []) w.old w.new result }
         ensures accepted { IsAccepted result }
         ensures grows { GrowsBy self.entry by.entry result }
-        ensures handles { CountsHandles (1 + by.entry.parts.count) w.old w.new result }
+        ensures types { TradesTypes (by.entry.ty ∷ []) (self.entry.held ++ by.entry.parts.held)
+            w.old w.new result }
     {
         let Handle {
-            ty: _,
+            own,
             weight: _,
             sides,
             form,
@@ -159,9 +151,10 @@ impl<'t> Handle<'t> {
             form,
             fields,
             sides,
-            count: 1,
         };
-        made_from(w, rt, from, by)
+        let made = made_from(w, rt, from, by);
+        w.let_go(own);
+        made
     }
 
     /// A handle whose form is made by a root. The parts of the growth are given back where none is
@@ -174,38 +167,21 @@ impl<'t> Handle<'t> {
         requires fits { IsTrue (fits by.key nothing) }
         requires shaped { HasShape (applied by.key nothing) by.ty }
         requires light { by.weight ≤ 256 }
+        requires few { 1 + length by.parts.held ≤ by.weight }
         requires ready { IsReady w.old 1 }
+        requires held { HoldsTypes w.old by.parts.held }
         ensures goes_on { GoesOn 1 w.old w.new }
         ensures makes { Makes (by.entry.key ∷ []) w.old w.new result }
         ensures accepted { IsAccepted result }
         ensures grows { GrowsBy base_handle by.entry result }
-        ensures handles { CountsHandles by.entry.parts.count w.old w.new result }
+        ensures types { TradesTypes (by.entry.ty ∷ []) by.entry.parts.held w.old w.new result }
     {
         let from = Untyped {
             form: w.forms.base(),
             fields: Vec::new(w.alloc),
-            sides: Seq::new(w.alloc),
-            count: 0,
+            sides: Vec::new(w.alloc),
         };
         made_from(w, rt, from, by)
-    }
-
-    /// The handle as a part of another one: the field that holds it, and the types that it holds.
-    pub(crate) fn into_part(self, alloc: Global) -> Result<(Field<'t>, MethodTys), NoMemory>
-        ensures part { IfOk result (λ part. IsPartOf self.entry part.0) }
-        ensures holds { IfOk result (λ part. part.1 ≡ self.entry.ty ∷ self.entry.sides) }
-    {
-        let Handle {
-            ty,
-            weight: _,
-            sides,
-            form: _,
-            bound,
-        } = self;
-        let mut holds = Seq::new(alloc);
-        holds.push(ty)?;
-        holds.append(sides)?;
-        Ok((Field::Part(Arc::new(alloc, bound)?), holds))
     }
 }
 
@@ -218,23 +194,22 @@ pub fn one_field<'t>(alloc: Global, field: Field<'t>) -> Result<Fields<'t>, NoMe
     Ok(fields)
 }
 
-/// Fields and side types, followed by those of the parts.
+/// Fields followed by others, and types that are held likewise. Where memory is short the types stay
+/// where they are.
 fn joined<'t>(
     fields: Fields<'t>,
-    sides: MethodTys,
-    parts: Parts<'t>,
-) -> Result<(Fields<'t>, MethodTys), NoMemory>
-    ensures fields { IfOk result (λ all. all.0.items ≡ fields.entry.items ++ parts.entry.fields) }
-    ensures sides { IfOk result (λ all. all.1 ≡ sides ++ parts.entry.sides) }
+    more: Fields<'t>,
+    held: &mut Vec<HeldType>,
+    added: &mut Vec<HeldType>,
+) -> Result<Fields<'t>, NoMemory>
+    ensures fields { IfOk result (λ all. all.items ≡ fields.entry.items ++ more.entry.items) }
+    ensures held { OnOk result (held.new.items ≡ held.old.items ++ added.old.items) }
+    ensures err { OnErr result
+        ((held.new.items ≡ held.old.items) × (added.new.items ≡ added.old.items)) }
 {
-    let Parts {
-        fields: mut more,
-        sides: more_sides,
-        count: _,
-    } = parts;
-    let mut sides = sides;
-    sides.append(more_sides)?;
     let mut fields = fields;
+    let mut more = more;
     fields.append(&mut more)?;
-    Ok((fields, sides))
+    held.append(added)?;
+    Ok(fields)
 }

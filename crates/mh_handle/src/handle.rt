@@ -1,31 +1,29 @@
-ghost use Rattle.std.specs.Prelude.{◌≡◌, ◌≤◌, false};
+ghost use Rattle.std.specs.Prelude.{◌≡◌, ◌+◌, ◌≤◌, ◌∷◌, length, false};
 ghost use Rattle.mh_edit.specs.Fit.{is_nothing};
+ghost use Rattle.mh_intern.specs.Exchanges.{types_of};
 ghost use Rattle.mh_handle.specs.Form.{body_of};
 ghost use Rattle.mh_handle.specs.Stands.{HasShape, IsShaped};
 
 use crate::form::Form;
-use mh_base::{Seq, Shared};
 use mh_form::{Bound, Fields};
+use mh_intern::HeldType;
 use mh_values::MethodTy;
 use std::marker::Model;
 
-/// A list of method types.
-pub type MethodTys = Seq<Shared<MethodTy>>;
-
-/// A method handle (`java.lang.invoke.MethodHandle`): a form with the fields that it runs on, its
-/// type, the weight of the tree of combinators that it was made by, and the types of its side
-/// parts. Handles of equal recipes share one form.
+/// A method handle (`java.lang.invoke.MethodHandle`): a form with the fields that it runs on, the
+/// weight of the tree of combinators that it was made by, and holds of its type and of the types of
+/// its side parts. Handles of equal recipes share one form.
 #[derive(Drop)]
 pub struct Handle<'t> {
-    pub(crate) ty: Shared<MethodTy>,
+    pub(crate) own: HeldType,
     pub(crate) weight: u32,
-    pub(crate) sides: MethodTys,
+    pub(crate) sides: Vec<HeldType>,
     pub(crate) form: &'t Form,
     pub(crate) bound: Bound<'t>,
 }
 
 impl<'t> Model for Handle<'t> {
-    ghost use Rattle.std.specs.Prelude.{◌≡◌, ◌≤◌, []};
+    ghost use Rattle.std.specs.Prelude.{◌≡◌, ◌+◌, ◌≤◌, ◌∷◌, [], length};
     ghost use Rattle.mh_handle.specs.Stands.{HandleView};
 
     ghost Value = { HandleView };
@@ -36,9 +34,17 @@ impl<'t> Model for Handle<'t> {
 
     ghost coded = { Prim.hlevel (codes, (field.the_row (record { mir = named 0; lft = [] })).coded) };
 
+    ghost use Rattle.mh_intern.specs.Exchanges.{types_of};
     ghost use Rattle.mh_handle.specs.Form.{body_of};
 
-    ghost view = { λ h. record { ty = h.ty; weight = h.weight; sides = h.sides; form = h.form.now; fields = h.bound.fields.items } };
+    ghost view = { λ h. record {
+      ty = h.own.entry.ty;
+      weight = h.weight;
+      sides = types_of h.sides.items;
+      form = h.form.now;
+      fields = h.bound.fields.items;
+      held = h.own ∷ h.sides.items;
+    } };
 
     ghost use Rattle.std.specs.Prelude.{false};
     ghost use Rattle.mh_edit.specs.Fit.{is_nothing};
@@ -46,24 +52,28 @@ impl<'t> Model for Handle<'t> {
 
     ghost invariant = { λ h. (h.bound.body.now ≡ body_of h.form.now.recipe) × (h.weight ≤ 256)
         × (is_nothing (body_of h.form.now.recipe) ≡ false)
-        × HasShape (body_of h.form.now.recipe) h.ty };
+        × HasShape (body_of h.form.now.recipe) h.own.entry.ty
+        × (1 + length h.sides.items ≤ h.weight) };
 }
 
 impl<'t> Handle<'t> {
-    /// A handle of a type, from a form with its fields and the types of its side parts.
+    /// A handle of a type that is held, from a form with its fields, and with the types of its side
+    /// parts that are held.
     pub(crate) fn of(
-        ty: Shared<MethodTy>,
+        own: HeldType,
         weight: u32,
-        sides: MethodTys,
+        sides: Vec<HeldType>,
         form: &'t Form,
         fields: Fields<'t>,
     ) -> Handle<'t>
         requires light { weight ≤ 256 }
+        requires few { 1 + length sides.items ≤ weight }
         requires made { is_nothing (body_of form.now.recipe) ≡ false }
-        requires shaped { HasShape (body_of form.now.recipe) ty }
-        ensures ty { result.ty ≡ ty }
+        requires shaped { HasShape (body_of form.now.recipe) own.entry.ty }
+        ensures ty { result.ty ≡ own.entry.ty }
         ensures weight { result.weight ≡ weight }
-        ensures sides { result.sides ≡ sides }
+        ensures sides { result.sides ≡ types_of sides.items }
+        ensures held { result.held ≡ own ∷ sides.items }
         ensures form { result.form ≡ form.entry.now }
         ensures fields { result.fields ≡ fields.entry.items }
     {
@@ -72,7 +82,7 @@ impl<'t> Handle<'t> {
             fields,
         };
         Handle {
-            ty,
+            own,
             weight,
             sides,
             form,
@@ -80,12 +90,13 @@ impl<'t> Handle<'t> {
         }
     }
 
-    /// The handle's type. Its form takes what the type says, with types erased.
+    /// The handle's type. Its form takes what the type says, with types erased. It holds this type
+    /// and those of its side parts.
     pub fn ty(&self) -> &MethodTy
         ensures ty { result.now ≡ self.now.ty }
         ensures shaped { IsShaped self.now }
     {
-        self.ty.get()
+        self.own.ty()
     }
 
     /// The number of nodes of its tree, at most 256.
@@ -96,12 +107,11 @@ impl<'t> Handle<'t> {
         self.weight
     }
 
-    /// The types of its side parts, followed down: of filters, combiners, tests and branches, and of
-    /// the target and the handler of a catch.
-    pub fn sides(&self) -> &MethodTys
-        ensures { result.now ≡ self.now.sides }
+    /// How many types it holds: its own, and for each of its side parts those that the part holds.
+    pub fn types_held(&self) -> usize
+        ensures types { result ≡ length self.now.held }
     {
-        &self.sides
+        1 + self.sides.len()
     }
 
     /// Its form.

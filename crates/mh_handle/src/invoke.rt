@@ -85,7 +85,7 @@ impl<'t> Handle<'t> {
     {
         let outcome = run_on(m, &self.bound, args, n, leaves)?;
         let keys = self.form.recipe().len();
-        end(outcome, self.ty.get().ret, keys, leaves.classes())
+        end(outcome, self.ty().ret, keys, leaves.classes())
     }
 
     /// Calls a form that was edited from the handle's, on the handle's fields and those of the

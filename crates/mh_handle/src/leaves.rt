@@ -1,8 +1,9 @@
-ghost use Rattle.std.specs.Prelude.{◌≡◌, ◌<◌, length, IfOk};
+ghost use Rattle.std.specs.Prelude.{◌≡◌, ◌<◌, [], length, IfOk};
 ghost use Rattle.mh_leaf.specs.WellTyped.{IsWellTyped};
 ghost use Rattle.mh_tree.specs.Tree as tree;
+ghost use Rattle.mh_tree.specs.Typing.{type_of};
 ghost use Rattle.mh_handle.specs.Recipe.{recipe};
-ghost use Rattle.mh_handle.specs.Works.{CountsHandles, IsReady, GoesOn, Makes, IsAccepted, StandsIn, leaves_of};
+ghost use Rattle.mh_handle.specs.Works.{IsReady, GoesOn, Makes, IsAccepted, StandsIn, TradesTypes, leaves_of, types_in};
 
 use crate::error::HandleError;
 use crate::growth::{Growth, one_field};
@@ -27,7 +28,8 @@ pub fn leaf<'t, R: Wait>(
     ensures goes_on { GoesOn 1 w.old w.new }
     ensures makes { Makes (recipe (leaves_of w.old) (tree.Leaf id)) w.old w.new result }
     ensures accepted { IsAccepted result }
-    ensures handles { CountsHandles 0 w.old w.new result }
+    ensures types { TradesTypes
+        (types_in (type_of (leaves_of w.old) (tree.Leaf id))) [] w.old w.new result }
     ensures stands { IfOk result (λ h. StandsIn w.old h (tree.Leaf id)) }
 {
     are_well_typed(w.leaves);

@@ -1,21 +1,23 @@
-ghost use Rattle.std.specs.Prelude.{◌≡◌, ◌-◌, ◌++◌, ◌∷◌, [], OnOk, OnErr};
+ghost use Rattle.std.specs.Prelude.{◌≡◌, ◌<◌, ◌≤◌, ◌+◌, ◌^◌, ◌++◌, ◌∷◌, [], IfOk, OnOk, OnErr, vec_len, vec_capacity};
+ghost use Rattle.mh_intern.specs.Exchanges.{Exchanges};
 ghost use Rattle.mh_handle.specs.Parts.{AddsHandle, no_parts};
-ghost use Rattle.mh_handle.specs.Works.{IsUnchanged};
+ghost use Rattle.mh_handle.specs.Works.{HoldsTypes, IsUnchanged};
 
-use crate::handle::{Handle, MethodTys};
+use crate::handle::Handle;
 use crate::work::Work;
-use mh_base::{NoMemory, Seq};
-use mh_form::{Field, Fields};
+use mh_base::NoMemory;
+use mh_form::{Bound, Field, Fields};
+use mh_intern::HeldType;
 use std::alloc::Global;
 use std::marker::Model;
+use std::sync::Arc;
 
 /// The fields that a combinator adds, some of which hold handles that become parts of another one,
-/// the types that those hold, and how many they are.
+/// and the types that those hold.
 #[derive(Drop)]
 pub struct Parts<'t> {
     pub(crate) fields: Fields<'t>,
-    pub(crate) sides: MethodTys,
-    pub(crate) count: u32,
+    pub(crate) held: Vec<HeldType>,
 }
 
 impl<'t> Model for Parts<'t> {
@@ -30,7 +32,13 @@ impl<'t> Model for Parts<'t> {
 
     ghost coded = { Prim.hlevel (codes, (field.the_row (record { mir = named 0; lft = [] })).coded) };
 
-    ghost view = { λ p. record { fields = p.fields.items; sides = p.sides; count = p.count } };
+    ghost use Rattle.mh_intern.specs.Exchanges.{types_of};
+
+    ghost view = { λ p. record {
+      fields = p.fields.items;
+      sides = types_of p.held.items;
+      held = p.held.items;
+    } };
 }
 
 impl<'t> Parts<'t> {
@@ -40,8 +48,7 @@ impl<'t> Parts<'t> {
     {
         Parts {
             fields: Vec::new(alloc),
-            sides: Seq::new(alloc),
-            count: 0,
+            held: Vec::new(alloc),
         }
     }
 
@@ -51,41 +58,47 @@ impl<'t> Parts<'t> {
     {
         Parts {
             fields,
-            sides: Seq::new(alloc),
-            count: 0,
+            held: Vec::new(alloc),
         }
     }
 
     /// Adds a handle as a part. Where memory is short the handle was given back.
     pub fn push(&mut self, w: &mut Work<'_, 't>, handle: Handle<'t>) -> Result<(), NoMemory>
+        requires of_types { w.old.seat.now.table ≡ w.old.types.now }
+        requires held { HoldsTypes w.old handle.held }
         ensures ok { OnOk result (AddsHandle handle.entry self.old self.new) }
         ensures err { OnErr result (self.new ≡ self.old) }
         ensures unchanged { IsUnchanged w.old w.new }
-        ensures handles { OnOk result (w.new.handles.now ≡ w.old.handles.now) }
-        ensures given_back { OnErr result (w.new.handles.now ≡ w.old.handles.now - 1) }
+        ensures kept { OnOk result (w.new.seat.now ≡ w.old.seat.now) }
+        ensures given_back { OnErr result
+            (Exchanges [] handle.entry.held [] w.old.seat.now w.new.seat.now) }
     {
-        match self.add(w.alloc, handle) {
-            Ok(()) => Ok(()),
+        let Handle {
+            own,
+            weight: _,
+            sides,
+            form: _,
+            bound,
+        } = handle;
+        match room_for(
+            w.alloc,
+            &mut self.fields,
+            &mut self.held,
+            bound,
+            sides.len(),
+        ) {
+            Ok(part) => {
+                self.fields.push_reserved(Field::Part(part));
+                self.held.push_reserved(own);
+                append_reserved(&mut self.held, sides);
+                Ok(())
+            }
             Err(NoMemory) => {
-                w.handles.remove(1);
+                w.let_go(own);
+                w.let_all_go(sides);
                 Err(NoMemory)
             }
         }
-    }
-
-    fn add(&mut self, alloc: Global, handle: Handle<'t>) -> Result<(), NoMemory>
-        ensures ok { OnOk result (AddsHandle handle.entry self.old self.new) }
-        ensures err { OnErr result (self.new ≡ self.old) }
-    {
-        if self.count == u32::MAX {
-            return Err(NoMemory);
-        }
-        let (field, held) = handle.into_part(alloc)?;
-        self.fields.reserve(1)?;
-        self.sides.append(held)?;
-        self.fields.push_reserved(field);
-        self.count += 1;
-        Ok(())
     }
 
     /// Adds a field that holds no handle.
@@ -98,19 +111,46 @@ impl<'t> Parts<'t> {
         Ok(())
     }
 
-    /// How many handles are parts.
-    pub fn count(&self) -> u32
-        ensures { result ≡ self.now.count }
-    {
-        self.count
-    }
-
-    /// Gives up the parts. It takes no memory.
+    /// Gives up the parts, with the types that they hold. It takes no memory.
     pub fn give_back(self, w: &mut Work<'_, 't>)
+        requires of_types { w.old.seat.now.table ≡ w.old.types.now }
+        requires held { HoldsTypes w.old self.held }
         ensures unchanged { IsUnchanged w.old w.new }
-        ensures handles { w.new.handles.now ≡ w.old.handles.now - self.entry.count }
+        ensures types { Exchanges [] self.entry.held [] w.old.seat.now w.new.seat.now }
     {
-        let given_back = self.count();
-        w.handles.remove(u64::from(given_back));
+        let Parts { fields: _, held } = self;
+        w.let_all_go(held);
     }
+}
+
+// A body with its fields as a part, and room for its field, for the type of a handle and for so many
+// side types. Where memory is short nothing changes.
+fn room_for<'t>(
+    alloc: Global,
+    fields: &mut Fields<'t>,
+    held: &mut Vec<HeldType>,
+    bound: Bound<'t>,
+    sides: usize,
+) -> Result<Arc<Bound<'t>, Global>, NoMemory>
+    requires few { sides < 2 ^ 32 }
+    ensures part { IfOk result (λ part. part.value ≡ bound.entry) }
+    ensures field { OnOk result (vec_len fields.new < vec_capacity fields.new) }
+    ensures room { OnOk result (vec_len held.new + (1 + sides) ≤ vec_capacity held.new) }
+    ensures fields { fields.new.items ≡ fields.old.items }
+    ensures held { held.new.items ≡ held.old.items }
+{
+    let part = Arc::new(alloc, bound)?;
+    fields.reserve(1)?;
+    held.reserve(1 + sides)?;
+    Ok(part)
+}
+
+// Types that are held, at the end of a list that has room for them.
+fn append_reserved(held: &mut Vec<HeldType>, mut more: Vec<HeldType>)
+    requires { vec_len held.old + vec_len more ≤ vec_capacity held.old }
+    ensures { held.new.items ≡ held.old.items ++ more.items }
+{
+    let Ok(()) = held.append(&mut more) else {
+        unreachable!()
+    };
 }

@@ -1,31 +1,56 @@
-ghost use Rattle.std.specs.Prelude.{◌≡◌, ◌≤◌};
+ghost use Rattle.std.specs.Prelude.{◌≡◌, ◌≤◌, ◌∷◌, [], IfOk, length};
 ghost use Rattle.mh_handle.specs.Stands.{HasShape, handle_body};
+ghost use Rattle.mh_handle.specs.Works.{HoldsTypes, IsReady, IsUnchanged, IsAccepted, TradesTypes};
 
+use crate::error::HandleError;
 use crate::handle::Handle;
-use mh_base::Shared;
+use crate::work::Work;
 use mh_form::Bound;
 use mh_values::MethodTy;
+use std::sync::Wait;
 
 impl<'t> Handle<'t> {
     /// The same form and fields as a handle of another type and weight, for a combinator that adds
-    /// no key. The parameters of both types are equal with types erased.
-    pub fn retyped(self, ty: Shared<MethodTy>, weight: u32) -> Handle<'t>
+    /// no key. The parameters of both types are equal with types erased. The handle is given back
+    /// where the type cannot be held.
+    pub fn retyped<R: Wait>(
+        self,
+        w: &mut Work<'_, 't>,
+        rt: &R,
+        ty: MethodTy,
+        weight: u32,
+    ) -> Result<Handle<'t>, HandleError>
         requires light { weight ≤ 256 }
+        requires few { length self.held ≤ weight }
         requires shaped { HasShape (handle_body self) ty }
-        ensures ty { result.ty ≡ ty }
-        ensures weight { result.weight ≡ weight }
-        ensures sides { result.sides ≡ self.entry.sides }
-        ensures form { result.form ≡ self.entry.form }
-        ensures fields { result.fields ≡ self.entry.fields }
+        requires ready { IsReady w.old 1 }
+        requires held { HoldsTypes w.old self.held }
+        ensures unchanged { IsUnchanged w.old w.new }
+        ensures types { TradesTypes (ty ∷ []) self.entry.held w.old w.new result }
+        ensures accepted { IsAccepted result }
+        ensures ty { IfOk result (λ h. h.ty ≡ ty) }
+        ensures weight { IfOk result (λ h. h.weight ≡ weight) }
+        ensures sides { IfOk result (λ h. h.sides ≡ self.entry.sides) }
+        ensures form { IfOk result (λ h. h.form ≡ self.entry.form) }
+        ensures fields { IfOk result (λ h. h.fields ≡ self.entry.fields) }
     {
-        let Handle {
-            ty: _,
-            weight: _,
-            sides,
-            form,
-            bound,
-        } = self;
-        let Bound { body: _, fields } = bound;
-        Handle::of(ty, weight, sides, form, fields)
+        match w.hold(rt, ty) {
+            Ok(new) => {
+                let Handle {
+                    own,
+                    weight: _,
+                    sides,
+                    form,
+                    bound,
+                } = self;
+                let Bound { body: _, fields } = bound;
+                w.let_go(own);
+                Ok(Handle::of(new, weight, sides, form, fields))
+            }
+            Err(error) => {
+                self.give_back(w);
+                Err(HandleError::from(error))
+            }
+        }
     }
 }

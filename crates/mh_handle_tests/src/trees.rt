@@ -1,12 +1,16 @@
 //! Handles that are made by steps on a table of their own, and called.
 
-ghost use Rattle.std.specs.Prelude.{◌≡◌, ◌≤◌, length, IfOk, IsTrue};
+ghost use Rattle.std.specs.Prelude.{◌≡◌, ◌≤◌, [], length, IfOk, IsTrue};
+ghost use Rattle.mh_seats.specs.Room.{limit};
+ghost use Rattle.mh_intern.specs.Views.{new_seat};
 ghost use Rattle.mh_handle.specs.Passes.{seat_at};
 ghost use Rattle.mh_handle.specs.Stands.{StandsForSome};
 ghost use Rattle.mh_handle.specs.Works.{IsReady, GoesOn};
+ghost use Rattle.mh_steps.specs.Adds.{Adds};
 
 use mh_base::NoMemory;
-use mh_handle::{Answer, FormTable, Handle, HandleError, LiveHandles, Work};
+use mh_handle::{Answer, FormTable, Handle, HandleError, Work};
+use mh_intern::{TypeSeat, TypeTable};
 use mh_leaves::Leaves;
 use mh_steps::{Root, Start, Step, call_typed, items_of, made};
 use std::alloc::Global;
@@ -45,7 +49,8 @@ fn answer_on<'t, R: Wait>(
 ) -> Result<Answer, HandleError>
     requires ready { IsReady w.old 204 }
     requires few { length making.now.steps.now ≤ 100 }
-    ensures handles { w.new.handles.now ≡ w.old.handles.now }
+    ensures goes_on { GoesOn 204 w.old w.new }
+    ensures types { Adds [] [] w.old.seat.now w.new.seat.now }
 {
     let leaves = w.leaves;
     let handle = made(w, rt, making.root, making.steps)?;
@@ -58,7 +63,7 @@ fn number_on<'t, R: Wait>(w: &mut Work<'_, 't>, rt: &R, making: &Making) -> Resu
     requires ready { IsReady w.old 204 }
     requires few { length making.now.steps.now ≤ 100 }
     ensures goes_on { GoesOn 204 w.old w.new }
-    ensures handles { w.new.handles.now ≡ w.old.handles.now }
+    ensures types { Adds [] [] w.old.seat.now w.new.seat.now }
 {
     let handle = made(w, rt, making.root, making.steps)?;
     let number = handle.form().number();
@@ -75,7 +80,7 @@ fn numbers_on<'t, R: Wait>(
     requires ready { IsReady w.old 408 }
     requires first { length first.now.steps.now ≤ 100 }
     requires second { length second.now.steps.now ≤ 100 }
-    ensures handles { w.new.handles.now ≡ w.old.handles.now }
+    ensures types { Adds [] [] w.old.seat.now w.new.seat.now }
 {
     let one = number_on(w, rt, first)?;
     let other = number_on(w, rt, second)?;
@@ -85,34 +90,39 @@ fn numbers_on<'t, R: Wait>(
 fn answer_at<R: Wait>(
     rt: &R,
     start: Start<'_>,
+    held: &mut TypeSeat,
     making: &Making,
     arguments: &[&str],
 ) -> Result<Answer, HandleError>
     requires first { start.seat ≡ seat_at start.table.now 0 }
+    requires held { held.old ≡ new_seat start.types.now limit }
     requires few { length making.now.steps.now ≤ 100 }
+    ensures types { Adds [] [] held.old held.new }
 {
     let Start {
         alloc,
         table,
         seat,
+        types,
         leaves,
     } = start;
     let mut pass = table.first_pass(alloc, seat)?;
-    let mut handles = LiveHandles::new();
     let mut w = Work {
         alloc,
+        types,
+        seat: held,
         forms: table,
         pass: &mut pass,
         leaves,
-        handles: &mut handles,
     };
     let answer = answer_on(&mut w, rt, making, arguments);
     let Work {
         alloc: _,
+        types: _,
+        seat: _,
         forms: _,
         pass: _,
         leaves: _,
-        handles: _,
     } = w;
     answer
 }
@@ -120,10 +130,12 @@ fn answer_at<R: Wait>(
 fn numbers_at<R: Wait>(
     rt: &R,
     start: Start<'_>,
+    held: &mut TypeSeat,
     first: &Making,
     second: &Making,
 ) -> Result<(u64, u64), HandleError>
     requires seat { start.seat ≡ seat_at start.table.now 0 }
+    requires held { held.old ≡ new_seat start.types.now limit }
     requires first { length first.now.steps.now ≤ 100 }
     requires second { length second.now.steps.now ≤ 100 }
 {
@@ -131,24 +143,26 @@ fn numbers_at<R: Wait>(
         alloc,
         table,
         seat,
+        types,
         leaves,
     } = start;
     let mut pass = table.first_pass(alloc, seat)?;
-    let mut handles = LiveHandles::new();
     let mut w = Work {
         alloc,
+        types,
+        seat: held,
         forms: table,
         pass: &mut pass,
         leaves,
-        handles: &mut handles,
     };
     let numbers = numbers_on(&mut w, rt, first, second);
     let Work {
         alloc: _,
+        types: _,
+        seat: _,
         forms: _,
         pass: _,
         leaves: _,
-        handles: _,
     } = w;
     numbers
 }
@@ -165,14 +179,40 @@ pub(crate) fn answer_of<R: Wait>(
     if !has_few_steps(making) {
         return Err(HandleError::NoMemory);
     }
+    let (types, mut held) = TypeTable::new(alloc)?;
     let (table, seat) = FormTable::new(alloc)?;
     let start = Start {
         alloc,
         table: &table,
         seat,
+        types: &types,
         leaves,
     };
-    answer_at(rt, start, making, arguments)
+    answer_at(rt, start, &mut held, making, arguments)
+}
+
+/// How many types are held after such a handle was called and given back, or was refused.
+pub(crate) fn held_after<R: Wait>(
+    rt: &R,
+    alloc: Global,
+    leaves: &Leaves,
+    making: &Making,
+    arguments: &[&str],
+) -> Result<u32, NoMemory> {
+    if !has_few_steps(making) {
+        return Err(NoMemory);
+    }
+    let (types, mut held) = TypeTable::new(alloc)?;
+    let (table, seat) = FormTable::new(alloc)?;
+    let start = Start {
+        alloc,
+        table: &table,
+        seat,
+        types: &types,
+        leaves,
+    };
+    let _answer = answer_at(rt, start, &mut held, making, arguments);
+    Ok(types.close(held))
 }
 
 /// The numbers of the forms of two handles that are made on one table, each by up to 100 steps.
@@ -186,12 +226,14 @@ pub(crate) fn form_numbers<R: Wait>(
     if !has_few_steps(first) || !has_few_steps(second) {
         return Err(HandleError::NoMemory);
     }
+    let (types, mut held) = TypeTable::new(alloc)?;
     let (table, seat) = FormTable::new(alloc)?;
     let start = Start {
         alloc,
         table: &table,
         seat,
+        types: &types,
         leaves,
     };
-    numbers_at(rt, start, first, second)
+    numbers_at(rt, start, &mut held, first, second)
 }

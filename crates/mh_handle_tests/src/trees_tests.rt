@@ -1,4 +1,4 @@
-use crate::trees::{Making, answer_of, form_numbers};
+use crate::trees::{Making, answer_of, form_numbers, held_after};
 use mh_base::NoMemory;
 use mh_handle::{Answer, HandleError};
 use mh_leaves::{Leaves, read_manifest};
@@ -497,6 +497,30 @@ fn branches(rt: HostRuntime) -> Result<(), Fail> {
 #[test]
 fn parts(rt: HostRuntime) -> Result<(), Fail> {
     assert_eq!(rt; first_failing(&rt, rt.alloc(), &PARTS)?, None);
+    Ok(())
+}
+
+/// The name of the first case after which a type is held still.
+fn first_holding<R: Wait>(
+    rt: &R,
+    alloc: Global,
+    cases: &[Case],
+) -> Result<Option<&'static str>, NoMemory> {
+    let leaves = tree_leaves(alloc)?;
+    for case in cases {
+        if held_after(rt, alloc, &leaves, &case.making, case.arguments)? != 0 {
+            return Ok(Some(case.name));
+        }
+    }
+    Ok(None)
+}
+
+#[test]
+fn no_type_stays_held(rt: HostRuntime) -> Result<(), Fail> {
+    assert_eq!(rt; first_holding(&rt, rt.alloc(), &ADAPTERS)?, None);
+    assert_eq!(rt; first_holding(&rt, rt.alloc(), &ARRAYS)?, None);
+    assert_eq!(rt; first_holding(&rt, rt.alloc(), &BRANCHES)?, None);
+    assert_eq!(rt; first_holding(&rt, rt.alloc(), &PARTS)?, None);
     Ok(())
 }
 

@@ -20,3 +20,4 @@ pub mod Dealing
 pub mod HoldCounts
 pub mod Trading
 pub mod Granting
+pub mod Exchanging

@@ -1,4 +1,5 @@
 pub mod Buckets
+pub mod Exchanges
 pub mod Held
 pub mod Lists
 pub mod Kinds

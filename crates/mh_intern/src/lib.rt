@@ -11,6 +11,7 @@ mod holding;
 mod keeper;
 mod kinds;
 mod list;
+mod many;
 mod seat;
 mod serve;
 mod table;

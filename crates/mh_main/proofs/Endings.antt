@@ -12,7 +12,7 @@ use Rattle.mh_words.specs.Words.{Command, sites, command_of}
 use Rattle.mh_main.specs.Input.{Accepted, AreListed, IfAccepted, IfRefused, Input, accepted, command_input, fault_line, input_of, listed, listing_input, missing, most_sites, place_line, program, refused, too_long_line, untold, usage}
 use Rattle.mh_main.specs.Status.{no_memory, refused as refusal, unread}
 use Rattle.mh_main.specs.Stops.{Refuses, IsStopAmong, IsReachedInput, stop_line, stop_status, unread_line}
-use Rattle.mh_main.specs.Due.{FailsToRead, IsDue, IsDueOf, IsIdle, IsOutputOf, NeedsManyForms, RefusesInput}
+use Rattle.mh_main.specs.Due.{FailsToRead, IsDue, IsDueOf, IsIdle, IsOutputOf, IsProgram, NeedsManyForms, RefusesInput}
 
 -- a stop that comes with a refusal has the line of the input that is refused
 pub refused-at-stop :
@@ -90,11 +90,15 @@ due-of-program words files before now answer command p bytes asked is same (inl 
       subst (λ o. IfAccepted (input_of o files) (λ a. IsOutputOf a answer bytes)) asked
           (taken (command_input command files) (program p) (λ a. IsOutputOf a answer bytes) is report),
     )
-due-of-program words files before now answer command p bytes asked is same (inr full) =
+due-of-program words files before now answer command p bytes asked is same (inr (idle, inl full)) =
     let fills : IfAccepted (input_of (command_of words) files) NeedsManyForms =
     subst (λ o. IfAccepted (input_of o files) NeedsManyForms) asked
-    (taken (command_input command files) (program p) NeedsManyForms is full.1.0) in
-    inr (full.0, inr (inr (inr (same, (fills, full.1.1)))))
+    (taken (command_input command files) (program p) NeedsManyForms is full.0) in
+    inr (idle, inr (inr (inr (inl (same, (fills, full.1))))))
+due-of-program words files before now answer command p bytes asked is same (inr (idle, inr types)) =
+    let fills : IfAccepted (input_of (command_of words) files) IsProgram =
+    subst (λ o. IfAccepted (input_of o files) IsProgram) asked (taken (command_input command files) (program p) IsProgram is tt) in
+    inr (idle, inr (inr (inr (inr (same, (fills, types))))))
 
 -- what holds of a program holds of what is accepted of the words and files that give it
 pub accepted-of :

@@ -45,9 +45,8 @@ fits-few untold p is so fits = absurd so
 pub run-done : (o : Option Command) (command : Command) (files : List ℕ → Told) (p : Program) (status : ℕ) → Some command ≡ o →
     IfAccepted (command_input command files) (λ a. a ≡ program p) → AreAccepted (input_of o files) → FitsForms (input_of o files) → IsDoneFullOrWant status →
     (status ≡ forms_full → most_forms < draws_needed (given_of p) p.plan) → IsDoneOrWant status
-run-done o command files p status asked is so fits (inl done) full = inl done
-run-done o command files p status asked is so fits (inr (inl want)) full = inr want
-run-done o command files p status asked is so fits (inr (inr many)) full =
+run-done o command files p status asked is so fits (inl done) full = done
+run-done o command files p status asked is so fits (inr many) full =
     let few : draws_needed (given_of p) p.plan ≤ most_forms =
     fits-few (command_input command files) p is (subst (λ c. AreAccepted (input_of c files)) (sym asked) so)
     (subst (λ c. FitsForms (input_of c files)) (sym asked) fits) in

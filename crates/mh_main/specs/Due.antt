@@ -23,8 +23,12 @@ abbrev pub usage_line : List ℕ
 usage_line = codes "usage: mh --mode run --leaves F --scripts F --plan F [CLASS]... or --mode sites [CLASS]... or --mode gen --number N\n"
 
 -- the line for a program whose threads can draw more numbers of forms than there are
-abbrev pub full_line : List ℕ
-full_line = codes "forms full\n"
+abbrev pub forms_line : List ℕ
+forms_line = codes "forms full\n"
+
+-- the line for a program with a type whose bucket is full of others that are held
+abbrev pub types_line : List ℕ
+types_line = codes "types full\n"
 
 -- the command lists class files
 abbrev pub IsListing : Option Command → Type 0
@@ -68,11 +72,12 @@ Reports words files answer bytes = IfAccepted (input words files) (λ a. IsOutpu
 
 -- the line of a program whose threads can draw more numbers of forms than there are
 abbrev pub IsFullOf : Program → List ℕ → Type 0
-IsFullOf p bytes = (most_forms < draws_needed (given_of p) p.plan) × (bytes ≡ full_line)
+IsFullOf p bytes = (most_forms < draws_needed (given_of p) p.plan) × (bytes ≡ forms_line)
 
--- what is due of a program: its report, or that its threads can draw too many numbers of forms, and then nothing is answered
+-- what is due of a program: its report, or that its threads can draw too many numbers of forms, or that a bucket of types is full, and then nothing
+-- is answered
 abbrev pub IsDueOf : Program → TopAnswer → List ℕ → Type 0
-IsDueOf p answer bytes = IsReportOf p answer bytes ⊎ (IsIdle answer × IsFullOf p bytes)
+IsDueOf p answer bytes = IsReportOf p answer bytes ⊎ (IsIdle answer × (IsFullOf p bytes ⊎ (bytes ≡ types_line)))
 
 -- the answers of a program's calls; classes are not run
 abbrev pub AreAnswers : Accepted → TopAnswer → Type 0
@@ -90,7 +95,16 @@ NeedsManyForms (listed classes) = ⊥
 
 -- the line of a program that the words and the files give and whose threads can draw more numbers of forms than there are
 abbrev pub FillsForms : List (List ℕ) → (List ℕ → Told) → List ℕ → Type 0
-FillsForms words files bytes = IfAccepted (input words files) NeedsManyForms × (bytes ≡ full_line)
+FillsForms words files bytes = IfAccepted (input words files) NeedsManyForms × (bytes ≡ forms_line)
+
+-- what is accepted is a program
+abbrev pub IsProgram : Accepted → Type 0
+IsProgram (program p) = Unit {0}
+IsProgram (listed classes) = ⊥
+
+-- the line of a program that the words and the files give, with a type whose bucket is full of others that are held
+abbrev pub FillsTypes : List (List ℕ) → (List ℕ → Told) → List ℕ → Type 0
+FillsTypes words files bytes = IfAccepted (input words files) IsProgram × (bytes ≡ types_line)
 
 -- the line of the first input that is refused, where no read failed
 abbrev pub RefusesInput : List (List ℕ) → (List ℕ → Told) → (List ℕ → ℕ) → (List ℕ → ℕ) → List ℕ → Type 0
@@ -121,4 +135,5 @@ IsDue words files before now answer bytes =
     ⊎ (IsIdle answer × ((AreSame before now × RefusesWords words bytes)
     ⊎ RefusesInput words files before now bytes
     ⊎ FailsToRead (command_of words) files before now bytes
-    ⊎ (AreSame before now × FillsForms words files bytes)))
+    ⊎ (AreSame before now × FillsForms words files bytes)
+    ⊎ (AreSame before now × FillsTypes words files bytes)))

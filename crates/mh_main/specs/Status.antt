@@ -22,6 +22,10 @@ no_memory = 3
 abbrev pub forms_full : ℕ
 forms_full = 4
 
+-- no slot was left for a type
+abbrev pub types_full : ℕ
+types_full = 5
+
 -- an input could not be read
 abbrev pub unread : ℕ
 unread = 6
@@ -30,9 +34,9 @@ unread = 6
 abbrev pub write_failed : ℕ
 write_failed = 7
 
--- one of these: a number up to the last, but 5
+-- one of these: a number up to the last
 abbrev pub IsStatus : ℕ → Type 0
-IsStatus status = (status ≤ write_failed) × (status ≢ 5)
+IsStatus status = status ≤ write_failed
 
 -- the words are refused, or memory was wanting
 abbrev pub IsUsageOrWant : ℕ → Type 0
@@ -46,13 +50,13 @@ IsRefusedOrWant status = (status ≡ refused) ⊎ (status ≡ no_memory)
 abbrev pub IsUnreadOrWant : ℕ → Type 0
 IsUnreadOrWant status = (status ≡ unread) ⊎ (status ≡ no_memory)
 
--- the run is complete, or memory was wanting
+-- the run is complete, or memory or a slot for a type was wanting
 abbrev pub IsDoneOrWant : ℕ → Type 0
-IsDoneOrWant status = (status ≡ done) ⊎ (status ≡ no_memory)
+IsDoneOrWant status = (status ≡ done) ⊎ ((status ≡ no_memory) ⊎ (status ≡ types_full))
 
--- the run is complete, or memory or forms were wanting
+-- the run is complete, or memory, a slot for a type or forms were wanting
 abbrev pub IsDoneFullOrWant : ℕ → Type 0
-IsDoneFullOrWant status = (status ≡ done) ⊎ ((status ≡ no_memory) ⊎ (status ≡ forms_full))
+IsDoneFullOrWant status = IsDoneOrWant status ⊎ (status ≡ forms_full)
 
 -- the status tells exactly where the sink failed: then its count of faults rose, and at any other status it stayed
 pub record FailsWhere (status before now : ℕ) : Type 0 where

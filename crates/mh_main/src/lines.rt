@@ -10,7 +10,10 @@ pub const USAGE: &str =
     "usage: mh --mode run --leaves F --scripts F --plan F [CLASS]... or --mode sites [CLASS]... or --mode gen --number N\n";
 
 /// The line for a program whose calls need more forms than there are.
-pub const FULL: &str = "forms full\n";
+pub const FORMS: &str = "forms full\n";
+
+/// The line for a program with a type whose bucket is full of others that are held.
+pub const TYPES: &str = "types full\n";
 
 /// Writes the pieces of a line, one after the other. It takes no memory.
 pub fn write_pieces<S: Sink>(sink: &mut S, pieces: &[&[u8]]) -> Result<(), Failed>

@@ -8,15 +8,17 @@ ghost use Rattle.mh_words.specs.Words.{command_of};
 ghost use Rattle.mh_main.specs.Runnable.{IsRunnable};
 ghost use Rattle.mh_main.specs.Input.{input, IsRefused, AreAccepted, IsMissing, FitsForms};
 ghost use Rattle.mh_main.specs.Stops.{stop_line, stop_status, InputsStill};
-ghost use Rattle.mh_main.specs.Status.{done, refused, usage_wanted, no_memory, forms_full, unread, write_failed, IsStatus, IsUsageOrWant, IsRefusedOrWant, IsUnreadOrWant, IsDoneOrWant, IsDoneFullOrWant, FailsWhere};
-ghost use Rattle.mh_main.specs.Due.{AnswersCalls, AreAnswersOf, FailsToRead, FillsForms, IsDue, IsDueOf, IsFullOf, IsGenerated, IsIdle, IsListing, IsListingOf, IsReportOf, RefusesInput, RefusesWords, Reports, Writes, WritesPart};
+ghost use Rattle.mh_main.specs.Status.{done, refused, usage_wanted, no_memory, forms_full, types_full, unread, write_failed, IsStatus, IsUsageOrWant, IsRefusedOrWant, IsUnreadOrWant, IsDoneOrWant, IsDoneFullOrWant, FailsWhere};
+ghost use Rattle.mh_main.specs.Due.{AnswersCalls, AreAnswersOf, FailsToRead, FillsForms, FillsTypes, types_line, IsDue, IsDueOf, IsFullOf, IsGenerated, IsIdle, IsListing, IsListingOf, IsReportOf, RefusesInput, RefusesWords, Reports, Writes, WritesPart};
 
 use crate::generated::read_generated;
-use crate::lines::{FULL, USAGE, write_pieces};
+use crate::lines::{FORMS, TYPES, USAGE, write_pieces};
 use crate::listing::list_sites;
 use crate::reading::read_program;
 use crate::reporting::run_and_report;
-use crate::status::{DONE, FORMS_FULL, NO_MEMORY, REFUSED, UNREAD, USAGE_WANTED, WRITE_FAILED};
+use crate::status::{
+    DONE, FORMS_FULL, NO_MEMORY, REFUSED, TYPES_FULL, UNREAD, USAGE_WANTED, WRITE_FAILED,
+};
 use crate::stop::Stop;
 use crate::{Output, Program, TopAnswer};
 use itoa::Buffer;
@@ -90,7 +92,8 @@ fn answer_report<S: Sink>(sink: &mut S, answer: TopAnswer, text: &[u8]) -> TopAn
     }
 }
 
-// Runs a program, and writes its report, or that there are too few forms for it.
+// Runs a program, and writes its report, or that there are too few forms for it, or too few slots
+// for its types.
 fn run_program<R: Threads + Wait + Sync, S: Sink, G: Gate + Sync>(
     rt: &R,
     alloc: Global,
@@ -105,6 +108,8 @@ fn run_program<R: Threads + Wait + Sync, S: Sink, G: Gate + Sync>(
         → AreAnswersOf program.now result.table result.threads }
     ensures full { result.status ≡ forms_full
         → Writes (IsFullOf program.now) (S.taken sink.old) (S.taken sink.new) }
+    ensures types { result.status ≡ types_full
+        → Appends (S.taken sink.old) (S.taken sink.new) types_line }
     ensures broken { result.status ≡ write_failed
         → WritesPart (IsDueOf program.now result) (S.taken sink.old) (S.taken sink.new) }
     ensures nothing { result.status ≡ no_memory → Keeps (S.taken sink.old) (S.taken sink.new) }
@@ -116,7 +121,10 @@ fn run_program<R: Threads + Wait + Sync, S: Sink, G: Gate + Sync>(
         Ok((answer, text)) => answer_report(sink, answer, &text),
         Err(WorkError::NoMemory) => nothing_ran(alloc, NO_MEMORY),
         Err(WorkError::FormsFull { drawn: _ }) => {
-            answer_line(alloc, sink, FORMS_FULL, &[FULL.as_bytes()])
+            answer_line(alloc, sink, FORMS_FULL, &[FORMS.as_bytes()])
+        }
+        Err(WorkError::TypesFull { bucket: _ }) => {
+            answer_line(alloc, sink, TYPES_FULL, &[TYPES.as_bytes()])
         }
     }
 }
@@ -217,6 +225,9 @@ pub fn top<'a, R: Threads + Wait + Sync, I: Inputs, S: Sink, G: Gate + Sync>(
     ensures full { result.status ≡ forms_full
         → Writes (FillsForms (said words.now) (I.told inputs.old))
         (S.taken sink.old) (S.taken sink.new) }
+    ensures types { result.status ≡ types_full
+        → Writes (FillsTypes (said words.now) (I.told inputs.old))
+        (S.taken sink.old) (S.taken sink.new) }
     ensures unreadable { result.status ≡ unread
         → Writes (FailsToRead (command_of (said words.now)) (I.told inputs.old)
         (I.faults inputs.old) (I.faults inputs.new)) (S.taken sink.old) (S.taken sink.new) }
@@ -236,7 +247,8 @@ pub fn top<'a, R: Threads + Wait + Sync, I: Inputs, S: Sink, G: Gate + Sync>(
         → AreSame (I.faults inputs.old) (I.faults inputs.new) }
 
     // Where nothing failed, the words and the inputs decide the status, but for want of memory; a
-    // program is run to its end if its calls need no more forms than there are.
+    // program is run to its end if its calls need no more forms than there are, unless a bucket of
+    // types is full. No clause says how many types a program needs for that.
     ensures usage_due { command_of (said words.now) ≡ None
         → IsStill (S.faults sink.old) (S.faults sink.new) → IsUsageOrWant result.status }
     ensures refusal_wanted { IsRefused (input (said words.now) (I.told inputs.old))

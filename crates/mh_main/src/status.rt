@@ -13,6 +13,9 @@ pub const NO_MEMORY: u8 = 3;
 /// No number was left for a form.
 pub const FORMS_FULL: u8 = 4;
 
+/// No slot was left for a type.
+pub const TYPES_FULL: u8 = 5;
+
 /// An input could not be read.
 pub const UNREAD: u8 = 6;
 

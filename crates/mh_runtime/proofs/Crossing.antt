@@ -7,13 +7,14 @@ use Rattle.mh_setonce.proofs.chain.Chain.TheSendSync as chain
 use Rattle.mh_setonce.proofs.walk.Walk.TheSendSync as walk
 use Rattle.mh_tickets.proofs.seat.TicketSeat.TheSendSync as seat
 use Rattle.mh_handle.proofs.Crossing.{pass_send}
+use Rattle.mh_intern.proofs.seat.TypeSeat.TheSendSync as types
 use Rattle.mh_jobs.specs.declared.run.Run.{Ghosts}
 use Rattle.mh_attempt.proofs.Crossing.{linkage_send, linkage_sync}
+use Rattle.mh_attempt.proofs.error.WorkError.TheSendSync as error
 use Rattle.mh_plan.proofs.attempt.Attempt.TheSendSync as attempt
 use Rattle.mh_base.proofs.seq.Seq.TheSendSync as seq
 use Rattle.mh_base.specs.contracts.seq.Seq as Plan
 use Rattle.mh_handle.proofs.answer.Answer.TheSendSync as answer
-use Rattle.mh_handle.proofs.error.EditError.TheSendSync as error
 use Rattle.mh_handle.specs.contracts.answer.Answer as Answer
 use Rattle.mh_plan.specs.contracts.call.Call as Call
 use Rattle.mh_plan.proofs.call.Call.TheSendSync as call
@@ -46,6 +47,7 @@ pub lane_send : (s t : NamedLft) (R : RattleType) (g : Ghosts R.Denot) → IsSen
 lane_send s t R g send sync =
     let l = links_send s t R g send sync in
     let f = pass_send t in
+    let h = types.the_send in
     let c = seq.the_sync Call.the_row call.the_sync in
     let a = seq.the_send Answer.the_row answer.the_send in
     let e = error.the_send in

@@ -3,14 +3,13 @@ use Rattle.std.proofs.Common.{◌≡◌, sym, ◌∙◌, ap, ap₂, subst, ℕ, 
 use Rattle.std.specs.Prelude.{slice_get, slice_index_or}
 use Rattle.std.proofs.lemmas.List.{length-take-le, map_push, take_all, take_more}
 use Rattle.std.proofs.lemmas.Option.{get_or_from_slice_get, slice_get-get_or, slice_get_within}
-use Rattle.mh_handle.specs.Passes.{TableView}
 use Rattle.mh_jobs.specs.Given.{Given}
 use Rattle.mh_plan.specs.declared.call.Call.{Call}
 use Rattle.mh_plan.specs.Plan.{most_calls}
 use Rattle.mh_runtime.specs.declared.joining.Joined.{Joined}
 use Rattle.mh_runtime.specs.declared.lane.Lane.{Lane}
-use Rattle.mh_runtime.specs.Joining.{Adds, AreForked, AreFresh, AreJoinedTo, IsFreshFor, IsUnused, IsUnusedForms, calls_of}
-use Rattle.mh_runtime.specs.Lanes.{HasRun}
+use Rattle.mh_runtime.specs.Joining.{Adds, AreForked, AreFresh, AreJoinedTo, IsFreshFor, IsUnused, IsUnusedForms, IsUnusedTypes, calls_of}
+use Rattle.mh_runtime.specs.Lanes.{HasRun, Tables}
 use Rattle.mh_runtime.specs.Passes.{LinkerView, split_room}
 use Rattle.mh_runtime.proofs.JoiningSteps.{joined-push}
 use Rattle.mh_runtime.proofs.MoreThreads.{few-each, fresh-push}
@@ -24,8 +23,8 @@ take-next xs i x is =
 length-first : {X : Type 0} (xs : List X) (i : ℕ) → i ≤ length xs → length (take i xs) ≡ i
 length-first xs i within = length-take-le i xs within
 
-module _ {J : Type 0} (given : Given) (linker : LinkerView) (table : TableView) (threads : List (List Call)) where
-  module _ (old : Joined J) (lanes : List (Lane J)) (forked : AreForked given linker table threads old lanes) (calls : List Call)
+module _ {J : Type 0} (given : Given) (linker : LinkerView) (tables : Tables) (threads : List (List Call)) where
+  module _ (old : Joined J) (lanes : List (Lane J)) (forked : AreForked given linker tables threads old lanes) (calls : List Call)
       (at : slice_get threads (length lanes) ≡ Some calls) where
     -- what the next lane needs
     next-within : length lanes < length threads
@@ -35,11 +34,12 @@ module _ {J : Type 0} (given : Given) (linker : LinkerView) (table : TableView) 
     next-few = omega (arith, few-each threads (length lanes) calls at, forked.limits.few_calls)
 
     -- one lane more was forked off
-    pub forked-push : (new : Joined J) (lane : Lane J) → IsFreshFor given linker table (length lanes) calls lane →
+    pub forked-push : (new : Joined J) (lane : Lane J) → IsFreshFor given linker tables (length lanes) calls lane →
         IsUnused given linker new.links → new.links.seat.room + split_room ≡ old.links.seat.room →
-        IsUnusedForms table new.forms → new.forms.seat.room + split_room ≡ old.forms.seat.room →
-        new.threads ≡ old.threads → new.full ≡ old.full → AreForked given linker table threads new (lanes ++ lane ∷ [])
-    forked-push new lane fresh links links_room forms_are forms_room same_threads same_full =
+        IsUnusedForms tables.forms new.forms → new.forms.seat.room + split_room ≡ old.forms.seat.room →
+        IsUnusedTypes tables.types new.types → new.types.room + split_room ≡ old.types.room →
+        new.threads ≡ old.threads → new.full ≡ old.full → AreForked given linker tables threads new (lanes ++ lane ∷ [])
+    forked-push new lane fresh links links_room forms_are forms_room types_are types_room same_threads same_full =
         let more : length (lanes ++ lane ∷ []) ≡ length lanes + 1 = length-append lanes (lane ∷ []) in
         let first : length (take (length lanes) threads) ≡ length lanes = length-first threads (length lanes) (omega (arith, next-within)) in
         record {
@@ -47,44 +47,47 @@ module _ {J : Type 0} (given : Given) (linker : LinkerView) (table : TableView) 
           links_room = omega (arith, more, links_room, forked.links_room);
           forms = forms_are;
           forms_room = omega (arith, more, forms_room, forked.forms_room);
+          types = types_are;
+          types_room = omega (arith, more, types_room, forked.types_room);
           nothing = (same_threads ∙ forked.nothing.0, same_full ∙ forked.nothing.1);
-          lanes_are = subst (λ ts. AreFresh given linker table ts (lanes ++ lane ∷ []))
+          lanes_are = subst (λ ts. AreFresh given linker tables ts (lanes ++ lane ∷ []))
               (sym (ap (λ n. take n threads) more ∙ take-next threads (length lanes) calls at))
-              (fresh-push given linker table (take (length lanes) threads) lanes calls lane forked.lanes_are
-              (subst (λ n. IsFreshFor given linker table n calls lane) (sym first) fresh));
+              (fresh-push given linker tables (take (length lanes) threads) lanes calls lane forked.lanes_are
+              (subst (λ n. IsFreshFor given linker tables n calls lane) (sym first) fresh));
           calls = forked.calls;
           limits = forked.limits;
         }
 
     -- what a lane's making tells
     pub forked-told : {E : Type 0} (P : Type 0) (new : Joined J) (r : Result (Lane J) E) → P →
-        IfOk r (IsFreshFor given linker table (length lanes) calls) →
+        IfOk r (IsFreshFor given linker tables (length lanes) calls) →
         OnOk r (IsUnused given linker new.links) → OnOk r (new.links.seat.room + split_room ≡ old.links.seat.room) →
-        OnOk r (IsUnusedForms table new.forms) → OnOk r (new.forms.seat.room + split_room ≡ old.forms.seat.room) →
-        new.threads ≡ old.threads → new.full ≡ old.full → IfOk r (λ lane. P × AreForked given linker table threads new (lanes ++ lane ∷ []))
-    forked-told P new (Err e) kept fresh links links_room forms_are forms_room same_threads same_full = tt
-    forked-told P new (Ok lane) kept fresh links links_room forms_are forms_room same_threads same_full =
-        (kept, forked-push new lane fresh links links_room forms_are forms_room same_threads same_full)
+        OnOk r (IsUnusedForms tables.forms new.forms) → OnOk r (new.forms.seat.room + split_room ≡ old.forms.seat.room) →
+        OnOk r (IsUnusedTypes tables.types new.types) → OnOk r (new.types.room + split_room ≡ old.types.room) →
+        new.threads ≡ old.threads → new.full ≡ old.full → IfOk r (λ lane. P × AreForked given linker tables threads new (lanes ++ lane ∷ []))
+    forked-told P new (Err e) kept fresh links links_room forms_are forms_room types_are types_room same_threads same_full = tt
+    forked-told P new (Ok lane) kept fresh links links_room forms_are forms_room types_are types_room same_threads same_full =
+        (kept, forked-push new lane fresh links links_room forms_are forms_room types_are types_room same_threads same_full)
 
-  module _ (before after : List (Lane J)) (lane : Lane J) (old new : Joined J) (joined : AreJoinedTo given linker table threads before after old)
+  module _ (before after : List (Lane J)) (lane : Lane J) (old new : Joined J) (joined : AreJoinedTo given linker tables threads before after old)
       (within : length after < length before) where
     abbrev forked : Lane J
     forked = slice_index_or before (length after) lane
 
-    next-fresh : (calls : List Call) → slice_get threads (length after) ≡ Some calls → IsFreshFor given linker table (length after) calls forked
+    next-fresh : (calls : List Call) → slice_get threads (length after) ≡ Some calls → IsFreshFor given linker tables (length after) calls forked
     next-fresh calls at = joined.fresh.each (length after) calls forked at (slice_get-get_or before (length after) lane within)
 
     -- the lane has run as the thread of its place
     pub next-ran : (calls : List Call) → slice_get threads (length after) ≡ Some calls → lane.calls ≡ forked.calls →
-        HasRun given linker table forked.links.thread forked.calls.now lane → HasRun given linker table (length after) lane.calls.now lane
+        HasRun given linker tables forked.links.thread forked.calls.now lane → HasRun given linker tables (length after) lane.calls.now lane
     next-ran calls at same ran =
-        subst (λ (cs : List Call). HasRun given linker table (length after) cs lane) (sym (ap (λ b. b.now) same))
-        (subst (λ n. HasRun given linker table n forked.calls.now lane) (next-fresh calls at).thread_is ran)
+        subst (λ (cs : List Call). HasRun given linker tables (length after) cs lane) (sym (ap (λ b. b.now) same))
+        (subst (λ n. HasRun given linker tables n forked.calls.now lane) (next-fresh calls at).thread_is ran)
 
     -- one lane more was joined
     pub joined-next : (calls : List Call) → slice_get threads (length after) ≡ Some calls → lane.calls ≡ forked.calls →
-        HasRun given linker table forked.links.thread forked.calls.now lane → Adds old lane new →
-        AreJoinedTo given linker table threads before (after ++ lane ∷ []) new
+        HasRun given linker tables forked.links.thread forked.calls.now lane → Adds old lane new →
+        AreJoinedTo given linker tables threads before (after ++ lane ∷ []) new
     joined-next calls at same ran adds =
         let more : length (after ++ lane ∷ []) ≡ length after + 1 = length-append after (lane ∷ []) in
         record {
@@ -92,18 +95,18 @@ module _ {J : Type 0} (given : Given) (linker : LinkerView) (table : TableView) 
           calls = map_push (λ (l : Lane J). l.calls.now) after lane
               ∙ (ap₂ (λ cs c. cs ++ c ∷ []) joined.calls (ap (λ b. b.now) same ∙ (next-fresh calls at).calls_are)
               ∙ sym (ap (λ n. take n threads) more ∙ take-next threads (length after) calls at));
-          so_far = joined-push given linker table (length threads) after lane old new joined.so_far (next-ran calls at same ran) adds;
+          so_far = joined-push given linker tables (length threads) after lane old new joined.so_far (next-ran calls at same ran) adds;
         }
 
     -- what a lane's joining tells
-    pub joined-told : {A E : Type 0} (r : Result A E) → (lane.calls ≡ forked.calls) × HasRun given linker table forked.links.thread forked.calls.now lane →
-        OnOk r (Adds old lane new) → OnOk r (AreJoinedTo given linker table threads before (after ++ lane ∷ []) new)
+    pub joined-told : {A E : Type 0} (r : Result A E) → (lane.calls ≡ forked.calls) × HasRun given linker tables forked.links.thread forked.calls.now lane →
+        OnOk r (Adds old lane new) → OnOk r (AreJoinedTo given linker tables threads before (after ++ lane ∷ []) new)
     joined-told (Err e) ran adds = tt
     joined-told (Ok a) ran adds =
         let calls = there-is threads (length after) (omega (arith, within, joined.fresh.count)) in
         joined-next calls.0 calls.1 ran.0 ran.1 adds
 
 -- the calls of all lanes are those of the threads
-pub all-calls : {J : Type 0} (given : Given) (linker : LinkerView) (table : TableView) (threads : List (List Call)) (before after : List (Lane J))
-    (joined : Joined J) → AreJoinedTo given linker table threads before after joined → length after ≡ length threads → calls_of after ≡ threads
-all-calls given linker table threads before after joined is whole = is.calls ∙ take_all (length after) threads (omega (arith, whole))
+pub all-calls : {J : Type 0} (given : Given) (linker : LinkerView) (tables : Tables) (threads : List (List Call)) (before after : List (Lane J))
+    (joined : Joined J) → AreJoinedTo given linker tables threads before after joined → length after ≡ length threads → calls_of after ≡ threads
+all-calls given linker tables threads before after joined is whole = is.calls ∙ take_all (length after) threads (omega (arith, whole))

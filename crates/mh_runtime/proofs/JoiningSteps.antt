@@ -6,33 +6,36 @@ use Rattle.std.specs.List.{All}
 use Rattle.std.proofs.lemmas.List.{length-map, map_push}
 use Rattle.std.proofs.lemmas.List.Elements.{All-push, All-weaker, Contains-append_left, Contains-append_right}
 use Rattle.mh_handle.specs.declared.answer.Answer.{Answer}
-use Rattle.mh_handle.specs.Passes.{TableView}
 use Rattle.mh_handle.specs.Seats as forms
+use Rattle.mh_intern.specs.Views as types
 use Rattle.mh_tickets.specs.Seats as serials
 use Rattle.mh_jobs.specs.Given.{Given}
 use Rattle.mh_attempt.specs.Asked.{HasAsked, IsOver}
 use Rattle.mh_plan.specs.declared.call.Call.{Call}
 use Rattle.mh_plan.specs.Results.{keys_said, results_of, results_said, thread_keys_said, thread_results, thread_said}
+use Rattle.mh_runtime.specs.declared.joining.Full.{Full}
+use Rattle.mh_runtime.specs.declared.joining.Full.TheVariants as full
 use Rattle.mh_runtime.specs.declared.joining.Joined.{Joined}
 use Rattle.mh_runtime.specs.declared.lane.Lane.{Lane}
 use Rattle.mh_runtime.specs.Joined.{AreDone, AreUsed, IsDoneBy, IsUsedBy, ThreadPasses}
 use Rattle.mh_runtime.specs.Joining.{Adds, AreJoinedSoFar, EndedWith, EndsSoFar, calls_of}
 use Rattle.mh_runtime.specs.Keys.{plan_keys, thread_keys}
-use Rattle.mh_runtime.specs.Lanes.{DrawsFew, EndsAs, HasAnswered, HasRun, passes_of}
+use Rattle.mh_runtime.specs.Lanes.{DrawsFew, EndsAs, HasAnswered, HasRun, Tables, passes_of}
 use Rattle.mh_runtime.specs.Passes.{HasSerials, LinkerView, split_room}
 use Rattle.mh_runtime.proofs.JoinedForms.{asked-joined}
 use Rattle.mh_runtime.proofs.LaneLists.{edits-push, flat-push}
 use Rattle.mh_runtime.proofs.MoreThreads.{done-push, used-push}
+use Rattle.mh_runtime.proofs.SeatTypes.{just-joined}
 use Rattle.mh_runtime.proofs.ThreadSteps.{serials-both}
 
 -- ---- one lane more
 
-module _ {J : Type 0} (given : Given) (linker : LinkerView) (table : TableView) (count : ℕ) (lanes : List (Lane J)) (lane : Lane J) (old new : Joined J)
+module _ {J : Type 0} (given : Given) (linker : LinkerView) (tables : Tables) (count : ℕ) (lanes : List (Lane J)) (lane : Lane J) (old new : Joined J)
   where
     abbrev calls : List Call
     calls = lane.calls.now
 
-    pub lane-used : HasRun given linker table (length lanes) calls lane → DrawsFew given calls (passes_of lane) →
+    pub lane-used : HasRun given linker tables (length lanes) calls lane → DrawsFew given calls (passes_of lane) →
         IsUsedBy given (length (calls_of lanes)) calls (passes_of lane)
     lane-used ran few = record {
       thread_is = ran.thread_is ∙ sym (length-map lanes (λ (l : Lane J). l.calls.now));
@@ -56,7 +59,8 @@ module _ {J : Type 0} (given : Given) (linker : LinkerView) (table : TableView) 
 
     -- what a lane whose calls were made to their end adds
     ends-done : (answers : List Answer) → Adds old lane new → new.threads ≡ old.threads ++ answers ∷ [] →
-        length (calls_of lanes) ≡ length (map passes_of lanes) → EndsSoFar given lanes old None → IsDoneBy given calls (passes_of lane) → HasAnswered given calls lane.links answers →
+        length (calls_of lanes) ≡ length (map passes_of lanes) → EndsSoFar given lanes old None →
+        IsDoneBy given calls (passes_of lane) → HasAnswered given calls lane.links answers →
         EndsSoFar given (lanes ++ lane ∷ []) new None
     ends-done answers adds pushed same before done answered = (
       subst (λ (ts : List (List Call)). AreDone given ts (map passes_of (lanes ++ lane ∷ []))) (sym (map_push (λ (l : Lane J). l.calls.now) lanes lane))
@@ -77,22 +81,26 @@ module _ {J : Type 0} (given : Given) (linker : LinkerView) (table : TableView) 
     )
 
     -- where a lane has ended with answers or without forms, it has drawn few numbers
-    pub few-drawn : (ended : Option ℕ) → EndedWith lane old.threads new.threads ended → EndsAs given calls (passes_of lane) lane.ran →
+    pub few-drawn : (ended : Option Full) → EndedWith lane old.threads new.threads ended → EndsAs given calls (passes_of lane) lane.ran →
         DrawsFew given calls (passes_of lane)
     few-drawn None ended ends = (subst (EndsAs given calls (passes_of lane)) ended.1 ends).0
-    few-drawn (Some drawn) ended ends = (subst (EndsAs given calls (passes_of lane)) ended.0 ends).0
+    few-drawn (Some (full.Forms drawn)) ended ends = (subst (EndsAs given calls (passes_of lane)) ended.0 ends).0
+    few-drawn (Some (full.Types bucket)) ended ends = subst (EndsAs given calls (passes_of lane)) ended.0 ends
 
-    pub ends-push : (full ended : Option ℕ) → EndedWith lane old.threads new.threads ended → length (calls_of lanes) ≡ length (map passes_of lanes) →
-        Adds old lane new → EndsAs given calls (passes_of lane) lane.ran → EndsSoFar given lanes old full →
-        EndsSoFar given (lanes ++ lane ∷ []) new (option_or full ended)
-    ends-push (Some drawn) ended how same adds ends before = over-old drawn adds before
-    ends-push None (Some drawn) how same adds ends before = over-lane drawn adds (subst (EndsAs given calls (passes_of lane)) how.0 ends).1
+    pub ends-push : (before ended : Option Full) → EndedWith lane old.threads new.threads ended → length (calls_of lanes) ≡ length (map passes_of lanes) →
+        Adds old lane new → EndsAs given calls (passes_of lane) lane.ran → EndsSoFar given lanes old before →
+        EndsSoFar given (lanes ++ lane ∷ []) new (option_or before ended)
+    ends-push (Some (full.Forms drawn)) ended how same adds ends before = over-old drawn adds before
+    ends-push (Some (full.Types bucket)) ended how same adds ends before = tt
+    ends-push None (Some (full.Forms drawn)) how same adds ends before =
+        over-lane drawn adds (subst (EndsAs given calls (passes_of lane)) how.0 ends).1
+    ends-push None (Some (full.Types bucket)) how same adds ends before = tt
     ends-push None None how same adds ends before =
         let told = subst (EndsAs given calls (passes_of lane)) how.1 ends in
         ends-done how.0 adds how.2 same before told.1 told.2
 
-    pub joined-push : AreJoinedSoFar given linker table count lanes old → HasRun given linker table (length lanes) calls lane → Adds old lane new →
-        AreJoinedSoFar given linker table count (lanes ++ lane ∷ []) new
+    pub joined-push : AreJoinedSoFar given linker tables count lanes old → HasRun given linker tables (length lanes) calls lane → Adds old lane new →
+        AreJoinedSoFar given linker tables count (lanes ++ lane ∷ []) new
     joined-push before ran adds =
         let few = few-drawn adds.full adds.ended ran.ends in
         let more : length (lanes ++ lane ∷ []) ≡ length lanes + 1 = length-append lanes (lane ∷ []) in
@@ -107,9 +115,13 @@ module _ {J : Type 0} (given : Given) (linker : LinkerView) (table : TableView) 
         let forms_more : new.forms.seat.room ≡ old.forms.seat.room + lane.forms.seat.room = ap (λ (s : forms.SeatView). s.room) adds.forms_seat_is in
         let forms_count : length new.forms.seat.numbers ≡ length old.forms.seat.numbers + length lane.forms.seat.numbers =
         ap length forms_numbers ∙ length-append old.forms.seat.numbers lane.forms.seat.numbers in
+        let types_more : new.types.room ≡ lane.types.room + old.types.room = ap (λ (s : types.SeatView). s.room) adds.types in
+        let types_count : length new.types.holds ≡ length lane.types.holds + length old.types.holds =
+        ap (λ (s : types.SeatView). length s.holds) adds.types ∙ length-append lane.types.holds old.types.holds in
         record {
           linker_is = adds.linker ∙ before.linker_is;
           table_is = adds.table ∙ before.table_is;
+          types_is = ap (λ (s : types.SeatView). s.table) adds.types ∙ before.types_is;
           used = subst (λ (ts : List (List Call)). AreUsed given ts (map passes_of (lanes ++ lane ∷ [])))
               (sym (map_push (λ (l : Lane J). l.calls.now) lanes lane))
               (subst (λ (ps : List ThreadPasses). AreUsed given (calls_of lanes ++ calls ∷ []) ps) (sym passes)
@@ -129,6 +141,9 @@ module _ {J : Type 0} (given : Given) (linker : LinkerView) (table : TableView) 
               ∙ sym (flat-push (λ (p : ThreadPasses). p.forms.seat.numbers) lanes lane));
           forms_room = omega (arith, before.forms_room, forms_more, forms_count, few.room, more);
           forms_known = adds.forms_known;
+          types_room = omega (arith, before.types_room, types_more, types_count, ran.types_whole, more);
+          types_held = just-joined given old.links.recorded lane.links.recorded new.links.recorded old.types lane.types new.types before.types_held
+              ran.types_held adds.links.recorded adds.types;
           ends = subst (EndsSoFar given (lanes ++ lane ∷ []) new) (sym adds.full_is)
               (ends-push old.full adds.full adds.ended (length-map lanes (λ (l : Lane J). l.calls.now) ∙ sym (length-map lanes passes_of)) adds ran.ends
               before.ends);

@@ -8,13 +8,14 @@ use Rattle.std.proofs.lemmas.List.Elements.{All-nil}
 use Rattle.std.proofs.lemmas.Map.Made.{length-from_keys}
 use Rattle.mh_edit.specs.declared.key.Key.{Key}
 use Rattle.mh_handle.specs.declared.answer.Answer.{Answer}
-use Rattle.mh_handle.specs.declared.error.EditError.{EditError}
-use Rattle.mh_handle.specs.declared.error.EditError.TheVariants.{NoMemory, FormsFull}
 use Rattle.mh_handle.specs.Index.{recipe_of}
 use Rattle.mh_handle.specs.Passes.{PassView, TableView}
 use Rattle.mh_handle.specs.SameRecipes.{same_recipe}
 use Rattle.mh_handle.proofs.SameRecipes.{same_recipe-equivalence}
 use Rattle.mh_jobs.specs.Given.{Given}
+use Rattle.mh_attempt.specs.declared.error.WorkError.{WorkError}
+use Rattle.mh_attempt.specs.declared.error.WorkError.TheVariants.{NoMemory, FormsFull, TypesFull}
+use Rattle.mh_attempt.proofs.AskedAfter.{asked-drawn}
 use Rattle.mh_attempt.specs.Asked.{DrawsWithin, HasAsked, HasDrawn, asked_recipes}
 use Rattle.mh_plan.specs.declared.attempt.Attempt.{Attempt}
 use Rattle.mh_plan.specs.declared.call.Call.{Call}
@@ -25,7 +26,10 @@ use Rattle.mh_runtime.specs.declared.lane.Lane.{Lane}
 use Rattle.mh_runtime.specs.Asking.{RunsOn, run_edits}
 use Rattle.mh_runtime.specs.Attempts.{AreLinked, AttemptsMore, GoesOnLinking, IsThreadRun}
 use Rattle.mh_runtime.specs.Keys.{thread_keys}
-use Rattle.mh_runtime.specs.Lanes.{CanRun, EndsAs, HasRun, fresh_forms, fresh_links, passes_of}
+use Rattle.mh_runtime.specs.Lanes.{CanRun, EndsAs, HasRun, Tables, fresh_forms, fresh_links, passes_of}
+use Rattle.mh_runtime.specs.Linking.{HoldsRecorded}
+use Rattle.mh_intern.specs.Views.{SeatView}
+use Rattle.mh_runtime.proofs.SeatTypes.{just-recorded}
 use Rattle.mh_runtime.specs.Passes.{HasSerials, LinkPass, LinkerView, split_room}
 
 -- ---- passes that have learnt nothing
@@ -53,22 +57,14 @@ asked-fresh given table = record { once = none-apart; same = λ recipe. refl }
 
 -- ---- how calls end
 
--- no more numbers were drawn than the recipes differ that were asked for
-asked-drawn : (whole : ℕ) (recipes : List (List Key)) (pass : PassView) → HasAsked recipes pass → DrawsWithin whole pass → HasDrawn whole recipes pass
-asked-drawn whole recipes pass asked within =
-    let counted : length (asked_recipes pass) ≡ distinct_count same_recipe recipes =
-    length-from_keys same_recipe-equivalence (asked_recipes pass) recipes asked.once asked.same in
-    let all : length (asked_recipes pass) ≡ length pass.asked = length-map pass.asked recipe_of in
-    record { few = omega (arith, within.few, counted, all); room = within.room }
-
 module _ (given : Given) (calls : List Call) where
   -- what calls gave, whose sites are linked where they were made to their end
-  pub record Gave (links : LinkPass) (r : Result (List Answer) EditError) : Type 0 where
+  pub record Gave (links : LinkPass) (r : Result (List Answer) WorkError) : Type 0 where
     pub linked : OnOk r (AreLinked links.linked (flat_map sites_named calls))
     pub results : (table : Serials) → HasSerials links.linked table → IfOk r (λ answers. thread_said answers ≡ thread_results given table calls)
     pub keys : (table : Serials) → HasSerials links.linked table → IfOk r (λ answers. thread_keys_said answers ≡ thread_keys given table calls)
 
-  ends-as : (table : TableView) (links : LinkPass) (forms : PassView) (r : Result (List Answer) EditError) → Gave links r →
+  ends-as : (table : TableView) (links : LinkPass) (forms : PassView) (r : Result (List Answer) WorkError) → Gave links r →
       RunsOn given [] links.attempts (thread_edits given.leaves calls) (fresh_forms table) forms r →
       EndsAs given calls (record { links = links; forms = forms }) (Some r)
   ends-as table links forms (Ok answers) gave runs =
@@ -80,16 +76,18 @@ module _ (given : Given) (calls : List Call) where
       )
   ends-as table links forms (Err (FormsFull drawn)) gave runs =
       (runs.0 split_room (within-fresh table) [] (asked-fresh given table), runs.1)
+  ends-as table links forms (Err (TypesFull bucket)) gave runs = runs split_room (within-fresh table) [] (asked-fresh given table)
   ends-as table links forms (Err NoMemory) gave runs = tt
 
 -- a lane that could be run has run
-pub has-run : {J : Type 0} (given : Given) (linker : LinkerView) (table : TableView) (before after : Lane J) (serials : ℕ)
-    (r : Result (List Answer) EditError) → CanRun given linker table before → after.ran ≡ Some r → GoesOnLinking serials before.links after.links →
-    after.forms.table ≡ before.forms.table → AttemptsMore (flat_map sites_named before.calls.now) before.links after.links →
+pub has-run : {J : Type 0} (given : Given) (linker : LinkerView) (tables : Tables) (before after : Lane J) (serials : ℕ)
+    (r : Result (List Answer) WorkError) → CanRun given linker tables before → after.ran ≡ Some r → GoesOnLinking serials before.links after.links →
+    after.forms.table ≡ before.forms.table → HoldsRecorded given before.links.recorded after.links.recorded before.types after.types →
+    AttemptsMore (flat_map sites_named before.calls.now) before.links after.links →
     Gave given before.calls.now after.links r →
     RunsOn given before.links.attempts after.links.attempts (thread_edits given.leaves before.calls.now) before.forms after.forms r →
-    HasRun given linker table before.links.thread before.calls.now after
-has-run given linker table before after serials r can ran goes same attempts gave runs =
+    HasRun given linker tables before.links.thread before.calls.now after
+has-run given linker tables before after serials r can ran goes same holds attempts gave runs =
     let calls : List Call = before.calls.now in
     let fresh : IsThreadRun [] before.links =
     subst (IsThreadRun []) (sym can.links) (run-fresh linker (length given.jobs) before.links.thread) in
@@ -101,8 +99,12 @@ has-run given linker table before after serials r can ran goes same attempts gav
       thread_is = goes.thread;
       run = attempts [] (All-nil (λ site. IsSome (serial_at before.links.linked site))) fresh;
       whole = omega (arith, goes.whole, room);
+      types_is = holds.table ∙ ap (λ (s : SeatView). s.table) can.types_are;
+      types_whole = holds.whole ∙ ap (λ (s : SeatView). s.room + length s.holds) can.types_are;
+      types_held = just-recorded given after.links.recorded before.types after.types (ap (λ (s : SeatView). s.holds) can.types_are)
+          (subst (λ (p : LinkPass). HoldsRecorded given p.recorded after.links.recorded before.types after.types) can.links holds);
       ends = subst (EndsAs given calls (passes_of after)) (sym ran)
-          (ends-as given calls table after.links after.forms r gave
+          (ends-as given calls tables.forms after.links after.forms r gave
           (subst (λ (p : PassView). RunsOn given [] after.links.attempts (thread_edits given.leaves calls) p after.forms r) can.forms_are
           (subst (λ (p : LinkPass). RunsOn given p.attempts after.links.attempts (thread_edits given.leaves calls) before.forms after.forms r) can.links
           runs)));

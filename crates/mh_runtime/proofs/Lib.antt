@@ -3,7 +3,6 @@ pub mod Counted
 pub mod Crossing
 pub mod Distinct
 pub mod ForkedLanes
-pub mod HeldHandles
 pub mod HeldTypes
 pub mod Items
 pub mod JoinedForms
@@ -33,11 +32,10 @@ pub mod RunLedger
 pub mod RunSteps
 pub mod RunningAttempts
 pub mod RunningCalls
+pub mod SeatTypes
 pub mod Serials
 pub mod SiteSerials
 pub mod Sites
 pub mod ThreadRuns
 pub mod ThreadSteps
-pub mod TypeNumbers
-pub mod TypeSets
 pub mod WholeJoin

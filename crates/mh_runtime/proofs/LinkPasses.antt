@@ -1,15 +1,12 @@
 -- What a pass over the call sites keeps.
-use Rattle.std.proofs.Common.{◌≡◌, sym, ap, ◌∙◌, subst, ℕ, ◌+◌, ◌<◌, List, [], ◌∷◌, ◌++◌, length, Some}
+use Rattle.std.proofs.Common.{◌≡◌, sym, ap, ◌∙◌, subst, ℕ, ◌<◌, List, [], ◌∷◌, ◌++◌, length, Some}
 use Rattle.std.specs.Prelude.{Contains}
 use Rattle.std.proofs.lemmas.List.Elements.{All-append, All-push, All-weaker, Contains-append_left, Contains-append_right}
-use Rattle.std.proofs.lemmas.List.Sums.{sum_by_push}
 use Rattle.mh_setonce.specs.Views.{WalkView}
 use Rattle.mh_jobs.specs.Given.{Given}
-use Rattle.mh_link.specs.Sites.{linked_at}
-use Rattle.mh_attempt.specs.Linkage.{LinkageView, target_count}
+use Rattle.mh_attempt.specs.Linkage.{LinkageView}
 use Rattle.mh_plan.specs.declared.attempt.Attempt.{Attempt}
 use Rattle.mh_plan.specs.Results.{serial_at}
-use Rattle.mh_runtime.specs.Linking.{targets_held}
 use Rattle.mh_runtime.specs.Passes.{HasSerials, IsLinkageOf, IsLinkPass, IsRecorded, attempt_of, linked_by}
 
 module _ (given : Given) (walks walks' : List (WalkView LinkageView)) (attempts recorded : List Attempt)
@@ -60,9 +57,3 @@ pass-begins given walks attempts recorded a is low = record {
   recorded_are = All-weaker (IsRecorded (linked_by walks) attempts) (IsRecorded (linked_by walks) (attempts ++ a ∷ []))
       (λ b r. (Contains-append_left attempts (a ∷ []) b r.0, r.1)) recorded is.recorded_are;
 }
-
--- the target of one more linkage is held
-pub held-push : (given : Given) (recorded recorded' : List Attempt) (a : Attempt) → recorded' ≡ recorded ++ a ∷ [] →
-    targets_held given recorded' ≡ targets_held given recorded + target_count (linked_at given a.site a.serial)
-held-push given recorded recorded' a more =
-    ap (targets_held given) more ∙ sum_by_push (λ (x : Attempt). target_count (linked_at given x.site x.serial)) recorded a

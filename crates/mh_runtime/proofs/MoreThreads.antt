@@ -6,6 +6,7 @@ use Rattle.mh_handle.specs.Passes.{TableView}
 use Rattle.mh_jobs.specs.Given.{Given}
 use Rattle.mh_plan.specs.declared.call.Call.{Call}
 use Rattle.mh_plan.specs.Limits.{calls_in}
+use Rattle.mh_runtime.specs.Lanes.{Tables}
 use Rattle.mh_runtime.specs.declared.lane.Lane.{Lane}
 use Rattle.mh_runtime.specs.Joined.{AreDone, AreUsed, IsDoneBy, IsUsedBy, ThreadPasses}
 use Rattle.mh_runtime.specs.Joining.{AreFresh, IsFreshFor}
@@ -51,12 +52,12 @@ done-push given threads all calls p same done one = each-push (λ thread calls p
 
 -- ---- lanes
 
-pub fresh-push : {J : Type 0} (given : Given) (linker : LinkerView) (table : TableView) (threads : List (List Call)) (lanes : List (Lane J))
-    (calls : List Call) (lane : Lane J) → AreFresh given linker table threads lanes → IsFreshFor given linker table (length threads) calls lane →
-    AreFresh given linker table (threads ++ calls ∷ []) (lanes ++ lane ∷ [])
-fresh-push given linker table threads lanes calls lane fresh one = record {
+pub fresh-push : {J : Type 0} (given : Given) (linker : LinkerView) (tables : Tables) (threads : List (List Call)) (lanes : List (Lane J))
+    (calls : List Call) (lane : Lane J) → AreFresh given linker tables threads lanes → IsFreshFor given linker tables (length threads) calls lane →
+    AreFresh given linker tables (threads ++ calls ∷ []) (lanes ++ lane ∷ [])
+fresh-push given linker tables threads lanes calls lane fresh one = record {
   count = one-longer threads lanes calls lane fresh.count;
-  each = each-push (λ thread calls lane. IsFreshFor given linker table thread calls lane) threads lanes calls lane fresh.count fresh.each one;
+  each = each-push (λ thread calls lane. IsFreshFor given linker tables thread calls lane) threads lanes calls lane fresh.count fresh.each one;
 }
 
 -- no thread makes more calls than all together

@@ -1,5 +1,7 @@
 -- The report of a run, from what its parts tell.
-use Rattle.std.proofs.Common.{◌≡◌, sym, ◌∙◌, ap, subst, ℕ, ◌<◌, List, length, map, None, Some}
+use Rattle.std.proofs.Common.{◌≡◌, sym, ◌∙◌, ap, subst, ℕ, ◌<◌, List, length, map, None, Some, arith}
+use Rattle.std.specs.Prelude.{All, Contains}
+use Rattle.std.proofs.lemmas.List.Elements.{All-contains}
 use Rattle.std.specs.List.Sorted.{IsNonDecreasingBy, IsPermutation}
 use Rattle.mh_handle.specs.Passes.{TableView}
 use Rattle.mh_jobs.specs.Given.{Given}
@@ -8,19 +10,21 @@ use Rattle.mh_plan.specs.declared.attempt.Attempt.{Attempt}
 use Rattle.mh_plan.specs.declared.call.Call.{Call}
 use Rattle.mh_plan.specs.Forms.{draws_needed}
 use Rattle.mh_plan.specs.Recorded.{recorded, serials_of, types}
-use Rattle.mh_plan.specs.Results.{Serials, keys_said, results_of, results_said}
+use Rattle.mh_plan.specs.Results.{Serials, keys_said, results_of, results_said, serial_at}
+use Rattle.mh_runtime.specs.declared.joining.Full.TheVariants as full_table
 use Rattle.mh_runtime.specs.declared.joining.Joined.{Joined}
 use Rattle.mh_runtime.specs.declared.lane.Lane.{Lane}
-use Rattle.mh_runtime.specs.declared.running.RunReport.{RunReport}
+use Rattle.mh_runtime.specs.declared.running.Linked.{Linked}
 use Rattle.mh_runtime.specs.Attempts.{AreRecorded}
 use Rattle.mh_runtime.specs.Joined.{AreDone, AreUsed, edits_of}
 use Rattle.mh_runtime.specs.Joining.{AreAllJoined, AreJoinedSoFar, IsJoinedRun, calls_of}
 use Rattle.mh_runtime.specs.Keys.{plan_keys}
-use Rattle.mh_runtime.specs.Lanes.{passes_of}
-use Rattle.mh_runtime.specs.Passes.{LinkerView}
-use Rattle.mh_runtime.specs.Report.{IsReport}
+use Rattle.mh_runtime.specs.Lanes.{Tables, passes_of}
+use Rattle.mh_runtime.specs.Passes.{IsRecorded, LinkerView}
+use Rattle.mh_runtime.specs.Report.{IsLinkedRun}
 use Rattle.mh_runtime.proofs.Counted.{forms-asked}
 use Rattle.mh_runtime.proofs.ForkedLanes.{all-calls}
+use Rattle.mh_runtime.proofs.HeldTypes.{held-types}
 use Rattle.mh_runtime.proofs.Numbers.{sorted-in_order}
 use Rattle.mh_runtime.proofs.RecordedSites.{serials-recorded}
 use Rattle.mh_runtime.proofs.RunLedger.{run-ledger}
@@ -28,34 +32,34 @@ use Rattle.mh_runtime.proofs.ThreadSteps.{serials-self}
 use Rattle.mh_runtime.proofs.WholeJoin.{joined-all, joined-full}
 
 -- what the parts of a report tell of the joined passes
-pub record TellsRun {J : Type 0} (given : Given) (joined : Joined J) (run : RunReport) : Type 0 where
+pub record TellsRun {J : Type 0} (given : Given) (joined : Joined J) (run : Linked) : Type 0 where
   pub threads : run.threads ≡ joined.threads
   pub table : run.table ≡ recorded given joined.links.linked
   pub entries : length joined.links.linked ≡ length given.jobs
   pub own : AreRecorded joined.links joined.links.linked
-  pub types_are : run.types ≡ types given joined.links.linked
+  pub linked_are : All (IsRecorded joined.links.linked joined.links.attempts) joined.links.recorded
   pub forms_are : run.forms ≡ length joined.forms.asked
   pub same : IsPermutation joined.links.attempts run.attempts
   pub rising : IsNonDecreasingBy (λ (a : Attempt). a.serial) run.attempts
 
-module _ {J : Type 0} (given : Given) (linker : LinkerView) (table : TableView) (plan : List (List Call)) (joined : Joined J)
-    (all : AreAllJoined given linker table plan joined) where
+module _ {J : Type 0} (given : Given) (linker : LinkerView) (tables : Tables) (plan : List (List Call)) (joined : Joined J)
+    (all : AreAllJoined given linker tables plan joined) where
   abbrev lanes : List (Lane J)
   lanes = all.1
 
   calls_are : calls_of lanes ≡ plan
-  calls_are = all-calls given linker table plan all.0 lanes joined all.2 all.3
+  calls_are = all-calls given linker tables plan all.0 lanes joined all.2 all.3
 
-  so_far : AreJoinedSoFar given linker table (length lanes) lanes joined
-  so_far = subst (λ n. AreJoinedSoFar given linker table n lanes joined) (sym all.3) all.2.so_far
+  so_far : AreJoinedSoFar given linker tables (length lanes) lanes joined
+  so_far = subst (λ n. AreJoinedSoFar given linker tables n lanes joined) (sym all.3) all.2.so_far
 
   -- a thread had no form left
-  pub full-run : (drawn : ℕ) → joined.full ≡ Some drawn → 16384 < draws_needed given plan
-  full-run drawn some = subst (λ threads. 16384 < draws_needed given threads) calls_are (joined-full given linker table lanes joined drawn some so_far)
+  pub full-run : (drawn : ℕ) → joined.full ≡ Some (full_table.Forms drawn) → 16384 < draws_needed given plan
+  full-run drawn some = subst (λ threads. 16384 < draws_needed given threads) calls_are (joined-full given linker tables lanes joined drawn some so_far)
 
-  module _ (run : RunReport) (none : joined.full ≡ None) (tells : TellsRun given joined run) where
+  module _ (run : Linked) (none : joined.full ≡ None) (tells : TellsRun given joined run) where
     whole : IsJoinedRun given lanes joined
-    whole = joined-all given linker table lanes joined none so_far
+    whole = joined-all given linker tables lanes joined none so_far
 
     serials : joined.links.linked ≡ serials_of run.table
     serials = sym (ap serials_of tells.table ∙ serials-recorded given joined.links.linked)
@@ -63,7 +67,15 @@ module _ {J : Type 0} (given : Given) (linker : LinkerView) (table : TableView) 
     used : AreUsed given plan (map passes_of lanes)
     used = subst (λ threads. AreUsed given threads (map passes_of lanes)) calls_are whole.used
 
-    pub report-of : IsReport given plan run
+    -- each linked serial is that of a recorded attempt, and of such an attempt alone
+    own : (site serial : ℕ) → serial_at joined.links.linked site ≡ Some serial →
+        (a : Attempt) × Contains joined.links.recorded a × (a.serial ≡ serial) × (a.site ≡ site)
+    own site serial at = let a = tells.own site serial at in (a.0, a.1, a.3, a.4)
+
+    linked : (a : Attempt) → Contains joined.links.recorded a → serial_at joined.links.linked a.site ≡ Some a.serial
+    linked a there = (All-contains (IsRecorded joined.links.linked joined.links.attempts) joined.links.recorded a tells.linked_are there).1
+
+    pub report-of : IsLinkedRun given plan tables.types run joined.types
     report-of = record {
       ledger = run-ledger given plan (map passes_of lanes) joined.links run.attempts run.table used
           (subst (λ threads. AreDone given threads (map passes_of lanes)) calls_are whole.done) whole.links tells.table tells.entries tells.own tells.same
@@ -79,5 +91,8 @@ module _ {J : Type 0} (given : Given) (linker : LinkerView) (table : TableView) 
           ∙ forms-asked given plan (map passes_of lanes) joined.links run.attempts whole.links
           (sorted-in_order given plan (map passes_of lanes) used joined.links run.attempts whole.links tells.same tells.rising) joined.forms
           (subst (λ threads. HasAsked (edits_of given threads (map passes_of lanes)) joined.forms) calls_are whole.asked);
-      types_are = tells.types_are ∙ ap (types given) serials;
+      seat_is = so_far.types_is;
+      whole = omega (arith, so_far.types_room);
+      held = held-types given joined.links.recorded joined.links.linked joined.types.holds so_far.types_held own linked
+          ∙ ap (types given) serials;
     }

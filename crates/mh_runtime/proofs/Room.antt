@@ -53,6 +53,8 @@ module _ {X : Type 0} (each : X → ℕ) (all : List X → ℕ) (draw : Draw eac
       record {
         of_table = goes.table ∙ (ready.of_table ∙ ap (λ forms. forms.now) (sym goes.forms));
         room = omega (arith, next, within_all, ready.room, goes.room);
+        of_types = goes.seat ∙ (ready.of_types ∙ ap (λ types. types.now) (sym goes.types));
+        holds = omega (arith, next, within_all, ready.holds, goes.holds);
       }
 
   -- after the next item

@@ -2,8 +2,8 @@
 use Rattle.std.proofs.Common.{◌≡◌, sym, subst, List, [], ◌++◌, append-nil, append_assoc, Result, Ok, Err}
 use Rattle.std.specs.Prelude.{IsErrAnd}
 use Rattle.mh_edit.specs.declared.key.Key.{Key}
-use Rattle.mh_handle.specs.declared.error.EditError.{EditError}
-use Rattle.mh_handle.specs.declared.error.EditError.TheVariants.{NoMemory, FormsFull}
+use Rattle.mh_attempt.specs.declared.error.WorkError.{WorkError}
+use Rattle.mh_attempt.specs.declared.error.WorkError.TheVariants.{NoMemory, FormsFull, TypesFull}
 use Rattle.mh_handle.specs.Passes.{PassView}
 use Rattle.mh_jobs.specs.Given.{Given}
 use Rattle.mh_attempt.specs.Asked.{HasAsked}
@@ -39,12 +39,13 @@ module _ (given : Given) where
         (among-first ((edits ++ first) ++ second) more))))
         (out whole (x.within whole within) (edits ++ first) (x.asked edits has))
 
-    pub stops-second : (more : List (List Key)) (e : EditError) → RunStops given b c second mid new e → RunStops given a c ((first ++ second) ++ more) old new e
+    pub stops-second : (more : List (List Key)) (e : WorkError) → RunStops given b c second mid new e → RunStops given a c ((first ++ second) ++ more) old new e
     stops-second more NoMemory stopped = tt
     stops-second more (FormsFull drawn) stopped = (out-second more stopped.0, stopped.1)
+    stops-second more (TypesFull bucket) stopped = out-second more stopped
 
   -- an error that is handed on
-  pub stops-run : {A : Type 0} (a b : List Attempt) (more : List (List Key)) (old new : PassView) (e : EditError) (r : Result A EditError) →
+  pub stops-run : {A : Type 0} (a b : List Attempt) (more : List (List Key)) (old new : PassView) (e : WorkError) (r : Result A WorkError) →
       IsErrAnd r (λ x. x ≡ e) → RunStops given a b more old new e → RunsOn given a b more old new r
   stops-run a b more old new e (Ok x) is stopped = absurd is
   stops-run a b more old new e (Err x) is stopped = subst (RunStops given a b more old new) (sym is) stopped

@@ -3,8 +3,8 @@ use Rattle.std.proofs.Common.{◌≡◌, sym, ◌∙◌, ap, ℕ, subst, List, [
 use Rattle.std.specs.List.{flat_map}
 use Rattle.std.proofs.lemmas.Grind.{flat_map-append}
 use Rattle.mh_edit.specs.declared.key.Key.{Key}
-use Rattle.mh_handle.specs.declared.error.EditError.{EditError}
-use Rattle.mh_handle.specs.declared.error.EditError.TheVariants.{NoMemory, FormsFull}
+use Rattle.mh_attempt.specs.declared.error.WorkError.{WorkError}
+use Rattle.mh_attempt.specs.declared.error.WorkError.TheVariants.{NoMemory, FormsFull, TypesFull}
 use Rattle.mh_handle.specs.declared.work.Work.{Work}
 use Rattle.mh_handle.specs.Passes.{PassView}
 use Rattle.mh_handle.specs.Recipe.{recipe}
@@ -98,9 +98,11 @@ module _ (given : Given) where
     attempt-runs made asks =
         runs-attempt attempts a old.pass.now new.pass.now (subst (λ rs. Asks rs old new (Ok made)) same-edits asks)
 
-    pub attempt-stops : (A : Type 0) (e : EditError) → Asks {A = A} (edits_at (recipe given.leaves) given site a.serial) old new (Err e) →
+    pub attempt-stops : (A : Type 0) (e : WorkError) → Asks {A = A} (edits_at (recipe given.leaves) given site a.serial) old new (Err e) →
         RunStops given attempts (attempts ++ a ∷ []) [] old.pass.now new.pass.now e
     attempt-stops A NoMemory asks = tt
     attempt-stops A (FormsFull drawn) asks =
         let full = subst (λ rs. Asks {A = A} rs old new (Err (FormsFull drawn))) same-edits asks in
         (out-attempt attempts a old.pass.now new.pass.now full.0, full.1)
+    attempt-stops A (TypesFull bucket) asks =
+        out-attempt attempts a old.pass.now new.pass.now (subst (λ rs. Asks {A = A} rs old new (Err (TypesFull bucket))) same-edits asks)

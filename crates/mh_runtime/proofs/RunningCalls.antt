@@ -2,8 +2,8 @@
 use Rattle.std.proofs.Common.{subst, List, Result, Ok, Err, append_assoc}
 use Rattle.std.specs.List.{flat_map}
 use Rattle.mh_edit.specs.declared.key.Key.{Key}
-use Rattle.mh_handle.specs.declared.error.EditError.{EditError}
-use Rattle.mh_handle.specs.declared.error.EditError.TheVariants.{NoMemory, FormsFull}
+use Rattle.mh_attempt.specs.declared.error.WorkError.{WorkError}
+use Rattle.mh_attempt.specs.declared.error.WorkError.TheVariants.{NoMemory, FormsFull, TypesFull}
 use Rattle.mh_handle.specs.declared.work.Work.{Work}
 use Rattle.mh_handle.specs.Passes.{PassView}
 use Rattle.mh_jobs.specs.Given.{Given}
@@ -27,8 +27,9 @@ module _ (given : Given) where
       subst (λ rs. HasDrawn whole rs new) (append_assoc (flat_map (attempt_edits given) attempts) edits more)
       (stopped whole within (run_edits given attempts edits) has)
 
-  pub call-runs : {A : Type 0} (attempts : List Attempt) (more : List (List Key)) (old new : Work) (r : Result A EditError) → Asks more old new r →
+  pub call-runs : {A : Type 0} (attempts : List Attempt) (more : List (List Key)) (old new : Work) (r : Result A WorkError) → Asks more old new r →
       RunsOn given attempts attempts more old.pass.now new.pass.now r
   call-runs attempts more old new (Ok a) asks = runs-call attempts more old.pass.now new.pass.now asks
   call-runs attempts more old new (Err NoMemory) asks = tt
   call-runs attempts more old new (Err (FormsFull drawn)) asks = (out-call attempts more old.pass.now new.pass.now asks.0, asks.1)
+  call-runs attempts more old new (Err (TypesFull bucket)) stopped = out-call attempts more old.pass.now new.pass.now stopped

@@ -9,16 +9,20 @@ use Rattle.mh_handle.specs.Passes.{PassView, TableView, pass_at as forms_at}
 use Rattle.mh_handle.specs.Seats as forms
 use Rattle.mh_tickets.specs.Draws.{EachOnce, once_up_to}
 use Rattle.mh_seats.specs.Room.{limit, times}
+use Rattle.mh_intern.specs.Held.{on_type, times_type}
+use Rattle.mh_intern.specs.Views.{SeatView}
 use Rattle.mh_jobs.specs.Given.{Given}
 use Rattle.mh_attempt.specs.Asked.{HasAsked}
 use Rattle.mh_plan.specs.declared.call.Call.{Call}
 use Rattle.mh_plan.specs.Forms.{draws_needed}
 use Rattle.mh_plan.specs.Results.{keys_said, results_said}
+use Rattle.mh_runtime.specs.declared.joining.Full.TheVariants as full_table
 use Rattle.mh_runtime.specs.declared.joining.Joined.{Joined}
 use Rattle.mh_runtime.specs.declared.lane.Lane.{Lane}
 use Rattle.mh_runtime.specs.Joined.{AreFormsJoined, AreJoined, ThreadPasses}
-use Rattle.mh_runtime.specs.Joining.{AreForked, AreFresh, AreJoinedSoFar, AreJoinedTo, EndsSoFar, IsJoinedRun, IsUnused, IsUnusedForms, calls_of}
-use Rattle.mh_runtime.specs.Lanes.{passes_of}
+use Rattle.mh_runtime.specs.Joining.{IsUnusedTypes, AreForked, AreFresh, AreJoinedSoFar, AreJoinedTo, EndsSoFar, IsJoinedRun, IsUnused, IsUnusedForms, calls_of}
+use Rattle.mh_runtime.specs.Lanes.{Tables, passes_of}
+use Rattle.mh_runtime.specs.Linking.{types_held}
 use Rattle.mh_runtime.specs.Passes.{HasSerials, LinkPass, LinkerView, split_room}
 use Rattle.mh_runtime.proofs.JoinedForms.{asked-edits}
 use Rattle.mh_runtime.proofs.Needed.{full}
@@ -39,13 +43,15 @@ none-asked : (table : TableView) (room : ℕ) → HasAsked [] (forms_at table (f
 unfolding IsDistinct
 none-asked table room = record { once = tt; same = λ recipe. refl }
 
-module _ {J : Type 0} (given : Given) (linker : LinkerView) (table : TableView) where
+module _ {J : Type 0} (given : Given) (linker : LinkerView) (tables : Tables) where
   none-so_far : (count : ℕ) (joined : Joined J) → IsUnused given linker joined.links → joined.links.seat.room + split_room * count ≡ limit →
-      IsUnusedForms table joined.forms → joined.forms.seat.room + split_room * count ≡ limit → joined.threads ≡ [] → joined.full ≡ None →
-      AreJoinedSoFar {J = J} given linker table count [] joined
-  none-so_far count joined links links_room forms_are forms_room none full = record {
+      IsUnusedForms tables.forms joined.forms → joined.forms.seat.room + split_room * count ≡ limit → IsUnusedTypes tables.types joined.types →
+      joined.types.room + split_room * count ≡ limit → joined.threads ≡ [] → joined.full ≡ None →
+      AreJoinedSoFar {J = J} given linker tables count [] joined
+  none-so_far count joined links links_room forms_are forms_room types_are types_room none full = record {
     linker_is = ap (λ (p : LinkPass). p.linker) links;
     table_is = ap (λ (p : PassView). p.table) forms_are;
+    types_is = ap (λ (s : SeatView). s.table) types_are;
     used = record { count = refl; each = λ thread calls passes is there. absurd cc };
     attempts = ap (λ (p : LinkPass). p.attempts) links;
     numbers = ap (λ (p : LinkPass). p.seat.numbers) links;
@@ -55,27 +61,31 @@ module _ {J : Type 0} (given : Given) (linker : LinkerView) (table : TableView) 
     forms_numbers = ap (λ (p : PassView). p.seat.numbers) forms_are;
     forms_room = let no : length joined.forms.seat.numbers ≡ 0 = ap (λ (p : PassView). length p.seat.numbers) forms_are in omega (arith, no, forms_room);
     forms_known = λ all. subst EachOnce (sym (ap (λ (p : PassView). p.seat.numbers) forms_are)) none-once;
+    types_room = let no : length joined.types.holds ≡ 0 = ap (λ (s : SeatView). length s.holds) types_are in omega (arith, no, types_room);
+    types_held = λ t.
+        ap (λ (s : SeatView). on_type t s.holds) types_are ∙ sym (ap (λ (p : LinkPass). times_type t (types_held given p.recorded)) links);
     ends = subst (EndsSoFar {J = J} given [] joined) (sym full) (
       (λ thread calls passes is there. absurd cc),
-      subst (HasAsked []) (sym forms_are) (none-asked table joined.forms.seat.room),
+      subst (HasAsked []) (sym forms_are) (none-asked tables.forms joined.forms.seat.room),
       (λ t has. ap results_said none),
       (λ t has. ap keys_said none),
     );
   }
 
   -- all lanes were forked off, and none was joined yet
-  pub joined-none : (threads : List (List Call)) (joined : Joined J) (lanes : List (Lane J)) → AreForked given linker table threads joined lanes →
-      length lanes ≡ length threads → AreJoinedTo given linker table threads lanes [] joined
+  pub joined-none : (threads : List (List Call)) (joined : Joined J) (lanes : List (Lane J)) → AreForked given linker tables threads joined lanes →
+      length lanes ≡ length threads → AreJoinedTo given linker tables threads lanes [] joined
   joined-none threads joined lanes forked same = record {
-    fresh = subst (λ ts. AreFresh given linker table ts lanes)
+    fresh = subst (λ ts. AreFresh given linker tables ts lanes)
         (ap (λ n. take n threads) same ∙ take_all (length threads) threads (omega arith)) forked.lanes_are;
     calls = refl;
     so_far = none-so_far (length threads) joined forked.links (ap (λ n. joined.links.seat.room + split_room * n) (sym same) ∙ forked.links_room) forked.forms
-        (ap (λ n. joined.forms.seat.room + split_room * n) (sym same) ∙ forked.forms_room) forked.nothing.0 forked.nothing.1;
+        (ap (λ n. joined.forms.seat.room + split_room * n) (sym same) ∙ forked.forms_room) forked.types
+        (ap (λ n. joined.types.room + split_room * n) (sym same) ∙ forked.types_room) forked.nothing.0 forked.nothing.1;
   }
 
   module _ (lanes : List (Lane J)) (joined : Joined J) where
-    links-joined : AreJoinedSoFar given linker table (length lanes) lanes joined → AreJoined (map passes_of lanes) joined.links
+    links-joined : AreJoinedSoFar given linker tables (length lanes) lanes joined → AreJoined (map passes_of lanes) joined.links
     links-joined all = record {
       attempts = all.attempts;
       numbers = all.numbers;
@@ -83,11 +93,11 @@ module _ {J : Type 0} (given : Given) (linker : LinkerView) (table : TableView) 
       each_once = all.links_known (let room = all.links_room in omega (arith, room));
     }
 
-    forms-joined : AreJoinedSoFar given linker table (length lanes) lanes joined → AreFormsJoined (map passes_of lanes) joined.forms
+    forms-joined : AreJoinedSoFar given linker tables (length lanes) lanes joined → AreFormsJoined (map passes_of lanes) joined.forms
     forms-joined all = record { numbers = all.forms_numbers; each_once = all.forms_known (let room = all.forms_room in omega (arith, room)) }
 
     -- each lane has made its calls to their end
-    pub joined-all : joined.full ≡ None → AreJoinedSoFar given linker table (length lanes) lanes joined → IsJoinedRun given lanes joined
+    pub joined-all : joined.full ≡ None → AreJoinedSoFar given linker tables (length lanes) lanes joined → IsJoinedRun given lanes joined
     joined-all none all = let ends = subst (EndsSoFar given lanes joined) none all.ends in record {
       used = all.used;
       done = ends.0;
@@ -99,7 +109,7 @@ module _ {J : Type 0} (given : Given) (linker : LinkerView) (table : TableView) 
     }
 
     -- a lane has stopped for want of forms
-    pub joined-full : (drawn : ℕ) → joined.full ≡ Some drawn → AreJoinedSoFar given linker table (length lanes) lanes joined →
+    pub joined-full : (drawn : ℕ) → joined.full ≡ Some (full_table.Forms drawn) → AreJoinedSoFar given linker tables (length lanes) lanes joined →
         16384 < draws_needed given (calls_of lanes)
     joined-full drawn some all =
         let over = subst (EndsSoFar given lanes joined) some all.ends in

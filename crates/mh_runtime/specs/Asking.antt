@@ -2,10 +2,10 @@
 use Rattle.std.specs.Prelude.{ℕ, ◌*◌, List, ◌++◌, length, Result, Ok, Err}
 use Rattle.std.specs.List.{flat_map}
 use Rattle.mh_edit.specs.declared.key.Key.{Key}
-use Rattle.mh_handle.specs.declared.error.EditError.{EditError}
-use Rattle.mh_handle.specs.declared.error.EditError.TheVariants.{NoMemory, FormsFull}
 use Rattle.mh_handle.specs.Passes.{PassView}
 use Rattle.mh_jobs.specs.Given.{Given}
+use Rattle.mh_attempt.specs.declared.error.WorkError.{WorkError}
+use Rattle.mh_attempt.specs.declared.error.WorkError.TheVariants.{NoMemory, FormsFull, TypesFull}
 use Rattle.mh_attempt.specs.Asked.{DrawsWithin, HasAsked, HasDrawn, IsOver}
 use Rattle.mh_plan.specs.declared.attempt.Attempt.{Attempt}
 use Rattle.mh_plan.specs.declared.call.Call.{Call}
@@ -44,18 +44,20 @@ HasRunOut given before after more old new =
     (whole : ℕ) → DrawsWithin whole old → (edits : List (List Key)) → HasAsked (run_edits given before edits) old
     → HasDrawn whole (run_edits given after (edits ++ more)) new
 
--- what is known where calls stopped: for want of forms with a number that is no form's
-abbrev pub RunStops : Given → List Attempt → List Attempt → List (List Key) → PassView → PassView → EditError → Type 0
+-- what is known where calls stopped: for want of forms, that the last number drawn is no form's; for want of memory, nothing
+abbrev pub RunStops : Given → List Attempt → List Attempt → List (List Key) → PassView → PassView → WorkError → Type 0
 RunStops given before after more old new (FormsFull drawn) = HasRunOut given before after more old new × IsOver drawn new
+RunStops given before after more old new (TypesFull bucket) = HasRunOut given before after more old new
 RunStops given before after more old new NoMemory = Unit {0}
 
 -- what calls leave of a pass over the forms that make these recipes, and with which the attempts before become those after
-abbrev pub RunsOn : {A : Type 0} → Given → List Attempt → List Attempt → List (List Key) → PassView → PassView → Result A EditError → Type 0
+abbrev pub RunsOn : {A : Type 0} → Given → List Attempt → List Attempt → List (List Key) → PassView → PassView → Result A WorkError → Type 0
 RunsOn given before after more old new (Ok a) = HasRunOn given before after more old new
 RunsOn given before after more old new (Err e) = RunStops given before after more old new e
 
 -- P holds where no number was left for a form
-abbrev pub IfFull : {A : Type 0} → Result A EditError → Type 0 → Type 0
+abbrev pub IfFull : {A : Type 0} → Result A WorkError → Type 0 → Type 0
 IfFull (Err (FormsFull drawn)) P = P
+IfFull (Err (TypesFull bucket)) P = Unit {0}
 IfFull (Err NoMemory) P = Unit {0}
 IfFull (Ok a) P = Unit {0}

@@ -2,13 +2,15 @@
 use Rattle.std.specs.Prelude.{◌≡◌, ℕ, ◌+◌, ◌≤◌, List, [], length, replicate, All, Option, None, Some, Result, Ok, Err}
 use Rattle.std.specs.List.{flat_map}
 use Rattle.mh_handle.specs.declared.answer.Answer.{Answer}
-use Rattle.mh_handle.specs.declared.error.EditError.{EditError}
-use Rattle.mh_handle.specs.declared.error.EditError.TheVariants.{NoMemory, FormsFull}
 use Rattle.mh_handle.specs.Joins as forms
 use Rattle.mh_handle.specs.Passes.{PassView, TableView}
 use Rattle.mh_handle.specs.Seats as forms_seat
+use Rattle.mh_intern.specs.Views as types_seat
+use Rattle.mh_intern.specs.Views.{TypesId}
 use Rattle.mh_tickets.specs.Seats.{new_seat}
 use Rattle.mh_jobs.specs.Given.{Given}
+use Rattle.mh_attempt.specs.declared.error.WorkError.{WorkError}
+use Rattle.mh_attempt.specs.declared.error.WorkError.TheVariants.{NoMemory, FormsFull, TypesFull}
 use Rattle.mh_attempt.specs.Asked.{HasDrawn, IsOver}
 use Rattle.mh_plan.specs.declared.call.Call.{Call}
 use Rattle.mh_plan.specs.Forms.{thread_edits}
@@ -20,7 +22,16 @@ use Rattle.mh_runtime.specs.Asking.{run_edits}
 use Rattle.mh_runtime.specs.Attempts.{IsThreadRun}
 use Rattle.mh_runtime.specs.Joined.{IsDoneBy, ThreadPasses}
 use Rattle.mh_runtime.specs.Keys.{thread_keys}
+use Rattle.mh_runtime.specs.Linking.{HoldsJust}
 use Rattle.mh_runtime.specs.Passes.{HasSerials, LinkPass, LinkerView, split_room}
+
+-- the tables that the threads of a run share: of forms and of types
+pub record Tables : Type 0 where
+  pub forms : TableView
+  pub types : TypesId
+
+abbrev pub tables_at : TableView → TypesId → Tables
+tables_at forms types = record { forms = forms; types = types }
 
 -- the passes of a lane
 abbrev pub passes_of : {J : Type 0} → Lane J → ThreadPasses
@@ -41,10 +52,11 @@ fresh_links linker sites thread = record {
 abbrev pub fresh_forms : TableView → PassView
 fresh_forms table = record { table = table; learnt = []; made = []; asked = []; seat = forms_seat.new_seat table forms.split_room }
 
--- a lane that may be run, over this linker and this table of forms
-pub record CanRun {J : Type 0} (given : Given) (linker : LinkerView) (table : TableView) (lane : Lane J) : Type 0 where
+-- a lane that may be run, over this linker and these tables
+pub record CanRun {J : Type 0} (given : Given) (linker : LinkerView) (tables : Tables) (lane : Lane J) : Type 0 where
   pub links : lane.links ≡ fresh_links linker (length given.jobs) lane.links.thread
-  pub forms_are : lane.forms ≡ fresh_forms table
+  pub forms_are : lane.forms ≡ fresh_forms tables.forms
+  pub types_are : lane.types ≡ types_seat.new_seat tables.types split_room
   pub calls : All (IsCallOf given.leaves given.jobs) lane.calls.now
   pub few : length lane.calls.now ≤ most_calls
 
@@ -58,17 +70,21 @@ abbrev pub DrawsFew : Given → List Call → ThreadPasses → Type 0
 DrawsFew given calls passes = HasDrawn split_room (run_edits given passes.links.attempts (thread_edits given.leaves calls)) passes.forms
 
 -- what is known of the passes by how the calls ended: for want of memory nothing
-abbrev pub EndsAs : Given → List Call → ThreadPasses → Option (Result (List Answer) EditError) → Type 0
+abbrev pub EndsAs : Given → List Call → ThreadPasses → Option (Result (List Answer) WorkError) → Type 0
 EndsAs given calls passes None = ⊥
 EndsAs given calls passes (Some (Ok answers)) = DrawsFew given calls passes × IsDoneBy given calls passes × HasAnswered given calls passes.links answers
 EndsAs given calls passes (Some (Err (FormsFull drawn))) = DrawsFew given calls passes × IsOver drawn passes.forms
+EndsAs given calls passes (Some (Err (TypesFull bucket))) = DrawsFew given calls passes
 EndsAs given calls passes (Some (Err NoMemory)) = Unit {0}
 
 -- a lane that has run the calls of a thread
-pub record HasRun {J : Type 0} (given : Given) (linker : LinkerView) (table : TableView) (thread : ℕ) (calls : List Call) (lane : Lane J) : Type 0 where
+pub record HasRun {J : Type 0} (given : Given) (linker : LinkerView) (tables : Tables) (thread : ℕ) (calls : List Call) (lane : Lane J) : Type 0 where
   pub linker_is : lane.links.linker ≡ linker
-  pub table_is : lane.forms.table ≡ table
+  pub table_is : lane.forms.table ≡ tables.forms
+  pub types_is : lane.types.table ≡ tables.types
   pub thread_is : lane.links.thread ≡ thread
   pub run : IsThreadRun (flat_map sites_named calls) lane.links
   pub whole : lane.links.seat.room + length lane.links.seat.numbers ≡ split_room
+  pub types_whole : lane.types.room + length lane.types.holds ≡ split_room
+  pub types_held : HoldsJust given lane.links.recorded lane.types
   pub ends : EndsAs given calls (passes_of lane) lane.ran

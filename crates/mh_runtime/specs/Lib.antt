@@ -9,4 +9,3 @@ pub mod Ledger
 pub mod Linking
 pub mod Passes
 pub mod Report
-pub mod TypeNumbers

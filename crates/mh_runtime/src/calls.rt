@@ -4,9 +4,10 @@ ghost use Rattle.mh_tree.specs.Meaning.{exact, generic};
 ghost use Rattle.mh_tree.specs.Tree as tree;
 ghost use Rattle.mh_handle.specs.Answers.{IsAnswer};
 ghost use Rattle.mh_handle.specs.Recipe.{recipe};
-ghost use Rattle.mh_handle.specs.Works.{CountsHandles, GoesOn, IsReady, StandsIn, classes_of, leaves_of};
+ghost use Rattle.mh_handle.specs.Works.{GoesOn, IsReady, StandsIn, classes_of, leaves_of};
 ghost use Rattle.mh_astype.specs.Calls.{exact_keys, generic_keys};
 ghost use Rattle.mh_attempt.specs.Asked.{Asks};
+ghost use Rattle.mh_attempt.specs.Several.{AddsTypes};
 ghost use Rattle.mh_plan.specs.Forms.{used_edits, call_edits};
 ghost use Rattle.mh_plan.specs.Naming.{sites_named};
 ghost use Rattle.mh_plan.specs.Results.{IsCallOf, Serials, result_of};
@@ -14,22 +15,20 @@ ghost use Rattle.mh_jobs.specs.Jobs.{params_at};
 ghost use Rattle.mh_runtime.specs.Asking.{RunsOn, call_draws};
 ghost use Rattle.mh_runtime.specs.Attempts.{AreLinked, AttemptsMore, GoesOnLinking};
 ghost use Rattle.mh_runtime.specs.Keys.{IsAnswerOf, keys_of};
-ghost use Rattle.mh_runtime.specs.Linking.{KeepsHandles, KeepsOthers};
+ghost use Rattle.mh_runtime.specs.Linking.{KeepsOthers, KeepsTypes};
 ghost use Rattle.mh_runtime.specs.Passes.{HasSerials};
 
 use crate::context::Context;
 use crate::pass::Pass;
 use mh_astype::{invoke_exact_with, invoke_generic_with};
+use mh_attempt::WorkError;
 use mh_form::Machine;
-use mh_handle::{Answer, EditError, Handle, HandleError, Work, leaf};
+use mh_handle::{Answer, Handle, HandleError, Work, leaf};
 use mh_jobs::Run;
 use mh_outside::Gate;
 use mh_plan::Call;
 use mh_values::{Items, LeafId, MethodTy};
 use std::sync::Wait;
-
-/// Why a call was not made: no memory was left, or no form.
-pub type WorkError = EditError;
 
 // The handle of a leaf.
 fn leaf_handle<'t, R: Wait>(
@@ -40,7 +39,7 @@ fn leaf_handle<'t, R: Wait>(
     requires leaf { id.0 < length (leaves_of w.old).leaves }
     requires ready { IsReady w.old 1 }
     ensures goes_on { GoesOn 1 w.old w.new }
-    ensures handles { CountsHandles 0 w.old w.new result }
+    ensures types { AddsTypes w.old w.new result }
     ensures stands { IfOk result (λ h. StandsIn w.old h (tree.Leaf id)) }
     ensures asks { Asks (recipe (leaves_of w.old) (tree.Leaf id) ∷ []) w.old w.new result }
 {
@@ -48,6 +47,7 @@ fn leaf_handle<'t, R: Wait>(
         Ok(handle) => Ok(handle),
         Err(HandleError::NoMemory) => Err(WorkError::NoMemory),
         Err(HandleError::FormsFull { drawn }) => Err(WorkError::FormsFull { drawn }),
+        Err(HandleError::TypesFull { bucket }) => Err(WorkError::TypesFull { bucket }),
         Err(HandleError::Refused(_)) => unreachable!(),
     }
 }
@@ -65,7 +65,7 @@ fn call_exact<'t, R: Wait>(
     requires typed { HaveTypes (classes_of w.old) args.now ty.now.params }
     requires ready { IsReady w.old 1 }
     ensures goes_on { GoesOn 1 w.old w.new }
-    ensures handles { KeepsHandles w.old w.new }
+    ensures types { KeepsTypes w.old w.new }
     ensures answer { IfOk result
         (IsAnswer (exact (leaves_of w.old) (tree.Leaf id) ty.now args.now 0)
         (exact_keys (leaves_of w.old) (tree.Leaf id) ty.now)) }
@@ -90,7 +90,7 @@ fn call_generic<'t, R: Wait>(
     requires typed { HaveTypes (classes_of w.old) args.now ty.now.params }
     requires ready { IsReady w.old 2 }
     ensures goes_on { GoesOn 2 w.old w.new }
-    ensures handles { KeepsHandles w.old w.new }
+    ensures types { KeepsTypes w.old w.new }
     ensures answer { IfOk result
         (IsAnswer (generic (leaves_of w.old) (tree.Leaf id) ty.now args.now 0)
         (generic_keys (leaves_of w.old) (tree.Leaf id) ty.now)) }
@@ -100,7 +100,7 @@ fn call_generic<'t, R: Wait>(
     let handle = leaf_handle(w, rt, id)?;
     let answer = invoke_generic_with(m, w, rt, &handle, ty, args, 0);
     handle.give_back(w);
-    answer
+    Ok(answer?)
 }
 
 impl<'s, 't, J: Run, G: Gate> Context<'s, 't, J, G> {
@@ -124,7 +124,7 @@ impl<'s, 't, J: Run, G: Gate> Context<'s, 't, J, G> {
         ensures pass { GoesOnLinking 1 pass.old pass.new }
         ensures attempts { AttemptsMore (site ∷ []) pass.old pass.new }
         ensures answer { IfOk result (IsAnswerOf J.given pass.new.linked site args.now) }
-        ensures handles { KeepsOthers J.given pass.old.recorded pass.new.recorded w.old w.new }
+        ensures types { KeepsOthers J.given pass.old.recorded pass.new.recorded w.old w.new }
         ensures runs { RunsOn J.given pass.old.attempts pass.new.attempts []
             w.old.pass.now w.new.pass.now result }
     {
@@ -135,7 +135,8 @@ impl<'s, 't, J: Run, G: Gate> Context<'s, 't, J, G> {
     /// Makes a call of a thread, in the machine that its calls have in common: of a leaf by a handle
     /// of it, as the first of its invocation, or of a call site by what is linked there, which is
     /// attempted now where the pass has learnt no linkage of it. Each handle that is made is given
-    /// back, also where no memory or no form was left, but for those of recorded targets.
+    /// back, also where no memory, no form or no slot of a type was left, but for those of recorded
+    /// targets.
     pub(crate) fn call<R: Wait>(
         &self,
         m: &mut Machine,
@@ -153,7 +154,7 @@ impl<'s, 't, J: Run, G: Gate> Context<'s, 't, J, G> {
         ensures pass { GoesOnLinking 1 pass.old pass.new }
         ensures attempts { AttemptsMore (sites_named call.now) pass.old pass.new }
         ensures linked { OnOk result (AreLinked pass.new.linked (sites_named call.now)) }
-        ensures handles { KeepsOthers J.given pass.old.recorded pass.new.recorded w.old w.new }
+        ensures types { KeepsOthers J.given pass.old.recorded pass.new.recorded w.old w.new }
 
         // The answer is right under each table that has the serials of what the pass has learnt.
         ensures answer { (table : Serials) → HasSerials pass.new.linked table → IfOk result

@@ -6,27 +6,29 @@ ghost use Rattle.mh_plan.specs.Results.{IsCallOf, Serials, thread_keys_said, thr
 ghost use Rattle.mh_runtime.specs.Asking.{RunsOn, thread_draws};
 ghost use Rattle.mh_runtime.specs.Attempts.{AreLinked, AttemptsMore, GoesOnLinking};
 ghost use Rattle.mh_runtime.specs.Keys.{thread_keys};
-ghost use Rattle.mh_runtime.specs.Lanes.{CanRun, HasRun};
+ghost use Rattle.mh_runtime.specs.Lanes.{CanRun, HasRun, tables_at};
 ghost use Rattle.mh_runtime.specs.Linking.{KeepsOthers};
 ghost use Rattle.mh_runtime.specs.Passes.{HasSerials};
 
-use crate::calls::WorkError;
 use crate::context::Context;
 use crate::pass::Pass;
+use mh_attempt::WorkError;
 use mh_base::Seq;
 use mh_form::Machine;
-use mh_handle::{FormPass, LiveHandles, Work};
+use mh_handle::{FormPass, Work};
+use mh_intern::TypeSeat;
 use mh_jobs::Run;
 use mh_outside::Gate;
 use mh_plan::{Answers, ThreadCalls};
 use std::sync::Wait;
 
-/// What one thread of a run works on: its passes over the call sites and over the forms, and its
-/// calls; and what those gave.
+/// What one thread of a run works on: its passes over the call sites and over the forms, its seat of
+/// types, and its calls; and what those gave.
 #[derive(Drop)]
 pub(crate) struct Lane<'s, 't, J: Run> {
     pub(crate) links: Pass<'s, 't, J>,
     pub(crate) forms: FormPass<'t>,
+    pub(crate) types: TypeSeat,
     pub(crate) calls: &'t ThreadCalls,
     /// Nothing before the thread has run.
     pub(crate) ran: Option<Result<Answers, WorkError>>,
@@ -51,7 +53,7 @@ impl<'s, 't, J: Run, G: Gate> Context<'s, 't, J, G> {
         ensures attempts { AttemptsMore (flat_map sites_named calls.now) pass.old pass.new }
         ensures linked { OnOk result
             (AreLinked pass.new.linked (flat_map sites_named calls.now)) }
-        ensures handles { KeepsOthers J.given pass.old.recorded pass.new.recorded w.old w.new }
+        ensures types { KeepsOthers J.given pass.old.recorded pass.new.recorded w.old w.new }
         ensures results { (table : Serials) → HasSerials pass.new.linked table → IfOk result
             (λ answers. thread_said answers ≡ thread_results J.given table calls.now) }
         ensures keys { (table : Serials) → HasSerials pass.new.linked table → IfOk result
@@ -70,26 +72,29 @@ impl<'s, 't, J: Run, G: Gate> Context<'s, 't, J, G> {
     /// Makes the calls of a lane.
     pub(crate) fn run_lane<R: Wait>(&self, rt: &R, lane: &mut Lane<'s, 't, J>)
         requires leaves { self.now.leaves.now ≡ J.given.leaves }
-        requires lane { CanRun J.given self.now.linker.now self.now.forms.now lane.old }
+        requires lane { CanRun J.given self.now.linker.now
+            (tables_at self.now.forms.now self.now.types.now) lane.old }
         ensures calls { lane.new.calls ≡ lane.old.calls }
-        ensures ran { HasRun J.given self.entry.now.linker.now self.entry.now.forms.now
-            lane.old.links.thread lane.old.calls.now lane.new }
+        ensures ran { HasRun J.given self.entry.now.linker.now
+            (tables_at self.entry.now.forms.now self.entry.now.types.now) lane.old.links.thread
+            lane.old.calls.now lane.new }
     {
-        let mut handles = LiveHandles::new();
         let mut w = Work {
             alloc: self.alloc,
+            types: self.types,
+            seat: &mut lane.types,
             forms: self.forms,
             pass: &mut lane.forms,
             leaves: self.leaves,
-            handles: &mut handles,
         };
         let ran = self.run_thread(&mut w, rt, &mut lane.links, lane.calls);
         let Work {
             alloc: _,
+            types: _,
+            seat: _,
             forms: _,
             pass: _,
             leaves: _,
-            handles: _,
         } = w;
         lane.ran = Some(ran);
     }

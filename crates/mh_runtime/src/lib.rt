@@ -12,9 +12,8 @@ mod ordering;
 mod pass;
 mod recording;
 mod running;
-mod types;
 mod walks;
 
-pub use calls::WorkError;
 pub use input::RunInput;
+pub use mh_attempt::WorkError;
 pub use running::{RunReport, run_plan};

@@ -9,9 +9,8 @@ ghost use Rattle.mh_runtime.specs.Attempts.{AttemptsMore, GoesOnLinking};
 ghost use Rattle.mh_runtime.specs.Linking.{KeepsOthers};
 ghost use Rattle.mh_runtime.specs.Passes.{IsLinkageOf, most_sites};
 
-use crate::calls::WorkError;
 use crate::pass::Pass;
-use mh_attempt::{Linkage, attempt};
+use mh_attempt::{Linkage, WorkError, attempt};
 use mh_base::NoMemory;
 use mh_handle::Work;
 use mh_jobs::{Jobs, Run};
@@ -125,7 +124,7 @@ impl<'t, J: Run> Linker<'t, J> {
         ensures pass { GoesOnLinking 1 pass.old pass.new }
         ensures attempts { AttemptsMore (site ∷ []) pass.old pass.new }
         ensures linked { IfOk result (λ l. IsLinkageOf pass.new.linked site l.now) }
-        ensures handles { KeepsOthers J.given pass.old.recorded pass.new.recorded w.old w.new }
+        ensures types { KeepsOthers J.given pass.old.recorded pass.new.recorded w.old w.new }
         ensures runs { RunsOn J.given pass.old.attempts pass.new.attempts []
             w.old.pass.now w.new.pass.now result }
     {
@@ -159,7 +158,7 @@ impl<'t, J: Run> Linker<'t, J> {
         ensures attempts { AttemptsMore (site ∷ []) pass.old pass.new }
         ensures linked { IfOk result (λ l. IsLinkageOf pass.new.linked site l.now) }
         ensures resolved { OnErr result (serial_at pass.old.linked site ≡ None) }
-        ensures handles { KeepsOthers J.given pass.old.recorded pass.new.recorded w.old w.new }
+        ensures types { KeepsOthers J.given pass.old.recorded pass.new.recorded w.old w.new }
         ensures runs { RunsOn J.given pass.old.attempts pass.new.attempts []
             w.old.pass.now w.new.pass.now result }
     {

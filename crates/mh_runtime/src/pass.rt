@@ -1,10 +1,8 @@
 ghost use Rattle.std.specs.Prelude.{◌≡◌, ◌+◌, ◌^◌, ◌<◌, ◌≤◌, length, All, Contains, IfOk, OnOk, OnErr, None};
 ghost use Rattle.mh_tickets.specs.Seats.{KnowsAll, joined_seats, with_less_room};
-ghost use Rattle.mh_handle.specs.Works.{IsUnchanged};
-ghost use Rattle.mh_link.specs.Sites.{linked_at};
-ghost use Rattle.mh_attempt.specs.Linkage.{target_count};
+ghost use Rattle.mh_handle.specs.Works.{HoldsTypes, IsUnchanged};
 ghost use Rattle.mh_plan.specs.Results.{serial_at};
-ghost use Rattle.mh_runtime.specs.Linking.{targets_held};
+ghost use Rattle.mh_runtime.specs.Linking.{Records};
 ghost use Rattle.mh_runtime.specs.Passes.{Begins, FindsLinkage, HasBoth, IsLinkageOf, IsRecorded, LearnsSites, RecordsAtMost, attempt_of, pass_at, split_pass, split_room, with_seat};
 
 use crate::linker::Linker;
@@ -213,17 +211,16 @@ impl<'s, 't, J: Run> Pass<'s, 't, J> {
     ) -> Result<&'s Linkage<'t, J>, NoMemory>
         requires pass { self.old.linker ≡ linker.now }
         requires attempted { Contains self.old.attempts (attempt_of self.old.thread linkage) }
-        requires held { target_count (linked_at J.given linkage.job.site linkage.serial)
-            ≤ w.old.handles.now }
+        requires of_types { w.old.seat.now.table ≡ w.old.types.now }
+        requires held { HoldsTypes w.old linkage.held }
         ensures learns { LearnsSites self.old self.new }
         ensures recorded { RecordsAtMost (attempt_of self.old.thread linkage.entry)
             self.old self.new }
         ensures linked { IfOk result
             (λ l. IsLinkageOf self.new.linked linkage.entry.job.site l.now) }
         ensures unchanged { IsUnchanged w.old w.new }
-        ensures handles { w.new.handles.now + targets_held J.given self.old.recorded
-            + target_count (linked_at J.given linkage.entry.job.site linkage.entry.serial)
-            ≡ w.old.handles.now + targets_held J.given self.new.recorded }
+        ensures types { Records J.given linkage.entry self.old.recorded self.new.recorded
+            w.old.seat.now w.new.seat.now }
     {
         if self.recorded.reserve(1).is_err() {
             linkage.give_back(w);
@@ -234,6 +231,7 @@ impl<'s, 't, J: Run> Pass<'s, 't, J> {
             site: linkage.site(),
             serial: linkage.serial(),
         };
+        linkage.types_held();
         match self.walks.put(rt, w.alloc, linker, linkage) {
             Ok(Put::Mine(recorded)) => {
                 self.recorded.push_reserved(made);

@@ -5,26 +5,28 @@ ghost use Rattle.mh_plan.specs.Limits.{IsWithinLimits};
 ghost use Rattle.mh_plan.specs.Naming.{naming_of};
 ghost use Rattle.mh_plan.specs.Recorded.{recorded, serials_of, types};
 ghost use Rattle.mh_plan.specs.Results.{AreCallsOf, keys_said, results_of, results_said};
+ghost use Rattle.mh_intern.specs.Views.{new_seat};
 ghost use Rattle.mh_seats.specs.Room.{limit};
 ghost use Rattle.mh_runtime.specs.Asking.{IfFull};
 ghost use Rattle.mh_runtime.specs.Input.{given_by};
 ghost use Rattle.mh_runtime.specs.Keys.{plan_keys};
 ghost use Rattle.mh_runtime.specs.Ledger.{Ledger};
-ghost use Rattle.mh_runtime.specs.Joining.{AreAllJoined, IsUnused, IsUnusedForms};
+ghost use Rattle.mh_runtime.specs.Joining.{AreAllJoined, IsUnused, IsUnusedForms, IsUnusedTypes};
+ghost use Rattle.mh_runtime.specs.Lanes.{tables_at};
 ghost use Rattle.mh_runtime.specs.Passes.{most_sites};
-ghost use Rattle.mh_runtime.specs.Report.{IsReport};
+ghost use Rattle.mh_runtime.specs.Report.{IsLinkedRun, IsReport};
 
-use crate::calls::WorkError;
 use crate::context::Context;
 use crate::input::RunInput;
-use crate::joining::Joined;
+use crate::joining::{Full, Joined};
 use crate::linker::Linker;
 use crate::ordering::by_serial;
 use crate::pass::Pass;
 use crate::recording::table;
-use crate::types::count_types;
+use mh_attempt::WorkError;
 use mh_base::Seq;
 use mh_handle::{FormPass, FormTable};
+use mh_intern::{TypeSeat, TypeTable};
 use mh_jobs::Run;
 use mh_outside::Gate;
 use mh_plan::{Attempts, Plan, Table, ThreadAnswers};
@@ -49,33 +51,58 @@ pub struct RunReport {
     pub types: u32,
 }
 
-// What a run gave whose threads were joined.
+/// What a run is given: what is linked, the plan, and the gate.
+#[derive(Clone, Copy)]
+struct Input<'a, G> {
+    alloc: Global,
+    given: &'a RunInput<'a>,
+    plan: &'a Plan,
+    gate: &'a G,
+}
+
+/// What a run gave, but for the count of types.
+#[derive(Drop)]
+struct Linked {
+    threads: ThreadAnswers,
+    table: Table,
+    attempts: Attempts,
+    forms: u32,
+}
+
+// What a run gave whose threads were joined, and the seat of types that holds what is recorded.
 fn report<'s, 't, J: Run, R: Wait, G>(
     rt: &R,
     context: &Context<'s, 't, J, G>,
     joined: Joined<'s, 't, J>,
-) -> Result<RunReport, WorkError>
-    requires joined { AreAllJoined J.given context.now.linker.now context.now.forms.now
-        context.now.plan.now joined }
-    ensures run { IfOk result (IsReport J.given context.now.plan.now) }
+) -> Result<(Linked, TypeSeat), WorkError>
+    requires joined { AreAllJoined J.given context.now.linker.now
+        (tables_at context.now.forms.now context.now.types.now) context.now.plan.now joined }
+    ensures run { IfOk result
+        (λ run. IsLinkedRun J.given context.now.plan.now context.now.types.now run.0 run.1) }
     ensures full { IfFull result (16384 < draws_needed J.given context.now.plan.now) }
 {
     let Joined {
         links,
         forms,
+        types,
         threads,
         full,
     } = joined;
-    if let Some(drawn) = full {
-        return Err(WorkError::FormsFull { drawn });
+    match full {
+        Some(Full::Forms { drawn }) => Err(WorkError::FormsFull { drawn }),
+        Some(Full::Types { bucket }) => Err(WorkError::TypesFull { bucket }),
+        None => {
+            // What a thread has recorded is what is linked.
+            let _recorded = links.recorded();
+            let run = Linked {
+                threads,
+                table: table(rt, context.alloc, &links)?,
+                forms: forms.len(),
+                attempts: by_serial(links.into_attempts()),
+            };
+            Ok((run, types))
+        }
     }
-    Ok(RunReport {
-        threads,
-        table: table(rt, context.alloc, &links)?,
-        types: count_types(context.alloc, &links)?,
-        forms: forms.len(),
-        attempts: by_serial(links.into_attempts()),
-    })
 }
 
 // Runs the plan with passes that are new.
@@ -84,7 +111,8 @@ fn run_passes<'s, 't, J: Run + Send + Sync, R: Threads + Wait + Sync, G: Gate + 
     context: &Context<'s, 't, J, G>,
     links: Pass<'s, 't, J>,
     forms: FormPass<'t>,
-) -> Result<RunReport, WorkError>
+    types: TypeSeat,
+) -> Result<(Linked, TypeSeat), WorkError>
     requires leaves { context.now.leaves.now ≡ J.given.leaves }
     requires calls { AreCallsOf J.given.leaves J.given.jobs context.now.plan.now }
     requires limits { IsWithinLimits context.now.plan.now }
@@ -92,12 +120,16 @@ fn run_passes<'s, 't, J: Run + Send + Sync, R: Threads + Wait + Sync, G: Gate + 
     requires links_room { links.seat.room ≡ limit }
     requires forms { IsUnusedForms context.now.forms.now forms }
     requires forms_room { forms.seat.room ≡ limit }
-    ensures run { IfOk result (IsReport J.given context.now.plan.now) }
+    requires types { IsUnusedTypes context.now.types.now types }
+    requires types_room { types.room ≡ limit }
+    ensures run { IfOk result
+        (λ run. IsLinkedRun J.given context.now.plan.now context.now.types.now run.0 run.1) }
     ensures full { IfFull result (16384 < draws_needed J.given context.now.plan.now) }
 {
     let mut joined = Joined {
         links,
         forms,
+        types,
         threads: Seq::new(context.alloc),
         full: None,
     };
@@ -105,35 +137,70 @@ fn run_passes<'s, 't, J: Run + Send + Sync, R: Threads + Wait + Sync, G: Gate + 
     report(rt, context, joined)
 }
 
-// Runs a plan of what the run's type parameter names.
-fn run_named<J: Run + Send + Sync, R: Threads + Wait + Sync, G: Gate + Sync>(
+// Runs a plan over a table of types of which a seat has all the room, with a linker and a table of
+// forms that are new.
+fn run_linked<J: Run + Send + Sync, R: Threads + Wait + Sync, G: Gate + Sync>(
     rt: &R,
-    alloc: Global,
-    input: &RunInput<'_>,
-    plan: &Plan,
-    gate: &G,
-) -> Result<RunReport, WorkError>
-    requires named { given_by input.now ≡ J.given }
-    requires calls { AreCallsOf J.given.leaves J.given.jobs plan.now }
-    requires limits { IsWithinLimits plan.now }
+    types: &TypeTable,
+    seat: TypeSeat,
+    input: &Input<'_, G>,
+) -> Result<(Linked, TypeSeat), WorkError>
+    requires named { given_by input.now.given.now ≡ J.given }
+    requires calls { AreCallsOf J.given.leaves J.given.jobs input.now.plan.now }
+    requires limits { IsWithinLimits input.now.plan.now }
     requires jobs { AreJobs J.given }
     requires few { length J.given.jobs ≤ most_sites }
-    ensures run { IfOk result (IsReport J.given plan.now) }
-    ensures full { IfFull result (16384 < draws_needed J.given plan.now) }
+    requires seat { seat ≡ new_seat types.now limit }
+    ensures run { IfOk result
+        (λ run. IsLinkedRun J.given input.now.plan.now types.now run.0 run.1) }
+    ensures full { IfFull result (16384 < draws_needed J.given input.now.plan.now) }
 {
-    let (table, seat) = FormTable::new(alloc)?;
-    let forms = table.first_pass(alloc, seat)?;
-    let (linker, seat) = Linker::<J>::new(alloc, input.jobs, input.scripts)?;
-    let links = Pass::new(alloc, &linker, seat, 0)?;
+    let alloc = input.alloc;
+    let (table, numbers) = FormTable::new(alloc)?;
+    let forms = table.first_pass(alloc, numbers)?;
+    let (linker, serials) = Linker::<J>::new(alloc, input.given.jobs, input.given.scripts)?;
+    let links = Pass::new(alloc, &linker, serials, 0)?;
     let context = Context {
         alloc,
         linker: &linker,
+        types,
         forms: &table,
-        leaves: input.leaves,
-        plan,
-        gate,
+        leaves: input.given.leaves,
+        plan: input.plan,
+        gate: input.gate,
     };
-    run_passes(rt, &context, links, forms)
+    run_passes(rt, &context, links, forms, seat)
+}
+
+// Runs a plan of what the run's type parameter names. Once all is joined, the table of types has the
+// types of the recorded targets and no others.
+fn run_named<J: Run + Send + Sync, R: Threads + Wait + Sync, G: Gate + Sync>(
+    rt: &R,
+    input: &Input<'_, G>,
+) -> Result<RunReport, WorkError>
+    requires named { given_by input.now.given.now ≡ J.given }
+    requires calls { AreCallsOf J.given.leaves J.given.jobs input.now.plan.now }
+    requires limits { IsWithinLimits input.now.plan.now }
+    requires jobs { AreJobs J.given }
+    requires few { length J.given.jobs ≤ most_sites }
+    ensures run { IfOk result (IsReport J.given input.now.plan.now) }
+    ensures full { IfFull result (16384 < draws_needed J.given input.now.plan.now) }
+{
+    let (types, seat) = TypeTable::new(input.alloc)?;
+    let (run, seat) = run_linked::<J, R, G>(rt, &types, seat, input)?;
+    let Linked {
+        threads,
+        table,
+        attempts,
+        forms,
+    } = run;
+    Ok(RunReport {
+        threads,
+        table,
+        attempts,
+        forms,
+        types: types.close(seat),
+    })
 }
 
 /// Runs the calls of a plan, each thread beside the others, over one linker and one table of forms,
@@ -145,7 +212,7 @@ fn run_named<J: Run + Send + Sync, R: Threads + Wait + Sync, G: Gate + Sync>(
 /// thread before and after it records.
 ///
 /// Where a thread had no memory, that is the answer; else it is the error of the lowest thread that
-/// stopped.
+/// stopped: no number was left for a form, or no slot for a type.
 pub fn run_plan<R: Threads + Wait + Sync, G: Gate + Sync>(
     rt: &R,
     alloc: Global,
@@ -171,5 +238,11 @@ pub fn run_plan<R: Threads + Wait + Sync, G: Gate + Sync>(
         (λ run. run.types ≡ types (given_by input.now) (serials_of run.table)) }
     ensures full { IfFull result (16384 < draws_needed (given_by input.now) plan.now) }
 {
-    run_named::<Brand, R, G>(rt, alloc, input, plan, gate)
+    let input = Input {
+        alloc,
+        given: input,
+        plan,
+        gate,
+    };
+    run_named::<Brand, R, G>(rt, &input)
 }

@@ -1,5 +1,8 @@
 -- What calls leave of a thread's work for the calls after them: numbers that may still be drawn, and leaves that stayed.
 use Rattle.std.proofs.Common.{◌≡◌, sym, subst, ap, ◌∙◌, ℕ, ◌+◌, ◌≤◌, Result, Ok, Err, IfOk, arith}
+use Rattle.mh_seats.specs.Room.{limit}
+use Rattle.mh_intern.specs.Views.{new_seat}
+use Rattle.mh_intern.specs.Views as types
 use Rattle.mh_leaf.specs.LeafTable.{LeafTable}
 use Rattle.mh_tree.specs.Tree.{Tree}
 use Rattle.mh_handle.specs.declared.error.HandleError.{HandleError}
@@ -19,20 +22,29 @@ pub goes_on-some : (fewer more : ℕ) (old new : Work) → fewer ≤ more → Go
 goes_on-some fewer more old new few goes = goes_on-more fewer more old new few goes
 
 pub ready-less : (w : Work) (more fewer : ℕ) → fewer ≤ more → IsReady w more → IsReady w fewer
-ready-less w more fewer low ready = record { of_table = ready.of_table; room = omega (arith, low, ready.room) }
+ready-less w more fewer low ready = record {
+  of_table = ready.of_table;
+  room = omega (arith, low, ready.room);
+  of_types = ready.of_types;
+  holds = omega (arith, low, ready.holds);
+}
 
 pub ready-after : (numbers rest : ℕ) (old new : Work) → GoesOn numbers old new → IsReady old (numbers + rest) → IsReady new rest
 ready-after numbers rest old new goes ready = record {
   of_table = goes.table ∙ (ready.of_table ∙ ap (λ f. f.now) (sym goes.forms));
   room = omega (arith, goes.room, ready.room);
+  of_types = goes.seat ∙ (ready.of_types ∙ ap (λ t. t.now) (sym goes.types));
+  holds = omega (arith, goes.holds, ready.holds);
 }
 
--- the first pass over a table may draw more numbers than any test or measurement
+-- the first pass over a table may draw more numbers than any test or measurement, and the first seat of a table of types has room for their handles
 pub ready-first : (w : Work) (seat : SeatView) (numbers : ℕ) → w.pass.now ≡ pass_at w.forms.now seat → seat ≡ seat_at w.forms.now 0 →
-    numbers ≤ 8589934592 → IsReady w numbers
-ready-first w seat numbers pass first few = record {
+    w.seat.now ≡ new_seat w.types.now limit → numbers ≤ 8589934592 → IsReady w numbers
+ready-first w seat numbers pass first held few = record {
   of_table = ap (λ (p : PassView). p.table) pass;
   room = omega (arith, few, ap (λ (p : PassView). p.seat.room) pass, ap (λ (s : SeatView). s.room) first);
+  of_types = ap (λ (s : types.SeatView). s.table) held;
+  holds = let room : w.seat.now.room ≡ limit = ap (λ (s : types.SeatView). s.room) held in omega (arith, few, room);
 }
 
 -- ---- handles over leaves that stayed

@@ -1,8 +1,10 @@
 //! Handles made by roots and adapters, which are given as texts.
 
-ghost use Rattle.std.specs.Prelude.{◌≡◌, ◌+◌, ◌-◌, ◌≤◌, length, IfOk, OnOk, OnErr};
+ghost use Rattle.std.specs.Prelude.{◌≡◌, ◌++◌, ◌≤◌, [], length, IfOk};
+ghost use Rattle.mh_intern.specs.Exchanges.{Exchanges};
 ghost use Rattle.mh_handle.specs.Stands.{StandsForSome};
-ghost use Rattle.mh_handle.specs.Works.{CountsHandles, IsReady, IsUnchanged, GoesOn, leaves_of};
+ghost use Rattle.mh_handle.specs.Works.{HoldsTypes, IsReady, IsUnchanged, GoesOn, leaves_of};
+ghost use Rattle.mh_steps.specs.Adds.{AddsBoth, AddsTypes};
 
 use crate::literals::{type_of, value_of};
 use crate::step::{Joined, Root, Step, Typed};
@@ -17,7 +19,7 @@ use std::sync::Wait;
 fn leaf_at<'t, R: Wait>(w: &mut Work<'_, 't>, rt: &R, id: LeafId) -> Result<Handle<'t>, HandleError>
     requires ready { IsReady w.old 1 }
     ensures goes_on { GoesOn 1 w.old w.new }
-    ensures handles { CountsHandles 0 w.old w.new result }
+    ensures types { AddsTypes [] w.old w.new result }
     ensures stands { IfOk result (StandsForSome (leaves_of w.old)) }
 {
     if id.0 >= w.leaves.count() {
@@ -37,8 +39,7 @@ fn two_leaves<'t, R: Wait>(
     ensures goes_on { GoesOn 2 w.old w.new }
     ensures one { IfOk result (λ both. StandsForSome (leaves_of w.old) both.0) }
     ensures other { IfOk result (λ both. StandsForSome (leaves_of w.old) both.1) }
-    ensures made { OnOk result (w.new.handles.now ≡ 2 + w.old.handles.now) }
-    ensures none { OnErr result (w.new.handles.now ≡ w.old.handles.now) }
+    ensures types { AddsBoth w.old w.new result }
 {
     let one = leaf_at(w, rt, one)?;
     match leaf_at(w, rt, other) {
@@ -59,7 +60,7 @@ fn guarded<'t, R: Wait>(
 ) -> Result<Handle<'t>, HandleError>
     requires ready { IsReady w.old 4 }
     ensures goes_on { GoesOn 4 w.old w.new }
-    ensures handles { CountsHandles 0 w.old w.new result }
+    ensures types { AddsTypes [] w.old w.new result }
     ensures stands { IfOk result (StandsForSome (leaves_of w.old)) }
 {
     let (test, target) = two_leaves(w, rt, test, target)?;
@@ -82,7 +83,7 @@ fn caught<'t, R: Wait>(
 ) -> Result<Handle<'t>, HandleError>
     requires ready { IsReady w.old 3 }
     ensures goes_on { GoesOn 3 w.old w.new }
-    ensures handles { CountsHandles 0 w.old w.new result }
+    ensures types { AddsTypes [] w.old w.new result }
     ensures stands { IfOk result (StandsForSome (leaves_of w.old)) }
 {
     let (target, handler) = two_leaves(w, rt, target, handler)?;
@@ -97,7 +98,7 @@ fn constant_of<'t, R: Wait>(
 ) -> Result<Handle<'t>, HandleError>
     requires ready { IsReady w.old 1 }
     ensures goes_on { GoesOn 1 w.old w.new }
-    ensures handles { CountsHandles 0 w.old w.new result }
+    ensures types { AddsTypes [] w.old w.new result }
     ensures stands { IfOk result (StandsForSome (leaves_of w.old)) }
 {
     let classes = w.leaves.classes();
@@ -109,7 +110,7 @@ fn constant_of<'t, R: Wait>(
 fn rooted<'t, R: Wait>(w: &mut Work<'_, 't>, rt: &R, root: Root) -> Result<Handle<'t>, HandleError>
     requires ready { IsReady w.old 4 }
     ensures goes_on { GoesOn 4 w.old w.new }
-    ensures handles { CountsHandles 0 w.old w.new result }
+    ensures types { AddsTypes [] w.old w.new result }
     ensures stands { IfOk result (StandsForSome (leaves_of w.old)) }
 {
     let classes = w.leaves.classes();
@@ -131,8 +132,10 @@ fn rooted<'t, R: Wait>(w: &mut Work<'_, 't>, rt: &R, root: Root) -> Result<Handl
 
 /// Want of memory, for which a handle is given back.
 fn given_back<'t>(w: &mut Work<'_, 't>, handle: Handle<'t>) -> HandleError
+    requires of_types { w.old.seat.now.table ≡ w.old.types.now }
+    requires held { HoldsTypes w.old handle.held }
     ensures unchanged { IsUnchanged w.old w.new }
-    ensures handles { w.new.handles.now ≡ w.old.handles.now - 1 }
+    ensures types { Exchanges [] handle.entry.held [] w.old.seat.now w.new.seat.now }
 {
     handle.give_back(w);
     HandleError::NoMemory
@@ -146,9 +149,10 @@ fn bound<'t, R: Wait>(
     text: &str,
 ) -> Result<Handle<'t>, HandleError>
     requires ready { IsReady w.old 1 }
+    requires held { HoldsTypes w.old target.held }
     requires stands { StandsForSome (leaves_of w.old) target }
     ensures goes_on { GoesOn 1 w.old w.new }
-    ensures handles { CountsHandles 1 w.old w.new result }
+    ensures types { AddsTypes target.entry.held w.old w.new result }
     ensures stands { IfOk result (StandsForSome (leaves_of w.old)) }
 {
     match value_of(w.alloc, text, w.leaves.classes()) {
@@ -165,9 +169,10 @@ fn by_type<'t, R: Wait>(
     how: Typed,
 ) -> Result<Handle<'t>, HandleError>
     requires ready { IsReady w.old 2 }
+    requires held { HoldsTypes w.old target.held }
     requires stands { StandsForSome (leaves_of w.old) target }
     ensures goes_on { GoesOn 2 w.old w.new }
-    ensures handles { CountsHandles 1 w.old w.new result }
+    ensures types { AddsTypes target.entry.held w.old w.new result }
     ensures stands { IfOk result (StandsForSome (leaves_of w.old)) }
 {
     match how {
@@ -187,9 +192,10 @@ fn with_type<'t, R: Wait>(
     how: Typed,
 ) -> Result<Handle<'t>, HandleError>
     requires ready { IsReady w.old 2 }
+    requires held { HoldsTypes w.old target.held }
     requires stands { StandsForSome (leaves_of w.old) target }
     ensures goes_on { GoesOn 2 w.old w.new }
-    ensures handles { CountsHandles 1 w.old w.new result }
+    ensures types { AddsTypes target.entry.held w.old w.new result }
     ensures stands { IfOk result (StandsForSome (leaves_of w.old)) }
 {
     match type_of(w.alloc, text, w.leaves.classes()) {
@@ -206,10 +212,11 @@ fn by_part<'t, R: Wait>(
     how: Joined,
 ) -> Result<Handle<'t>, HandleError>
     requires ready { IsReady w.old 1 }
+    requires held { HoldsTypes w.old (target.held ++ part.held) }
     requires stands { StandsForSome (leaves_of w.old) target }
     requires part { StandsForSome (leaves_of w.old) part }
     ensures goes_on { GoesOn 1 w.old w.new }
-    ensures handles { CountsHandles 2 w.old w.new result }
+    ensures types { AddsTypes (target.entry.held ++ part.entry.held) w.old w.new result }
     ensures stands { IfOk result (StandsForSome (leaves_of w.old)) }
 {
     match how {
@@ -227,9 +234,10 @@ fn with_part<'t, R: Wait>(
     how: Joined,
 ) -> Result<Handle<'t>, HandleError>
     requires ready { IsReady w.old 2 }
+    requires held { HoldsTypes w.old target.held }
     requires stands { StandsForSome (leaves_of w.old) target }
     ensures goes_on { GoesOn 2 w.old w.new }
-    ensures handles { CountsHandles 1 w.old w.new result }
+    ensures types { AddsTypes target.entry.held w.old w.new result }
     ensures stands { IfOk result (StandsForSome (leaves_of w.old)) }
 {
     match leaf_at(w, rt, id) {
@@ -246,10 +254,11 @@ fn doubled<'t, R: Wait>(
     rt: &R,
     target: Handle<'t>,
 ) -> Result<Handle<'t>, HandleError>
-    requires ready { IsReady w.old 1 }
+    requires ready { IsReady w.old 2 }
+    requires held { HoldsTypes w.old target.held }
     requires stands { StandsForSome (leaves_of w.old) target }
-    ensures goes_on { GoesOn 1 w.old w.new }
-    ensures handles { CountsHandles 1 w.old w.new result }
+    ensures goes_on { GoesOn 2 w.old w.new }
+    ensures types { AddsTypes target.entry.held w.old w.new result }
     ensures stands { IfOk result (StandsForSome (leaves_of w.old)) }
 {
     match target.copy(w) {
@@ -265,9 +274,10 @@ fn adapted<'t, R: Wait>(
     step: Step,
 ) -> Result<Handle<'t>, HandleError>
     requires ready { IsReady w.old 2 }
+    requires held { HoldsTypes w.old target.held }
     requires stands { StandsForSome (leaves_of w.old) target }
     ensures goes_on { GoesOn 2 w.old w.new }
-    ensures handles { CountsHandles 1 w.old w.new result }
+    ensures types { AddsTypes target.entry.held w.old w.new result }
     ensures stands { IfOk result (StandsForSome (leaves_of w.old)) }
 {
     match step {
@@ -288,7 +298,7 @@ pub fn made<'t, R: Wait>(
     requires ready { IsReady w.old 204 }
     requires few { length steps.now ≤ 100 }
     ensures goes_on { GoesOn 204 w.old w.new }
-    ensures handles { CountsHandles 0 w.old w.new result }
+    ensures types { AddsTypes [] w.old w.new result }
     ensures stands { IfOk result (StandsForSome (leaves_of w.old)) }
 {
     let mut h = rooted(w, rt, root)?;

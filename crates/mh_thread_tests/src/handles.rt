@@ -1,8 +1,9 @@
-ghost use Rattle.std.specs.Prelude.{◌≤◌};
+ghost use Rattle.std.specs.Prelude.{◌≡◌, ◌≤◌};
 ghost use Rattle.mh_handle.specs.Passes.{IsPassOf};
 
 use mh_base::NoMemory;
-use mh_handle::{Answer, Form, FormPass, FormTable, Handle, LiveHandles, Work, leaf};
+use mh_handle::{Answer, Form, FormPass, FormTable, Handle, Work, leaf};
+use mh_intern::{TypeSeat, TypeTable};
 use mh_leaves::{Leaves, read_manifest};
 use mh_values::{ClassId, Exc, LeafId};
 use std::alloc::Global;
@@ -18,35 +19,51 @@ pub(crate) fn one_leaf(alloc: Global) -> Result<Leaves, NoMemory> {
     read_manifest(alloc, MANIFEST).map_err(|_| NoMemory)
 }
 
-/// The handle of the first leaf.
+/// What threads share that make handles.
+#[derive(Drop, Clone, Copy)]
+pub(crate) struct Shared<'t> {
+    pub(crate) types: &'t TypeTable,
+    pub(crate) forms: &'t FormTable,
+    pub(crate) leaves: &'t Leaves,
+}
+
+/// The handle of the first leaf. It holds its type in the table of types.
 pub(crate) fn first_leaf<'t, R: Wait>(
     rt: &R,
     alloc: Global,
-    table: &'t FormTable,
+    shared: Shared<'t>,
     pass: &mut FormPass<'t>,
-    leaves: &'t Leaves,
+    seat: &mut TypeSeat,
 ) -> Option<Handle<'t>>
-    requires pass { IsPassOf table.now pass.old }
+    requires pass { IsPassOf shared.forms.now pass.old }
     requires room { 1 ≤ pass.old.seat.room }
+    requires seat { seat.old.table ≡ shared.types.now }
+    requires holds { 256 ≤ seat.old.room }
 {
+    let Shared {
+        types,
+        forms,
+        leaves,
+    } = shared;
     if leaves.count() == 0 {
         return None;
     }
-    let mut handles = LiveHandles::new();
     let mut work = Work {
         alloc,
-        forms: table,
+        types,
+        seat,
+        forms,
         pass,
         leaves,
-        handles: &mut handles,
     };
     let handle = leaf(&mut work, rt, LeafId(0)).ok();
     let Work {
         alloc: _,
+        types: _,
+        seat: _,
         forms: _,
         pass: _,
         leaves: _,
-        handles: _,
     } = work;
     handle
 }
@@ -66,30 +83,38 @@ fn sent<R: Threads>(rt: &R, handle: Handle<'_>) -> (u64, u64) {
 fn handles_and_forms_go_to_other_threads(rt: HostRuntime) -> Result<(), Fail> {
     let alloc = rt.alloc();
     let leaves = one_leaf(alloc)?;
-    let (table, seat) = FormTable::new(alloc)?;
-    let mut pass = table.first_pass(alloc, seat)?;
-    let handle = first_leaf(&rt, alloc, &table, &mut pass, &leaves);
+    let (types, mut seat) = TypeTable::new(alloc)?;
+    let (forms, form_seat) = FormTable::new(alloc)?;
+    let mut pass = forms.first_pass(alloc, form_seat)?;
+    let shared = Shared {
+        types: &types,
+        forms: &forms,
+        leaves: &leaves,
+    };
+    let handle = first_leaf(&rt, alloc, shared, &mut pass, &mut seat);
     assert!(rt; handle.map(|handle| sent(&rt, handle)) == Some((1, 1)));
     Ok(())
 }
 
 /// The number of the base of a table, and that of the form of a handle that another thread makes
-/// with the pass, over the same table.
+/// with the pass and the seat, over the same tables.
 fn made_beside<'t, R: Threads + Wait + Sync>(
     rt: &R,
     alloc: Global,
-    table: &'t FormTable,
+    shared: Shared<'t>,
     mut pass: FormPass<'t>,
-    leaves: &'t Leaves,
+    mut seat: TypeSeat,
 ) -> (u64, Option<u64>)
-    requires pass { IsPassOf table.now pass }
+    requires pass { IsPassOf shared.forms.now pass }
     requires room { 1 ≤ pass.seat.room }
+    requires seat { seat.table ≡ shared.types.now }
+    requires holds { 256 ≤ seat.room }
 {
     thread::join(
         rt,
-        move || table.base().number(),
+        move || shared.forms.base().number(),
         move || {
-            let handle = first_leaf(rt, alloc, table, &mut pass, leaves);
+            let handle = first_leaf(rt, alloc, shared, &mut pass, &mut seat);
             handle.map(|handle| number(&handle))
         },
     )
@@ -99,9 +124,16 @@ fn made_beside<'t, R: Threads + Wait + Sync>(
 fn threads_share_a_table_and_a_pass_goes_to_one(rt: HostRuntime) -> Result<(), Fail> {
     let alloc = rt.alloc();
     let leaves = one_leaf(alloc)?;
-    let (table, seat) = FormTable::new(alloc)?;
-    let pass = table.first_pass(alloc, seat)?;
-    assert!(rt; made_beside(&rt, alloc, &table, pass, &leaves) == (0, Some(1)));
+    let (types, mut seat) = TypeTable::new(alloc)?;
+    let (forms, form_seat) = FormTable::new(alloc)?;
+    let pass = forms.first_pass(alloc, form_seat)?;
+    let shared = Shared {
+        types: &types,
+        forms: &forms,
+        leaves: &leaves,
+    };
+    let other = types.split(&mut seat, 1 << 32);
+    assert!(rt; made_beside(&rt, alloc, shared, pass, other) == (0, Some(1)));
     Ok(())
 }
 

@@ -1,8 +1,9 @@
 ghost use Rattle.std.specs.Prelude.{◌≡◌, ◌≤◌};
 
-use crate::handles::{first_leaf, one_leaf};
+use crate::handles::{Shared, first_leaf, one_leaf};
 use mh_base::NoMemory;
 use mh_handle::{FormTable, Handle};
+use mh_intern::TypeTable;
 use mh_setonce::{Chain, Keyed, Put};
 use std::alloc::Global;
 use std::marker::Model;
@@ -105,9 +106,15 @@ fn put_and_found<R: Threads + Wait>(
 fn linkages_lie_in_a_chain_that_threads_share(rt: HostRuntime) -> Result<(), Fail> {
     let alloc = rt.alloc();
     let leaves = one_leaf(alloc)?;
-    let (table, seat) = FormTable::new(alloc)?;
-    let mut pass = table.first_pass(alloc, seat)?;
-    let Some(target) = first_leaf(&rt, alloc, &table, &mut pass, &leaves) else {
+    let (types, mut seat) = TypeTable::new(alloc)?;
+    let (forms, form_seat) = FormTable::new(alloc)?;
+    let mut pass = forms.first_pass(alloc, form_seat)?;
+    let shared = Shared {
+        types: &types,
+        forms: &forms,
+        leaves: &leaves,
+    };
+    let Some(target) = first_leaf(&rt, alloc, shared, &mut pass, &mut seat) else {
         return Ok(());
     };
     assert!(rt; put_and_found(&rt, alloc, target)? == Some((1, 1)));

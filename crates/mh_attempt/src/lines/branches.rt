@@ -4,13 +4,14 @@ ghost use Rattle.std.specs.Prelude.{[], ◌∷◌};
 ghost use Rattle.mh_tree.specs.Tree.{Tree};
 ghost use Rattle.mh_tree.specs.Tree as tree;
 ghost use Rattle.mh_script.specs.declared.script.Operation.TheVariants as operation;
-ghost use Rattle.mh_handle.specs.Works.{CountsHandles, GoesOn, IsReady, leaves_of};
+ghost use Rattle.mh_handle.specs.Works.{GoesOn, IsReady, leaves_of};
 ghost use Rattle.mh_attempt.specs.Asked.{AsksIfMade, AsksOrThrows};
 ghost use Rattle.mh_attempt.specs.Lines.{MakesNode, typed};
 ghost use Rattle.mh_link.specs.Operands.{Frame};
 ghost use Rattle.mh_link.specs.Operations.{node_of};
 ghost use Rattle.mh_attempt.specs.Recipes.{line_recipes, recipes_made};
-ghost use Rattle.mh_attempt.specs.Registers.{Hold, HoldSome, StandsFor, StandsForSome};
+ghost use Rattle.mh_attempt.specs.Registers.{AreKept, Hold, HoldSome, IsHeldIn, StandsFor, StandsForSome};
+ghost use Rattle.mh_attempt.specs.Several.{AddsTypes};
 
 use crate::handle::HandleOperand;
 use crate::lines::several::{both_made, three_made};
@@ -33,10 +34,13 @@ fn guarded<'t, R: Wait>(
 ) -> Result<Handle<'t>, HandleError>
     requires ready { IsReady w.old 4 }
     requires test { StandsForSome (leaves_of w.old) test.now }
+    requires test_held { IsHeldIn w.old.seat.now test.now }
     requires target { StandsForSome (leaves_of w.old) target.now }
+    requires target_held { IsHeldIn w.old.seat.now target.now }
     requires fallback { StandsForSome (leaves_of w.old) fallback.now }
+    requires fallback_held { IsHeldIn w.old.seat.now fallback.now }
     ensures goes_on { GoesOn 4 w.old w.new }
-    ensures handles { CountsHandles 0 w.old w.new result }
+    ensures types { AddsTypes w.old w.new result }
     ensures node { (c t e : Tree) → StandsFor (leaves_of w.old) test.now c
         → StandsFor (leaves_of w.old) target.now t → StandsFor (leaves_of w.old) fallback.now e
         → MakesNode (typed (leaves_of w.old) (tree.Guard c t e)) w.old w.new result }
@@ -76,8 +80,9 @@ pub(crate) fn guard_line<'t, R: Wait>(
 ) -> Result<Handle<'t>, HandleError>
     requires ready { IsReady w.old 4 }
     requires registers { HoldSome (leaves_of w.old) registers.now }
+    requires kept { AreKept w.old.seat.now registers.now }
     ensures goes_on { GoesOn 4 w.old w.new }
-    ensures handles { CountsHandles 0 w.old w.new result }
+    ensures types { AddsTypes w.old w.new result }
     ensures node { (frame : Frame) → Hold (leaves_of w.old) registers.now frame → MakesNode
         (node_of (leaves_of w.old) frame (operation.Guard test.now target.now fallback.now))
         w.old w.new result }
@@ -101,9 +106,11 @@ fn caught<'t, R: Wait>(
 ) -> Result<Handle<'t>, HandleError>
     requires ready { IsReady w.old 4 }
     requires target { StandsForSome (leaves_of w.old) target.now }
+    requires target_held { IsHeldIn w.old.seat.now target.now }
     requires handler { StandsForSome (leaves_of w.old) handler.now }
+    requires handler_held { IsHeldIn w.old.seat.now handler.now }
     ensures goes_on { GoesOn 4 w.old w.new }
-    ensures handles { CountsHandles 0 w.old w.new result }
+    ensures types { AddsTypes w.old w.new result }
     ensures node { (t p : Tree) → StandsFor (leaves_of w.old) target.now t
         → StandsFor (leaves_of w.old) handler.now p → MakesNode
         (typed (leaves_of w.old) (tree.Catch t class p)) w.old w.new result }
@@ -140,8 +147,9 @@ pub(crate) fn catch_line<'t, R: Wait>(
 ) -> Result<Handle<'t>, HandleError>
     requires ready { IsReady w.old 4 }
     requires registers { HoldSome (leaves_of w.old) registers.now }
+    requires kept { AreKept w.old.seat.now registers.now }
     ensures goes_on { GoesOn 4 w.old w.new }
-    ensures handles { CountsHandles 0 w.old w.new result }
+    ensures types { AddsTypes w.old w.new result }
     ensures node { (frame : Frame) → Hold (leaves_of w.old) registers.now frame → MakesNode
         (node_of (leaves_of w.old) frame (operation.Catch target.now class.now handler.now))
         w.old w.new result }

@@ -4,13 +4,14 @@ ghost use Rattle.std.specs.Prelude.{[], ◌∷◌};
 ghost use Rattle.mh_tree.specs.Tree.{Tree};
 ghost use Rattle.mh_tree.specs.Tree as tree;
 ghost use Rattle.mh_script.specs.declared.script.Operation.TheVariants as operation;
-ghost use Rattle.mh_handle.specs.Works.{CountsHandles, GoesOn, IsReady, leaves_of};
+ghost use Rattle.mh_handle.specs.Works.{GoesOn, IsReady, leaves_of};
 ghost use Rattle.mh_attempt.specs.Asked.{AsksIfMade, AsksOrThrows};
 ghost use Rattle.mh_attempt.specs.Lines.{MakesNode, typed};
 ghost use Rattle.mh_link.specs.Operands.{Frame};
 ghost use Rattle.mh_link.specs.Operations.{node_of};
 ghost use Rattle.mh_attempt.specs.Recipes.{line_recipes, recipes_made};
-ghost use Rattle.mh_attempt.specs.Registers.{Hold, HoldSome, StandsFor, StandsForSome};
+ghost use Rattle.mh_attempt.specs.Registers.{AreKept, Hold, HoldSome, IsHeldIn, StandsFor, StandsForSome};
+ghost use Rattle.mh_attempt.specs.Several.{AddsTypes};
 
 use crate::handle::HandleOperand;
 use crate::names::types_of_text;
@@ -32,8 +33,9 @@ fn bound<'t, R: Wait>(
 ) -> Result<Handle<'t>, HandleError>
     requires ready { IsReady w.old 4 }
     requires target { StandsForSome (leaves_of w.old) target.now }
+    requires target_held { IsHeldIn w.old.seat.now target.now }
     ensures goes_on { GoesOn 4 w.old w.new }
-    ensures handles { CountsHandles 0 w.old w.new result }
+    ensures types { AddsTypes w.old w.new result }
     ensures node { (t : Tree) → StandsFor (leaves_of w.old) target.now t → MakesNode
         (typed (leaves_of w.old) (tree.Bind t position value)) w.old w.new result }
     ensures asks { (t : Tree) → StandsFor (leaves_of w.old) target.now t
@@ -57,8 +59,9 @@ pub(crate) fn bind_line<'t, R: Wait>(
 ) -> Result<Handle<'t>, HandleError>
     requires ready { IsReady w.old 4 }
     requires registers { HoldSome (leaves_of w.old) registers.now }
+    requires kept { AreKept w.old.seat.now registers.now }
     ensures goes_on { GoesOn 4 w.old w.new }
-    ensures handles { CountsHandles 0 w.old w.new result }
+    ensures types { AddsTypes w.old w.new result }
     ensures node { (frame : Frame) → Hold (leaves_of w.old) registers.now frame → MakesNode
         (node_of (leaves_of w.old) frame (operation.Bind target.now position value.now))
         w.old w.new result }
@@ -81,8 +84,9 @@ fn dropped<'t, R: Wait>(
 ) -> Result<Handle<'t>, HandleError>
     requires ready { IsReady w.old 4 }
     requires target { StandsForSome (leaves_of w.old) target.now }
+    requires target_held { IsHeldIn w.old.seat.now target.now }
     ensures goes_on { GoesOn 4 w.old w.new }
-    ensures handles { CountsHandles 0 w.old w.new result }
+    ensures types { AddsTypes w.old w.new result }
     ensures node { (t : Tree) → StandsFor (leaves_of w.old) target.now t → MakesNode
         (typed (leaves_of w.old) (tree.Drop t position types.now)) w.old w.new result }
     ensures asks { (t : Tree) → StandsFor (leaves_of w.old) target.now t
@@ -106,8 +110,9 @@ pub(crate) fn drop_line<'t, R: Wait>(
 ) -> Result<Handle<'t>, HandleError>
     requires ready { IsReady w.old 4 }
     requires registers { HoldSome (leaves_of w.old) registers.now }
+    requires kept { AreKept w.old.seat.now registers.now }
     ensures goes_on { GoesOn 4 w.old w.new }
-    ensures handles { CountsHandles 0 w.old w.new result }
+    ensures types { AddsTypes w.old w.new result }
     ensures node { (frame : Frame) → Hold (leaves_of w.old) registers.now frame → MakesNode
         (node_of (leaves_of w.old) frame (operation.Drop target.now position types.now))
         w.old w.new result }
@@ -130,8 +135,9 @@ fn permuted<'t, R: Wait>(
 ) -> Result<Handle<'t>, HandleError>
     requires ready { IsReady w.old 4 }
     requires target { StandsForSome (leaves_of w.old) target.now }
+    requires target_held { IsHeldIn w.old.seat.now target.now }
     ensures goes_on { GoesOn 4 w.old w.new }
-    ensures handles { CountsHandles 0 w.old w.new result }
+    ensures types { AddsTypes w.old w.new result }
     ensures node { (t : Tree) → StandsFor (leaves_of w.old) target.now t → MakesNode
         (typed (leaves_of w.old) (tree.Permute t asked.now order.now)) w.old w.new result }
     ensures asks { (t : Tree) → StandsFor (leaves_of w.old) target.now t
@@ -155,8 +161,9 @@ pub(crate) fn permute_line<'t, R: Wait>(
 ) -> Result<Handle<'t>, HandleError>
     requires ready { IsReady w.old 4 }
     requires registers { HoldSome (leaves_of w.old) registers.now }
+    requires kept { AreKept w.old.seat.now registers.now }
     ensures goes_on { GoesOn 4 w.old w.new }
-    ensures handles { CountsHandles 0 w.old w.new result }
+    ensures types { AddsTypes w.old w.new result }
     ensures node { (frame : Frame) → Hold (leaves_of w.old) registers.now frame → MakesNode
         (node_of (leaves_of w.old) frame (operation.Permute target.now asked.now order.now))
         w.old w.new result }

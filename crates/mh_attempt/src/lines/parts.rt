@@ -5,13 +5,14 @@ ghost use Rattle.std.specs.Prelude.{[], ◌∷◌};
 ghost use Rattle.mh_tree.specs.Tree.{Tree};
 ghost use Rattle.mh_tree.specs.Tree as tree;
 ghost use Rattle.mh_script.specs.declared.script.Operation.TheVariants as operation;
-ghost use Rattle.mh_handle.specs.Works.{CountsHandles, GoesOn, IsReady, leaves_of};
+ghost use Rattle.mh_handle.specs.Works.{GoesOn, IsReady, leaves_of};
 ghost use Rattle.mh_attempt.specs.Asked.{AsksIfMade, AsksOrThrows};
 ghost use Rattle.mh_attempt.specs.Lines.{MakesNode, typed};
 ghost use Rattle.mh_link.specs.Operands.{Frame};
 ghost use Rattle.mh_link.specs.Operations.{node_of};
 ghost use Rattle.mh_attempt.specs.Recipes.{line_recipes, recipes_made};
-ghost use Rattle.mh_attempt.specs.Registers.{Hold, HoldSome, StandsFor, StandsForSome};
+ghost use Rattle.mh_attempt.specs.Registers.{AreKept, Hold, HoldSome, IsHeldIn, StandsFor, StandsForSome};
+ghost use Rattle.mh_attempt.specs.Several.{AddsTypes};
 
 use crate::handle::HandleOperand;
 use crate::lines::several::both_made;
@@ -32,9 +33,11 @@ fn filtered<'t, R: Wait>(
 ) -> Result<Handle<'t>, HandleError>
     requires ready { IsReady w.old 4 }
     requires target { StandsForSome (leaves_of w.old) target.now }
+    requires target_held { IsHeldIn w.old.seat.now target.now }
     requires part { StandsForSome (leaves_of w.old) part.now }
+    requires part_held { IsHeldIn w.old.seat.now part.now }
     ensures goes_on { GoesOn 4 w.old w.new }
-    ensures handles { CountsHandles 0 w.old w.new result }
+    ensures types { AddsTypes w.old w.new result }
     ensures node { (t p : Tree) → StandsFor (leaves_of w.old) target.now t
         → StandsFor (leaves_of w.old) part.now p → MakesNode
         (typed (leaves_of w.old) (tree.FilterArg t position p)) w.old w.new result }
@@ -71,8 +74,9 @@ pub(crate) fn filter_line<'t, R: Wait>(
 ) -> Result<Handle<'t>, HandleError>
     requires ready { IsReady w.old 4 }
     requires registers { HoldSome (leaves_of w.old) registers.now }
+    requires kept { AreKept w.old.seat.now registers.now }
     ensures goes_on { GoesOn 4 w.old w.new }
-    ensures handles { CountsHandles 0 w.old w.new result }
+    ensures types { AddsTypes w.old w.new result }
     ensures node { (frame : Frame) → Hold (leaves_of w.old) registers.now frame → MakesNode
         (node_of (leaves_of w.old) frame (operation.Filter target.now position part.now))
         w.old w.new result }
@@ -94,9 +98,11 @@ fn return_filtered<'t, R: Wait>(
 ) -> Result<Handle<'t>, HandleError>
     requires ready { IsReady w.old 4 }
     requires target { StandsForSome (leaves_of w.old) target.now }
+    requires target_held { IsHeldIn w.old.seat.now target.now }
     requires filter { StandsForSome (leaves_of w.old) filter.now }
+    requires filter_held { IsHeldIn w.old.seat.now filter.now }
     ensures goes_on { GoesOn 4 w.old w.new }
-    ensures handles { CountsHandles 0 w.old w.new result }
+    ensures types { AddsTypes w.old w.new result }
     ensures node { (t p : Tree) → StandsFor (leaves_of w.old) target.now t
         → StandsFor (leaves_of w.old) filter.now p → MakesNode
         (typed (leaves_of w.old) (tree.FilterRet t p)) w.old w.new result }
@@ -124,8 +130,9 @@ pub(crate) fn filterret_line<'t, R: Wait>(
 ) -> Result<Handle<'t>, HandleError>
     requires ready { IsReady w.old 4 }
     requires registers { HoldSome (leaves_of w.old) registers.now }
+    requires kept { AreKept w.old.seat.now registers.now }
     ensures goes_on { GoesOn 4 w.old w.new }
-    ensures handles { CountsHandles 0 w.old w.new result }
+    ensures types { AddsTypes w.old w.new result }
     ensures node { (frame : Frame) → Hold (leaves_of w.old) registers.now frame → MakesNode
         (node_of (leaves_of w.old) frame (operation.FilterReturn target.now filter.now))
         w.old w.new result }
@@ -148,9 +155,11 @@ fn folded<'t, R: Wait>(
 ) -> Result<Handle<'t>, HandleError>
     requires ready { IsReady w.old 4 }
     requires target { StandsForSome (leaves_of w.old) target.now }
+    requires target_held { IsHeldIn w.old.seat.now target.now }
     requires combiner { StandsForSome (leaves_of w.old) combiner.now }
+    requires combiner_held { IsHeldIn w.old.seat.now combiner.now }
     ensures goes_on { GoesOn 4 w.old w.new }
-    ensures handles { CountsHandles 0 w.old w.new result }
+    ensures types { AddsTypes w.old w.new result }
     ensures node { (t p : Tree) → StandsFor (leaves_of w.old) target.now t
         → StandsFor (leaves_of w.old) combiner.now p → MakesNode
         (typed (leaves_of w.old) (tree.Fold t position p)) w.old w.new result }
@@ -187,8 +196,9 @@ pub(crate) fn fold_line<'t, R: Wait>(
 ) -> Result<Handle<'t>, HandleError>
     requires ready { IsReady w.old 4 }
     requires registers { HoldSome (leaves_of w.old) registers.now }
+    requires kept { AreKept w.old.seat.now registers.now }
     ensures goes_on { GoesOn 4 w.old w.new }
-    ensures handles { CountsHandles 0 w.old w.new result }
+    ensures types { AddsTypes w.old w.new result }
     ensures node { (frame : Frame) → Hold (leaves_of w.old) registers.now frame → MakesNode
         (node_of (leaves_of w.old) frame (operation.Fold target.now position combiner.now))
         w.old w.new result }
@@ -211,9 +221,11 @@ fn collected<'t, R: Wait>(
 ) -> Result<Handle<'t>, HandleError>
     requires ready { IsReady w.old 4 }
     requires target { StandsForSome (leaves_of w.old) target.now }
+    requires target_held { IsHeldIn w.old.seat.now target.now }
     requires filter { StandsForSome (leaves_of w.old) filter.now }
+    requires filter_held { IsHeldIn w.old.seat.now filter.now }
     ensures goes_on { GoesOn 4 w.old w.new }
-    ensures handles { CountsHandles 0 w.old w.new result }
+    ensures types { AddsTypes w.old w.new result }
     ensures node { (t p : Tree) → StandsFor (leaves_of w.old) target.now t
         → StandsFor (leaves_of w.old) filter.now p → MakesNode
         (typed (leaves_of w.old) (tree.Collect t position p)) w.old w.new result }
@@ -250,8 +262,9 @@ pub(crate) fn collect_line<'t, R: Wait>(
 ) -> Result<Handle<'t>, HandleError>
     requires ready { IsReady w.old 4 }
     requires registers { HoldSome (leaves_of w.old) registers.now }
+    requires kept { AreKept w.old.seat.now registers.now }
     ensures goes_on { GoesOn 4 w.old w.new }
-    ensures handles { CountsHandles 0 w.old w.new result }
+    ensures types { AddsTypes w.old w.new result }
     ensures node { (frame : Frame) → Hold (leaves_of w.old) registers.now frame → MakesNode
         (node_of (leaves_of w.old) frame (operation.Collect target.now position filter.now))
         w.old w.new result }

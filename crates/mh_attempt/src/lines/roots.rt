@@ -1,13 +1,14 @@
 //! Lines that make a handle of no other: `leaf`, `constant`, `identity` and `throw`.
 
 ghost use Rattle.mh_script.specs.declared.script.Operation.TheVariants as operation;
-ghost use Rattle.mh_handle.specs.Works.{CountsHandles, GoesOn, IsReady, leaves_of};
+ghost use Rattle.mh_handle.specs.Works.{GoesOn, IsReady, leaves_of};
 ghost use Rattle.mh_attempt.specs.Asked.{AsksOrThrows};
 ghost use Rattle.mh_attempt.specs.Lines.{MakesNode};
 ghost use Rattle.mh_link.specs.Operands.{Frame};
 ghost use Rattle.mh_link.specs.Operations.{node_of};
 ghost use Rattle.mh_attempt.specs.Recipes.{line_recipes};
-ghost use Rattle.mh_attempt.specs.Registers.{Hold, HoldSome};
+ghost use Rattle.mh_attempt.specs.Registers.{AreKept, Hold, HoldSome};
+ghost use Rattle.mh_attempt.specs.Several.{AddsTypes};
 
 use crate::names::{class_of, leaf_named};
 use crate::registers::Registers;
@@ -24,7 +25,7 @@ pub(crate) fn leaf_line<'t, R: Wait>(
 ) -> Result<Handle<'t>, HandleError>
     requires ready { IsReady w.old 4 }
     ensures goes_on { GoesOn 4 w.old w.new }
-    ensures handles { CountsHandles 0 w.old w.new result }
+    ensures types { AddsTypes w.old w.new result }
     ensures node { (frame : Frame) → MakesNode
         (node_of (leaves_of w.old) frame (operation.Leaf method.now)) w.old w.new result }
     ensures asks { (frame : Frame) → AsksOrThrows
@@ -45,8 +46,9 @@ pub(crate) fn constant_line<'t, R: Wait>(
 ) -> Result<Handle<'t>, HandleError>
     requires ready { IsReady w.old 4 }
     requires registers { HoldSome (leaves_of w.old) registers.now }
+    requires kept { AreKept w.old.seat.now registers.now }
     ensures goes_on { GoesOn 4 w.old w.new }
-    ensures handles { CountsHandles 0 w.old w.new result }
+    ensures types { AddsTypes w.old w.new result }
     ensures node { (frame : Frame) → Hold (leaves_of w.old) registers.now frame → MakesNode
         (node_of (leaves_of w.old) frame (operation.Constant ty.now value.now))
         w.old w.new result }
@@ -68,8 +70,9 @@ pub(crate) fn identity_line<'t, R: Wait>(
 ) -> Result<Handle<'t>, HandleError>
     requires ready { IsReady w.old 4 }
     requires registers { HoldSome (leaves_of w.old) registers.now }
+    requires kept { AreKept w.old.seat.now registers.now }
     ensures goes_on { GoesOn 4 w.old w.new }
-    ensures handles { CountsHandles 0 w.old w.new result }
+    ensures types { AddsTypes w.old w.new result }
     ensures node { (frame : Frame) → Hold (leaves_of w.old) registers.now frame → MakesNode
         (node_of (leaves_of w.old) frame (operation.Identity ty.now)) w.old w.new result }
     ensures asks { (frame : Frame) → Hold (leaves_of w.old) registers.now frame → AsksOrThrows
@@ -90,8 +93,9 @@ pub(crate) fn throw_line<'t, R: Wait>(
 ) -> Result<Handle<'t>, HandleError>
     requires ready { IsReady w.old 4 }
     requires registers { HoldSome (leaves_of w.old) registers.now }
+    requires kept { AreKept w.old.seat.now registers.now }
     ensures goes_on { GoesOn 4 w.old w.new }
-    ensures handles { CountsHandles 0 w.old w.new result }
+    ensures types { AddsTypes w.old w.new result }
     ensures node { (frame : Frame) → Hold (leaves_of w.old) registers.now frame → MakesNode
         (node_of (leaves_of w.old) frame (operation.Throw ret.now class.now)) w.old w.new result }
     ensures asks { (frame : Frame) → Hold (leaves_of w.old) registers.now frame → AsksOrThrows

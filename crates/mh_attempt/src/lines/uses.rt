@@ -5,14 +5,15 @@ ghost use Rattle.mh_tree.specs.Check.{Tells};
 ghost use Rattle.mh_tree.specs.Tree.{Tree};
 ghost use Rattle.mh_tree.specs.Use.{use_row};
 ghost use Rattle.mh_script.specs.declared.script.Operation.TheVariants as operation;
-ghost use Rattle.mh_handle.specs.Works.{CountsHandles, GoesOn, IsReady, leaves_of};
+ghost use Rattle.mh_handle.specs.Works.{GoesOn, IsReady, leaves_of};
 ghost use Rattle.mh_attempt.specs.Asked.{AsksIfMade, AsksOrThrows};
 ghost use Rattle.mh_attempt.specs.Lines.{MakesNode};
 ghost use Rattle.mh_link.specs.Operands.{Frame};
 ghost use Rattle.mh_link.specs.Operations.{node_of, use_of};
 ghost use Rattle.mh_attempt.specs.Recipes.{line_recipes, recipes_made, use_asked};
-ghost use Rattle.mh_attempt.specs.Registers.{Hold, HoldSome, StandsFor, StandsForSome};
+ghost use Rattle.mh_attempt.specs.Registers.{AreKept, Hold, HoldSome, IsHeldIn, StandsFor, StandsForSome};
 ghost use Rattle.mh_attempt.specs.Uses.{typed_use};
+ghost use Rattle.mh_attempt.specs.Several.{AddsTypes};
 
 use crate::handle::HandleOperand;
 use crate::registers::Registers;
@@ -51,8 +52,9 @@ fn used<'t, R: Wait>(
 ) -> Result<Handle<'t>, HandleError>
     requires ready { IsReady w.old 4 }
     requires target { StandsForSome (leaves_of w.old) target.now }
+    requires target_held { IsHeldIn w.old.seat.now target.now }
     ensures goes_on { GoesOn 4 w.old w.new }
-    ensures handles { CountsHandles 0 w.old w.new result }
+    ensures types { AddsTypes w.old w.new result }
     ensures node { (t : Tree) → StandsFor (leaves_of w.old) target.now t → MakesNode
         (typed_use (leaves_of w.old) t asked.now) w.old w.new result }
     ensures asks { (t u : Tree) → StandsFor (leaves_of w.old) target.now t
@@ -76,8 +78,9 @@ pub(crate) fn astype_line<'t, R: Wait>(
 ) -> Result<Handle<'t>, HandleError>
     requires ready { IsReady w.old 4 }
     requires registers { HoldSome (leaves_of w.old) registers.now }
+    requires kept { AreKept w.old.seat.now registers.now }
     ensures goes_on { GoesOn 4 w.old w.new }
-    ensures handles { CountsHandles 0 w.old w.new result }
+    ensures types { AddsTypes w.old w.new result }
     ensures node { (frame : Frame) → Hold (leaves_of w.old) registers.now frame → MakesNode
         (node_of (leaves_of w.old) frame (operation.AsType target.now asked.now))
         w.old w.new result }

@@ -1,11 +1,14 @@
 use Rattle.std.proofs.Common.{◌∷◌, []}
+use Rattle.mh_tree.specs.Rows.{bind_row}
 use Rattle.mh_tree.specs.Tree as tree
 use Rattle.mh_form.specs.declared.field.Field.TheVariants as field
 use Rattle.mh_form.specs.Erasure.{erased}
 use Rattle.mh_edit.specs.declared.key.Key.TheVariants as key
+use Rattle.mh_handle.specs.Works.{types_in}
+use Rattle.mh_handle.proofs.Trading.{trades-checked}
 use Rattle.mh_adapt.proofs.BindStands.{bind-stands}
 use Rattle.mh_adapt.proofs.InsertingFits.{bind-fits, bind-shaped}
-use Rattle.mh_adapt.proofs.NodeAnswers.{node-counts, node-fits, node-gains, node-shaped, node-stands}
+use Rattle.mh_adapt.proofs.NodeAnswers.{node-fits, node-gains, node-shaped, node-stands}
 use Rattle.mh_adapt.proofs.NodeRecipes.{makes-node}
 use Rattle.mh_adapt.proofs.inserting.bind.Goals as goal
 
@@ -24,11 +27,6 @@ returns-in-Ok-clause-makes g c a st =
     makes-node c.args.w.now.leaves.now c.args.target a st c.args.w.now c.grown.new.w c.grown.result c.in-Ok.by.key (key.Bind c.args.position)
     c.in-Ok.ensures.tells.1.adds.key c.grown.ensures.makes
 
-pub returns-in-Ok-clause-handles : goal.returns-in-Ok-clause-handles
-returns-in-Ok-clause-handles g c =
-    node-counts c.args.target (key.Bind c.args.position) (field.Val (erased c.in-Ok.ensures.tells.1.fitting) ∷ []) c.in-Ok.by c.in-Ok.ensures.tells.1.adds
-    c.args.w.now c.grown.new.w c.grown.result c.grown.ensures.handles
-
 pub returns-in-Ok-clause-gains : goal.returns-in-Ok-clause-gains
 returns-in-Ok-clause-gains g c =
     node-gains c.args.target (key.Bind c.args.position) (field.Val (erased c.in-Ok.ensures.tells.1.fitting) ∷ []) c.in-Ok.by c.in-Ok.ensures.tells.1.adds
@@ -42,3 +40,8 @@ returns-in-Ok-clause-stands g c a st =
     c.in-Ok.ensures.tells.1.param c.in-Ok.by.ty c.in-Ok.ensures.tells.0 c.in-Ok.ensures.tells.1.at c.in-Ok.ensures.tells.1.fits
     (bind-fits c.args.w.now.leaves.now.classes c.args.target c.args.position c.args.value c.in-Ok.by.ty c.in-Ok.ensures.tells.0
     c.in-Ok.ensures.shaped) grows st)
+
+pub returns-in-Err-clause-types : goal.returns-in-Err-clause-types
+returns-in-Err-clause-types g c =
+    trades-checked (types_in (bind_row c.args.w.now.leaves.now.classes c.args.target.ty c.args.target.weight c.args.position c.args.value))
+    c.args.target.held c.args.w.now c.refused.new.w c.in-Err.error c.refused.result c.refused.ensures.error c.refused.ensures.types

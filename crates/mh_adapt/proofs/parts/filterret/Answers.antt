@@ -1,4 +1,8 @@
+use Rattle.std.proofs.Common.{◌++◌}
+use Rattle.mh_tree.specs.Rows.{filterret_row}
 use Rattle.mh_tree.specs.Tree as tree
+use Rattle.mh_handle.specs.Works.{types_in}
+use Rattle.mh_handle.proofs.Trading.{trades-checked}
 use Rattle.mh_adapt.specs.Parts.{filterret_key}
 use Rattle.mh_adapt.proofs.FilterReturnStands.{filterret-stands}
 use Rattle.mh_adapt.proofs.PartAnswers.{adds-gains, adds-stands}
@@ -13,3 +17,9 @@ returns-in-Ok-clause-stands g c a b st sp =
     adds-stands c.args.target (filterret_key c.args.filter.ty) c.args.filter c.in-Ok.by c.in-Ok.ensures.tells.1
     c.args.w.now.leaves.now (tree.FilterRet a b) c.grown_with.result c.grown_with.ensures.grows (λ h field part grows.
     filterret-stands c.args.w.now.leaves.now c.args.target h c.args.filter a b field c.in-Ok.by.ty c.in-Ok.ensures.tells.0 part grows st sp)
+
+pub returns-in-Err-clause-types : goal.returns-in-Err-clause-types
+returns-in-Err-clause-types g c =
+    trades-checked (types_in (filterret_row c.args.target.ty c.args.target.weight c.args.filter.ty c.args.filter.weight))
+    (c.args.target.held ++ c.args.filter.held) c.args.w.now c.refused_with.new.w c.in-Err.error c.refused_with.result c.refused_with.ensures.error
+    c.refused_with.ensures.types

@@ -3,9 +3,12 @@ use Rattle.mh_values.specs.Same.{is_same_method_type}
 use Rattle.mh_tree.specs.Check.{Tells}
 use Rattle.mh_handle.proofs.Going.{unchanged-still}
 use Rattle.mh_handle.proofs.Refusals.{check-obeys}
+use Rattle.mh_handle.proofs.Trading.{trades-checked}
 use Rattle.mh_astype.proofs.Asking.{asked-stands, differs, found-row, row-of-other, same-recipe, trees-make, use-other, use-same, used-makes, used-obeys}
 use Rattle.mh_astype.proofs.Calling.{types-are}
+use Rattle.mh_astype.proofs.Trading.{trades-kept, trades-used}
 use Rattle.mh_astype.proofs.Using.{makes-refused}
+use Rattle.mh_astype.specs.Use.{used_types}
 use Rattle.mh_astype.proofs.use_as.as_type.Goals as goal
 
 pub returns-then-is_same_method_type-clause-makes : goal.returns-then-is_same_method_type-clause-makes
@@ -83,3 +86,21 @@ returns-in-Ok-clause-used g c =
     in
     use-other c.args.w.now.leaves.now.classes c.args.target.ty c.args.ty.now c.in-Ok.asked c.args.target c.used.result other c.in-Ok.ensures.tells
     c.used.ensures.used
+
+pub returns-then-is_same_method_type-clause-types : goal.returns-then-is_same_method_type-clause-types
+returns-then-is_same_method_type-clause-types g c =
+    trades-kept (used_types c.args.w.now.leaves.now.classes c.args.target.ty c.args.target.weight c.args.ty.now) c.args.target c.args.w.now c.requires.held
+
+pub returns-in-Err-clause-types : goal.returns-in-Err-clause-types
+returns-in-Err-clause-types g c =
+    trades-checked (used_types c.args.w.now.leaves.now.classes c.args.target.ty c.args.target.weight c.args.ty.now) c.args.target.held c.args.w.now
+    c.refused.new.w c.in-Err.error c.refused.result c.refused.ensures.error c.refused.ensures.types
+
+pub returns-in-Ok-clause-types : goal.returns-in-Ok-clause-types
+returns-in-Ok-clause-types g c =
+    let other : is_same_method_type c.args.target.ty c.args.ty.now ≡ false =
+    differs c.is_same_method_type.result c.ty.result.now c.args.target.ty c.args.ty.now c.if-is_same_method_type.false c.is_same_method_type.ensures
+    c.ty.ensures.ty
+    in
+    trades-used c.args.w.now.leaves.now.classes c.args.target.ty c.args.target.weight c.args.ty.now c.in-Ok.asked c.args.target.held c.args.w.now c.used.new.w
+    c.used.result other c.in-Ok.ensures.tells c.used.ensures.types

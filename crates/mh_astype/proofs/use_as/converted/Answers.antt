@@ -1,11 +1,13 @@
-use Rattle.std.proofs.Common.{◌≡◌, subst, sym, true, ◌+◌, ◌≤◌, arith}
+use Rattle.std.proofs.Common.{◌≡◌, subst, sym, true, ◌+◌, ◌≤◌, [], ◌∷◌, arith}
 use Rattle.mh_values.specs.declared.types.MethodTy.{MethodTy}
+use Rattle.mh_tree.specs.declared.error.CheckError.TheVariants as check
 use Rattle.mh_edit.specs.declared.key.Key.{Key}
 use Rattle.mh_edit.specs.Applied.{applied}
 use Rattle.mh_edit.specs.Fit.{fits}
 use Rattle.mh_handle.specs.Recipe.{ret_entry_of}
 use Rattle.mh_handle.specs.Stands.{HasShape, handle_body}
-use Rattle.mh_astype.proofs.Using.{convert-fits, convert-shaped, light, makes-changed, used-counts, used-grown}
+use Rattle.mh_handle.proofs.Trading.{trades-checked}
+use Rattle.mh_astype.proofs.Using.{convert-fits, convert-shaped, light, makes-changed, used-few, used-grown, used-held, used-trades}
 use Rattle.mh_astype.proofs.use_as.converted.Goals as goal
 
 pub grown-requires-clause-fits : goal.grown-requires-clause-fits
@@ -37,7 +39,20 @@ pub returns-in-Ok-clause-used : goal.returns-in-Ok-clause-used
 returns-in-Ok-clause-used g c =
     used-grown c.args.w.now.leaves.now.classes c.args.ty c.args.target c.in-Ok.by c.in-Ok.ensures.adds c.grown.result c.requires.changes c.grown.ensures.grows
 
-pub returns-in-Ok-clause-handles : goal.returns-in-Ok-clause-handles
-returns-in-Ok-clause-handles g c =
-    used-counts c.args.w.now.leaves.now.classes c.args.ty c.args.target c.in-Ok.by c.in-Ok.ensures.adds c.args.w.now c.grown.new.w c.grown.result
-    c.grown.ensures.handles
+pub grown-requires-clause-few : goal.grown-requires-clause-few
+grown-requires-clause-few g c =
+    used-few c.args.w.now.leaves.now.classes c.args.ty c.args.target c.in-Ok.by c.in-Ok.ensures.adds c.in-Ok.ensures.shaped
+
+pub grown-requires-clause-held : goal.grown-requires-clause-held
+grown-requires-clause-held g c =
+    used-held c.args.w.now.leaves.now.classes c.args.ty c.args.target c.in-Ok.by c.in-Ok.ensures.adds c.args.w.now c.requires.held
+
+pub returns-in-Ok-clause-types : goal.returns-in-Ok-clause-types
+returns-in-Ok-clause-types g c =
+    used-trades c.args.w.now.leaves.now.classes c.args.ty c.args.target c.in-Ok.by c.in-Ok.ensures.adds c.args.w.now c.grown.new.w c.grown.result
+    c.grown.ensures.types
+
+pub returns-in-Err-clause-types : goal.returns-in-Err-clause-types
+returns-in-Err-clause-types g c =
+    trades-checked (c.args.ty ∷ []) c.args.target.held c.args.w.now c.refused.new.w check.NoMemory c.refused.result c.refused.ensures.error
+    c.refused.ensures.types

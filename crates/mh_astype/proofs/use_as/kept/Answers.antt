@@ -1,27 +1,34 @@
-use Rattle.std.proofs.Common.{ap, ◌∙◌, subst, sym, ◌+◌, ◌≤◌, arith}
+use Rattle.std.proofs.Common.{ap, ◌∙◌, ◌+◌, ◌≤◌, [], ◌∷◌, Err, arith}
 use Rattle.std.proofs.lemmas.Bool.{and_parts}
-use Rattle.mh_values.specs.declared.types.MethodTy.{MethodTy}
 use Rattle.mh_convert.specs.Conversion.{is_trivial_ret}
+use Rattle.mh_handle.specs.declared.error.HandleError.TheVariants.{NoMemory}
 use Rattle.mh_handle.specs.Recipe.{are_trivial}
-use Rattle.mh_handle.specs.Stands.{HasShape, handle_body}
-use Rattle.mh_astype.proofs.Using.{kept-shaped, light, used-kept}
+use Rattle.mh_handle.proofs.Trading.{traded-any}
+use Rattle.mh_astype.proofs.Using.{kept-shaped, light, makes-kept, used-kept}
 use Rattle.mh_astype.proofs.use_as.kept.Goals as goal
 
 pub retyped-requires-clause-light : goal.retyped-requires-clause-light
-retyped-requires-clause-light c =
+retyped-requires-clause-light g c =
     let most : 1 + c.args.target.weight ≤ 256 =
     light c.args.w.now.leaves.now.classes c.args.target.ty c.args.target.weight c.args.ty c.args.ty c.requires.row in
     omega (arith, c.weight-weight.ensures.weight)
 
 pub retyped-requires-clause-shaped : goal.retyped-requires-clause-shaped
-retyped-requires-clause-shaped c =
+retyped-requires-clause-shaped g c =
     let params = and_parts (are_trivial c.args.w.now.leaves.now.classes c.args.ty.params c.args.target.ty.params)
     (is_trivial_ret c.args.w.now.leaves.now.classes c.args.target.ty.ret c.args.ty.ret) c.requires.keeps in
-    let P : MethodTy → Type 0 = λ m. HasShape (handle_body c.args.target) m in
-    subst P (sym c.in-Ok.ensures)
-    (kept-shaped c.args.w.now.leaves.now.classes c.args.target c.args.ty c.args.ty c.requires.shaped c.requires.row params.0)
+    kept-shaped c.args.w.now.leaves.now.classes c.args.target c.args.ty c.args.ty c.requires.shaped c.requires.row params.0
 
 pub returns-in-Ok-clause-used : goal.returns-in-Ok-clause-used
-returns-in-Ok-clause-used c =
-    used-kept c.args.w.now.leaves.now.classes c.args.ty c.args.target c.retyped.result c.requires.keeps (c.retyped.ensures.ty ∙ c.in-Ok.ensures)
-    (c.retyped.ensures.weight ∙ ap (λ n. 1 + n) c.weight-weight.ensures.weight) c.retyped.ensures.sides c.retyped.ensures.form c.retyped.ensures.fields
+returns-in-Ok-clause-used g c =
+    used-kept c.args.w.now.leaves.now.classes c.args.ty c.args.target c.in-Ok.made c.requires.keeps c.in-Ok.ensures.ty
+    (c.in-Ok.ensures.weight ∙ ap (λ n. 1 + n) c.weight-weight.ensures.weight) c.in-Ok.ensures.sides c.in-Ok.ensures.form c.in-Ok.ensures.fields
+
+pub returns-clause-makes : goal.returns-clause-makes
+returns-clause-makes g c =
+    makes-kept c.args.w.now.leaves.now.classes c.args.ty c.args.target.ty c.args.target.form.recipe c.args.w.now c.retyped.new.w (Err NoMemory)
+    c.requires.keeps c.in-Err.ensures.unchanged
+
+pub returns-clause-types : goal.returns-clause-types
+returns-clause-types g c =
+    traded-any (c.args.ty ∷ []) c.args.target.held c.args.w.now c.retyped.new.w (Err c.in-Err.field-0) c.in-Err.ensures.types

@@ -1,4 +1,5 @@
 use Rattle.std.proofs.Common.{Ok}
+use Rattle.mh_attempt.proofs.Holding.{linkage-of}
 use Rattle.mh_attempt.proofs.SiteEdits.{asks-edits, edits-stopped}
 use Rattle.mh_attempt.proofs.attempts.attempt.Goals as goal
 
@@ -11,3 +12,8 @@ pub returns-clause-asks : goal.returns-clause-asks
 returns-clause-asks g c =
     asks-edits {A = Unit {0}} g.J.Run.given c.args.scripts.now c.args.w.now.leaves.now c.args.job.now c.args.serial c.args.w.now c.link.new.w (Ok tt)
     c.requires.scripts c.requires.leaves c.requires.named c.requires.job c.in_ok-linked.ensures.asks
+
+pub new-requires : goal.new-requires
+new-requires g c =
+    linkage-of g.J.Run.given c.args.w.now.leaves.now c.args.scripts.now c.args.job.now c.args.serial c.in_ok-linked.linked c.requires.leaves
+    c.requires.scripts c.requires.named c.requires.job c.in_ok-linked.ensures.linked c.in_ok-linked.ensures.holds

@@ -1,5 +1,6 @@
 use Rattle.mh_attempt.specs.Linkage.{target_recipes}
 use Rattle.mh_attempt.specs.Recipes.{attempt_recipes}
+use Rattle.mh_attempt.proofs.Adding.{adds-none, adds-unmade}
 use Rattle.mh_attempt.proofs.AskedLines.{same-asks}
 use Rattle.mh_attempt.proofs.JobCalls.{job-leaves, job-script}
 use Rattle.mh_attempt.proofs.Outcomes.{job-asked}
@@ -18,3 +19,7 @@ returns-in-Ok-clause-asks g c =
     let leaves = c.args.w.now.leaves.now in
     same-asks (attempt_recipes leaves c.args.scripts.now c.args.job.now c.args.serial) (target_recipes leaves c.args.scripts.now c.args.serial c.in-Ok.call)
     c.args.w.now c.called.new.w c.called.result (job-asked leaves c.args.scripts.now c.args.job.now c.args.serial c.in-Ok.call c.in-Ok.is) c.called.ensures.asks
+
+pub returns-in_err-copy-in-Err-clause-types : goal.returns-in_err-copy-in-Err-clause-types
+returns-in_err-copy-in-Err-clause-types g c =
+    adds-unmade c.args.w.now c.args.w.now c.from_residual.result _ c.from_residual.ensures.1 (adds-none c.args.w.now)

@@ -133,3 +133,8 @@ returns-in-Catch-clause-asks g c frame hold =
     asks-for c.args.w.now c.catch_line.new.w frame c.args.operation.now _ c.catch_line.result
     (c.in-Catch.is ∙ ap (λ text. operation.Catch c.in-Catch.target text c.in-Catch.handler) (sym c.as_slice-in-Catch.ensures))
     (c.catch_line.ensures.asks frame hold)
+
+pub returns-in-FilterReturn-clause-node : goal.returns-in-FilterReturn-clause-node
+returns-in-FilterReturn-clause-node g c frame hold =
+    for-operation c.args.w.now c.filterret_line.new.w frame c.args.operation.now _ c.filterret_line.result c.in-FilterReturn.is
+    (c.filterret_line.ensures.node frame hold)

@@ -2,9 +2,14 @@ use Rattle.std.proofs.Common.{sym, subst}
 use Rattle.mh_handle.specs.Works.{leaves_of}
 use Rattle.mh_attempt.specs.Asked.{AsksOrThrows}
 use Rattle.mh_attempt.specs.Recipes.{end_recipes}
+use Rattle.mh_attempt.proofs.Adding.{adds-none, adds-unmade}
 use Rattle.mh_attempt.proofs.script.ended.Goals as goal
 
 pub returns-in-Return-clause-asks : goal.returns-in-Return-clause-asks
 returns-in-Return-clause-asks g c frame hold =
     subst (λ e. AsksOrThrows (end_recipes (leaves_of c.args.w.now) e frame) c.args.w.now c.returned.new.w c.returned.result) (sym c.in-Return.is)
     (c.returned.ensures.asks frame hold)
+
+pub returns-in_err-exc-in-Raise-clause-types : goal.returns-in_err-exc-in-Raise-clause-types
+returns-in_err-exc-in-Raise-clause-types g c =
+    adds-unmade c.args.w.now c.args.w.now c.from_residual.result _ c.from_residual.ensures.1 (adds-none c.args.w.now)

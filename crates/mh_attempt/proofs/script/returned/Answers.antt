@@ -5,6 +5,7 @@ use Rattle.mh_script.specs.declared.script.End.TheVariants as end
 use Rattle.mh_link.specs.Linked.{ended}
 use Rattle.mh_link.specs.Made.{nodes_of_uses}
 use Rattle.mh_handle.specs.Works.{leaves_of}
+use Rattle.mh_attempt.proofs.Adding.{adds-none, adds-unmade}
 use Rattle.mh_attempt.proofs.AskedOperations.{alone-asks, asks-node}
 use Rattle.mh_attempt.proofs.Endings.{mismatched-node, returned-node}
 use Rattle.mh_attempt.proofs.script.returned.Goals as goal
@@ -32,3 +33,18 @@ returns-clause-asks g c frame hold =
     (ap (λ (call : BootstrapCall). call.ty) hold.call ∙ sym c.get-asked.ensures)
     (sym c.is_same_method_type.ensures ∙ c.if-not-is_same_method_type.false) made.accepted (made.stands target.0 target.2))
     (λ t _. alone-asks w.leaves.now frame c.in_ok-target.target r w c.made.new.w c.made.result (c.in_ok-target.ensures.makes w.leaves.now frame hold) made.asks)
+
+-- ---- the seat of types
+
+pub returns-in_err-target-clause-types : goal.returns-in_err-target-clause-types
+returns-in_err-target-clause-types g c = adds-unmade c.args.w.now c.args.w.now c.from_residual.result _ c.from_residual.ensures.1 (adds-none c.args.w.now)
+
+pub returns-in_err-mismatch-clause-types : goal.returns-in_err-mismatch-clause-types
+returns-in_err-mismatch-clause-types g c =
+    adds-unmade c.args.w.now c.args.w.now c.from_residual-in_err-mismatch.result _ c.from_residual-in_err-mismatch.ensures.1 (adds-none c.args.w.now)
+
+pub returns-then-not-is_same_method_type-clause-types : goal.returns-then-not-is_same_method_type-clause-types
+returns-then-not-is_same_method_type-clause-types g c = adds-none c.args.w.now
+
+pub made-requires-clause-held : goal.made-requires-clause-held
+made-requires-clause-held g c = c.in_ok-target.ensures.kept c.args.w.now.seat.now c.requires.kept

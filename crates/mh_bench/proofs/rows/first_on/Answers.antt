@@ -4,4 +4,4 @@ use Rattle.mh_bench.proofs.rows.first_on.Goals as goal
 
 pub row_on-done-requires : goal.row_on-done-requires
 row_on-done-requires g c =
-    record { ready = ready-first _ c.args.start.seat (2 ^ 33) c.in_ok-pass.ensures c.requires.first (omega arith) }
+    record { ready = ready-first _ c.args.start.seat (2 ^ 33) c.in_ok-pass.ensures c.requires.first c.requires.held (omega arith) }

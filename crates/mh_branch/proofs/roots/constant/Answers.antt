@@ -1,8 +1,9 @@
-use Rattle.std.proofs.Common.{◌≡◌, sym, subst, ap, ◌∙◌, Ok}
+use Rattle.std.proofs.Common.{◌≡◌, sym, subst, ap, ◌∙◌, [], ◌∷◌, Ok}
 use Rattle.mh_convert.specs.Conversion.{fit}
 use Rattle.mh_tree.specs.Rows.{constant_row}
 use Rattle.mh_handle.specs.Parts.{PartsView}
-use Rattle.mh_handle.specs.Works.{CountsHandles}
+use Rattle.mh_handle.specs.Works.{TradesTypes}
+use Rattle.mh_handle.proofs.Trading.{trades-row}
 use Rattle.mh_branch.proofs.RootAnswers.{constant-answers}
 use Rattle.mh_branch.proofs.roots.constant.Goals as goal
 
@@ -17,6 +18,10 @@ returns-clause-stands g c =
     row c.in-Some.is fits c.erase-slot.ensures c.basic_of.ensures (ap (λ (p : PartsView). p.sides) c.of_fields.ensures)
     (ap (λ (p : PartsView). p.fields) c.of_fields.ensures ∙ c.in_ok-fields.ensures) c.rooted.ensures.grows
 
-pub returns-clause-handles : goal.returns-clause-handles
-returns-clause-handles g c =
-    subst (λ (p : PartsView). CountsHandles p.count c.args.w.now c.rooted.new.w c.rooted.result) c.of_fields.ensures c.rooted.ensures.handles
+pub returns-clause-types : goal.returns-clause-types
+returns-clause-types g c =
+    let row : constant_row c.args.w.now.leaves.now.classes c.args.ty c.args.value ≡ Ok c.in_ok-own.own =
+    sym (ap (λ cs. constant_row cs c.args.ty c.args.value) c.classes-classes.ensures) ∙ c.in_ok-own.ensures in
+    trades-row (constant_row c.args.w.now.leaves.now.classes c.args.ty c.args.value) c.in_ok-own.own [] c.args.w.now c.rooted.new.w c.rooted.result row
+    (subst (λ (p : PartsView). TradesTypes (c.in_ok-own.own ∷ []) p.held c.args.w.now c.rooted.new.w c.rooted.result)
+    c.of_fields.ensures c.rooted.ensures.types)

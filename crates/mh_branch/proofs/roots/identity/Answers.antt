@@ -1,6 +1,8 @@
-use Rattle.std.proofs.Common.{subst, ap}
+use Rattle.std.proofs.Common.{subst, ap, [], ◌∷◌}
+use Rattle.mh_tree.specs.Rows.{identity_row}
 use Rattle.mh_handle.specs.Parts.{PartsView}
-use Rattle.mh_handle.specs.Works.{CountsHandles}
+use Rattle.mh_handle.specs.Works.{TradesTypes}
+use Rattle.mh_handle.proofs.Trading.{trades-row}
 use Rattle.mh_branch.proofs.RootAnswers.{identity-answers}
 use Rattle.mh_branch.proofs.roots.identity.Goals as goal
 
@@ -10,6 +12,7 @@ returns-clause-stands g c =
     c.in_ok-own.ensures c.in-Some.is c.basic_of.ensures (ap (λ (p : PartsView). p.sides) c.new.ensures) (ap (λ (p : PartsView). p.fields) c.new.ensures)
     c.rooted.ensures.grows
 
-pub returns-clause-handles : goal.returns-clause-handles
-returns-clause-handles g c =
-    subst (λ (p : PartsView). CountsHandles p.count c.args.w.now c.rooted.new.w c.rooted.result) c.new.ensures c.rooted.ensures.handles
+pub returns-clause-types : goal.returns-clause-types
+returns-clause-types g c =
+    trades-row (identity_row c.args.ty) c.in_ok-own.own [] c.args.w.now c.rooted.new.w c.rooted.result c.in_ok-own.ensures
+    (subst (λ (p : PartsView). TradesTypes (c.in_ok-own.own ∷ []) p.held c.args.w.now c.rooted.new.w c.rooted.result) c.new.ensures c.rooted.ensures.types)

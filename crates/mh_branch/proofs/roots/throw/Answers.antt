@@ -1,7 +1,8 @@
-use Rattle.std.proofs.Common.{◌≡◌, sym, subst, ap, ◌∙◌, Ok}
+use Rattle.std.proofs.Common.{◌≡◌, sym, subst, ap, ◌∙◌, [], ◌∷◌, Ok}
 use Rattle.mh_tree.specs.Rows.{throw_row}
 use Rattle.mh_handle.specs.Parts.{PartsView}
-use Rattle.mh_handle.specs.Works.{CountsHandles}
+use Rattle.mh_handle.specs.Works.{TradesTypes}
+use Rattle.mh_handle.proofs.Trading.{trades-row}
 use Rattle.mh_branch.proofs.RootAnswers.{throw-answers, throw-makes, throw-ret}
 use Rattle.mh_branch.proofs.roots.throw.Goals as goal
 
@@ -19,6 +20,9 @@ returns-clause-stands g c =
     c.classes.ensures.are row (throw-ret c.args.w.now.leaves.now.classes c.args.ret c.args.class c.in_ok-own.own c.in_ok-shape.shape row c.in_ok-shape.ensures)
     (ap (λ (p : PartsView). p.sides) c.new.ensures) (ap (λ (p : PartsView). p.fields) c.new.ensures) c.rooted.ensures.grows
 
-pub returns-clause-handles : goal.returns-clause-handles
-returns-clause-handles g c =
-    subst (λ (p : PartsView). CountsHandles p.count c.args.w.now c.rooted.new.w c.rooted.result) c.new.ensures c.rooted.ensures.handles
+pub returns-clause-types : goal.returns-clause-types
+returns-clause-types g c =
+    let row : throw_row c.args.w.now.leaves.now.classes c.args.ret c.args.class ≡ Ok c.in_ok-own.own =
+    sym (ap (λ cs. throw_row cs c.args.ret c.args.class) c.classes.ensures.classes) ∙ c.in_ok-own.ensures in
+    trades-row (throw_row c.args.w.now.leaves.now.classes c.args.ret c.args.class) c.in_ok-own.own [] c.args.w.now c.rooted.new.w c.rooted.result row
+    (subst (λ (p : PartsView). TradesTypes (c.in_ok-own.own ∷ []) p.held c.args.w.now c.rooted.new.w c.rooted.result) c.new.ensures c.rooted.ensures.types)

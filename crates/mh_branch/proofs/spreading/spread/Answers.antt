@@ -1,14 +1,19 @@
-use Rattle.std.proofs.Common.{◌≡◌, refl, sym, subst, ap, ◌∙◌, ℕ, ◌+◌, ◌≤◌, Err}
+use Rattle.std.proofs.Common.{◌≡◌, refl, sym, subst, ap, ◌∙◌, ℕ, ◌+◌, ◌≤◌, [], ◌∷◌, ◌++◌, append-nil, length, arith, Err}
 use Rattle.mh_values.specs.Array.{item_type}
+use Rattle.mh_intern.proofs.Exchanging.{held-came}
 use Rattle.mh_form.specs.Erasure.{basic_of}
 use Rattle.mh_edit.specs.declared.key.Key.TheVariants as key
 use Rattle.mh_tree.specs.Use.{items_used_as, used_as}
 use Rattle.mh_handle.specs.Parts.{PartsView}
 use Rattle.mh_handle.specs.Recipe.{recipe}
+use Rattle.mh_handle.specs.Works.{HoldsTypes, TradesTypes}
 use Rattle.mh_handle.proofs.Going.{goes_on-both}
-use Rattle.mh_astype.specs.Use.{MakesFrom}
+use Rattle.mh_handle.proofs.Trading.{trades-checked}
+use Rattle.mh_astype.specs.Use.{MakesFrom, used_types}
+use Rattle.mh_branch.specs.Spreading.{spread_types}
 use Rattle.mh_branch.proofs.SpreadCall.{call-fits, call-light, call-makes, call-obeys, call-shaped, call-sides, call-stands}
-use Rattle.mh_branch.proofs.SpreadRules.{counts-first, counts-second, items-are, makes-first, makes-none, room-left, spreading-refused, spreading-row, used-error}
+use Rattle.mh_branch.proofs.SpreadRules.{items-are, makes-first, makes-none, ready-left, spreading-refused, spreading-row, types-are, used-error}
+use Rattle.mh_branch.proofs.Trading.{trades-first, trades-then}
 use Rattle.mh_branch.proofs.spreading.spread.Goals as goal
 
 pub returns-in_err-used-clause-obeys : goal.returns-in_err-used-clause-obeys
@@ -29,9 +34,17 @@ returns-in-Err-clause-makes g c a st =
     makes-none c.args.target.ty c.args.array c.args.count a c.args.w.now c.refused.new.w c.in-Err.error c.refused.result c.refused.ensures.error
     c.refused.ensures.unchanged
 
-pub returns-in_err-used-clause-handles : goal.returns-in_err-used-clause-handles
-returns-in_err-used-clause-handles g c =
-    counts-first c.args.w.now c.as_type.new.w c.in_err-used.field-0.0 c.from_residual.result c.in_err-used.ensures.handles c.from_residual.ensures.1
+pub returns-in-Err-clause-types : goal.returns-in-Err-clause-types
+returns-in-Err-clause-types g c =
+    trades-checked (spread_types c.args.w.now.leaves.now.classes c.args.target.ty c.args.target.weight c.args.array c.args.count) c.args.target.held
+    c.args.w.now c.refused.new.w c.in-Err.error c.refused.result c.refused.ensures.error c.refused.ensures.types
+
+pub returns-in_err-used-clause-types : goal.returns-in_err-used-clause-types
+returns-in_err-used-clause-types g c =
+    subst (λ l. TradesTypes l c.args.target.held c.args.w.now c.as_type.new.w c.from_residual.result)
+    (sym (types-are c.args.w.now.leaves.now.classes c.args.target.ty c.args.target.weight c.args.array c.args.count c.in-Ok.spreading c.in-Ok.ensures.tells))
+    (trades-first (used_types c.args.w.now.leaves.now.classes c.args.target.ty c.args.target.weight c.in-Ok.spreading.asked) (c.in-Ok.spreading.own ∷ [])
+    c.args.target.held c.args.w.now c.as_type.new.w c.in_err-used.field-0.0 c.from_residual.result c.in_err-used.ensures.types c.from_residual.ensures.1)
 
 pub returns-in_err-used-clause-makes : goal.returns-in_err-used-clause-makes
 returns-in_err-used-clause-makes g c a st =
@@ -69,10 +82,20 @@ grown-requires-clause-light g c =
     c.in-Ok.spreading found c.in_ok-used.ensures.obeys c.in_ok-used.ensures.used)
 
 pub grown-requires-clause-ready : goal.grown-requires-clause-ready
-grown-requires-clause-ready g c = record {
-  of_table = c.as_type.ensures.goes_on.table ∙ (c.requires.ready.of_table ∙ sym (ap (λ f. f.now) c.as_type.ensures.goes_on.forms));
-  room = room-left c.args.w.now c.as_type.new.w c.requires.ready.room c.as_type.ensures.goes_on;
-}
+grown-requires-clause-ready g c = ready-left c.args.w.now c.as_type.new.w c.requires.ready c.as_type.ensures.goes_on
+
+pub grown-requires-clause-few : goal.grown-requires-clause-few
+grown-requires-clause-few g c =
+    let none : length c.new.result.held ≡ 0 = ap (λ (p : PartsView). length p.held) c.new.ensures in
+    omega (arith, none, c.ty-ty.ensures.shaped.few, c.weight.ensures.weight)
+
+pub grown-requires-clause-held : goal.grown-requires-clause-held
+grown-requires-clause-held g c =
+    let used = c.in_ok-used.used.held in
+    let all : used ++ c.new.result.held ≡ used = ap (λ (p : PartsView). used ++ p.held) c.new.ensures ∙ append-nil used in
+    subst (HoldsTypes c.as_type.new.w) (sym all)
+    (held-came (used_types c.args.w.now.leaves.now.classes c.args.target.ty c.args.target.weight c.in-Ok.spreading.asked) c.args.target.held used
+    c.args.w.now.seat.now c.as_type.new.w.seat.now c.in_ok-used.ensures.types c.requires.held)
 
 pub returns-clause-goes_on : goal.returns-clause-goes_on
 returns-clause-goes_on g c = goes_on-both 1 1 c.args.w.now c.as_type.new.w c.grown.new.w c.as_type.ensures.goes_on c.grown.ensures.goes_on
@@ -94,10 +117,16 @@ returns-clause-makes g c a st =
     c.in_ok-used.ensures.used c.basic_of.result a c.args.w.now c.as_type.new.w c.grown.new.w c.grown.result basic
     (c.in_ok-used.ensures.makes a st) c.grown.ensures.makes c.grown.ensures.accepted (c.in_ok-used.ensures.stands a st)
 
-pub returns-clause-handles : goal.returns-clause-handles
-returns-clause-handles g c =
-    counts-second c.args.w.now c.as_type.new.w c.grown.new.w c.new.result c.in_ok-used.used c.grown.result c.new.ensures c.in_ok-used.ensures.handles
-    c.grown.ensures.handles
+pub returns-clause-types : goal.returns-clause-types
+returns-clause-types g c =
+    let used = c.in_ok-used.used.held in
+    let own = c.in-Ok.spreading.own ∷ [] in
+    let all : used ++ c.new.result.held ≡ used = ap (λ (p : PartsView). used ++ p.held) c.new.ensures ∙ append-nil used in
+    subst (λ l. TradesTypes l c.args.target.held c.args.w.now c.grown.new.w c.grown.result)
+    (sym (types-are c.args.w.now.leaves.now.classes c.args.target.ty c.args.target.weight c.args.array c.args.count c.in-Ok.spreading c.in-Ok.ensures.tells))
+    (trades-then (used_types c.args.w.now.leaves.now.classes c.args.target.ty c.args.target.weight c.in-Ok.spreading.asked) own c.args.target.held used
+    c.args.w.now c.as_type.new.w c.grown.new.w c.grown.result c.grown.ensures.accepted c.in_ok-used.ensures.types
+    (subst (λ l. TradesTypes own l c.as_type.new.w c.grown.new.w c.grown.result) all c.grown.ensures.types))
 
 pub returns-clause-sides : goal.returns-clause-sides
 returns-clause-sides g c =

@@ -1,6 +1,6 @@
-use Rattle.std.proofs.Common.{◌≢◌, rules, refl, inl, arith}
+use Rattle.std.proofs.Common.{◌≢◌, rules, refl, inl, inr, arith}
 use Rattle.mh_main.specs.Status.{write_failed}
-use Rattle.mh_main.specs.Due.{full_line}
+use Rattle.mh_main.specs.Due.{forms_line, types_line}
 use Rattle.mh_main.proofs.running.run_program.Goals as goal
 
 pub returns-in-Ok-clause-report : goal.returns-in-Ok-clause-report
@@ -20,4 +20,4 @@ returns-in-Ok-clause-broken g c = λ failed. (
 pub returns-in-Err-FormsFull-clause-full : goal.returns-in-Err-FormsFull-clause-full
 returns-in-Err-FormsFull-clause-full g c = λ full.
     let ok : c.answer_line.result.status ≢ write_failed = λ bad. omega (arith, full, bad) in
-    (full_line, (search rules, refl), rw c.as_bytes.ensures.value at c.answer_line.ensures.written ok)
+    (forms_line, (search rules, refl), rw c.as_bytes.ensures.value at c.answer_line.ensures.written ok)

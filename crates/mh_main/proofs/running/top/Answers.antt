@@ -22,7 +22,7 @@ run-end g c =
     run-ends _ _ _ _ _ _ _ _ _ (run (held_names c.in-Run.names)) c.in-Ok-read_program.program
     (run-asked c.in-Ok.command c.in-Some.command c.in-Run.names (command_of (said c.args.words.now)) c.in-Ok.ensures.command c.in-Some.is c.in-Run.is)
     c.in-Ok-read_program.ensures.ok c.in-Ok-read_program.ensures.no_fault c.run_program.ensures.report c.run_program.ensures.answers c.run_program.ensures.full
-    c.run_program.ensures.broken c.run_program.ensures.status c.run_program.ensures.fails.failed
+    c.run_program.ensures.types c.run_program.ensures.broken c.run_program.ensures.status c.run_program.ensures.fails.failed
 
 run-stop : (g : given.Over) (c : goal.After-drop-names-in-Run g) → StopEnds
     (said c.args.words.now) (g.I.Inputs.told c.args.inputs.now) (g.I.Inputs.faults c.args.inputs.now) (g.I.Inputs.faults c.read_program.new.inputs)
@@ -53,6 +53,9 @@ returns-in-Ok-read_program-clause-answers g c = (run-end g c).answers
 
 pub returns-in-Ok-read_program-clause-full : goal.returns-in-Ok-read_program-clause-full
 returns-in-Ok-read_program-clause-full g c = (run-end g c).full
+
+pub returns-in-Ok-read_program-clause-types : goal.returns-in-Ok-read_program-clause-types
+returns-in-Ok-read_program-clause-types g c = (run-end g c).types
 
 pub returns-in-Ok-read_program-clause-broken : goal.returns-in-Ok-read_program-clause-broken
 returns-in-Ok-read_program-clause-broken g c = (run-end g c).broken

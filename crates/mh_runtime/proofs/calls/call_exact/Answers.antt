@@ -6,7 +6,9 @@ use Rattle.mh_tree.specs.Tree as tree
 use Rattle.mh_handle.specs.Answers.{IsAnswer}
 use Rattle.mh_handle.specs.Recipe.{recipe}
 use Rattle.mh_astype.specs.Calls.{exact_keys}
+use Rattle.mh_attempt.proofs.Adding.{holds-came}
 use Rattle.mh_runtime.proofs.Calling.{asks-back, moved}
+use Rattle.mh_runtime.proofs.SeatTypes.{keeps-adds, keeps-back}
 use Rattle.mh_runtime.proofs.calls.call_exact.Goals as goal
 
 pub returns-clause-answer : goal.returns-clause-answer
@@ -19,3 +21,19 @@ pub returns-clause-asks : goal.returns-clause-asks
 returns-clause-asks g c =
     asks-back (recipe c.args.w.now.leaves.now (tree.Leaf c.args.id) ∷ []) c.args.w.now c.leaf_handle.new.w c.give_back.new.w (Ok c.in_ok-answer.field-0)
     c.give_back.ensures.unchanged.pass c.in_ok-handle.ensures.asks
+
+-- ---- the seat of types
+
+pub returns-in_err-handle-clause-types : goal.returns-in_err-handle-clause-types
+returns-in_err-handle-clause-types g c = keeps-adds c.args.w.now c.leaf_handle.new.w c.in_err-handle.ensures.types
+
+pub give_back-requires-clause-held : goal.give_back-requires-clause-held
+give_back-requires-clause-held g c = holds-came c.in_ok-handle.handle.held c.args.w.now c.leaf_handle.new.w c.in_ok-handle.ensures.types
+
+pub returns-in_err-answer-clause-types : goal.returns-in_err-answer-clause-types
+returns-in_err-answer-clause-types g c =
+    keeps-back c.in_ok-handle.handle.held c.args.w.now c.leaf_handle.new.w c.give_back.new.w c.in_ok-handle.ensures.types c.give_back.ensures.types
+
+pub returns-clause-types : goal.returns-clause-types
+returns-clause-types g c =
+    keeps-back c.in_ok-handle.handle.held c.args.w.now c.leaf_handle.new.w c.give_back.new.w c.in_ok-handle.ensures.types c.give_back.ensures.types

@@ -1,4 +1,4 @@
-use Rattle.std.proofs.Common.{ap, IfOk}
+use Rattle.std.proofs.Common.{ap, refl, subst, [], ◌∷◌, Ok, Err}
 use Rattle.mh_leaf.specs.LeafTable.{LeafTable}
 use Rattle.mh_tree.specs.Meaning.{generic}
 use Rattle.mh_tree.specs.Tree.{Tree}
@@ -6,10 +6,15 @@ use Rattle.mh_tree.specs.Tree as tree
 use Rattle.mh_handle.specs.declared.handle.Handle.{Handle}
 use Rattle.mh_handle.specs.Answers.{IsAnswer}
 use Rattle.mh_handle.specs.Recipe.{recipe}
-use Rattle.mh_handle.proofs.Going.{goes_on-before, goes_on-both}
+use Rattle.mh_handle.specs.declared.answer.Answer.{Answer}
+use Rattle.mh_handle.proofs.Going.{goes_on-before, goes_on-both, seated-back}
+use Rattle.mh_intern.specs.Exchanges.{Exchanges}
+use Rattle.mh_branch.proofs.Trading.{held-same}
+use Rattle.mh_attempt.proofs.Adding.{holds-came}
 use Rattle.mh_astype.specs.Calls.{generic_keys}
 use Rattle.mh_plan.specs.Forms.{used_edits}
-use Rattle.mh_runtime.proofs.Calling.{asks-generic, moved, stopped-early}
+use Rattle.mh_runtime.proofs.Calling.{asks-generic, asks-handed, moved, stopped-early}
+use Rattle.mh_runtime.proofs.SeatTypes.{keeps-adds, keeps-back}
 use Rattle.mh_runtime.proofs.calls.call_generic.Goals as goal
 
 pub returns-in_err-handle-clause-asks : goal.returns-in_err-handle-clause-asks
@@ -20,17 +25,57 @@ returns-in_err-handle-clause-asks g c =
 
 pub returns-clause-answer : goal.returns-clause-answer
 returns-clause-answer g c =
-    moved (λ (table : LeafTable) (t : Tree). IfOk c.invoke_generic_with-answer.result (IsAnswer (generic table t c.args.ty.now c.args.args.now 0)
-    (generic_keys table t c.args.ty.now)))
+    moved (λ (table : LeafTable) (t : Tree). IsAnswer (generic table t c.args.ty.now c.args.args.now 0) (generic_keys table t c.args.ty.now)
+    c.in_ok-answer.field-0)
     c.args.w.now.leaves.now c.leaf_handle.new.w.leaves.now c.in_ok-handle.handle (tree.Leaf c.args.id)
-    (ap (λ leaves. leaves.now) c.in_ok-handle.ensures.goes_on.leaves) c.in_ok-handle.ensures.stands c.invoke_generic_with-answer.ensures.answer
+    (ap (λ leaves. leaves.now) c.in_ok-handle.ensures.goes_on.leaves) c.in_ok-handle.ensures.stands c.in_ok-answer.ensures.answer
 
 pub returns-clause-asks : goal.returns-clause-asks
 returns-clause-asks g c =
     asks-generic c.args.w.now.leaves.now c.leaf_handle.new.w.leaves.now (tree.Leaf c.args.id) c.in_ok-handle.handle c.args.ty.now
-    c.args.w.now c.leaf_handle.new.w c.invoke_generic_with-answer.new.w c.give_back.new.w c.invoke_generic_with-answer.result
+    c.args.w.now c.leaf_handle.new.w c.invoke_generic_with-answer.new.w c.give_back.new.w (Ok c.in_ok-answer.field-0)
     (ap (λ leaves. leaves.now) c.in_ok-handle.ensures.goes_on.leaves) c.give_back.ensures.unchanged.pass c.in_ok-handle.ensures.stands
-    c.in_ok-handle.ensures.asks c.invoke_generic_with-answer.ensures.asks
+    c.in_ok-handle.ensures.asks c.in_ok-answer.ensures.asks
+
+pub returns-in_err-answer-clause-asks : goal.returns-in_err-answer-clause-asks
+returns-in_err-answer-clause-asks g c =
+    asks-handed {A = Answer} (recipe c.args.w.now.leaves.now (tree.Leaf c.args.id) ∷ used_edits c.args.w.now.leaves.now (tree.Leaf c.args.id) c.args.ty.now)
+    c.args.w.now c.give_back.new.w c.in_err-answer.field-0.0 c.from_residual-in_err-answer.result c.from_residual-in_err-answer.ensures.1
+    (asks-generic c.args.w.now.leaves.now c.leaf_handle.new.w.leaves.now (tree.Leaf c.args.id) c.in_ok-handle.handle c.args.ty.now
+    c.args.w.now c.leaf_handle.new.w c.invoke_generic_with-answer.new.w c.give_back.new.w (Err c.in_err-answer.field-0.0)
+    (ap (λ leaves. leaves.now) c.in_ok-handle.ensures.goes_on.leaves) c.give_back.ensures.unchanged.pass c.in_ok-handle.ensures.stands
+    c.in_ok-handle.ensures.asks c.in_err-answer.ensures.asks)
+
+-- ---- the seat of types
+
+pub returns-in_err-handle-clause-types : goal.returns-in_err-handle-clause-types
+returns-in_err-handle-clause-types g c = keeps-adds c.args.w.now c.leaf_handle.new.w c.in_err-handle.ensures.types
+
+pub give_back-requires-clause-held : goal.give_back-requires-clause-held
+give_back-requires-clause-held g c =
+    held-same c.in_ok-handle.handle.held c.in_ok-handle.handle.held c.leaf_handle.new.w.seat.now c.invoke_generic_with-answer.new.w.seat.now
+    c.invoke_generic_with-answer.ensures.seat refl
+    (holds-came c.in_ok-handle.handle.held c.args.w.now c.leaf_handle.new.w c.in_ok-handle.ensures.types)
+
+pub returns-in_err-answer-clause-types : goal.returns-in_err-answer-clause-types
+returns-in_err-answer-clause-types g c =
+    keeps-back c.in_ok-handle.handle.held c.args.w.now c.leaf_handle.new.w c.give_back.new.w c.in_ok-handle.ensures.types
+    (subst (λ s. Exchanges [] c.in_ok-handle.handle.held [] s c.give_back.new.w.seat.now) c.invoke_generic_with-answer.ensures.seat c.give_back.ensures.types)
+
+pub returns-clause-types : goal.returns-clause-types
+returns-clause-types g c =
+    keeps-back c.in_ok-handle.handle.held c.args.w.now c.leaf_handle.new.w c.give_back.new.w c.in_ok-handle.ensures.types
+    (subst (λ s. Exchanges [] c.in_ok-handle.handle.held [] s c.give_back.new.w.seat.now) c.invoke_generic_with-answer.ensures.seat c.give_back.ensures.types)
+
+-- ---- the work
+
+pub returns-in_err-answer-clause-goes_on : goal.returns-in_err-answer-clause-goes_on
+returns-in_err-answer-clause-goes_on g c =
+    goes_on-before 2 c.args.w.now c.invoke_generic_with-answer.new.w c.give_back.new.w
+    (goes_on-both 1 1 c.args.w.now c.leaf_handle.new.w c.invoke_generic_with-answer.new.w c.in_ok-handle.ensures.goes_on
+    c.invoke_generic_with-answer.ensures.goes_on)
+    c.give_back.ensures.unchanged
+    (seated-back [] c.in_ok-handle.handle.held c.invoke_generic_with-answer.new.w c.give_back.new.w c.give_back.ensures.types)
 
 pub returns-clause-goes_on : goal.returns-clause-goes_on
 returns-clause-goes_on g c =
@@ -38,3 +83,4 @@ returns-clause-goes_on g c =
     (goes_on-both 1 1 c.args.w.now c.leaf_handle.new.w c.invoke_generic_with-answer.new.w c.in_ok-handle.ensures.goes_on
     c.invoke_generic_with-answer.ensures.goes_on)
     c.give_back.ensures.unchanged
+    (seated-back [] c.in_ok-handle.handle.held c.invoke_generic_with-answer.new.w c.give_back.new.w c.give_back.ensures.types)

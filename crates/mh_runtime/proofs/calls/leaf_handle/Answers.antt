@@ -1,6 +1,6 @@
 use Rattle.std.proofs.Common.{Ok, Err, subst}
 use Rattle.mh_tree.specs.Tree as tree
-use Rattle.mh_handle.specs.declared.error.HandleError.TheVariants.{FormsFull}
+use Rattle.mh_handle.specs.declared.error.HandleError.TheVariants.{FormsFull, TypesFull}
 use Rattle.mh_handle.specs.Recipe.{recipe}
 use Rattle.mh_handle.specs.Works.{Makes}
 use Rattle.mh_attempt.proofs.AskedNodes.{asks-made}
@@ -15,3 +15,9 @@ returns-in-Err-FormsFull-clause-asks g c =
     asks-made (recipe c.args.w.now.leaves.now (tree.Leaf c.args.id)) c.args.w.now c.leaf.new.w (Err (FormsFull c.in-Err-FormsFull.drawn))
     (subst (λ e. Makes (recipe c.args.w.now.leaves.now (tree.Leaf c.args.id)) c.args.w.now c.leaf.new.w (Err e)) c.in-Err-FormsFull.field-0-is
     c.in-Err-FormsFull.ensures.makes)
+
+pub returns-in-Err-TypesFull-clause-asks : goal.returns-in-Err-TypesFull-clause-asks
+returns-in-Err-TypesFull-clause-asks g c =
+    asks-made (recipe c.args.w.now.leaves.now (tree.Leaf c.args.id)) c.args.w.now c.leaf.new.w (Err (TypesFull c.in-Err-TypesFull.bucket))
+    (subst (λ e. Makes (recipe c.args.w.now.leaves.now (tree.Leaf c.args.id)) c.args.w.now c.leaf.new.w (Err e)) c.in-Err-TypesFull.field-0-is
+    c.in-Err-TypesFull.ensures.makes)

@@ -1,6 +1,7 @@
 use denote.Param.Send.{sendable}
 use Rattle.std.proofs.Crossing.{crosses}
 use Rattle.mh_handle.proofs.Crossing.{table_sync}
+use Rattle.mh_intern.proofs.table.TypeTable.TheSendSync as types
 use Rattle.mh_leaves.proofs.leaves.Leaves.TheSendSync as leaves
 use Rattle.mh_runtime.proofs.Crossing.{lane_send, linker_sync, plan_sync}
 use Rattle.mh_runtime.proofs.running.run_passes.Goals as goal
@@ -12,4 +13,4 @@ fork_join-requires-send-T-Lane g c κs within =
 pub fork_join-requires-sync-T : goal.fork_join-requires-sync-T
 fork_join-requires-sync-T g c κs within =
     let s = c.type_bounds.send-J in let y = c.type_bounds.sync-J in let h = c.type_bounds.sync-G in let l = leaves.the_sync in
-    search (linker_sync, table_sync, plan_sync, crosses, sendable) depth 40
+    let t = types.the_sync in search (linker_sync, table_sync, plan_sync, crosses, sendable) depth 40

@@ -1,12 +1,21 @@
-use Rattle.std.proofs.Common.{ap, ◌∙◌, arith}
+use Rattle.std.proofs.Common.{ap, ◌∙◌, [], ◌++◌, arith}
 use Rattle.mh_tree.specs.Tree as tree
-use Rattle.mh_handle.proofs.Going.{goes_on-before, goes_on-both, goes_on-more}
+use Rattle.mh_handle.proofs.Going.{goes_on-before, goes_on-both, goes_on-more, seated-back}
+use Rattle.mh_steps.proofs.Adding.{adds, adds-held, both-back, first-held, second-held, three, types-next}
 use Rattle.mh_steps.proofs.Rooms.{ready-after, some-over, stands-over}
 use Rattle.mh_steps.proofs.making.guarded.Goals as goal
 
 pub guard-requires : goal.guard-requires
 guard-requires g c =
-    record { ready = ready-after 1 1 _ _ c.in-Ok.ensures.goes_on (ready-after 2 2 _ _ c.in_ok-test.ensures.goes_on c.requires.ready) }
+    let t = c.in_ok-test.test.held in
+    let u = c.in_ok-test.target.held in
+    let f = c.in-Ok.fallback.held in
+    let seat = c.args.w.now.seat.now in
+    let next = c.leaf_at.new.w.seat.now in
+    record {
+      ready = ready-after 1 1 _ _ c.in-Ok.ensures.goes_on (ready-after 2 2 _ _ c.in_ok-test.ensures.goes_on c.requires.ready);
+      held = adds-held (t ++ u ++ f) seat next (three t u seat c.two_leaves.new.w.seat.now next c.in_ok-test.ensures.types f c.in-Ok.ensures.types);
+    }
 
 pub returns-in-Ok-clause-goes_on : goal.returns-in-Ok-clause-goes_on
 returns-in-Ok-clause-goes_on g c =
@@ -14,9 +23,40 @@ returns-in-Ok-clause-goes_on g c =
 
 pub returns-in-Err-clause-goes_on : goal.returns-in-Err-clause-goes_on
 returns-in-Err-clause-goes_on g c =
-    goes_on-more 3 4 _ _ (omega arith)
-    (goes_on-both 2 1 _ _ _ c.in_ok-test.ensures.goes_on
-    (goes_on-before 1 _ _ _ (goes_on-before 1 _ _ _ c.in-Err.ensures.goes_on c.give_back.ensures.unchanged) c.give_back-in-Err.ensures.unchanged))
+    let a = c.leaf_at.new.w in
+    let b = c.give_back.new.w in
+    let d = c.give_back-in-Err.new.w in
+    goes_on-more 3 4 c.args.w.now d (omega arith)
+    (goes_on-both 2 1 c.args.w.now c.two_leaves.new.w d c.in_ok-test.ensures.goes_on
+    (goes_on-before 1 c.two_leaves.new.w b d
+    (goes_on-before 1 c.two_leaves.new.w a b c.in-Err.ensures.goes_on c.give_back.ensures.unchanged
+    (seated-back [] c.in_ok-test.test.held a b c.give_back.ensures.types))
+    c.give_back-in-Err.ensures.unchanged (seated-back [] c.in_ok-test.target.held b d c.give_back-in-Err.ensures.types)))
+
+pub give_back-requires-clause-held : goal.give_back-requires-clause-held
+give_back-requires-clause-held g c =
+    first-held c.in_ok-test.test.held c.in_ok-test.target.held c.args.w.now.seat.now c.two_leaves.new.w.seat.now c.leaf_at.new.w.seat.now
+    c.in_ok-test.ensures.types c.in-Err.ensures.types
+
+pub give_back-requires-in-Err-clause-held : goal.give_back-requires-in-Err-clause-held
+give_back-requires-in-Err-clause-held g c =
+    second-held c.in_ok-test.test.held c.in_ok-test.target.held c.args.w.now.seat.now c.two_leaves.new.w.seat.now c.leaf_at.new.w.seat.now
+    c.in_ok-test.ensures.types c.give_back.new.w.seat.now c.in-Err.ensures.types c.give_back.ensures.types
+
+pub returns-in-Ok-clause-types : goal.returns-in-Ok-clause-types
+returns-in-Ok-clause-types g c =
+    let t = c.in_ok-test.test.held in
+    let u = c.in_ok-test.target.held in
+    let f = c.in-Ok.fallback.held in
+    types-next [] (t ++ u ++ f) c.args.w.now c.leaf_at.new.w c.guard.new.w c.guard.result
+    (three t u c.args.w.now.seat.now c.two_leaves.new.w.seat.now c.leaf_at.new.w.seat.now c.in_ok-test.ensures.types f c.in-Ok.ensures.types)
+    (adds _ (t ++ u ++ f) c.leaf_at.new.w c.guard.new.w c.guard.result c.guard.ensures.types)
+
+pub returns-in-Err-clause-types : goal.returns-in-Err-clause-types
+returns-in-Err-clause-types g c =
+    both-back c.in_ok-test.test.held c.in_ok-test.target.held c.args.w.now.seat.now c.two_leaves.new.w.seat.now c.leaf_at.new.w.seat.now
+    c.in_ok-test.ensures.types c.give_back.new.w.seat.now c.give_back-in-Err.new.w.seat.now c.in-Err.ensures.types c.give_back.ensures.types
+    c.give_back-in-Err.ensures.types
 
 pub returns-in-Ok-clause-stands : goal.returns-in-Ok-clause-stands
 returns-in-Ok-clause-stands g c =

@@ -3,10 +3,11 @@ use Rattle.mh_tree.specs.Rows.{gather_row}
 use Rattle.mh_tree.specs.Tree as tree
 use Rattle.mh_attempt.proofs.Asking.{error-node}
 use Rattle.mh_attempt.proofs.LineNodes.{unmade-node}
-use Rattle.mh_attempt.proofs.Rooms.{goes_on-sum}
+use Rattle.mh_attempt.proofs.Rooms.{goes_on-sum, ready-after}
 use Rattle.mh_attempt.proofs.Rules.{checked-one, node-of-one}
 use Rattle.mh_attempt.proofs.AskedOperands.{asks-one, asks-unmade}
 use Rattle.mh_attempt.proofs.AskedNodes.{asks-refused}
+use Rattle.mh_attempt.proofs.Adding.{adds-none, adds-then, adds-unmade, holds-came}
 use Rattle.mh_attempt.proofs.lines.arrays.gathered.Goals as goal
 
 pub returns-in_err-target-clause-node : goal.returns-in_err-target-clause-node
@@ -46,3 +47,24 @@ pub returns-clause-asks : goal.returns-clause-asks
 returns-clause-asks g c t stands =
     asks-one (c.args.target.now ∷ []) c.args.w.now c.made.new.w c.gather.new.w t (tree.Gather t c.args.array c.args.count) c.in_ok-target.target c.gather.result
     c.made.ensures.goes_on.leaves c.in_ok-target.ensures.asks (c.in_ok-target.ensures.stands t stands) (c.gather.ensures.makes t)
+
+-- ---- the seat of types
+
+pub returns-in_err-check_gather-clause-types : goal.returns-in_err-check_gather-clause-types
+returns-in_err-check_gather-clause-types g c = adds-unmade c.args.w.now c.args.w.now c.from_residual.result _ c.from_residual.ensures.1 (adds-none c.args.w.now)
+
+pub returns-in_err-target-clause-types : goal.returns-in_err-target-clause-types
+returns-in_err-target-clause-types g c =
+    adds-unmade c.args.w.now c.made.new.w c.from_residual-in_err-target.result _ c.from_residual-in_err-target.ensures.1 c.in_err-target.ensures.types
+
+pub gather-requires-clause-ready : goal.gather-requires-clause-ready
+gather-requires-clause-ready g c =
+    ready-after 1 1 4 c.args.w.now c.made.new.w (omega arith) c.made.ensures.goes_on c.requires.ready
+
+pub gather-requires-clause-held : goal.gather-requires-clause-held
+gather-requires-clause-held g c =
+    holds-came c.in_ok-target.target.held c.args.w.now c.made.new.w c.in_ok-target.ensures.types
+
+pub returns-clause-types : goal.returns-clause-types
+returns-clause-types g c =
+    adds-then _ c.in_ok-target.target.held c.args.w.now c.made.new.w c.gather.new.w c.gather.result c.in_ok-target.ensures.types c.gather.ensures.types

@@ -7,6 +7,7 @@ use Rattle.mh_attempt.specs.Told.{Tells}
 use Rattle.mh_attempt.proofs.Asking.{asked-then, thrown-first, thrown-second, told-by}
 use Rattle.mh_attempt.proofs.LineNodes.{same-node}
 use Rattle.mh_attempt.proofs.AskedOperations.{line-asks, line-thrown, one-use, spread-itself}
+use Rattle.mh_attempt.proofs.Adding.{adds-none, adds-unmade}
 use Rattle.mh_attempt.proofs.lines.arrays.spread_line.Goals as goal
 
 pub returns-in_err-target-clause-node : goal.returns-in_err-target-clause-node
@@ -62,3 +63,15 @@ returns-clause-asks g c frame hold =
     (λ n is. spread-itself w.leaves.now frame c.args.target.now c.args.array.now c.args.count operands w c.spread_out.new.w c.spread_out.result target.0 n
     target.1
     (c.spread_out.ensures.asks target.0 n target.2 is))
+
+-- ---- the seat of types
+
+pub returns-in_err-target-clause-types : goal.returns-in_err-target-clause-types
+returns-in_err-target-clause-types g c = adds-unmade c.args.w.now c.args.w.now c.from_residual.result _ c.from_residual.ensures.1 (adds-none c.args.w.now)
+
+pub returns-in_err-array-clause-types : goal.returns-in_err-array-clause-types
+returns-in_err-array-clause-types g c =
+    adds-unmade c.args.w.now c.args.w.now c.from_residual-in_err-array.result _ c.from_residual-in_err-array.ensures.1 (adds-none c.args.w.now)
+
+pub spread_out-requires-clause-target_held : goal.spread_out-requires-clause-target_held
+spread_out-requires-clause-target_held g c = c.in_ok-target.ensures.kept c.args.w.now.seat.now c.requires.kept

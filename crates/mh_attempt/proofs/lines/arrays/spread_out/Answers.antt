@@ -6,12 +6,13 @@ use Rattle.mh_jobs.specs.Thrown.{◌>>=◌}
 use Rattle.mh_attempt.specs.Lines.{typed}
 use Rattle.mh_attempt.proofs.Asking.{error-node}
 use Rattle.mh_attempt.proofs.LineNodes.{same-node, unmade-node}
-use Rattle.mh_attempt.proofs.Rooms.{goes_on-sum}
+use Rattle.mh_attempt.proofs.Rooms.{goes_on-sum, ready-after}
 use Rattle.mh_attempt.proofs.SpreadNodes.{node-of-spread, refused-spread, spread-is, spread-rule}
 use Rattle.mh_attempt.proofs.AskedOperands.{asks-unmade}
 use Rattle.mh_attempt.proofs.AskedNodes.{asks-refused}
 use Rattle.mh_attempt.proofs.AskedUses.{asks-spread}
 use Rattle.mh_attempt.specs.Recipes.{spread_asked}
+use Rattle.mh_attempt.proofs.Adding.{adds-none, adds-then, adds-unmade, holds-came}
 use Rattle.mh_attempt.proofs.lines.arrays.spread_out.Goals as goal
 
 pub returns-in_err-check_spread_use-clause-node : goal.returns-in_err-check_spread_use-clause-node
@@ -63,3 +64,25 @@ pub returns-clause-asks : goal.returns-clause-asks
 returns-clause-asks g c t s stands is =
     asks-spread (c.args.target.now ∷ []) c.args.w.now c.made.new.w c.spread.new.w t c.in_ok-target.target c.spread.result
     c.made.ensures.goes_on.leaves c.in_ok-target.ensures.asks (c.in_ok-target.ensures.stands t stands) c.args.array c.args.count s is (c.spread.ensures.makes t)
+
+-- ---- the seat of types
+
+pub returns-in_err-check_spread_use-clause-types : goal.returns-in_err-check_spread_use-clause-types
+returns-in_err-check_spread_use-clause-types g c =
+    adds-unmade c.args.w.now c.args.w.now c.from_residual.result _ c.from_residual.ensures.1 (adds-none c.args.w.now)
+
+pub returns-in_err-target-clause-types : goal.returns-in_err-target-clause-types
+returns-in_err-target-clause-types g c =
+    adds-unmade c.args.w.now c.made.new.w c.from_residual-in_err-target.result _ c.from_residual-in_err-target.ensures.1 c.in_err-target.ensures.types
+
+pub spread-requires-clause-ready : goal.spread-requires-clause-ready
+spread-requires-clause-ready g c =
+    ready-after 1 2 4 c.args.w.now c.made.new.w (omega arith) c.made.ensures.goes_on c.requires.ready
+
+pub spread-requires-clause-held : goal.spread-requires-clause-held
+spread-requires-clause-held g c =
+    holds-came c.in_ok-target.target.held c.args.w.now c.made.new.w c.in_ok-target.ensures.types
+
+pub returns-clause-types : goal.returns-clause-types
+returns-clause-types g c =
+    adds-then _ c.in_ok-target.target.held c.args.w.now c.made.new.w c.spread.new.w c.spread.result c.in_ok-target.ensures.types c.spread.ensures.types

@@ -8,6 +8,7 @@ use Rattle.mh_attempt.specs.Told.{Tells}
 use Rattle.mh_attempt.proofs.Asking.{asked-three, thrown-first, thrown-second, thrown-third, told-by}
 use Rattle.mh_attempt.proofs.LineNodes.{same-node}
 use Rattle.mh_attempt.proofs.AskedOperations.{line-makes, line-thrown, two-uses}
+use Rattle.mh_attempt.proofs.Adding.{adds-none, adds-unmade}
 use Rattle.mh_attempt.proofs.lines.branches.catch_line.Goals as goal
 
 pub returns-in_err-target-clause-node : goal.returns-in_err-target-clause-node
@@ -79,3 +80,22 @@ returns-clause-asks g c frame hold =
     (c.in_ok-target.ensures.makes w.leaves.now frame hold) (c.in_ok-handler.ensures.makes w.leaves.now frame hold))
     (asked-three w.leaves.now _ _ _ (λ t class p. tree.Catch t class p) target.0 c.in_ok-class.class handler.0 target.1 class handler.1)
     (c.caught.ensures.asks target.0 handler.0 target.2 handler.2)
+
+-- ---- the seat of types
+
+pub returns-in_err-target-clause-types : goal.returns-in_err-target-clause-types
+returns-in_err-target-clause-types g c = adds-unmade c.args.w.now c.args.w.now c.from_residual.result _ c.from_residual.ensures.1 (adds-none c.args.w.now)
+
+pub returns-in_err-class-clause-types : goal.returns-in_err-class-clause-types
+returns-in_err-class-clause-types g c =
+    adds-unmade c.args.w.now c.args.w.now c.from_residual-in_err-class.result _ c.from_residual-in_err-class.ensures.1 (adds-none c.args.w.now)
+
+pub returns-in_err-handler-clause-types : goal.returns-in_err-handler-clause-types
+returns-in_err-handler-clause-types g c =
+    adds-unmade c.args.w.now c.args.w.now c.from_residual-in_err-handler.result _ c.from_residual-in_err-handler.ensures.1 (adds-none c.args.w.now)
+
+pub caught-requires-clause-target_held : goal.caught-requires-clause-target_held
+caught-requires-clause-target_held g c = c.in_ok-target.ensures.kept c.args.w.now.seat.now c.requires.kept
+
+pub caught-requires-clause-handler_held : goal.caught-requires-clause-handler_held
+caught-requires-clause-handler_held g c = c.in_ok-handler.ensures.kept c.args.w.now.seat.now c.requires.kept

@@ -5,6 +5,7 @@ use Rattle.mh_attempt.proofs.Asking.{asked-three, thrown-first, thrown-second, t
 use Rattle.mh_attempt.proofs.LineNodes.{same-node}
 use Rattle.std.proofs.Common.{[], ◌∷◌}
 use Rattle.mh_attempt.proofs.AskedOperations.{line-makes, line-thrown, three-uses}
+use Rattle.mh_attempt.proofs.Adding.{adds-none, adds-unmade}
 use Rattle.mh_attempt.proofs.lines.branches.guard_line.Goals as goal
 
 pub returns-in_err-test-clause-node : goal.returns-in_err-test-clause-node
@@ -81,3 +82,25 @@ returns-clause-asks g c frame hold =
     (c.in_ok-fallback.ensures.makes w.leaves.now frame hold))
     (asked-three w.leaves.now _ _ _ (λ f t e. tree.Guard f t e) test.0 target.0 fallback.0 test.1 target.1 fallback.1)
     (c.guarded.ensures.asks test.0 target.0 fallback.0 test.2 target.2 fallback.2)
+
+-- ---- the seat of types
+
+pub returns-in_err-test-clause-types : goal.returns-in_err-test-clause-types
+returns-in_err-test-clause-types g c = adds-unmade c.args.w.now c.args.w.now c.from_residual.result _ c.from_residual.ensures.1 (adds-none c.args.w.now)
+
+pub returns-in_err-target-clause-types : goal.returns-in_err-target-clause-types
+returns-in_err-target-clause-types g c =
+    adds-unmade c.args.w.now c.args.w.now c.from_residual-in_err-target.result _ c.from_residual-in_err-target.ensures.1 (adds-none c.args.w.now)
+
+pub returns-in_err-fallback-clause-types : goal.returns-in_err-fallback-clause-types
+returns-in_err-fallback-clause-types g c =
+    adds-unmade c.args.w.now c.args.w.now c.from_residual-in_err-fallback.result _ c.from_residual-in_err-fallback.ensures.1 (adds-none c.args.w.now)
+
+pub guarded-requires-clause-test_held : goal.guarded-requires-clause-test_held
+guarded-requires-clause-test_held g c = c.in_ok-test.ensures.kept c.args.w.now.seat.now c.requires.kept
+
+pub guarded-requires-clause-target_held : goal.guarded-requires-clause-target_held
+guarded-requires-clause-target_held g c = c.in_ok-target.ensures.kept c.args.w.now.seat.now c.requires.kept
+
+pub guarded-requires-clause-fallback_held : goal.guarded-requires-clause-fallback_held
+guarded-requires-clause-fallback_held g c = c.in_ok-fallback.ensures.kept c.args.w.now.seat.now c.requires.kept

@@ -5,6 +5,7 @@ use Rattle.mh_attempt.proofs.Asking.{asked-two, thrown-first, thrown-second, tol
 use Rattle.mh_attempt.proofs.LineNodes.{same-node}
 use Rattle.std.proofs.Common.{[], ◌∷◌}
 use Rattle.mh_attempt.proofs.AskedOperations.{line-makes, line-thrown, one-use}
+use Rattle.mh_attempt.proofs.Adding.{adds-none, adds-unmade}
 use Rattle.mh_attempt.proofs.lines.inserting.bind_line.Goals as goal
 
 pub returns-in_err-target-clause-node : goal.returns-in_err-target-clause-node
@@ -55,3 +56,15 @@ returns-clause-asks g c frame hold =
     (c.in_ok-target.ensures.makes w.leaves.now frame hold))
     (asked-two w.leaves.now _ _ (λ t v. tree.Bind t c.args.position v) target.0 c.in_ok-value.value target.1 value)
     (c.bound.ensures.asks target.0 target.2)
+
+-- ---- the seat of types
+
+pub returns-in_err-target-clause-types : goal.returns-in_err-target-clause-types
+returns-in_err-target-clause-types g c = adds-unmade c.args.w.now c.args.w.now c.from_residual.result _ c.from_residual.ensures.1 (adds-none c.args.w.now)
+
+pub returns-in_err-value-clause-types : goal.returns-in_err-value-clause-types
+returns-in_err-value-clause-types g c =
+    adds-unmade c.args.w.now c.args.w.now c.from_residual-in_err-value.result _ c.from_residual-in_err-value.ensures.1 (adds-none c.args.w.now)
+
+pub bound-requires-clause-target_held : goal.bound-requires-clause-target_held
+bound-requires-clause-target_held g c = c.in_ok-target.ensures.kept c.args.w.now.seat.now c.requires.kept

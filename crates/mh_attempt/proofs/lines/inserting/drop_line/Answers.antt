@@ -8,6 +8,7 @@ use Rattle.mh_attempt.specs.Told.{Tells}
 use Rattle.mh_attempt.proofs.Asking.{asked-two, thrown-first, thrown-second, told-by}
 use Rattle.mh_attempt.proofs.LineNodes.{same-node}
 use Rattle.mh_attempt.proofs.AskedOperations.{line-makes, line-thrown, one-use}
+use Rattle.mh_attempt.proofs.Adding.{adds-none, adds-unmade}
 use Rattle.mh_attempt.proofs.lines.inserting.drop_line.Goals as goal
 
 pub returns-in_err-target-clause-node : goal.returns-in_err-target-clause-node
@@ -59,3 +60,15 @@ returns-clause-asks g c frame hold =
     (c.in_ok-target.ensures.makes w.leaves.now frame hold))
     (asked-two w.leaves.now _ _ (λ t types. tree.Drop t c.args.position types) target.0 c.in_ok-types.types target.1 types)
     (c.dropped.ensures.asks target.0 target.2)
+
+-- ---- the seat of types
+
+pub returns-in_err-target-clause-types : goal.returns-in_err-target-clause-types
+returns-in_err-target-clause-types g c = adds-unmade c.args.w.now c.args.w.now c.from_residual.result _ c.from_residual.ensures.1 (adds-none c.args.w.now)
+
+pub returns-in_err-types-clause-types : goal.returns-in_err-types-clause-types
+returns-in_err-types-clause-types g c =
+    adds-unmade c.args.w.now c.args.w.now c.from_residual-in_err-types.result _ c.from_residual-in_err-types.ensures.1 (adds-none c.args.w.now)
+
+pub dropped-requires-clause-target_held : goal.dropped-requires-clause-target_held
+dropped-requires-clause-target_held g c = c.in_ok-target.ensures.kept c.args.w.now.seat.now c.requires.kept

@@ -7,6 +7,7 @@ use Rattle.mh_attempt.specs.Told.{Tells}
 use Rattle.mh_attempt.proofs.Asking.{asked-two, thrown-first, thrown-second, told-by}
 use Rattle.mh_attempt.proofs.LineNodes.{same-node}
 use Rattle.mh_attempt.proofs.AskedOperations.{line-makes, line-thrown, one-use}
+use Rattle.mh_attempt.proofs.Adding.{adds-none, adds-unmade}
 use Rattle.mh_attempt.proofs.lines.inserting.permute_line.Goals as goal
 
 pub returns-in_err-target-clause-node : goal.returns-in_err-target-clause-node
@@ -60,3 +61,15 @@ returns-clause-asks g c frame hold =
     (c.in_ok-target.ensures.makes w.leaves.now frame hold))
     (asked-two w.leaves.now _ _ (λ t asked. tree.Permute t asked c.args.order.now) target.0 c.get.result.now target.1 asked)
     (c.permuted.ensures.asks target.0 target.2)
+
+-- ---- the seat of types
+
+pub returns-in_err-target-clause-types : goal.returns-in_err-target-clause-types
+returns-in_err-target-clause-types g c = adds-unmade c.args.w.now c.args.w.now c.from_residual.result _ c.from_residual.ensures.1 (adds-none c.args.w.now)
+
+pub returns-in_err-asked-clause-types : goal.returns-in_err-asked-clause-types
+returns-in_err-asked-clause-types g c =
+    adds-unmade c.args.w.now c.args.w.now c.from_residual-in_err-asked.result _ c.from_residual-in_err-asked.ensures.1 (adds-none c.args.w.now)
+
+pub permuted-requires-clause-target_held : goal.permuted-requires-clause-target_held
+permuted-requires-clause-target_held g c = c.in_ok-target.ensures.kept c.args.w.now.seat.now c.requires.kept

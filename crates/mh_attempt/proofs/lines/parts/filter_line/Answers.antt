@@ -5,6 +5,7 @@ use Rattle.mh_attempt.proofs.Asking.{asked-two, thrown-first, thrown-second, tol
 use Rattle.mh_attempt.proofs.LineNodes.{same-node}
 use Rattle.std.proofs.Common.{[], ◌∷◌}
 use Rattle.mh_attempt.proofs.AskedOperations.{line-makes, line-thrown, two-uses}
+use Rattle.mh_attempt.proofs.Adding.{adds-none, adds-unmade}
 use Rattle.mh_attempt.proofs.lines.parts.filter_line.Goals as goal
 
 pub returns-in_err-target-clause-node : goal.returns-in_err-target-clause-node
@@ -60,3 +61,18 @@ returns-clause-asks g c frame hold =
     (c.in_ok-target.ensures.makes w.leaves.now frame hold) (c.in_ok-part.ensures.makes w.leaves.now frame hold))
     (asked-two w.leaves.now _ _ (λ t p. tree.FilterArg t c.args.position p) target.0 part.0 target.1 part.1)
     (c.filtered.ensures.asks target.0 part.0 target.2 part.2)
+
+-- ---- the seat of types
+
+pub returns-in_err-target-clause-types : goal.returns-in_err-target-clause-types
+returns-in_err-target-clause-types g c = adds-unmade c.args.w.now c.args.w.now c.from_residual.result _ c.from_residual.ensures.1 (adds-none c.args.w.now)
+
+pub returns-in_err-part-clause-types : goal.returns-in_err-part-clause-types
+returns-in_err-part-clause-types g c =
+    adds-unmade c.args.w.now c.args.w.now c.from_residual-in_err-part.result _ c.from_residual-in_err-part.ensures.1 (adds-none c.args.w.now)
+
+pub filtered-requires-clause-target_held : goal.filtered-requires-clause-target_held
+filtered-requires-clause-target_held g c = c.in_ok-target.ensures.kept c.args.w.now.seat.now c.requires.kept
+
+pub filtered-requires-clause-part_held : goal.filtered-requires-clause-part_held
+filtered-requires-clause-part_held g c = c.in_ok-part.ensures.kept c.args.w.now.seat.now c.requires.kept

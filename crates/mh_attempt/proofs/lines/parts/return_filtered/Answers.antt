@@ -1,22 +1,18 @@
-use Rattle.std.proofs.Common.{refl, arith, [], ◌∷◌}
+use Rattle.std.proofs.Common.{refl, arith, [], ◌∷◌, ◌++◌}
 use Rattle.mh_tree.specs.Rows.{filterret_row}
 use Rattle.mh_tree.specs.Tree as tree
 use Rattle.mh_handle.proofs.Going.{goes_on-more}
 use Rattle.mh_attempt.proofs.Asking.{error-node}
-use Rattle.mh_attempt.proofs.Counting.{counts-several, counts-unmade}
 use Rattle.mh_attempt.proofs.LineNodes.{unmade-node}
-use Rattle.mh_attempt.proofs.Rooms.{goes_on-sum}
+use Rattle.mh_attempt.proofs.Rooms.{goes_on-sum, ready-after}
 use Rattle.mh_attempt.proofs.Rules.{checked-two, node-of-two}
 use Rattle.mh_attempt.proofs.AskedOperands.{asks-two, asks-unmade}
 use Rattle.mh_attempt.proofs.AskedNodes.{asks-refused}
+use Rattle.mh_attempt.proofs.Adding.{adds-none, adds-then, adds-unmade, holds-came}
 use Rattle.mh_attempt.proofs.lines.parts.return_filtered.Goals as goal
 
 pub returns-in_err-made-clause-goes_on : goal.returns-in_err-made-clause-goes_on
 returns-in_err-made-clause-goes_on g c = goes_on-more 2 4 c.args.w.now c.both_made.new.w (omega arith) c.both_made.ensures.goes_on
-
-pub returns-in_err-made-clause-handles : goal.returns-in_err-made-clause-handles
-returns-in_err-made-clause-handles g c =
-    counts-unmade c.args.w.now c.both_made.new.w c.from_residual-in_err-made.result _ c.from_residual-in_err-made.ensures.1 c.in_err-made.ensures.handles
 
 pub returns-in_err-made-clause-node : goal.returns-in_err-made-clause-node
 returns-in_err-made-clause-node g c t p stands others =
@@ -30,11 +26,6 @@ returns-in_err-made-clause-node g c t p stands others =
 pub returns-clause-goes_on : goal.returns-clause-goes_on
 returns-clause-goes_on g c =
     goes_on-sum 2 1 4 c.args.w.now c.both_made.new.w c.filterret.new.w (omega arith) c.both_made.ensures.goes_on c.filterret.ensures.goes_on
-
-pub returns-clause-handles : goal.returns-clause-handles
-returns-clause-handles g c =
-    counts-several 2 c.args.w.now c.both_made.new.w c.filterret.new.w c.in_ok-made.made c.filterret.result c.in_ok-made.ensures.handles
-    c.filterret.ensures.handles
 
 pub returns-clause-node : goal.returns-clause-node
 returns-clause-node g c t p stands others =
@@ -65,3 +56,26 @@ returns-clause-asks g c t p stands others =
     c.in_ok-made.made.1 c.filterret.result
     c.both_made.ensures.goes_on.leaves c.in_ok-made.ensures.asks (c.in_ok-made.ensures.first t stands) (c.in_ok-made.ensures.second p others)
     (c.filterret.ensures.makes t p)
+
+-- ---- the seat of types
+
+pub returns-in_err-check_filterret-clause-types : goal.returns-in_err-check_filterret-clause-types
+returns-in_err-check_filterret-clause-types g c =
+    adds-unmade c.args.w.now c.args.w.now c.from_residual.result _ c.from_residual.ensures.1 (adds-none c.args.w.now)
+
+pub returns-in_err-made-clause-types : goal.returns-in_err-made-clause-types
+returns-in_err-made-clause-types g c =
+    adds-unmade c.args.w.now c.both_made.new.w c.from_residual-in_err-made.result _ c.from_residual-in_err-made.ensures.1 c.in_err-made.ensures.types
+
+pub filterret-requires-clause-ready : goal.filterret-requires-clause-ready
+filterret-requires-clause-ready g c =
+    ready-after 2 1 4 c.args.w.now c.both_made.new.w (omega arith) c.both_made.ensures.goes_on c.requires.ready
+
+pub filterret-requires-clause-held : goal.filterret-requires-clause-held
+filterret-requires-clause-held g c =
+    holds-came (c.in_ok-made.made.0.held ++ c.in_ok-made.made.1.held) c.args.w.now c.both_made.new.w c.in_ok-made.ensures.types
+
+pub returns-clause-types : goal.returns-clause-types
+returns-clause-types g c =
+    adds-then _ (c.in_ok-made.made.0.held ++ c.in_ok-made.made.1.held) c.args.w.now c.both_made.new.w c.filterret.new.w c.filterret.result
+    c.in_ok-made.ensures.types c.filterret.ensures.types

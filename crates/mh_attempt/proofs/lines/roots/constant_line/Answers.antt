@@ -9,6 +9,7 @@ use Rattle.mh_attempt.proofs.LineNodes.{same-node}
 use Rattle.mh_attempt.proofs.Rules.{node-of-root}
 use Rattle.mh_attempt.proofs.AskedNodes.{asks-made}
 use Rattle.mh_attempt.proofs.AskedOperations.{line-makes, line-thrown}
+use Rattle.mh_attempt.proofs.Adding.{adds-made, adds-none, adds-unmade}
 use Rattle.mh_attempt.proofs.lines.roots.constant_line.Goals as goal
 
 pub returns-in_err-ty-clause-node : goal.returns-in_err-ty-clause-node
@@ -58,3 +59,15 @@ returns-clause-asks g c frame hold =
     (tree.Constant c.in_ok-ty.ty c.in_ok-value.value) refl
     (asked-two w.leaves.now _ _ (λ t v. tree.Constant t v) c.in_ok-ty.ty c.in_ok-value.value ty value)
     (asks-made _ w c.constant.new.w c.constant.result c.constant.ensures.makes)
+
+-- ---- the seat of types
+
+pub returns-in_err-ty-clause-types : goal.returns-in_err-ty-clause-types
+returns-in_err-ty-clause-types g c = adds-unmade c.args.w.now c.args.w.now c.from_residual.result _ c.from_residual.ensures.1 (adds-none c.args.w.now)
+
+pub returns-in_err-value-clause-types : goal.returns-in_err-value-clause-types
+returns-in_err-value-clause-types g c =
+    adds-unmade c.args.w.now c.args.w.now c.from_residual-in_err-value.result _ c.from_residual-in_err-value.ensures.1 (adds-none c.args.w.now)
+
+pub returns-clause-types : goal.returns-clause-types
+returns-clause-types g c = adds-made _ c.args.w.now c.constant.new.w c.constant.result c.constant.ensures.types

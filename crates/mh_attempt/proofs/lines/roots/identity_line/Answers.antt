@@ -9,6 +9,7 @@ use Rattle.mh_attempt.proofs.LineNodes.{same-node}
 use Rattle.mh_attempt.proofs.Rules.{node-of-root}
 use Rattle.mh_attempt.proofs.AskedNodes.{asks-made}
 use Rattle.mh_attempt.proofs.AskedOperations.{line-makes, line-thrown}
+use Rattle.mh_attempt.proofs.Adding.{adds-made, adds-none, adds-unmade}
 use Rattle.mh_attempt.proofs.lines.roots.identity_line.Goals as goal
 
 pub returns-in_err-ty-clause-node : goal.returns-in_err-ty-clause-node
@@ -44,3 +45,11 @@ returns-clause-asks g c frame hold =
     (tree.Identity c.in_ok-ty.ty) refl
     (asked-one w.leaves.now _ (λ t. tree.Identity t) c.in_ok-ty.ty ty)
     (asks-made _ w c.identity.new.w c.identity.result c.identity.ensures.makes)
+
+-- ---- the seat of types
+
+pub returns-in_err-ty-clause-types : goal.returns-in_err-ty-clause-types
+returns-in_err-ty-clause-types g c = adds-unmade c.args.w.now c.args.w.now c.from_residual.result _ c.from_residual.ensures.1 (adds-none c.args.w.now)
+
+pub returns-clause-types : goal.returns-clause-types
+returns-clause-types g c = adds-made _ c.args.w.now c.identity.new.w c.identity.result c.identity.ensures.types

@@ -8,6 +8,7 @@ use Rattle.mh_attempt.proofs.LineNodes.{same-node}
 use Rattle.mh_attempt.proofs.Rules.{node-of-leaf}
 use Rattle.mh_attempt.proofs.AskedNodes.{asks-made}
 use Rattle.mh_attempt.proofs.AskedOperations.{line-makes, line-thrown}
+use Rattle.mh_attempt.proofs.Adding.{adds-made, adds-none, adds-unmade}
 use Rattle.mh_attempt.proofs.lines.roots.leaf_line.Goals as goal
 
 pub returns-in_err-id-clause-node : goal.returns-in_err-id-clause-node
@@ -40,3 +41,11 @@ returns-clause-asks g c frame =
     (tree.Leaf c.in_ok-id.id) refl
     (asked-one w.leaves.now _ (λ l. tree.Leaf l) c.in_ok-id.id c.in_ok-id.ensures.found)
     (asks-made _ w c.leaf.new.w c.leaf.result c.leaf.ensures.makes)
+
+-- ---- the seat of types
+
+pub returns-in_err-id-clause-types : goal.returns-in_err-id-clause-types
+returns-in_err-id-clause-types g c = adds-unmade c.args.w.now c.args.w.now c.from_residual.result _ c.from_residual.ensures.1 (adds-none c.args.w.now)
+
+pub returns-clause-types : goal.returns-clause-types
+returns-clause-types g c = adds-made _ c.args.w.now c.leaf.new.w c.leaf.result c.leaf.ensures.types

@@ -11,6 +11,7 @@ use Rattle.mh_attempt.proofs.LineNodes.{same-node}
 use Rattle.mh_attempt.proofs.Rules.{node-of-root}
 use Rattle.mh_attempt.proofs.AskedNodes.{asks-made}
 use Rattle.mh_attempt.proofs.AskedOperations.{line-makes, line-thrown}
+use Rattle.mh_attempt.proofs.Adding.{adds-made, adds-none, adds-unmade}
 use Rattle.mh_attempt.proofs.lines.roots.throw_line.Goals as goal
 
 pub returns-in_err-ret-clause-node : goal.returns-in_err-ret-clause-node
@@ -64,3 +65,15 @@ returns-clause-asks g c frame hold =
     (tree.Throw c.in_ok-ret.ret c.in_ok-class.class) refl
     (asked-two w.leaves.now _ _ (λ t class. tree.Throw t class) c.in_ok-ret.ret c.in_ok-class.class ret class)
     (asks-made _ w c.throw.new.w c.throw.result c.throw.ensures.makes)
+
+-- ---- the seat of types
+
+pub returns-in_err-ret-clause-types : goal.returns-in_err-ret-clause-types
+returns-in_err-ret-clause-types g c = adds-unmade c.args.w.now c.args.w.now c.from_residual.result _ c.from_residual.ensures.1 (adds-none c.args.w.now)
+
+pub returns-in_err-class-clause-types : goal.returns-in_err-class-clause-types
+returns-in_err-class-clause-types g c =
+    adds-unmade c.args.w.now c.args.w.now c.from_residual-in_err-class.result _ c.from_residual-in_err-class.ensures.1 (adds-none c.args.w.now)
+
+pub returns-clause-types : goal.returns-clause-types
+returns-clause-types g c = adds-made _ c.args.w.now c.throw.new.w c.throw.result c.throw.ensures.types

@@ -3,6 +3,8 @@ use Rattle.mh_handle.specs.declared.handle.Handle.{Handle}
 use Rattle.mh_attempt.specs.Recipes.{recipes_made}
 use Rattle.mh_attempt.proofs.AskedNodes.{asks-unchanged}
 use Rattle.mh_attempt.proofs.AskedOperands.{asks-more, asks-unmade-both}
+use Rattle.mh_handle.proofs.Going.{goes_on-before, goes_on-both, seated-back}
+use Rattle.mh_attempt.proofs.Adding.{adds-back, adds-both, holds-after, of-types, operand-yet}
 use Rattle.mh_attempt.proofs.lines.several.both_made.Goals as goal
 
 -- ---- what is asked for
@@ -25,3 +27,33 @@ returns-in-Err-clause-asks g c =
     (Err c.in-Err.error) c.give_back.ensures.unchanged.pass
     (asks-more {A = Handle} (c.args.first.now ∷ []) (c.args.second.now ∷ []) w c.made.new.w c.made-2.new.w (Err c.in-Err.error)
     c.made.ensures.goes_on.leaves c.in_ok-first.ensures.asks c.in-Err.ensures.asks)
+
+-- ---- the seat of types
+
+pub made-requires-2-clause-held : goal.made-requires-2-clause-held
+made-requires-2-clause-held g c =
+    operand-yet c.args.second.now c.in_ok-first.first.held c.args.w.now c.made.new.w c.in_ok-first.ensures.types c.requires.second_held
+
+pub returns-in-Ok-clause-types : goal.returns-in-Ok-clause-types
+returns-in-Ok-clause-types g c =
+    adds-both c.in_ok-first.first.held c.in-Ok.second.held c.args.w.now c.made.new.w c.made-2.new.w c.in_ok-first.ensures.types c.in-Ok.ensures.types
+
+pub give_back-requires-clause-of_types : goal.give_back-requires-clause-of_types
+give_back-requires-clause-of_types g c =
+    of-types 2 2 c.args.w.now c.made-2.new.w (goes_on-both 1 1 c.args.w.now c.made.new.w c.made-2.new.w c.made.ensures.goes_on c.made-2.ensures.goes_on)
+    c.requires.ready
+
+pub give_back-requires-clause-held : goal.give_back-requires-clause-held
+give_back-requires-clause-held g c =
+    holds-after c.in_ok-first.first.held c.args.w.now c.made.new.w c.made-2.new.w c.in_ok-first.ensures.types c.in-Err.ensures.types
+
+pub returns-in-Err-clause-types : goal.returns-in-Err-clause-types
+returns-in-Err-clause-types g c =
+    adds-back c.in_ok-first.first.held c.args.w.now c.made.new.w c.made-2.new.w c.give_back.new.w c.in_ok-first.ensures.types c.in-Err.ensures.types
+    c.give_back.ensures.types
+
+pub returns-in-Err-clause-goes_on : goal.returns-in-Err-clause-goes_on
+returns-in-Err-clause-goes_on g c =
+    let made = goes_on-both 1 1 c.args.w.now c.made.new.w c.made-2.new.w c.made.ensures.goes_on c.made-2.ensures.goes_on in
+    goes_on-before 2 c.args.w.now c.made-2.new.w c.give_back.new.w made c.give_back.ensures.unchanged
+    (seated-back [] c.in_ok-first.first.held c.made-2.new.w c.give_back.new.w c.give_back.ensures.types)

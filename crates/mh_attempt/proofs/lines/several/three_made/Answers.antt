@@ -1,10 +1,11 @@
-use Rattle.std.proofs.Common.{◌∙◌, arith, [], ◌∷◌, Ok, Err}
-use Rattle.mh_handle.proofs.Going.{goes_on-before}
+use Rattle.std.proofs.Common.{◌∙◌, arith, [], ◌∷◌, ◌++◌, Ok, Err}
+use Rattle.mh_handle.proofs.Going.{goes_on-before, goes_on-both, seated-back}
 use Rattle.mh_handle.specs.declared.handle.Handle.{Handle}
 use Rattle.mh_attempt.specs.Recipes.{recipes_made}
 use Rattle.mh_attempt.proofs.AskedNodes.{asks-unchanged}
 use Rattle.mh_attempt.proofs.AskedOperands.{asks-more, asks-unmade-both}
 use Rattle.mh_attempt.proofs.Rooms.{goes_on-sum}
+use Rattle.mh_attempt.proofs.Adding.{adds-back-both, adds-three, holds-after, holds-first, holds-second, of-types, operand-yet}
 use Rattle.mh_attempt.proofs.lines.several.three_made.Goals as goal
 
 pub returns-in-Ok-clause-goes_on : goal.returns-in-Ok-clause-goes_on
@@ -14,8 +15,10 @@ returns-in-Ok-clause-goes_on g c =
 pub returns-in-Err-clause-goes_on : goal.returns-in-Err-clause-goes_on
 returns-in-Err-clause-goes_on g c =
     let made = goes_on-sum 2 1 3 c.args.w.now c.both_made.new.w c.made.new.w (omega arith) c.both_made.ensures.goes_on c.made.ensures.goes_on in
-    let first = goes_on-before 3 c.args.w.now c.made.new.w c.give_back.new.w made c.give_back.ensures.unchanged in
+    let first = goes_on-before 3 c.args.w.now c.made.new.w c.give_back.new.w made c.give_back.ensures.unchanged
+    (seated-back [] c.in_ok-first.first.held c.made.new.w c.give_back.new.w c.give_back.ensures.types) in
     goes_on-before 3 c.args.w.now c.give_back.new.w c.give_back-in-Err.new.w first c.give_back-in-Err.ensures.unchanged
+    (seated-back [] c.in_ok-first.second.held c.give_back.new.w c.give_back-in-Err.new.w c.give_back-in-Err.ensures.types)
 
 -- ---- what is asked for
 
@@ -37,3 +40,37 @@ returns-in-Err-clause-asks g c =
     c.give_back-in-Err.new.w (Err c.in-Err.error) (c.give_back-in-Err.ensures.unchanged.pass ∙ c.give_back.ensures.unchanged.pass)
     (asks-more {A = Handle} (c.args.first.now ∷ c.args.second.now ∷ []) (c.args.third.now ∷ []) w c.both_made.new.w c.made.new.w (Err c.in-Err.error)
     c.both_made.ensures.goes_on.leaves c.in_ok-first.ensures.asks c.in-Err.ensures.asks)
+
+-- ---- the seat of types
+
+pub made-requires-clause-held : goal.made-requires-clause-held
+made-requires-clause-held g c =
+    operand-yet c.args.third.now (c.in_ok-first.first.held ++ c.in_ok-first.second.held) c.args.w.now c.both_made.new.w c.in_ok-first.ensures.types
+    c.requires.third_held
+
+pub returns-in-Ok-clause-types : goal.returns-in-Ok-clause-types
+returns-in-Ok-clause-types g c =
+    adds-three c.in_ok-first.first.held c.in_ok-first.second.held c.in-Ok.third.held c.args.w.now c.both_made.new.w c.made.new.w c.in_ok-first.ensures.types
+    c.in-Ok.ensures.types
+
+pub give_back-requires-clause-of_types : goal.give_back-requires-clause-of_types
+give_back-requires-clause-of_types g c =
+    of-types 3 3 c.args.w.now c.made.new.w (goes_on-both 2 1 c.args.w.now c.both_made.new.w c.made.new.w c.both_made.ensures.goes_on c.made.ensures.goes_on)
+    c.requires.ready
+
+pub give_back-requires-clause-held : goal.give_back-requires-clause-held
+give_back-requires-clause-held g c =
+    holds-first c.in_ok-first.first.held c.in_ok-first.second.held c.made.new.w
+    (holds-after (c.in_ok-first.first.held ++ c.in_ok-first.second.held) c.args.w.now c.both_made.new.w c.made.new.w c.in_ok-first.ensures.types
+    c.in-Err.ensures.types)
+
+pub give_back-requires-in-Err-clause-held : goal.give_back-requires-in-Err-clause-held
+give_back-requires-in-Err-clause-held g c =
+    holds-second c.in_ok-first.first.held c.in_ok-first.second.held c.made.new.w c.give_back.new.w
+    (holds-after (c.in_ok-first.first.held ++ c.in_ok-first.second.held) c.args.w.now c.both_made.new.w c.made.new.w c.in_ok-first.ensures.types
+    c.in-Err.ensures.types) c.give_back.ensures.types
+
+pub returns-in-Err-clause-types : goal.returns-in-Err-clause-types
+returns-in-Err-clause-types g c =
+    adds-back-both c.in_ok-first.first.held c.in_ok-first.second.held c.args.w.now c.both_made.new.w c.made.new.w c.give_back.new.w
+    c.give_back-in-Err.new.w c.in_ok-first.ensures.types c.in-Err.ensures.types c.give_back.ensures.types c.give_back-in-Err.ensures.types

@@ -7,6 +7,7 @@ use Rattle.mh_attempt.specs.Told.{Tells}
 use Rattle.mh_attempt.proofs.Asking.{asked-then, thrown-first, thrown-second, told-by}
 use Rattle.mh_attempt.proofs.LineNodes.{same-node}
 use Rattle.mh_attempt.proofs.AskedOperations.{line-asks, line-thrown, one-use, use-itself}
+use Rattle.mh_attempt.proofs.Adding.{adds-none, adds-unmade}
 use Rattle.mh_attempt.proofs.lines.uses.astype_line.Goals as goal
 
 pub returns-in_err-target-clause-node : goal.returns-in_err-target-clause-node
@@ -61,3 +62,15 @@ returns-clause-asks g c frame hold =
     (asked-then w.leaves.now _ _ (λ t asked. use_of w.leaves.now t asked) target.0 c.get.result.now target.1 asked)
     (λ n is. use-itself w.leaves.now frame c.args.target.now c.args.asked.now operands w c.used.new.w c.used.result target.0 n target.1
     (c.used.ensures.asks target.0 n target.2 is))
+
+-- ---- the seat of types
+
+pub returns-in_err-target-clause-types : goal.returns-in_err-target-clause-types
+returns-in_err-target-clause-types g c = adds-unmade c.args.w.now c.args.w.now c.from_residual.result _ c.from_residual.ensures.1 (adds-none c.args.w.now)
+
+pub returns-in_err-asked-clause-types : goal.returns-in_err-asked-clause-types
+returns-in_err-asked-clause-types g c =
+    adds-unmade c.args.w.now c.args.w.now c.from_residual-in_err-asked.result _ c.from_residual-in_err-asked.ensures.1 (adds-none c.args.w.now)
+
+pub used-requires-clause-target_held : goal.used-requires-clause-target_held
+used-requires-clause-target_held g c = c.in_ok-target.ensures.kept c.args.w.now.seat.now c.requires.kept

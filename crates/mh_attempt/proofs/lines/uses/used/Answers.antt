@@ -3,12 +3,13 @@ use Rattle.mh_tree.specs.Use.{used_as}
 use Rattle.mh_handle.specs.Errors.{of_check}
 use Rattle.mh_attempt.proofs.Asking.{error-node}
 use Rattle.mh_attempt.proofs.LineNodes.{refused-node, same-node, unmade-node}
-use Rattle.mh_attempt.proofs.Rooms.{goes_on-sum}
+use Rattle.mh_attempt.proofs.Rooms.{goes_on-sum, ready-after}
 use Rattle.mh_attempt.proofs.UsedNodes.{node-of-use, use-is, use-rule}
 use Rattle.mh_attempt.proofs.AskedOperands.{asks-unmade}
 use Rattle.mh_attempt.proofs.AskedNodes.{asks-refused}
 use Rattle.mh_attempt.proofs.AskedUses.{asks-use}
 use Rattle.mh_attempt.specs.Recipes.{use_asked}
+use Rattle.mh_attempt.proofs.Adding.{adds-none, adds-then, adds-unmade, holds-came}
 use Rattle.mh_attempt.proofs.lines.uses.used.Goals as goal
 
 pub returns-in_err-check_use-clause-node : goal.returns-in_err-check_use-clause-node
@@ -60,3 +61,24 @@ pub returns-clause-asks : goal.returns-clause-asks
 returns-clause-asks g c t u stands is =
     asks-use (c.args.target.now ∷ []) c.args.w.now c.made.new.w c.as_type.new.w t c.in_ok-target.target c.as_type.result
     c.made.ensures.goes_on.leaves c.in_ok-target.ensures.asks (c.in_ok-target.ensures.stands t stands) c.args.asked.now u is (c.as_type.ensures.makes t)
+
+-- ---- the seat of types
+
+pub returns-in_err-check_use-clause-types : goal.returns-in_err-check_use-clause-types
+returns-in_err-check_use-clause-types g c = adds-unmade c.args.w.now c.args.w.now c.from_residual.result _ c.from_residual.ensures.1 (adds-none c.args.w.now)
+
+pub returns-in_err-target-clause-types : goal.returns-in_err-target-clause-types
+returns-in_err-target-clause-types g c =
+    adds-unmade c.args.w.now c.made.new.w c.from_residual-in_err-target.result _ c.from_residual-in_err-target.ensures.1 c.in_err-target.ensures.types
+
+pub as_type-requires-clause-ready : goal.as_type-requires-clause-ready
+as_type-requires-clause-ready g c =
+    ready-after 1 1 4 c.args.w.now c.made.new.w (omega arith) c.made.ensures.goes_on c.requires.ready
+
+pub as_type-requires-clause-held : goal.as_type-requires-clause-held
+as_type-requires-clause-held g c =
+    holds-came c.in_ok-target.target.held c.args.w.now c.made.new.w c.in_ok-target.ensures.types
+
+pub returns-clause-types : goal.returns-clause-types
+returns-clause-types g c =
+    adds-then _ c.in_ok-target.target.held c.args.w.now c.made.new.w c.as_type.new.w c.as_type.result c.in_ok-target.ensures.types c.as_type.ensures.types

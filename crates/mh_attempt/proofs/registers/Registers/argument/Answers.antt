@@ -22,3 +22,6 @@ returns-in-None-clause-holds c leaves frame hold =
     throws-tells-by (IsContent leaves) c.no_argument.result no_argument (content frame (register.Argument n))
     (argument-none leaves c.args.self.now frame hold n
     (subst (λ (xs : List Argument). length xs ≤ n) c.as_slice.ensures c.in-None.ensures.lookup.3)) c.no_argument.ensures
+
+pub returns-in_ok-held-in-Some-clause-kept : goal.returns-in_ok-held-in-Some-clause-kept
+returns-in_ok-held-in-Some-clause-kept c seat = c.in_ok-held-in-Some.ensures.kept seat

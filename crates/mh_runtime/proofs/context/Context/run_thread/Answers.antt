@@ -13,7 +13,7 @@ use Rattle.mh_runtime.proofs.Room.{calls-draw, goes-next}
 use Rattle.mh_runtime.proofs.RunSteps.{runs-both, stops-run, stops-second}
 use Rattle.mh_runtime.proofs.Items.{flat-all, flat-next, flat-whole}
 use Rattle.mh_runtime.proofs.ThreadSteps.{attempts-both, attempts-early, linked-both, links-both, serials-both}
-use Rattle.mh_runtime.proofs.HeldHandles.{keeps-both}
+use Rattle.mh_runtime.proofs.SeatTypes.{keeps-both}
 use Rattle.mh_runtime.proofs.context.Context.run_thread.Goals as goal
 
 pub returns-in_err-call-clause-runs : goal.returns-in_err-call-clause-runs
@@ -78,8 +78,8 @@ loop-next-preserved g c =
       linked = subst (AreLinked end.linked) (sym (flat-next sites_named items i call within is))
           (linked-both mid.linked end.linked (flat_map sites_named (take i items)) (sites_named call) c.call.ensures.pass.linked
           c.loop-next.invariant.linked c.in_ok-call.ensures.linked);
-      handles = keeps-both given start.recorded mid.recorded end.recorded c.args.w.now c.loop-next.w c.call.new.w
-          c.loop-next.invariant.handles c.call.ensures.handles;
+      types = keeps-both given start.recorded mid.recorded end.recorded c.args.w.now c.loop-next.w c.call.new.w c.loop-next.invariant.types
+          c.call.ensures.types;
       results = λ table has. told-next (result_of given table) result_said items i call c.loop-next.answers c.push.new.self c.in_ok-call.field-0
           within is c.in_ok-push.ensures.ok (c.loop-next.invariant.results table (before table has)) (answer table has).ran_is;
       keys = λ table has. told-next (keys_of given table) (λ (a : AnswerView). a.keys) items i call c.loop-next.answers c.push.new.self
@@ -96,3 +96,13 @@ returns-clause-runs g c =
     (flat-all (call_edits g.J.Run.given.leaves) c.as_slice-next-items.result.now c.args.calls.now c.loop-next.next-index c.loop-next-test.false
     c.as_slice-next-items.ensures)
     c.loop-next.invariant.runs
+
+pub returns-in_err-call-clause-types : goal.returns-in_err-call-clause-types
+returns-in_err-call-clause-types g c =
+    keeps-both g.J.Run.given c.args.pass.now.recorded c.loop-next.pass.recorded c.call.new.pass.recorded c.args.w.now c.loop-next.w c.call.new.w
+    c.loop-next.invariant.types c.call.ensures.types
+
+pub returns-in_err-push-clause-types : goal.returns-in_err-push-clause-types
+returns-in_err-push-clause-types g c =
+    keeps-both g.J.Run.given c.args.pass.now.recorded c.loop-next.pass.recorded c.call.new.pass.recorded c.args.w.now c.loop-next.w c.call.new.w
+    c.loop-next.invariant.types c.call.ensures.types

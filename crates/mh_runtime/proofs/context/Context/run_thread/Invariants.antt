@@ -17,7 +17,7 @@ invariant-loop-next g l = record {
   pass : GoesOnLinking l.next-index l.initial.pass l.pass;
   attempts : AttemptsMore (flat_map sites_named (take l.next-index l.next-items)) l.initial.pass l.pass;
   linked : AreLinked l.pass.linked (flat_map sites_named (take l.next-index l.next-items));
-  handles : KeepsOthers g.J.Run.given l.initial.pass.recorded l.pass.recorded l.initial.w l.w;
+  types : KeepsOthers g.J.Run.given l.initial.pass.recorded l.pass.recorded l.initial.w l.w;
   results : (table : Serials) → HasSerials l.pass.linked table →
       thread_said l.answers ≡ thread_results g.J.Run.given table (take l.next-index l.next-items);
   keys : (table : Serials) → HasSerials l.pass.linked table →

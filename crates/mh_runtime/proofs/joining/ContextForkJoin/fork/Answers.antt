@@ -1,23 +1,22 @@
 use Rattle.std.proofs.Common.{◌≡◌, refl, sym, ◌∙◌, ap, subst, IfOk}
 use Rattle.std.specs.Prelude.{slice_get}
 use Rattle.mh_runtime.specs.Joining.{IsFreshFor}
+use Rattle.mh_runtime.specs.Lanes.{tables_at}
 use Rattle.mh_runtime.proofs.ForkedLanes.{forked-told, next-few}
 use Rattle.mh_runtime.proofs.joining.ContextForkJoin.fork.Goals as goal
 
 pub lane-requires-clause-few : goal.lane-requires-clause-few
 lane-requires-clause-few g c =
-    next-few g.J.Run.given c.args.self.now.linker.now c.args.self.now.forms.now c.args.self.now.plan.now c.args.joined.now c.requires.0 c.requires.1.1
+    next-few g.J.Run.given c.args.self.now.linker.now (tables_at c.args.self.now.forms.now c.args.self.now.types.now) c.args.self.now.plan.now
+    c.args.joined.now c.requires.0 c.requires.1.1
     c.get-calls.result.now (ap (slice_get c.args.self.now.plan.now) c.requires.2 ∙ c.get-calls.ensures)
 
 pub returns-clause-forked : goal.returns-clause-forked
 returns-clause-forked g c = λ lanes forked same.
-    forked-told g.J.Run.given c.args.self.now.linker.now c.args.self.now.forms.now c.args.self.now.plan.now c.args.joined.now lanes forked.1
-    c.get-calls.result.now (ap (slice_get c.args.self.now.plan.now) same ∙ c.get-calls.ensures) (c.args.self.now.leaves.now ≡ g.J.Run.given.leaves) (record {
-      links = c.lane.new.links;
-      forms = c.lane.new.forms;
-      threads = c.args.joined.now.threads;
-      full = c.args.joined.now.full;
-    }) c.lane.result forked.0
-    (subst (λ n. IfOk c.lane.result (IsFreshFor g.J.Run.given c.args.self.now.linker.now c.args.self.now.forms.now n c.get-calls.result.now)) (sym same)
-    c.lane.ensures.lane)
-    c.lane.ensures.links c.lane.ensures.links_room c.lane.ensures.forms c.lane.ensures.forms_room refl refl
+    let tables = tables_at c.args.self.now.forms.now c.args.self.now.types.now in
+    forked-told g.J.Run.given c.args.self.now.linker.now tables c.args.self.now.plan.now c.args.joined.now lanes forked.1
+    c.get-calls.result.now (ap (slice_get c.args.self.now.plan.now) same ∙ c.get-calls.ensures) (c.args.self.now.leaves.now ≡ g.J.Run.given.leaves)
+    c.lane.new.joined c.lane.result forked.0
+    (subst (λ n. IfOk c.lane.result (IsFreshFor g.J.Run.given c.args.self.now.linker.now tables n c.get-calls.result.now)) (sym same) c.lane.ensures.lane)
+    c.lane.ensures.links c.lane.ensures.links_room c.lane.ensures.forms c.lane.ensures.forms_room c.lane.ensures.types c.lane.ensures.types_room
+    c.lane.ensures.threads c.lane.ensures.full

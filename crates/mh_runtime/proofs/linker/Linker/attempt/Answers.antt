@@ -1,10 +1,13 @@
-use Rattle.std.proofs.Common.{◌∙◌, ap, sym, subst, []}
+use Rattle.std.proofs.Common.{◌∙◌, ap, sym, subst, [], arith}
 use Rattle.mh_handle.proofs.Going.{goes_on-before}
 use Rattle.mh_jobs.specs.declared.job.Job.{Job}
 use Rattle.mh_attempt.specs.Linkage.{LinkageView}
-use Rattle.mh_runtime.specs.Passes.{LearnsSites}
+use Rattle.mh_runtime.specs.Linking.{KeepsOthers, Records}
+use Rattle.mh_runtime.specs.Passes.{LearnsSites, LinkPass}
 use Rattle.mh_runtime.proofs.LinkSteps.{attempts-begun, attempts-learn, begun-attempts, begun-made, begun_by, goes-begun, learns-none}
+use Rattle.mh_attempt.proofs.Adding.{holds-came}
 use Rattle.mh_runtime.proofs.RunSteps.{stops-run}
+use Rattle.mh_runtime.proofs.SeatTypes.{attempt-keeps, keeps-adds, keeps-recorded}
 use Rattle.mh_runtime.proofs.RunningAttempts.{attempt-runs, attempt-stops}
 use Rattle.mh_runtime.proofs.linker.Linker.attempt.Goals as goal
 
@@ -34,6 +37,7 @@ record-requires-clause-attempted g c =
 pub returns-in_err-linkage-2-clause-goes_on : goal.returns-in_err-linkage-2-clause-goes_on
 returns-in_err-linkage-2-clause-goes_on g c =
     goes_on-before 256 c.args.w.now c.attempt.new.w c.record.new.w c.in_ok-linkage.ensures.goes_on c.in_err-linkage-2.ensures.unchanged
+    (record { seat = c.in_err-linkage-2.ensures.types.table; holds = omega (arith, c.in_err-linkage-2.ensures.types.few) })
 
 pub returns-in_err-linkage-2-clause-pass : goal.returns-in_err-linkage-2-clause-pass
 returns-in_err-linkage-2-clause-pass g c =
@@ -48,6 +52,7 @@ returns-in_err-linkage-2-clause-attempts g c =
 pub returns-clause-goes_on : goal.returns-clause-goes_on
 returns-clause-goes_on g c =
     goes_on-before 256 c.args.w.now c.attempt.new.w c.record.new.w c.in_ok-linkage.ensures.goes_on c.in_ok-linkage-2.ensures.unchanged
+    (record { seat = c.in_ok-linkage-2.ensures.types.table; holds = omega (arith, c.in_ok-linkage-2.ensures.types.few) })
 
 pub returns-clause-pass : goal.returns-clause-pass
 returns-clause-pass g c =
@@ -66,3 +71,29 @@ returns-clause-runs g c =
     rw (more, c.in_ok-linkage-2.ensures.unchanged.pass)
     (attempt-runs g.J.Run.given c.args.pass.now.attempts (begun_by c.args.pass.now c.args.site c.in_ok-serial.serial) c.get.result.now.site
     c.get.ensures.site c.args.w.now c.attempt.new.w c.in_ok-linkage.linkage c.in_ok-linkage.ensures.asks)
+
+-- ---- the seat of types
+
+pub returns-in_err-linkage-clause-types : goal.returns-in_err-linkage-clause-types
+returns-in_err-linkage-clause-types g c =
+    subst (λ after. KeepsOthers g.J.Run.given c.args.pass.now.recorded after c.args.w.now c.attempt.new.w)
+    (sym (ap (λ (p : LinkPass). p.recorded) c.in_ok-serial.ensures.begins.1))
+    (keeps-recorded g.J.Run.given c.args.pass.now.recorded c.args.w.now c.attempt.new.w
+    (keeps-adds c.args.w.now c.attempt.new.w c.in_err-linkage.ensures.types))
+
+pub record-requires-clause-held : goal.record-requires-clause-held
+record-requires-clause-held g c = holds-came c.in_ok-linkage.linkage.held c.args.w.now c.attempt.new.w c.in_ok-linkage.ensures.types
+
+pub returns-in_err-linkage-2-clause-types : goal.returns-in_err-linkage-2-clause-types
+returns-in_err-linkage-2-clause-types g c =
+    attempt-keeps g.J.Run.given c.in_ok-linkage.linkage c.args.pass.now.recorded c.record.new.self.recorded c.args.w.now c.attempt.new.w c.record.new.w
+    c.in_ok-linkage.ensures.types
+    (subst (λ before. Records g.J.Run.given c.in_ok-linkage.linkage before c.record.new.self.recorded c.attempt.new.w.seat.now c.record.new.w.seat.now)
+    (ap (λ (p : LinkPass). p.recorded) c.in_ok-serial.ensures.begins.1) c.in_err-linkage-2.ensures.types)
+
+pub returns-clause-types : goal.returns-clause-types
+returns-clause-types g c =
+    attempt-keeps g.J.Run.given c.in_ok-linkage.linkage c.args.pass.now.recorded c.record.new.self.recorded c.args.w.now c.attempt.new.w c.record.new.w
+    c.in_ok-linkage.ensures.types
+    (subst (λ before. Records g.J.Run.given c.in_ok-linkage.linkage before c.record.new.self.recorded c.attempt.new.w.seat.now c.record.new.w.seat.now)
+    (ap (λ (p : LinkPass). p.recorded) c.in_ok-serial.ensures.begins.1) c.in_ok-linkage-2.ensures.types)

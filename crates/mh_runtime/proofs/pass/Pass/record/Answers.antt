@@ -1,7 +1,8 @@
-use Rattle.std.proofs.Common.{◌≡◌, ◌∙◌, ap, ap₂, refl, [], ◌∷◌, ◌++◌, arith}
+use Rattle.std.proofs.Common.{◌≡◌, ◌∙◌, ap, ap₂, refl, [], ◌∷◌, ◌++◌, inr}
 use Rattle.mh_plan.specs.declared.attempt.Attempt.{Attempt}
 use Rattle.mh_runtime.specs.Passes.{attempt_of}
-use Rattle.mh_runtime.proofs.LinkPasses.{held-push, pass-learns, pass-puts}
+use Rattle.mh_runtime.proofs.LinkPasses.{pass-learns, pass-puts}
+use Rattle.mh_runtime.proofs.SeatTypes.{handed-back, records-one}
 use Rattle.mh_runtime.proofs.pass.Pass.record.Given as given
 use Rattle.mh_runtime.proofs.pass.Pass.record.Goals as goal
 
@@ -41,12 +42,12 @@ returns-in-Ok-Mine-clause-learns g c = rw (← c.self.view_is) (record {
   seat = refl;
 })
 
-pub returns-in-Ok-Mine-clause-handles : goal.returns-in-Ok-Mine-clause-handles
+pub returns-in-Ok-Mine-clause-types : goal.returns-in-Ok-Mine-clause-types
 unfolding made
-returns-in-Ok-Mine-clause-handles g c =
-    let more = held-push g.J.Run.given c.self.inside.recorded.items c.push_reserved.new.self.items (attempt_of c.self.inside.thread c.args.linkage)
-    (c.push_reserved.ensures.items ∙ ap₂ (λ xs a. xs ++ a ∷ []) c.reserve.ensures.items (made-is g c)) in
-    rw (← c.self.view_is) (omega (arith, more))
+returns-in-Ok-Mine-clause-types g c = rw (← c.self.view_is)
+    (records-one g.J.Run.given c.args.linkage (attempt_of c.self.inside.thread c.args.linkage) c.self.inside.recorded.items
+    c.push_reserved.new.self.items c.args.w.now.seat.now c.args.w.now.seat.now refl c.types_held.ensures
+    (c.push_reserved.ensures.items ∙ ap₂ (λ xs a. xs ++ a ∷ []) c.reserve.ensures.items (made-is g c)))
 
 pub returns-in-Ok-Theirs-clause-learns : goal.returns-in-Ok-Theirs-clause-learns
 returns-in-Ok-Theirs-clause-learns g c = rw (← c.self.view_is) (record {
@@ -65,3 +66,26 @@ returns-in-Err-clause-learns g c = rw (← c.self.view_is) (record {
   attempts = refl;
   seat = refl;
 })
+
+-- ---- what is recorded
+
+pub returns-in-Ok-Mine-clause-recorded : goal.returns-in-Ok-Mine-clause-recorded
+unfolding made
+returns-in-Ok-Mine-clause-recorded g c = rw (← c.self.view_is)
+    (inr (c.push_reserved.ensures.items ∙ ap₂ (λ xs a. xs ++ a ∷ []) c.reserve.ensures.items (made-is g c)))
+
+pub returns-then-is_err-clause-types : goal.returns-then-is_err-clause-types
+returns-then-is_err-clause-types g c =
+    handed-back g.J.Run.given c.args.linkage c.args.linkage c.args.self.now.recorded c.reserve.new.self.items c.args.w.now.seat.now
+    c.give_back.new.w.seat.now (rw (← c.self.view_is) c.reserve.ensures.items) refl c.give_back.ensures.types
+
+pub returns-in-Ok-Theirs-clause-types : goal.returns-in-Ok-Theirs-clause-types
+returns-in-Ok-Theirs-clause-types g c =
+    let put = rw c.in-Ok-Theirs.field-0-is at c.in-Ok-Theirs.ensures.put in
+    handed-back g.J.Run.given c.args.linkage c.in-Ok-Theirs.lost c.args.self.now.recorded c.reserve.new.self.items c.args.w.now.seat.now
+    c.give_back-in-Ok-Theirs.new.w.seat.now (rw (← c.self.view_is) c.reserve.ensures.items) put.0 c.give_back-in-Ok-Theirs.ensures.types
+
+pub returns-in-Err-clause-types : goal.returns-in-Err-clause-types
+returns-in-Err-clause-types g c =
+    handed-back g.J.Run.given c.args.linkage c.in-Err.lost c.args.self.now.recorded c.reserve.new.self.items c.args.w.now.seat.now
+    c.give_back-in-Err.new.w.seat.now (rw (← c.self.view_is) c.reserve.ensures.items) c.in-Err.ensures.put c.give_back-in-Err.ensures.types
