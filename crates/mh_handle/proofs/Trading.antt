@@ -188,11 +188,13 @@ taken-back came old mid next new x y z =
     exchanges-then [] [] [] came [] [] old next new both (subst (λ l. Exchanges [] l [] next new) (sym (append-nil came)) z)
 
 -- what the seat held and was not handed back it holds still
-pub held-yet : (asks : List MethodTy) (came kept : List HoldView) (old new : SeatView) → Exchanges asks [] came old new → AreHeld old kept → AreHeld new kept
+pub held-yet : (asks : List MethodTy) (came kept : List HoldView) (old new : SeatView) → Exchanges asks [] came old new → AreHeld old kept →
+    AreHeld new kept
 held-yet asks came kept old new x had = held-second new came kept (held-still asks [] came kept old new x had)
 
 -- the type of a handle could not be held
-pub unheld-yet : (t : MethodTy) (kept : List HoldView) (old new : SeatView) (e : InternError) → TradesHold t old (Err e) new → AreHeld old kept → AreHeld new kept
+pub unheld-yet : (t : MethodTy) (kept : List HoldView) (old new : SeatView) (e : InternError) → TradesHold t old (Err e) new → AreHeld old kept →
+    AreHeld new kept
 unheld-yet t kept old new intern.NoMemory held had = held-yet (t ∷ []) [] kept old new held had
 unheld-yet t kept old new (intern.TypesFull bucket) held had = held-yet (t ∷ []) [] kept old new held.0 had
 

@@ -77,7 +77,8 @@ types_in (Ok t) = t ∷ []
 types_in (Err e) = []
 
 -- what a call leaves of the seat of types that may ask for these and is handed handles with these holds: the holds of the handle that it makes, which those
--- of its parts may have become, or none more; a refusal by the rule asks for none; and where there was no slot, the bucket of one of the types is full of others
+-- of its parts may have become, or none more; a refusal by the rule asks for none; and where there was no slot, the bucket of one of the types is full of
+-- others
 abbrev pub TradesTypes : List MethodTy → List HoldView → Work → Work → Result Handle HandleError → Type 0
 TradesTypes asks gone old new (Ok h) = Exchanges asks gone h.held old.seat.now new.seat.now
 TradesTypes asks gone old new (Err NoMemory) = Exchanges asks gone [] old.seat.now new.seat.now
@@ -99,6 +100,7 @@ MakesForm recipe old new (Err (FormsFull drawn)) =
 MakesForm recipe old new (Err (TypesFull bucket)) = new.pass.now ≡ old.pass.now
 MakesForm recipe old new (Err (Refused e)) = ⊥
 
+-- the same request's part in the seat: one hold more of the type, or none
 abbrev pub TradesForm : MethodTy → Work → Work → Result (HoldView × Bor FormView) HandleError → Type 0
 TradesForm t old new (Ok made) = Exchanges (t ∷ []) [] (made.0 ∷ []) old.seat.now new.seat.now
 TradesForm t old new (Err (TypesFull bucket)) = Exchanges (t ∷ []) [] [] old.seat.now new.seat.now × FindsNoSlot bucket t new.seat.now
