@@ -13,6 +13,7 @@ use Rattle.mh_leaf.specs.declared.leaf.Kind.{Kind}
 use Rattle.mh_leaf.specs.declared.leaf.Kind.TheVariants.{Iadd, Isub, Imul, Idiv, Ladd, Ieq, Ilt, Not, Concat, Length, Same, First, Pick, Tick, Note, Throw}
 use Rattle.mh_leaf.specs.declared.leaf.Leaf.{Leaf}
 use Rattle.mh_leaves.specs.Registered.{AreRegistered, IsLeafOf, ThrowsException, most_leaves}
+use Rattle.mh_leaves.proofs.Meanings.{desc-grown}
 
 -- a class that has a name is one of the list
 named_from-within : (n : ℕ) (classes : List Class) (name : List ℕ) (c : ClassId) → named_from n classes name ≡ Some c → c.0 < n + length classes
@@ -38,10 +39,13 @@ found-grown classes more a b None is h = absurd cc
 found-grown classes more a b (Some z) is h =
     ap (λ o. option_map_or (λ class. class.superclass) o None) (slice_get-front classes more a.0 (slice_get_within classes a.0 z is) ∙ is) ∙ h
 
+pub superclass-grown : (classes more : List Class) (a b : ClassId) → superclass_of classes a ≡ Some b → superclass_of (classes ++ more) a ≡ Some b
+superclass-grown classes more a b h = found-grown classes more a b (slice_get classes a.0) refl h
+
 subclass-grown : (classes more : List Class) (a b : ClassId) → IsSubclass classes a b → IsSubclass (classes ++ more) a b
 subclass-grown classes more a b itself = itself
 subclass-grown classes more a b (above {b = c} is further) =
-    above (found-grown classes more a c (slice_get classes a.0) refl is) (subclass-grown classes more c b further)
+    above (superclass-grown classes more a c is) (subclass-grown classes more c b further)
 
 throws-grown : (classes more : List Class) (kind : Kind) → ThrowsException classes kind → ThrowsException (classes ++ more) kind
 throws-grown classes more (Throw class) h = subclass-grown classes more class _ h
@@ -67,6 +71,7 @@ leaf-grown classes more leaf h = record {
   typed = h.typed;
   throws = throws-grown classes more leaf.kind h.throws;
   few = h.few;
+  described = (h.described.0, desc-grown classes more leaf.descriptor h.described.0 h.described.1, h.described.2);
 }
 
 -- a class more

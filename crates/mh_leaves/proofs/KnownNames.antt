@@ -16,7 +16,7 @@ use Rattle.mh_leaves.specs.Names.{element_names, type_names, return_names, are_c
 
 -- ---- pieces that end with `;`
 
-all_lack : (byte : ℕ) (xs : List ℕ) → Lacks byte xs → All (λ b. (b == byte) ≡ false) xs
+pub all_lack : (byte : ℕ) (xs : List ℕ) → Lacks byte xs → All (λ b. (b == byte) ≡ false) xs
 all_lack byte [] lacks k d within = absurd (omega (arith, within))
 all_lack byte (x ∷ xs) lacks zero d within = lacks.0
 all_lack byte (x ∷ xs) lacks (suc k) d within = all_lack byte xs lacks.1 k d (omega arith)

@@ -9,7 +9,7 @@ use Rattle.mh_leaf.specs.declared.leaf.Kind.{Kind}
 use Rattle.mh_leaf.specs.declared.leaf.Kind.TheVariants as kind
 use Rattle.mh_leaf.specs.declared.leaf.Leaf.{Leaf}
 use Rattle.mh_leaf.specs.Outcome.{is_kind_type, throws_exceptions, is_well_typed}
-use Rattle.mh_leaves.specs.Registered.{ThrowsException, IsLeafOf}
+use Rattle.mh_leaves.specs.Registered.{ThrowsException, IsDescribed, IsLeafOf}
 
 throws : (classes : List Class) (k : Kind) → throws_exceptions classes k ≡ true → ThrowsException classes k
 throws classes (kind.Throw class) h = reaches-sound (length classes) classes class throwable_class h
@@ -30,8 +30,8 @@ throws classes kind.Tick h = tt
 throws classes kind.Note h = tt
 
 pub leaf-typed : (classes tested : List Class) (leaf : Leaf) → leaf.owner.0 < length classes → tested ≡ classes → is_well_typed tested leaf ≡ true →
-    slots_of_all leaf.ty.params ≤ 254 → IsLeafOf classes leaf
-leaf-typed classes tested leaf owner same typed few =
+    slots_of_all leaf.ty.params ≤ 254 → IsDescribed classes leaf → IsLeafOf classes leaf
+leaf-typed classes tested leaf owner same typed few described =
     let is : is_well_typed classes leaf ≡ true = subst (λ cs. is_well_typed cs leaf ≡ true) same typed in
     let q = and_parts (is_kind_type leaf.kind leaf.ty) (throws_exceptions classes leaf.kind) is in
-    record { owner = owner; typed = q.0; throws = throws classes leaf.kind q.1; few = few }
+    record { owner = owner; typed = q.0; throws = throws classes leaf.kind q.1; few = few; described = described }

@@ -8,3 +8,5 @@ pub mod Numbers
 pub mod Provided
 pub mod Reference
 pub mod Registered
+pub mod Unknown
+pub mod Written

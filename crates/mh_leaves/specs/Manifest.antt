@@ -8,7 +8,6 @@ use Rattle.mh_base.specs.declared.lines.LineFault.{LineFault}
 use Rattle.mh_values.specs.declared.class.Class.{Class}
 use Rattle.mh_values.specs.declared.class.ClassId.{ClassId}
 use Rattle.mh_values.specs.declared.types.MethodTy.{MethodTy}
-use Rattle.mh_values.specs.declared.types.Ty.TheVariants as ty
 use Rattle.mh_values.specs.Classes.{class_named, most_classes}
 use Rattle.mh_values.specs.Descriptor.{desc}
 use Rattle.mh_values.specs.Grammar.{descriptor_fault}
@@ -23,7 +22,7 @@ use Rattle.mh_leaves.specs.declared.manifest.ManifestKind.TheVariants.{BadLine, 
 use Rattle.mh_leaves.specs.Find.{has_texts}
 use Rattle.mh_leaves.specs.Provided.{provided, provided_some}
 use Rattle.mh_leaves.specs.Reference.{Texts, is_class_name, is_method_name}
-use Rattle.mh_leaves.specs.Registered.{nothing_registered, with_class, with_leaf, most_leaves}
+use Rattle.mh_leaves.specs.Registered.{nothing_registered, with_class, with_leaf, most_leaves, handle_type}
 
 -- the name of a kind of fault
 abbrev pub kind_word : ManifestKind → List ℕ
@@ -106,11 +105,6 @@ has_known_classes classes descriptor = is_some (descriptor_fault descriptor) || 
 abbrev pub type_if_read : {E : Type 0} → Result MethodTy E → Option MethodTy
 type_if_read (Ok t) = Some t
 type_if_read (Err e) = None
-
--- the type of a leaf's method handle: a receiver of the owner's class comes first
-abbrev pub handle_type : Bool → ClassId → MethodTy → MethodTy
-handle_type true owner t = record { params = ty.Class owner ∷ t.params; ret = t.ret }
-handle_type false owner t = t
 
 -- ---- leaves
 

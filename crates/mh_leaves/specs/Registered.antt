@@ -1,14 +1,16 @@
 -- What a manifest has registered so far.
-use Rattle.std.specs.Prelude.{ℕ, ◌<◌, ◌≤◌, List, [], ◌∷◌, ◌++◌, length, Option, Some, slice_get, All, IsTrue}
+use Rattle.std.specs.Prelude.{◌≡◌, ℕ, ◌<◌, ◌≤◌, Bool, true, false, Ok, List, [], ◌∷◌, ◌++◌, length, Option, Some, slice_get, All, IsTrue}
 use Rattle.std.specs.Option.{option_and_then, option_map}
 use Rattle.mh_values.specs.declared.class.Class.{Class}
 use Rattle.mh_values.specs.declared.class.ClassId.{ClassId}
 use Rattle.mh_values.specs.declared.types.MethodTy.{MethodTy}
+use Rattle.mh_values.specs.declared.types.Ty.TheVariants as ty
 use Rattle.mh_values.specs.declared.value.Value.{Value}
 use Rattle.mh_values.specs.declared.value.Outcome.{Outcome}
 use Rattle.mh_values.specs.declared.value.LeafId.{LeafId}
 use Rattle.mh_values.specs.Class.{builtin_classes, IsSubclass, throwable_class}
 use Rattle.mh_values.specs.Classes.{class_of}
+use Rattle.mh_values.specs.Descriptor.{desc}
 use Rattle.mh_values.specs.Slots.{slots_of_all}
 use Rattle.mh_leaf.specs.declared.leaf.Kind.{Kind}
 use Rattle.mh_leaf.specs.declared.leaf.Kind.TheVariants.{Throw}
@@ -37,12 +39,23 @@ abbrev pub ThrowsException : List Class → Kind → Type 0
 ThrowsException classes (Throw class) = IsSubclass classes class throwable_class
 ThrowsException classes _ = Unit {0}
 
--- a leaf's owner is a class of the list, its kind allows its type, and its parameters, the receiver among them, take at most 254 slots
+-- the type of a leaf's method handle: a receiver of the owner's class comes first
+abbrev pub handle_type : Bool → ClassId → MethodTy → MethodTy
+handle_type true owner t = record { params = ty.Class owner ∷ t.params; ret = t.ret }
+handle_type false owner t = t
+
+-- a leaf has the type of its descriptor among the classes, with the receiver first where it is virtual
+abbrev pub IsDescribed : List Class → Leaf → Type 0
+IsDescribed classes leaf = (t : MethodTy) × (desc classes leaf.descriptor ≡ Ok t) × (leaf.ty ≡ handle_type leaf.is_virtual leaf.owner t)
+
+-- a leaf's owner is a class of the list, its kind allows its type, its parameters, the receiver among them, take at most 254 slots, and its descriptor
+-- says its type
 pub record IsLeafOf (classes : List Class) (leaf : Leaf) : Type 0 where
   pub owner : leaf.owner.0 < length classes
   pub typed : IsTrue (is_kind_type leaf.kind leaf.ty)
   pub throws : ThrowsException classes leaf.kind
   pub few : slots_of_all leaf.ty.params ≤ 254
+  pub described : IsDescribed classes leaf
 
 -- what holds of the leaves of each manifest
 pub record AreRegistered (table : LeafTable) : Type 0 where

@@ -1,4 +1,4 @@
-ghost use Rattle.std.specs.Prelude.{◌≡◌, ◌<◌, false, length, map, None, IfOk};
+ghost use Rattle.std.specs.Prelude.{◌≡◌, ◌<◌, false, length, map, None, Ok, IfOk};
 ghost use Rattle.std.specs.List.{list_all, list_any};
 ghost use Rattle.mh_base.specs.Lines.{TakesLine, built_from};
 ghost use Rattle.mh_values.specs.Classes.{class_named};
@@ -7,7 +7,10 @@ ghost use Rattle.mh_leaves.specs.Fault.{TellsManifest, TellsInto};
 ghost use Rattle.mh_leaves.specs.Find.{has_texts};
 ghost use Rattle.mh_leaves.specs.Names.{KnowsNames};
 ghost use Rattle.mh_leaves.specs.Reference.{texts_of};
-ghost use Rattle.mh_leaves.specs.Manifest.{manifest, kind_word, class_added, class_line, knows_name, knows_names, has_known_classes, type_if_read, handle_type, leaf_added, leaf_of, owned_leaf, is_leaf_text, leaf_line, three_tokens, five_tokens, is_virtual_word, tokens_meaning, line_meaning};
+ghost use Rattle.mh_leaves.specs.Registered.{IsDescribed, handle_type};
+ghost use Rattle.mh_leaves.specs.Manifest.{manifest, kind_word, class_added, class_line, knows_name, knows_names, has_known_classes, type_if_read, leaf_added, leaf_of, owned_leaf, is_leaf_text, leaf_line, three_tokens, five_tokens, is_virtual_word, tokens_meaning, line_meaning};
+ghost use Rattle.mh_leaves.specs.Unknown.{TellsNames};
+ghost use Rattle.mh_leaves.specs.Written.{manifest_text};
 ghost use Rattle.mh_leaves.specs.declared.manifest.ManifestError.TheVariants.{NoMemory as WithoutMemory};
 
 use crate::kinds::{is_kind_word, is_well_typed, kind_among};
@@ -165,6 +168,7 @@ fn add_leaf(alloc: Global, leaves: &mut Leaves, leaf: Leaf) -> LineResult
     requires owner { leaf.owner.0 < length leaves.old.classes }
     requires new { list_any (has_texts leaf.owner leaf.name leaf.descriptor) leaves.old.leaves
         ≡ false }
+    requires described { IsDescribed leaves.old.classes leaf }
     ensures { TakesLine leaves.new result (leaf_added leaves.old leaf) }
 {
     if all_slots(leaf.ty.params.as_slice()) > MOST_SLOTS {
@@ -404,13 +408,22 @@ fn read_lines(alloc: Global, leaves: &mut Leaves, lines: &[&[u8]]) -> Result<(),
     Ok(())
 }
 
-/// Reads a manifest, or gives its first faulty line. A line that no `u32` can number is want of
-/// memory.
-pub fn read_manifest(alloc: Global, bytes: &[u8]) -> Result<Leaves, ManifestError>
+// Reads a manifest.
+fn read_all(alloc: Global, bytes: &[u8]) -> Result<Leaves, ManifestError>
     ensures { TellsManifest result (manifest bytes.now) }
 {
     let lines = split_at_byte(alloc, bytes, b'\n')?;
     let mut leaves = Leaves::new(alloc)?;
     read_lines(alloc, &mut leaves, &lines)?;
     Ok(leaves)
+}
+
+/// Reads a manifest, or gives its first faulty line. A line that no `u32` can number is want of
+/// memory.
+pub fn read_manifest(alloc: Global, bytes: &[u8]) -> Result<Leaves, ManifestError>
+    ensures meaning { TellsManifest result (manifest bytes.now) }
+    ensures names { TellsNames bytes.now result }
+    ensures again { IfOk result (λ leaves. manifest (manifest_text leaves) ≡ Ok leaves) }
+{
+    read_all(alloc, bytes)
 }
