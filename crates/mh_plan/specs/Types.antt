@@ -1,0 +1,63 @@
+-- Which types a run can need, and whether a table of types has slots for them.
+use Rattle.std.specs.Prelude.{ℕ, ◌==◌, ◌<◌, ◌≤◌, List, [], ◌∷◌, ◌++◌, filter}
+use Rattle.std.specs.List.{flat_map, range_with_len}
+use Rattle.std.specs.Set.{distinct_count}
+use Rattle.mh_values.specs.declared.types.MethodTy.{MethodTy}
+use Rattle.mh_values.specs.Same.{is_same_method_type}
+use Rattle.mh_intern.specs.Buckets.{bucket_of, bucket_slots}
+use Rattle.mh_leaf.specs.LeafTable.{LeafTable}
+use Rattle.mh_tree.specs.Tree as tree
+use Rattle.mh_jobs.specs.Given.{Given}
+use Rattle.mh_link.specs.Made.{types_of}
+use Rattle.mh_link.specs.Sites.{types_at}
+use Rattle.mh_plan.specs.declared.attempt.Attempt.{Attempt}
+use Rattle.mh_plan.specs.declared.call.Call.{Call}
+use Rattle.mh_plan.specs.declared.call.Call.TheVariants.{Exact, Generic, Indy}
+use Rattle.mh_plan.specs.Naming.{naming_of, pairs_named}
+
+-- ---- which types a run can need
+
+-- the type that a call of a leaf makes a handle of: the leaf's; a call of a site makes none, since the attempt that links it did
+abbrev pub call_types : LeafTable → Call → List MethodTy
+call_types table (Exact leaf ty args) = types_of table (tree.Leaf leaf ∷ [])
+call_types table (Generic leaf ty args) = types_of table (tree.Leaf leaf ∷ [])
+call_types table (Indy site args) = []
+
+-- the types of the leaves that one thread calls
+abbrev pub thread_types : LeafTable → List Call → List MethodTy
+thread_types table calls = flat_map (λ call. call_types table call) calls
+
+-- the types of the leaves that all threads call
+abbrev pub plan_types : LeafTable → List (List Call) → List MethodTy
+plan_types table threads = flat_map (λ calls. thread_types table calls) threads
+
+-- the types of the nodes that an attempt makes
+abbrev pub attempt_types : Given → Attempt → List MethodTy
+attempt_types given attempt = types_at given attempt.site attempt.serial
+
+-- the types of the nodes that attempts to link a site make which have the serials from 1 to a number
+abbrev pub site_types : Given → ℕ → ℕ → List MethodTy
+site_types given most site = flat_map (λ serial. types_at given site serial) (range_with_len 1 most)
+
+-- the same of attempts to link sites
+abbrev pub sites_types : Given → ℕ → List ℕ → List MethodTy
+sites_types given most sites = flat_map (λ site. site_types given most site) sites
+
+-- the types that a run can need, whichever attempts link its sites: those of the leaves that it calls, and of the nodes of attempts to link each site that a
+-- call names. An attempt of a run is one of a thread and a site that the thread names, so that no serial is higher than the number of those
+abbrev pub all_types : Given → List (List Call) → List MethodTy
+all_types given threads = plan_types given.leaves threads ++ flat_map (λ sites. sites_types given (pairs_named threads) sites) (naming_of threads)
+
+-- ---- whether there are slots for them
+
+-- how many of these types are of a bucket
+abbrev pub in_bucket : ℕ → List MethodTy → ℕ
+in_bucket bucket types = distinct_count is_same_method_type (filter (λ t. bucket_of t == bucket) types)
+
+-- each bucket has slots for the types of it
+abbrev pub FitBuckets : List MethodTy → Type 0
+FitBuckets types = (bucket : ℕ) → in_bucket bucket types ≤ bucket_slots
+
+-- some bucket has fewer slots than there are types of it
+abbrev pub OverfillBucket : List MethodTy → Type 0
+OverfillBucket types = (bucket : ℕ) × (bucket_slots < in_bucket bucket types)
