@@ -1,16 +1,16 @@
 -- What is left of the seat of types where handles of operands are made, and then a handle of those.
-use Rattle.std.proofs.Common.{◌≡◌, refl, sym, ◌∙◌, ap, subst, ℕ, List, [], ◌∷◌, ◌++◌, append-nil, append_assoc, Result, Ok, Err}
+use Rattle.std.proofs.Common.{◌≡◌, sym, ◌∙◌, ap, subst, ℕ, List, [], ◌++◌, append-nil, Result, Ok, Err}
 use Rattle.std.specs.Prelude.{IsErrAnd}
 use Rattle.mh_values.specs.declared.types.MethodTy.{MethodTy}
-use Rattle.mh_intern.specs.Exchanges.{AreHeld, Exchanges}
-use Rattle.mh_intern.specs.Views.{HoldView, SeatView}
+use Rattle.mh_intern.specs.Exchanges.{Exchanges}
+use Rattle.mh_intern.specs.Views.{HoldView}
 use Rattle.mh_intern.proofs.Exchanging.{exchanges-both, exchanges-still, exchanges-then, held-came, held-first, held-none, held-still}
 use Rattle.mh_handle.specs.declared.error.HandleError.{HandleError}
 use Rattle.mh_handle.specs.declared.error.HandleError.TheVariants.{NoMemory, FormsFull, TypesFull, Refused}
 use Rattle.mh_handle.specs.declared.handle.Handle.{Handle}
 use Rattle.mh_handle.specs.declared.work.Work.{Work}
-use Rattle.mh_handle.specs.Works.{GoesOn, HoldsTypes, IsReady, IsUnchanged, TradesTypes}
-use Rattle.mh_handle.proofs.Trading.{exchanges-back, held-yet, held_in, traded-any}
+use Rattle.mh_handle.specs.Works.{GoesOn, HoldsTypes, IsReady, TradesTypes}
+use Rattle.mh_handle.proofs.Trading.{exchanges-back, held-yet}
 use Rattle.mh_attempt.specs.declared.handle.HandleOperand.{HandleOperand}
 use Rattle.mh_attempt.specs.declared.handle.HandleOperand.TheVariants as operand
 use Rattle.mh_attempt.specs.Registers.{IsHeldIn}

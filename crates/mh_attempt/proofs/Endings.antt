@@ -65,6 +65,13 @@ mismatched-node w r frame t own asked exc held typed is other told = (
   unchanged-still w,
 )
 
+-- a handle of the site's type is what the last line gives
+pub returned-given : (leaves : LeafTable) (r : Register) (frame : Frame) (t : Tree) (own asked : MethodTy) → handle_in frame r ≡ Ok t →
+    type_of leaves t ≡ Ok own → frame.call.ty ≡ asked → is_same_method_type own asked ≡ true → ended leaves (end.Return r) frame ≡ Ok t
+unfolding back
+returned-given leaves r frame t own asked held typed is same =
+    returned-is leaves r frame t own asked held typed is ∙ ap (λ b. require b (mismatch leaves.classes own asked) >> Ok t) same
+
 -- a handle of the site's type
 pub returned-node : (old new : Work) (r : Register) (frame : Frame) (t : Tree) (own asked : MethodTy) (made : Result Handle HandleError) →
     handle_in frame r ≡ Ok t → type_of old.leaves.now t ≡ Ok own → frame.call.ty ≡ asked → is_same_method_type own asked ≡ true → IsAccepted made →

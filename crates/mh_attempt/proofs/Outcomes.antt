@@ -1,8 +1,11 @@
 -- What an attempt links for a job, from what its script gives.
-use Rattle.std.proofs.Common.{◌≡◌, refl, sym, ◌∙◌, ap, subst, arith, ℕ, ◌<◌, ◌^◌, List, None, Some, Ok, map}
+use Rattle.std.proofs.Common.{◌≡◌, sym, ◌∙◌, ap, subst, arith, ℕ, ◌<◌, ◌^◌, List, [], None, Some, Ok, map}
 use Rattle.std.specs.Prelude.{ok_or, slice_get}
 use Rattle.mh_values.specs.Class.{illegal_argument_class}
 use Rattle.mh_values.specs.Exception.{bare}
+use Rattle.mh_intern.specs.Exchanges.{AreHeld}
+use Rattle.mh_intern.specs.Views.{SeatView}
+use Rattle.mh_intern.proofs.Exchanging.{held-none}
 use Rattle.mh_leaf.specs.LeafTable.{LeafTable}
 use Rattle.mh_handle.specs.declared.work.Work.{Work}
 use Rattle.mh_handle.specs.Recipe.{recipe}
@@ -14,33 +17,43 @@ use Rattle.mh_jobs.specs.declared.job.BootstrapCall.{BootstrapCall}
 use Rattle.mh_jobs.specs.declared.job.Job.{Job}
 use Rattle.mh_jobs.specs.Thrown.{◌>>=◌}
 use Rattle.mh_link.specs.Linked.{at_start, called_script, ran}
-use Rattle.mh_link.specs.Made.{unless_thrown}
+use Rattle.mh_link.specs.Made.{nodes_from, types_of, unless_thrown}
 use Rattle.mh_attempt.specs.declared.registers.Registers.{Registers}
+use Rattle.mh_attempt.specs.AskedTypes.{attempt_types, script_types, target_types}
 use Rattle.mh_attempt.specs.Linkage.{target_of, target_recipes}
 use Rattle.mh_attempt.specs.Recipes.{attempt_recipes, script_asked, script_recipes}
-use Rattle.mh_attempt.specs.Registers.{HasLeaves, Hold}
+use Rattle.mh_attempt.specs.Registers.{AreKept, HasLeaves, Hold, HoldsLast, held_under, holds_in}
 use Rattle.mh_attempt.specs.Runs.{MayRun, draws}
 use Rattle.mh_attempt.proofs.Rooms.{ready-less}
-use Rattle.mh_attempt.proofs.RunRegisters.{kept-none}
 
 -- ---- a call of a bootstrap method
 
 -- the registers before the first line
-pub start-holds : (leaves : LeafTable) (registers : Registers) → HasLeaves leaves registers.call.now → registers.assigned ≡ None →
-    Hold leaves registers (at_start registers.call.now registers.serial)
-start-holds leaves registers are none = record { call = refl; serial = refl; arguments = are; assigned = none }
+pub start-holds : (leaves : LeafTable) (registers : Registers) (call : BootstrapCall) (serial : ℕ) → registers.call.now ≡ call → registers.serial ≡ serial →
+    registers.assigned.items ≡ [] → HasLeaves leaves call → Hold leaves registers (at_start call serial)
+start-holds leaves registers call serial is is' none are = record {
+  call = sym is;
+  serial = sym is';
+  arguments = rw is are;
+  assigned = record { under = λ name. subst (λ l. HoldsLast leaves (held_under name l) None) (sym none) tt };
+}
+
+-- they hold nothing
+pub start-kept : (seat : SeatView) (registers : Registers) → registers.assigned.items ≡ [] → AreKept seat registers
+start-kept seat registers none = subst (λ l. AreHeld seat (holds_in l)) (sym none) (held-none seat)
 
 -- the lines of a script may be run, where as many numbers are left as its lines may draw
-pub start-may : (w : Work) (script : Script) (steps : List Step) (registers : Registers) → steps ≡ script.steps → CanRun script → IsReady w 256 →
-    HasLeaves w.leaves.now registers.call.now → registers.assigned ≡ None → registers.serial < 2 ^ 63 → MayRun steps registers w
-start-may w script steps registers is runs ready are none low =
+pub start-may : (w : Work) (script : Script) (steps : List Step) (registers : Registers) (call : BootstrapCall) (serial : ℕ) → steps ≡ script.steps →
+    CanRun script → IsReady w 256 → registers.call.now ≡ call → registers.serial ≡ serial → registers.assigned.items ≡ [] → HasLeaves w.leaves.now call →
+    serial < 2 ^ 63 → MayRun steps registers w
+start-may w script steps registers call serial is runs ready same same' none are low =
     let few = runs.few in
     subst (λ xs. MayRun xs registers w) (sym is) (record {
       ready = ready-less w 256 (draws script.steps) (omega (arith, few)) ready;
-      holds = (at_start registers.call.now registers.serial, start-holds w.leaves.now registers are none);
-      kept = kept-none w.seat.now registers none;
+      holds = (at_start call serial, start-holds w.leaves.now registers call serial same same' none are);
+      kept = start-kept w.seat.now registers none;
       divide = runs.divide;
-      serial = low;
+      serial = rw same' low;
     })
 
 called-is : (scripts : List Script) (call : BootstrapCall) (script : Script) → slice_get scripts call.script.0 ≡ Some script →
@@ -64,6 +77,14 @@ called-recipes leaves scripts serial call script steps found is =
     (called-is scripts call script found)
     ∙ ap (λ xs. script_recipes leaves xs script.end (at_start call serial)) (sym is)
 
+-- and the types those of the nodes of its lines
+pub called-types : (leaves : LeafTable) (scripts : List Script) (serial : ℕ) (call : BootstrapCall) (script : Script) (steps : List Step) →
+    slice_get scripts call.script.0 ≡ Some script → steps ≡ script.steps →
+    target_types leaves scripts serial call ≡ script_types leaves steps script.end (at_start call serial)
+called-types leaves scripts serial call script steps found is =
+    ap (λ m. types_of leaves (unless_thrown m (λ (s : Script). nodes_from leaves s.steps s.end (at_start call serial)))) (called-is scripts call script found)
+    ∙ ap (λ xs. script_types leaves xs script.end (at_start call serial)) (sym is)
+
 -- ---- a job
 
 -- a job calls its bootstrap method, and asks for the forms that this asks for
@@ -72,3 +93,10 @@ pub job-asked : (leaves : LeafTable) (scripts : List Script) (job : Job) (serial
 job-asked leaves scripts job serial call called =
     ap (λ m. map (recipe leaves) (unless_thrown m (λ c. unless_thrown (called_script scripts c)
     (λ script. script_asked leaves script.steps script.end (at_start c serial))))) called
+
+-- and for the types that this asks for
+pub job-types : (leaves : LeafTable) (scripts : List Script) (job : Job) (serial : ℕ) (call : BootstrapCall) → job.call ≡ Ok call →
+    attempt_types leaves scripts job serial ≡ target_types leaves scripts serial call
+job-types leaves scripts job serial call called =
+    ap (λ m. types_of leaves (unless_thrown m (λ c. unless_thrown (called_script scripts c)
+    (λ script. nodes_from leaves script.steps script.end (at_start c serial))))) called

@@ -1,156 +1,158 @@
--- Runs of scripts: what a line needs of what comes before it, and what it leaves with the lines that follow.
+-- Runs of scripts: where a script stands after some of its lines.
 use denote.Ref.{Bor}
-use Rattle.std.proofs.Common.{◌≡◌, sym, subst, ℕ, List, [], ◌∷◌, ◌++◌, length, Result, Ok, Err, arith}
-use Rattle.std.specs.Prelude.{IsErrAnd}
-use Rattle.std.proofs.lemmas.List.{nil_from_length}
-use Rattle.std.proofs.lemmas.List.Elements.{All-tail}
-use Rattle.mh_intern.specs.Exchanges.{Exchanges}
-use Rattle.mh_intern.specs.Views.{HoldView}
+use Rattle.std.proofs.Common.{◌≡◌, refl, sym, ◌∙◌, ap, subst, ℕ, ◌+◌, ◌*◌, ◌^◌, ◌<◌, ◌≤◌, List, [], ◌∷◌, ◌++◌, append_assoc, map, Result, Ok, arith}
+use Rattle.std.proofs.lemmas.List.{map-append}
+use Rattle.std.proofs.lemmas.Grind.{flat_map-append}
+use Rattle.mh_values.specs.declared.types.MethodTy.{MethodTy}
+use Rattle.mh_leaf.specs.LeafTable.{LeafTable}
 use Rattle.mh_tree.specs.Tree.{Tree}
+use Rattle.mh_tree.specs.Typing.{type_of, held_before}
+use Rattle.mh_edit.specs.declared.key.Key.{Key}
 use Rattle.mh_handle.specs.declared.error.HandleError.{HandleError}
-use Rattle.mh_handle.specs.declared.error.HandleError.TheVariants.{NoMemory, FormsFull, TypesFull, Refused}
-use Rattle.mh_handle.specs.declared.handle.Handle.{Handle}
 use Rattle.mh_handle.specs.declared.work.Work.{Work}
-use Rattle.mh_handle.specs.Stands.{Stands}
-use Rattle.mh_handle.specs.Works.{GoesOn, HoldsTypes, IsUnchanged}
-use Rattle.mh_handle.proofs.Going.{goes_on-before, goes_on-more, seated-back}
-use Rattle.mh_handle.proofs.Trading.{exchanges-kept}
+use Rattle.mh_handle.specs.Recipe.{recipe}
+use Rattle.mh_handle.specs.Works.{GoesOn, IsReady}
+use Rattle.mh_handle.proofs.Going.{goes_on-still}
 use Rattle.mh_script.specs.declared.script.End.{End}
-use Rattle.mh_script.specs.declared.script.Operation.{Operation}
 use Rattle.mh_script.specs.declared.script.Step.{Step}
-use Rattle.mh_script.specs.declared.script.Step.TheVariants as step
-use Rattle.mh_script.specs.Limits.{CanDivide}
-use Rattle.mh_attempt.specs.declared.registers.Assignment.{Assignment, out-Assignment}
 use Rattle.mh_attempt.specs.declared.registers.Registers.{Registers}
-use Rattle.mh_jobs.specs.Thrown.{OrThrown}
-use Rattle.mh_link.specs.Linked.{assigning, ended, ran}
-use Rattle.mh_link.specs.Operands.{Content, Frame, handle}
-use Rattle.mh_link.specs.Operations.{node_of}
-use Rattle.mh_attempt.specs.Asked.{AsksOrThrows}
-use Rattle.mh_attempt.specs.Lines.{MakesNode, TellsTarget}
-use Rattle.mh_attempt.specs.Recipes.{end_recipes, line_recipes, script_recipes}
-use Rattle.mh_attempt.specs.Registers.{Hold, Holds, HoldSome, IsKeptIn}
-use Rattle.mh_attempt.specs.Runs.{MayRun, Runs, draws}
-use Rattle.mh_attempt.specs.Several.{Adds, AddsTypes}
-use Rattle.mh_attempt.proofs.Adding.{adds-back, adds-both, came-then, holds-after, holds-came, holds-yet}
-use Rattle.mh_attempt.proofs.AskedLines.{asks-given_back, let-asks, let-unasked, rest-asks}
-use Rattle.mh_attempt.proofs.Rooms.{goes_on-sum, ready-after, ready-less}
-use Rattle.mh_attempt.proofs.RunRegisters.{Follows, follows-hold, kept-last, kept-yet, with_last}
-use Rattle.mh_attempt.proofs.Running.{let-made, let-untold, rest-target, same-target}
+use Rattle.mh_jobs.specs.Thrown.{◌>>=◌}
+use Rattle.mh_link.specs.Linked.{ran, stepped}
+use Rattle.mh_link.specs.Made.{nodes_from, nodes_of_step, types_of, unless_thrown}
+use Rattle.mh_link.specs.Operands.{Frame}
+use Rattle.mh_attempt.specs.Asked.{AsksOrThrows, HasAskedMore}
+use Rattle.mh_attempt.specs.AskedTypes.{AsksNoOther, AsksTypesOrThrows, script_types}
+use Rattle.mh_attempt.specs.Recipes.{script_asked, script_recipes, step_asked}
+use Rattle.mh_attempt.specs.Registers.{AreKept, Hold, HoldSome, holds_in}
+use Rattle.mh_attempt.specs.Runs.{MayRun, Replaces, RunsStep, TellsStep, draws, step_recipes, step_types}
+use Rattle.mh_attempt.proofs.AskedAfter.{asked_more-both, asked_more-none}
+use Rattle.mh_attempt.proofs.AskingTypes.{no_other-still, no_other-then}
+use Rattle.mh_attempt.proofs.Replacing.{replaces-held, replaces-none, replaces-then}
+use Rattle.mh_attempt.proofs.Rooms.{goes_on-sum, ready-after}
 
--- what the operation of a line leaves
-pub record MakesLine (registers : Registers) (op : Operation) (old new : Work) (r : Result Handle HandleError) : Type 0 where
-  pub goes_on : GoesOn 4 old new
-  pub types : AddsTypes old new r
-  pub node : (frame : Frame) → Hold old.leaves.now registers frame → MakesNode (node_of old.leaves.now frame op) old new r
-  pub asks : (frame : Frame) → Hold old.leaves.now registers frame → AsksOrThrows (line_recipes old.leaves.now frame op) old new r
+-- registers stand for the frame that a script has reached, from which the rest of the lines gives what all lines give, and has only the rest to ask for
+pub record Reaches (steps rest : List Step) (e : End) (frame : Frame) (registers : Registers) (old new : Work) : Type 0 where
+  pub reached : Frame
+  pub holds : Hold old.leaves.now registers reached
+  pub target : ran old.leaves.now steps e frame ≡ ran old.leaves.now rest e reached
+  pub recipes : List (List Key)
+  pub same_recipes : script_recipes old.leaves.now steps e frame ≡ recipes ++ script_recipes old.leaves.now rest e reached
+  pub asks : HasAskedMore recipes old.pass.now new.pass.now
+  pub types : List MethodTy
+  pub same_types : script_types old.leaves.now steps e frame ≡ types ++ script_types old.leaves.now rest e reached
+  pub asked : AsksNoOther types old.seat.now new.seat.now
 
--- ---- the last line
+-- what so many lines have left
+pub record HasRun (lines : ℕ) (steps rest : List Step) (e : End) (before after : Registers) (old new : Work) : Type 0 where
+  pub goes_on : GoesOn (4 * lines) old new
+  pub types : Replaces (holds_in before.assigned.items) (holds_in after.assigned.items) old new
+  pub serial : after.serial ≡ before.serial
+  pub reaches : (frame : Frame) → Hold old.leaves.now before frame → Reaches steps rest e frame after old new
 
-told-node : (node : OrThrown Tree) (old new : Work) (r : Result Handle HandleError) → MakesNode node old new r → TellsTarget node old r
-told-node node old new (Ok h) makes = makes
-told-node node old new (Err (Refused e)) makes = makes.0
-told-node node old new (Err (FormsFull drawn)) makes = tt
-told-node node old new (Err (TypesFull bucket)) makes = tt
-told-node node old new (Err NoMemory) makes = tt
+-- ---- before the first line
 
--- no other line is left
-pub end-runs : (all : List Step) (e : End) (registers : Registers) (old new : Work) (r : Result Handle HandleError) → length all ≡ 0 → GoesOn 1 old new →
-    AddsTypes old new r → ((frame : Frame) → Hold old.leaves.now registers frame → MakesNode (ended old.leaves.now e frame) old new r) →
-    ((frame : Frame) → Hold old.leaves.now registers frame → AsksOrThrows (end_recipes old.leaves.now e frame) old new r) → Runs all e registers old new r
-end-runs all e registers old new r is goes_on types node asks =
-    subst (λ xs. Runs xs e registers old new r) (sym (nil_from_length all is)) (record {
-      goes_on = goes_on;
-      types = types;
-      target = λ frame hold. told-node (ended old.leaves.now e frame) old new r (node frame hold);
-      asks = asks;
-    })
+pub run-none : (steps : List Step) (e : End) (registers : Registers) (w : Work) → AreKept w.seat.now registers →
+    HasRun 0 steps steps e registers registers w w
+run-none steps e registers w kept = record {
+  goes_on = goes_on-still w;
+  types = replaces-none (holds_in registers.assigned.items) w kept;
+  serial = refl;
+  reaches = λ frame hold. record {
+    reached = frame;
+    holds = hold;
+    target = refl;
+    recipes = [];
+    same_recipes = refl;
+    asks = asked_more-none w.pass.now;
+    types = [];
+    same_types = refl;
+    asked = no_other-still [] w.seat.now;
+  };
+}
 
--- ---- before a line
+-- ---- one line more
 
--- the lines that follow need no more than all of them
-pub next-may : (all steps : List Step) (s : Step) (registers : Registers) (w : Work) → all ≡ s ∷ steps → MayRun all registers w → MayRun steps registers w
-next-may all steps s registers w is may =
-    let more : MayRun (s ∷ steps) registers w = subst (λ xs. MayRun xs registers w) is may in
-    record {
-      ready = ready-less w (draws (s ∷ steps)) (draws steps) (omega arith) more.ready;
-      holds = more.holds;
-      kept = more.kept;
-      divide = All-tail CanDivide s steps more.divide;
-      serial = more.serial;
-    }
+-- the recipes and types of a line, and then those of the lines that follow
+pub recipes-after : (leaves : LeafTable) (s : Step) (steps : List Step) (e : End) (frame : Frame) →
+    script_recipes leaves (s ∷ steps) e frame
+    ≡ step_recipes leaves s frame ++ map (recipe leaves) (unless_thrown (stepped leaves s frame) (script_asked leaves steps e))
+recipes-after leaves s steps e frame =
+    map-append (recipe leaves) (step_asked leaves s frame) (unless_thrown (stepped leaves s frame) (script_asked leaves steps e))
 
--- after a line that drew numbers and assigned a register
-pub assigned-may : (all steps : List Step) (s : Step) (registers : Registers) (a : Bor Assignment) (name : List ℕ) (old mid : Work) → all ≡ s ∷ steps →
-    MayRun all registers old → GoesOn 4 old mid → (came : List HoldView) → Adds came old mid → IsKeptIn mid.seat.now (out-Assignment a.now).held →
-    Follows registers a name → ((frame : Frame) → Hold old.leaves.now registers frame → (c : Content) × Holds old.leaves.now (out-Assignment a.now).held c) →
-    MayRun steps (with_last registers a) mid
-assigned-may all steps s registers a name old mid is may goes came adds kept follows held =
-    let more : MayRun (s ∷ steps) registers old = subst (λ xs. MayRun xs registers old) is may in
-    let frame = more.holds.0 in
-    let found = held frame more.holds.1 in
-    let next : HoldSome old.leaves.now (with_last registers a) =
-    (assigning name found.0 frame, follows-hold old.leaves.now registers a name frame found.0 follows more.holds.1 found.1) in
-    record {
-      ready = ready-after 4 (draws steps) (draws (s ∷ steps)) old mid (omega arith) goes more.ready;
-      holds = subst (λ leaves. HoldSome leaves.now (with_last registers a)) (sym goes.leaves) next;
-      kept = kept-last mid.seat.now registers a name follows kept (kept-yet came old mid registers adds more.kept);
-      divide = All-tail CanDivide s steps more.divide;
-      serial = more.serial;
-    }
+pub types-after : (leaves : LeafTable) (s : Step) (steps : List Step) (e : End) (frame : Frame) →
+    script_types leaves (s ∷ steps) e frame
+    ≡ step_types leaves s frame ++ types_of leaves (unless_thrown (stepped leaves s frame) (nodes_from leaves steps e))
+types-after leaves s steps e frame =
+    flat_map-append (λ (t : Tree). held_before (type_of leaves t) []) (nodes_of_step leaves s frame)
+    (unless_thrown (stepped leaves s frame) (nodes_from leaves steps e))
 
--- ---- lines that make a node
+-- what a line tells and asks, from registers that stand for a frame
+pub record Steps (leaves : LeafTable) (s : Step) (frame : Frame) (after : Registers) (old new : Work) (r : Result (Unit {0}) HandleError) : Type 0 where
+  pub told : TellsStep leaves (stepped leaves s frame) after r
+  pub asks : AsksOrThrows (step_recipes leaves s frame) old new r
+  pub asked : AsksTypesOrThrows (step_types leaves s frame) old new r
 
--- the types of the handle are held still after the lines that follow
-pub rest-held : (held : List HoldView) (old mid after : Work) (r : Result Handle HandleError) → Adds held old mid → AddsTypes mid after r →
-    HoldsTypes after held
-rest-held held old mid after (Ok x) first rest = holds-yet x.held held mid after rest (holds-came held old mid first)
-rest-held held old mid after (Err e) first rest = holds-after held old mid after first rest
+-- over leaves that stayed
+pub steps-over : (s : Step) (before after : Registers) (old mid new : Work) (r : Result (Unit {0}) HandleError) → mid.leaves ≡ old.leaves →
+    RunsStep s before after mid new r → (frame : Frame) → Hold old.leaves.now before frame → Steps old.leaves.now s frame after mid new r
+steps-over s before after old mid new r same run =
+    subst (λ (leaves : Bor LeafTable). (frame : Frame) → Hold leaves.now before frame → Steps leaves.now s frame after mid new r) same
+    (λ frame hold. record { told = run.told frame hold; asks = run.asks frame hold; asked = run.asked frame hold })
 
--- the handle was given back after the lines that follow
-adds-given_back : (held : List HoldView) (old mid after new : Work) (r : Result Handle HandleError) → Adds held old mid → AddsTypes mid after r →
-    Exchanges [] held [] after.seat.now new.seat.now → AddsTypes old new r
-adds-given_back held old mid after new (Ok x) first rest back =
-    came-then [] (held ++ x.held) x.held old after new (adds-both held x.held old mid after first rest)
-    (exchanges-kept [] held [] x.held after.seat.now new.seat.now (holds-came x.held mid after rest) back)
-adds-given_back held old mid after new (Err e) first rest back = adds-back held old mid after new first rest back
-
-pub let-runs : (all steps : List Step) (name : List ℕ) (op : Operation) (e : End) (registers : Registers) (a : Bor Assignment) (h : Handle)
-    (old mid after new : Work) (r : Result Handle HandleError) → all ≡ step.Let name op ∷ steps → MakesLine registers op old mid (Ok h) →
-    Runs steps e (with_last registers a) mid after r → Follows registers a name →
-    ((t : Tree) → Stands old.leaves.now h t → Holds old.leaves.now (out-Assignment a.now).held (handle t)) → IsUnchanged after new →
-    Exchanges [] h.held [] after.seat.now new.seat.now → Runs all e registers old new r
-let-runs all steps name op e registers a h old mid after new r is made rest follows held back gone =
+next-reaches : (steps rest : List Step) (s : Step) (e : End) (frame : Frame) (before after : Registers) (old mid new : Work) (u : Unit {0}) →
+    (r : Reaches steps (s ∷ rest) e frame before old mid) → Steps old.leaves.now s r.reached after mid new (Ok u) →
+    Reaches steps rest e frame after old new
+next-reaches steps rest s e frame before after old mid new u r line =
     let leaves = old.leaves.now in
-    subst (λ xs. Runs xs e registers old new r) (sym is) (record {
-      goes_on =
-          goes_on-sum 4 (draws steps) (draws (step.Let name op ∷ steps)) old mid new (omega arith) made.goes_on
-          (goes_on-before (draws steps) mid after new rest.goes_on back (seated-back [] h.held after new gone));
-      types = adds-given_back h.held old mid after new r made.types rest.types gone;
-      target = λ frame hold.
-          let node = made.node frame hold in
-          same-target (ran leaves (step.Let name op ∷ steps) e frame) (ran leaves steps e (assigning name (handle node.0) frame)) old r
-          (let-made leaves name op steps e frame node.0 node.1)
-          (rest-target old mid (with_last registers a) steps e (assigning name (handle node.0) frame) r made.goes_on.leaves
-          (follows-hold leaves registers a name frame (handle node.0) follows hold (held node.0 node.2)) rest.target);
-      asks = λ frame hold.
-          let node = made.node frame hold in
-          asks-given_back (script_recipes leaves (step.Let name op ∷ steps) e frame) old after new r back.pass
-          (let-asks old mid after name op steps e frame node.0 r node.1 (made.asks frame hold)
-          (rest-asks old mid after (with_last registers a) steps e (assigning name (handle node.0) frame) r made.goes_on.leaves
-          (follows-hold leaves registers a name frame (handle node.0) follows hold (held node.0 node.2)) rest.asks));
-    })
+    let next = line.told.0 in
+    let is = line.told.1 in
+    record {
+      reached = next;
+      holds = line.told.2;
+      target = r.target ∙ ap (λ m. m >>= ran leaves rest e) is;
+      recipes = r.recipes ++ step_recipes leaves s r.reached;
+      same_recipes =
+          r.same_recipes
+          ∙ (ap (λ l. r.recipes ++ l) (recipes-after leaves s rest e r.reached
+          ∙ ap (λ m. step_recipes leaves s r.reached ++ map (recipe leaves) (unless_thrown m (script_asked leaves rest e))) is)
+          ∙ sym (append_assoc r.recipes (step_recipes leaves s r.reached) (script_recipes leaves rest e next)));
+      asks = asked_more-both r.recipes (step_recipes leaves s r.reached) old.pass.now mid.pass.now new.pass.now r.asks line.asks;
+      types = r.types ++ step_types leaves s r.reached;
+      same_types =
+          r.same_types
+          ∙ (ap (λ l. r.types ++ l) (types-after leaves s rest e r.reached
+          ∙ ap (λ m. step_types leaves s r.reached ++ types_of leaves (unless_thrown m (nodes_from leaves rest e))) is)
+          ∙ sym (append_assoc r.types (step_types leaves s r.reached) (script_types leaves rest e next)));
+      asked = no_other-then r.types (step_types leaves s r.reached) old.seat.now mid.seat.now new.seat.now r.asked line.asked;
+    }
 
--- no node was made
-pub let-fails : (all steps : List Step) (name : List ℕ) (op : Operation) (e : End) (registers : Registers) (old mid : Work) (error : HandleError)
-    (r : Result Handle HandleError) → IsErrAnd r (λ x. x ≡ error) → all ≡ step.Let name op ∷ steps → MakesLine registers op old mid (Err error) →
-    Runs all e registers old mid r
-let-fails all steps name op e registers old mid error (Ok x) is which made = absurd is
-let-fails all steps name op e registers old mid error (Err x) is which made =
-    subst (λ y. Runs all e registers old mid (Err y)) (sym is)
-    (subst (λ xs. Runs xs e registers old mid (Err error)) (sym which) (record {
-      goes_on = goes_on-more 4 (draws (step.Let name op ∷ steps)) old mid (omega arith) made.goes_on;
-      types = made.types;
-      target = λ frame hold. let-untold old.leaves.now old mid name op steps e frame error (made.node frame hold);
-      asks = λ frame hold. let-unasked old mid name op steps e frame error (made.node frame hold) (made.asks frame hold);
-    }))
+pub run-next : (lines more : ℕ) (steps rest : List Step) (s : Step) (e : End) (before mid after : Registers) (old now new : Work) (u : Unit {0}) →
+    more ≡ lines + 1 → HasRun lines steps (s ∷ rest) e before mid old now → RunsStep s mid after now new (Ok u) →
+    HasRun more steps rest e before after old new
+run-next lines more steps rest s e before mid after old now new u count so_far line = record {
+  goes_on = goes_on-sum (4 * lines) 4 (4 * more) old now new (omega (arith, count)) so_far.goes_on line.goes_on;
+  types = replaces-then (holds_in before.assigned.items) (holds_in mid.assigned.items) (holds_in after.assigned.items) old now new so_far.types line.types;
+  serial = line.serial ∙ so_far.serial;
+  reaches = λ frame hold.
+      let r = so_far.reaches frame hold in
+      next-reaches steps rest s e frame mid after old now new u r
+      (steps-over s mid after old now new (Ok u) so_far.goes_on.leaves line r.reached r.holds);
+}
+
+-- ---- what the next line needs
+
+module _ (lines : ℕ) (steps rest : List Step) (e : End) (before after : Registers) (old now : Work) (may : MayRun steps before old)
+    (so_far : HasRun lines steps rest e before after old now) where
+  pub next-ready : (numbers : ℕ) → 4 * lines + numbers ≤ draws steps → IsReady now numbers
+  next-ready numbers few = ready-after (4 * lines) numbers (draws steps) old now few so_far.goes_on may.ready
+
+  pub next-some : HoldSome now.leaves.now after
+  next-some =
+      let at = so_far.reaches may.holds.0 may.holds.1 in
+      (at.reached, subst (λ (leaves : Bor LeafTable). Hold leaves.now after at.reached) (sym so_far.goes_on.leaves) at.holds)
+
+  pub next-kept : AreKept now.seat.now after
+  next-kept = replaces-held (holds_in before.assigned.items) (holds_in after.assigned.items) old now may.kept so_far.types
+
+  pub next-serial : after.serial < 2 ^ 63
+  next-serial = rw so_far.serial may.serial

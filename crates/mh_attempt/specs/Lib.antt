@@ -1,4 +1,5 @@
 pub mod Asked
+pub mod AskedTypes
 pub mod Errors
 pub mod Lines
 pub mod Linkage

@@ -73,6 +73,7 @@ abbrev pub AddsLinked : {E : Type 0} → Work → Work → Result Linked E → T
 AddsLinked old new (Ok linked) = Adds (held_in linked) old new
 AddsLinked old new (Err e) = Adds [] old new
 
+-- the same by the linkage that is answered
 abbrev pub AddsLinkage : {E : Type 0} → Work → Work → Result LinkageView E → Type 0
 AddsLinkage old new (Ok linkage) = Adds linkage.held old new
 AddsLinkage old new (Err e) = Adds [] old new

@@ -1,11 +1,13 @@
 -- When what a run of a script holds stands for a frame, whose method handles are trees.
 use denote.Ref.{Bor}
-use Rattle.std.specs.Prelude.{◌≡◌, ℕ, zero, suc, ◌<◌, List, [], ◌∷◌, length, Option, Some, None, slice_get}
+use Rattle.std.specs.Prelude.{◌≡◌, ℕ, ◌<◌, Bool, List, [], ◌∷◌, length, flat_map, if◌then◌else◌, Option, Some, None, slice_get}
+use Rattle.std.specs.Str.{bytes_eq}
+use Rattle.std.specs.Vec.{vec_len, vec_capacity}
 use Rattle.mh_values.specs.declared.types.Ty.{Ty}
 use Rattle.mh_values.specs.declared.value.Num.TheVariants as num
 use Rattle.mh_values.specs.declared.value.Value.TheVariants as values
 use Rattle.mh_intern.specs.Exchanges.{AreHeld}
-use Rattle.mh_intern.specs.Views.{SeatView}
+use Rattle.mh_intern.specs.Views.{HoldView, SeatView}
 use Rattle.mh_leaf.specs.LeafTable.{LeafTable}
 use Rattle.mh_tree.specs.Tree.{Tree}
 use Rattle.mh_tree.specs.Tree as tree
@@ -16,13 +18,13 @@ use Rattle.mh_jobs.specs.declared.job.BootstrapCall.{BootstrapCall}
 use Rattle.mh_script.specs.declared.operand.Register.{Register}
 use Rattle.mh_attempt.specs.declared.handle.HandleOperand.{HandleOperand}
 use Rattle.mh_attempt.specs.declared.handle.HandleOperand.TheVariants as operand
-use Rattle.mh_attempt.specs.declared.registers.Assignment.{Assignment, out-Assignment}
+use Rattle.mh_attempt.specs.declared.registers.Assignment.{Assignment}
 use Rattle.mh_attempt.specs.declared.registers.Content.{Content as Found}
 use Rattle.mh_attempt.specs.declared.registers.Content.TheVariants as found
 use Rattle.mh_attempt.specs.declared.registers.Held.{Held}
 use Rattle.mh_attempt.specs.declared.registers.Held.TheVariants as held
 use Rattle.mh_attempt.specs.declared.registers.Registers.{Registers}
-use Rattle.mh_link.specs.Operands.{Content, Frame, handle, value, method_type, class, content, as_class}
+use Rattle.mh_link.specs.Operands.{Content, Frame, handle, value, method_type, class, content, as_class, last_assigned}
 use Rattle.mh_jobs.specs.Thrown.{OrThrown, ◌>>=◌}
 
 -- ---- handles
@@ -38,23 +40,35 @@ StandsForSome leaves o = (t : Tree) × StandsFor leaves o t
 
 -- ---- what was assigned
 
+-- the assignment is of this name
+abbrev pub is_named : List ℕ → Assignment → Bool
+is_named name a = bytes_eq a.name.now name
+
+-- what lines have assigned under a name
+abbrev pub held_under : List ℕ → List Assignment → Option Held
+held_under name [] = None
+held_under name (a ∷ assigned) = if is_named name a then Some a.held else held_under name assigned
+
+-- the assignments once a name gets this: in the place of what it had, or else after all others
+abbrev pub assigned_to : Bor (List ℕ) → Held → List Assignment → List Assignment
+assigned_to name h [] = record { name = name; held = h } ∷ []
+assigned_to name h (a ∷ assigned) =
+    if is_named name.now a then record { name = a.name; held = h } ∷ assigned else a ∷ assigned_to name h assigned
+
 -- what a line assigned stands for what a register holds
 abbrev pub Holds : LeafTable → Held → Content → Type 0
-Holds leaves (held.Handle h) c = (t : Tree) × (c ≡ handle t) × Stands leaves h.now t
+Holds leaves (held.Handle h) c = (t : Tree) × (c ≡ handle t) × Stands leaves h t
 Holds leaves (held.Number n) c = c ≡ value (values.Boxed (num.J n))
 
--- the assignments, the latest first, stand for those of a frame
-abbrev pub AreAssigned : LeafTable → Option (Bor Assignment) → List (List ℕ × Content) → Type 0
-AreAssigned leaves last [] = last ≡ None
-AreAssigned leaves last (c ∷ cs) =
-    (a : Bor Assignment) × (last ≡ Some a) × ((out-Assignment a.now).name.now ≡ c.0) × Holds leaves (out-Assignment a.now).held c.1
-    × AreAssigned leaves (out-Assignment a.now).before cs
-
--- what was assigned last stands for what a register holds, and nothing for nothing
+-- what is found under a name stands for what was assigned last under it, and nothing for nothing
 abbrev pub HoldsLast : LeafTable → Option Held → Option Content → Type 0
 HoldsLast leaves (Some h) (Some c) = Holds leaves h c
 HoldsLast leaves None None = Unit {0}
 HoldsLast leaves _ _ = ⊥
+
+-- under each name stands what was assigned last under it
+pub record HoldEach (leaves : LeafTable) (assigned : List Assignment) (meant : List (List ℕ × Content)) : Type 0 where
+  pub under : (name : List ℕ) → HoldsLast leaves (held_under name assigned) (last_assigned name meant)
 
 -- ---- frames
 
@@ -72,11 +86,21 @@ pub record Hold (leaves : LeafTable) (registers : Registers) (frame : Frame) : T
   pub call : frame.call ≡ registers.call.now
   pub serial : frame.serial ≡ registers.serial
   pub arguments : HasLeaves leaves registers.call.now
-  pub assigned : AreAssigned leaves registers.assigned frame.assigned
+  pub assigned : HoldEach leaves registers.assigned.items frame.assigned
 
 -- the registers stand for some frame
 abbrev pub HoldSome : LeafTable → Registers → Type 0
 HoldSome leaves registers = (frame : Frame) × Hold leaves registers frame
+
+-- the registers hold the same
+pub record HoldSame (old new : Registers) : Type 0 where
+  pub call : new.call ≡ old.call
+  pub serial : new.serial ≡ old.serial
+  pub assigned : new.assigned.items ≡ old.assigned.items
+
+-- there is room for one name more
+abbrev pub HasRoom : Registers → Type 0
+HasRoom registers = vec_len registers.assigned < vec_capacity registers.assigned
 
 -- ---- what a register holds
 
@@ -111,20 +135,22 @@ abbrev pub IsFoundIn : SeatView → Found → Type 0
 IsFoundIn seat (found.Handle o) = IsHeldIn seat o
 IsFoundIn seat other = Unit {0}
 
--- and of what a line assigned
+-- the holds of what a line assigned: those of a handle
+abbrev pub holds_of : Held → List HoldView
+holds_of (held.Handle h) = h.held
+holds_of (held.Number n) = []
+
+-- and of all that lines have assigned
+abbrev pub holds_in : List Assignment → List HoldView
+holds_in assigned = flat_map (λ a. holds_of a.held) assigned
+
+-- the seat holds the types of what a line assigned
 abbrev pub IsKeptIn : SeatView → Held → Type 0
-IsKeptIn seat (held.Handle h) = AreHeld seat h.now.held
-IsKeptIn seat (held.Number n) = Unit {0}
+IsKeptIn seat h = AreHeld seat (holds_of h)
 
--- so many assignments, the latest first, are of such handles
-abbrev pub AreKeptIn : SeatView → ℕ → Option (Bor Assignment) → Type 0
-AreKeptIn seat zero last = last ≡ None
-AreKeptIn seat (suc n) last =
-    (a : Bor Assignment) × (last ≡ Some a) × IsKeptIn seat (out-Assignment a.now).held × AreKeptIn seat n (out-Assignment a.now).before
-
--- the seat holds the types of all handles that lines have assigned
+-- the seat holds the types of all handles that registers hold, each as often as it stands there
 abbrev pub AreKept : SeatView → Registers → Type 0
-AreKept seat registers = (n : ℕ) × AreKeptIn seat n registers.assigned
+AreKept seat registers = AreHeld seat (holds_in registers.assigned.items)
 
 -- ---- classes
 

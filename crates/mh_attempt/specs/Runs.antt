@@ -1,20 +1,29 @@
 -- What a run of a script needs where it stands, and what the lines from there leave.
-use Rattle.std.specs.Prelude.{ℕ, ◌+◌, ◌*◌, ◌^◌, ◌<◌, List, length, All, Result}
+use Rattle.std.specs.Prelude.{◌≡◌, ℕ, ◌+◌, ◌*◌, ◌^◌, ◌<◌, List, ◌++◌, length, map, All, Result, Ok, Err}
+use Rattle.mh_values.specs.declared.types.MethodTy.{MethodTy}
+use Rattle.mh_intern.specs.Exchanges.{Exchanges}
+use Rattle.mh_intern.specs.Views.{HoldView}
+use Rattle.mh_leaf.specs.LeafTable.{LeafTable}
+use Rattle.mh_edit.specs.declared.key.Key.{Key}
 use Rattle.mh_handle.specs.declared.error.HandleError.{HandleError}
+use Rattle.mh_handle.specs.declared.error.HandleError.TheVariants as handle
 use Rattle.mh_handle.specs.declared.handle.Handle.{Handle}
 use Rattle.mh_handle.specs.declared.work.Work.{Work}
+use Rattle.mh_handle.specs.Recipe.{recipe}
 use Rattle.mh_handle.specs.Works.{GoesOn, IsReady}
 use Rattle.mh_script.specs.declared.script.End.{End}
 use Rattle.mh_script.specs.declared.script.Step.{Step}
 use Rattle.mh_script.specs.Limits.{CanDivide}
 use Rattle.mh_attempt.specs.declared.registers.Registers.{Registers}
-use Rattle.mh_link.specs.Linked.{ran}
+use Rattle.mh_jobs.specs.Thrown.{OrThrown}
+use Rattle.mh_link.specs.Linked.{ran, stepped}
+use Rattle.mh_link.specs.Made.{nodes_of_step, types_of}
 use Rattle.mh_link.specs.Operands.{Frame}
 use Rattle.mh_attempt.specs.Asked.{AsksOrThrows}
+use Rattle.mh_attempt.specs.AskedTypes.{AsksTypesOrThrows, script_types}
 use Rattle.mh_attempt.specs.Lines.{TellsTarget}
-use Rattle.mh_attempt.specs.Recipes.{script_recipes}
-use Rattle.mh_attempt.specs.Registers.{AreKept, Hold, HoldSome}
-use Rattle.mh_attempt.specs.Several.{AddsTypes}
+use Rattle.mh_attempt.specs.Recipes.{script_recipes, step_asked}
+use Rattle.mh_attempt.specs.Registers.{AreKept, Hold, HoldSome, holds_in}
 
 -- how many numbers lines may draw before the last one, and with it
 abbrev pub draws : List Step → ℕ
@@ -28,9 +37,47 @@ pub record MayRun (steps : List Step) (registers : Registers) (w : Work) : Type 
   pub divide : All CanDivide steps
   pub serial : registers.serial < 2 ^ 63
 
--- what lines leave: a handle of the target or what is thrown, the types of that one held and no others more, and the forms of their nodes asked for
-pub record Runs (steps : List Step) (e : End) (registers : Registers) (old new : Work) (result : Result Handle HandleError) : Type 0 where
+-- the seat has these holds in the place of those
+abbrev pub Replaces : List HoldView → List HoldView → Work → Work → Type 0
+Replaces gone came old new = (asks : List MethodTy) × Exchanges asks gone came old.seat.now new.seat.now
+
+-- the seat has the types of what registers hold now in the place of those before, and those of a handle more, if there is one
+abbrev pub KeepsTypes : {E : Type 0} → Registers → Registers → Work → Work → Result Handle E → Type 0
+KeepsTypes before after old new (Ok h) = Replaces (holds_in before.assigned.items) (holds_in after.assigned.items ++ h.held) old new
+KeepsTypes before after old new (Err error) = Replaces (holds_in before.assigned.items) (holds_in after.assigned.items) old new
+
+-- ---- one line
+
+-- the recipes of the forms that a line before the last one asks for
+abbrev pub step_recipes : LeafTable → Step → Frame → List (List Key)
+step_recipes leaves s frame = map (recipe leaves) (step_asked leaves s frame)
+
+-- the types of the nodes that it makes
+abbrev pub step_types : LeafTable → Step → Frame → List MethodTy
+step_types leaves s frame = types_of leaves (nodes_of_step leaves s frame)
+
+-- registers that stand for the frame after a line, or the exception in its place; a full table and want of memory tell nothing
+abbrev pub TellsStep : LeafTable → OrThrown Frame → Registers → Result (Unit {0}) HandleError → Type 0
+TellsStep leaves next after (Ok u) = (frame : Frame) × (next ≡ Ok frame) × Hold leaves after frame
+TellsStep leaves next after (Err (handle.Refused e)) = next ≡ Err e
+TellsStep leaves next after (Err error) = Unit {0}
+
+-- what a line before the last one leaves: registers that stand for the next frame, or what is thrown
+pub record RunsStep (s : Step) (before after : Registers) (old new : Work) (result : Result (Unit {0}) HandleError) : Type 0 where
+  pub goes_on : GoesOn 4 old new
+  pub types : Replaces (holds_in before.assigned.items) (holds_in after.assigned.items) old new
+  pub serial : after.serial ≡ before.serial
+  pub told : (frame : Frame) → Hold old.leaves.now before frame → TellsStep old.leaves.now (stepped old.leaves.now s frame) after result
+  pub asks : (frame : Frame) → Hold old.leaves.now before frame → AsksOrThrows (step_recipes old.leaves.now s frame) old new result
+  pub asked : (frame : Frame) → Hold old.leaves.now before frame → AsksTypesOrThrows (step_types old.leaves.now s frame) old new result
+
+-- ---- all lines
+
+-- what lines leave: a handle of the target or what is thrown, the types of that one held and of what the registers hold now, and the forms and types of their
+-- nodes asked for
+pub record Runs (steps : List Step) (e : End) (before after : Registers) (old new : Work) (result : Result Handle HandleError) : Type 0 where
   pub goes_on : GoesOn (draws steps) old new
-  pub types : AddsTypes old new result
-  pub target : (frame : Frame) → Hold old.leaves.now registers frame → TellsTarget (ran old.leaves.now steps e frame) old result
-  pub asks : (frame : Frame) → Hold old.leaves.now registers frame → AsksOrThrows (script_recipes old.leaves.now steps e frame) old new result
+  pub types : KeepsTypes before after old new result
+  pub target : (frame : Frame) → Hold old.leaves.now before frame → TellsTarget (ran old.leaves.now steps e frame) old result
+  pub asks : (frame : Frame) → Hold old.leaves.now before frame → AsksOrThrows (script_recipes old.leaves.now steps e frame) old new result
+  pub asked : (frame : Frame) → Hold old.leaves.now before frame → AsksTypesOrThrows (script_types old.leaves.now steps e frame) old new result

@@ -6,8 +6,9 @@ ghost use Rattle.mh_handle.specs.Works.{GoesOn, IsReady, leaves_of};
 ghost use Rattle.mh_jobs.specs.Given.{IsJob};
 ghost use Rattle.mh_jobs.specs.Thrown.{caused, recorded};
 ghost use Rattle.mh_link.specs.Linked.{held_by, linked, outcome};
-ghost use Rattle.mh_link.specs.Sites.{edits_at};
+ghost use Rattle.mh_link.specs.Sites.{edits_at, types_at};
 ghost use Rattle.mh_attempt.specs.Asked.{Asks, AsksOrThrows};
+ghost use Rattle.mh_attempt.specs.AskedTypes.{AsksTypes, AsksTypesOrThrows, attempt_types, target_types};
 ghost use Rattle.mh_attempt.specs.Linkage.{AddsLinkage, AddsLinked, HasTypes, IsLinkedBy, held_in, target_of, target_recipes};
 ghost use Rattle.mh_attempt.specs.Lines.{TellsTarget};
 ghost use Rattle.mh_attempt.specs.Recipes.{attempt_recipes};
@@ -55,12 +56,13 @@ fn recorded(alloc: Global, classes: &Classes, exc: Exc) -> Result<Exc, NoMemory>
     }
 }
 
-/// The target that a call of a bootstrap method gives, in the attempt of a serial number.
-fn called<'f, 't: 'f, R: Wait>(
+/// The target that a call of a bootstrap method gives, in the attempt of a serial number. What the
+/// registers hold is given back in the end.
+fn called<'t, R: Wait>(
     w: &mut Work<'_, 't>,
     rt: &R,
-    scripts: &'f Scripts,
-    call: &'f BootstrapCall,
+    scripts: &Scripts,
+    call: &BootstrapCall,
     serial: u64,
 ) -> Result<Handle<'t>, HandleError>
     requires ready { IsReady w.old 256 }
@@ -73,14 +75,14 @@ fn called<'f, 't: 'f, R: Wait>(
         w.old result }
     ensures asks { AsksOrThrows (target_recipes (leaves_of w.old) scripts.now serial call.now)
         w.old w.new result }
+    ensures asked { AsksTypesOrThrows (target_types (leaves_of w.old) scripts.now serial call.now)
+        w.old w.new result }
 {
     let script = scripts.get(call.script);
-    let registers: Registers<'f, 't> = Registers {
-        call,
-        serial,
-        assigned: None,
-    };
-    ran(w, rt, &registers, script.steps.as_slice(), &script.end)
+    let mut registers = Registers::new(w.alloc, call, serial);
+    let target = ran(w, rt, &mut registers, script.steps.as_slice(), &script.end);
+    registers.give_back(w);
+    target
 }
 
 /// The target that a job gives, in the attempt of a serial number. What the job throws is thrown
@@ -100,6 +102,8 @@ fn target<'t, R: Wait>(
     ensures target { TellsTarget (outcome (leaves_of w.old) scripts.now job.now serial)
         w.old result }
     ensures asks { AsksOrThrows (attempt_recipes (leaves_of w.old) scripts.now job.now serial)
+        w.old w.new result }
+    ensures asked { AsksTypesOrThrows (attempt_types (leaves_of w.old) scripts.now job.now serial)
         w.old w.new result }
 {
     match &job.call {
@@ -126,6 +130,8 @@ fn link<'t, R: Wait>(
     ensures holds { IfOk result (λ made. HasTypes (held_in made)
         (held_by (leaves_of w.old) (linked (leaves_of w.old) scripts.now job.now serial))) }
     ensures asks { Asks (attempt_recipes (leaves_of w.old) scripts.now job.now serial)
+        w.old w.new result }
+    ensures asked { AsksTypes (attempt_types (leaves_of w.old) scripts.now job.now serial)
         w.old w.new result }
 {
     match target(w, rt, scripts, job, serial) {
@@ -166,6 +172,8 @@ pub fn attempt<'t, J: Run, R: Wait>(
     ensures goes_on { GoesOn 256 w.old w.new }
     ensures types { AddsLinkage w.old w.new result }
     ensures asks { Asks (edits_at (recipe J.given.leaves) J.given job.now.site serial)
+        w.old w.new result }
+    ensures asked { AsksTypes (types_at J.given job.now.site serial)
         w.old w.new result }
 {
     let linked = link(w, rt, scripts, job, serial)?;

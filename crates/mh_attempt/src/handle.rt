@@ -6,6 +6,7 @@ ghost use Rattle.mh_tree.specs.Tree.{Tree, weight};
 ghost use Rattle.mh_tree.specs.Typing.{type_of};
 ghost use Rattle.mh_handle.specs.Works.{IsReady, GoesOn, IsAccepted, StandsIn, leaves_of};
 ghost use Rattle.mh_attempt.specs.Asked.{AsksIfMade};
+ghost use Rattle.mh_attempt.specs.AskedTypes.{AsksTypesOrThrows, types_made};
 ghost use Rattle.mh_attempt.specs.Recipes.{recipes_made};
 ghost use Rattle.mh_attempt.specs.Registers.{IsHeldIn, StandsFor, StandsForSome};
 ghost use Rattle.mh_attempt.specs.Several.{AddsTypes};
@@ -57,6 +58,8 @@ impl<'f, 't> HandleOperand<'f, 't> {
         ensures accepted { IsAccepted result }
         ensures types { AddsTypes w.old w.new result }
         ensures asks { AsksIfMade (recipes_made (leaves_of w.old) (self.now ∷ []) [])
+            w.old w.new result }
+        ensures asked { AsksTypesOrThrows (types_made (leaves_of w.old) (self.now ∷ []) [])
             w.old w.new result }
         ensures stands { (t : Tree) → StandsFor (leaves_of w.old) self.now t
             → IfOk result (λ h. StandsIn w.old h t) }

@@ -2,6 +2,7 @@
 
 ghost use Rattle.mh_handle.specs.Works.{GoesOn, IsReady, leaves_of};
 ghost use Rattle.mh_attempt.specs.Asked.{AsksOrThrows};
+ghost use Rattle.mh_attempt.specs.AskedTypes.{AsksTypesOrThrows, line_types};
 ghost use Rattle.mh_attempt.specs.Lines.{MakesNode};
 ghost use Rattle.mh_link.specs.Operands.{Frame};
 ghost use Rattle.mh_link.specs.Operations.{node_of};
@@ -46,6 +47,8 @@ pub(crate) fn node<'t, R: Wait>(
         (node_of (leaves_of w.old) frame operation.now) w.old w.new result }
     ensures asks { (frame : Frame) → Hold (leaves_of w.old) registers.now frame → AsksOrThrows
         (line_recipes (leaves_of w.old) frame operation.now) w.old w.new result }
+    ensures asked { (frame : Frame) → Hold (leaves_of w.old) registers.now frame → AsksTypesOrThrows
+        (line_types (leaves_of w.old) frame operation.now) w.old w.new result }
 {
     match operation {
         Operation::Leaf(method) => leaf_line(w, rt, method),

@@ -1,94 +1,117 @@
 //! What a run of a script holds, and what its registers stand for.
 
-ghost use Rattle.std.specs.Prelude.{◌≡◌, ◌<◌, ℕ, List, [], Some, IfOk, IfSome, codes};
+ghost use Rattle.std.specs.Prelude.{◌≡◌, [], ◌++◌, IfOk, OnOk, codes, option_map, position};
 ghost use Rattle.mh_values.specs.Class.{class_cast_class};
 ghost use Rattle.mh_values.specs.Exception.{saying};
+ghost use Rattle.mh_intern.specs.Exchanges.{Exchanges};
 ghost use Rattle.mh_intern.specs.Views.{SeatView};
 ghost use Rattle.mh_leaf.specs.LeafTable.{LeafTable};
-ghost use Rattle.mh_jobs.specs.declared.job.Argument.TheVariants as argument;
+ghost use Rattle.mh_handle.specs.Works.{HoldsTypes, IsUnchanged};
 ghost use Rattle.mh_script.specs.declared.operand.Register.TheVariants as register;
 ghost use Rattle.mh_link.specs.Made.{leaf_among, node_of_use};
 ghost use Rattle.mh_link.specs.Operands as operands;
-ghost use Rattle.mh_link.specs.Operands.{Frame, content, content_of, no_argument, as_handle, as_value, as_method_type, as_class, handle_in, value_in, type_in, method_type_in, last_assigned};
-ghost use Rattle.mh_attempt.specs.Registers.{AreAssigned, AreKept, AreKeptIn, Hold, Holds, HoldsLast, IsContent, IsFoundIn, IsHeldIn, IsKeptIn, IsLeafOf, StandsFor, class_in, node_held, node_made};
+ghost use Rattle.mh_link.specs.Operands.{Frame, content, content_of, no_argument, as_handle, as_value, as_method_type, as_class, handle_in, value_in, type_in, method_type_in};
+ghost use Rattle.mh_attempt.specs.Registers.{AreKept, HasRoom, Hold, HoldSame, Holds, IsContent, IsFoundIn, IsHeldIn, IsKeptIn, IsLeafOf, StandsFor, assigned_to, class_in, held_under, holds_in, holds_of, is_named, node_held, node_made};
 ghost use Rattle.mh_attempt.specs.Told.{Tells, TellsBy, Throws};
 
 use crate::handle::HandleOperand;
 use crate::names::{method_type_of_text, type_of_text};
 use crate::thrown::thrown;
 use mh_base::{Copied, NoMemory, Shared};
-use mh_handle::Handle;
+use mh_handle::{Handle, Work};
 use mh_jobs::{Argument, BootstrapCall};
 use mh_script::{MethodTypeOperand, Register, TypeOperand, ValueOperand};
 use mh_tree::CheckError;
 use mh_values::{ClassId, Classes, MethodTy, Num, Ty, Value};
 use std::alloc::Global;
+use std::mem;
 
 /// What a line assigned to a register: a method handle, or a boxed long.
-#[derive(Clone, Copy)]
-pub(crate) enum Held<'f, 't> {
-    Handle(&'f Handle<'t>),
+#[derive(Drop)]
+pub(crate) enum Held<'t> {
+    Handle(Handle<'t>),
     Number(i64),
 }
 
-/// A register that a line assigned, and the assignment before it.
-#[derive(Clone, Copy)]
+impl<'t> Held<'t> {
+    /// Gives up a handle, with the types that it holds.
+    pub fn give_back(self, w: &mut Work<'_, 't>)
+        requires of_types { w.old.seat.now.table ≡ w.old.types.now }
+        requires held { HoldsTypes w.old (holds_of self) }
+        ensures unchanged { IsUnchanged w.old w.new }
+        ensures types { Exchanges [] (holds_of self.entry) [] w.old.seat.now w.new.seat.now }
+    {
+        match self {
+            Held::Handle(handle) => handle.give_back(w),
+            Held::Number(_) => {}
+        }
+    }
+}
+
+/// A register that lines have assigned, and what it holds.
+#[derive(Drop)]
 pub(crate) struct Assignment<'f, 't> {
     pub name: &'f [u8],
-    pub held: Held<'f, 't>,
-    pub before: Option<&'f Assignment<'f, 't>>,
+    pub held: Held<'t>,
 }
 
 /// What the registers of a script hold where it stands: what it is called with, the number of the
-/// attempt, and what its lines have assigned so far, the latest first.
-#[derive(Clone, Copy)]
+/// attempt, and what its lines have assigned, with one assignment for each name.
+#[derive(Drop)]
 pub(crate) struct Registers<'f, 't> {
     pub call: &'f BootstrapCall,
     pub serial: u64,
-    pub assigned: Option<&'f Assignment<'f, 't>>,
+    pub assigned: Vec<Assignment<'f, 't>>,
 }
 
 /// What a register holds.
 #[derive(Drop)]
-pub(crate) enum Content<'f, 't> {
-    Handle(HandleOperand<'f, 't>),
+pub(crate) enum Content<'a, 'f, 't> {
+    Handle(HandleOperand<'a, 't>),
     Value(Value),
     MethodType(&'f Shared<MethodTy>),
     Class(Ty),
 }
 
-// What was assigned last under a name, up to an assignment.
-fn last_assigned<'f, 't>(last: &'f Assignment<'f, 't>, name: &[u8]) -> Option<Held<'f, 't>>
-    ensures holds { (leaves : LeafTable) (assigned : List (List ℕ × operands.Content))
-        → AreAssigned leaves (Some last.entry) assigned
-        → HoldsLast leaves result (last_assigned name.now assigned) }
-    ensures kept { (seat : SeatView) (n : ℕ) → AreKeptIn seat n (Some last.entry)
-        → IfSome result (IsKeptIn seat) }
+// What lines have assigned under a name.
+fn held_under<'a, 't>(assigned: &'a [Assignment<'_, 't>], name: &[u8]) -> Option<&'a Held<'t>>
+    ensures { option_map (λ h. h.now) result ≡ held_under name.now assigned.now }
 {
-    if last.name == name {
-        return Some(last.held);
+    for assignment in assigned {
+        if assignment.name == name {
+            return Some(&assignment.held);
+        }
     }
-    match last.before {
-        Some(before) => last_assigned(before, name),
-        None => None,
-    }
+    None
+}
+
+// Where lines have assigned a name.
+fn place_of(assigned: &[Assignment<'_, '_>], name: &[u8]) -> Option<usize>
+    ensures { result ≡ position (is_named name.now) assigned.now }
+{
+    assigned
+        .iter()
+        .position(|assignment| assignment.name == name)
 }
 
 // What a line assigned as what a register holds.
-fn content_held<'f, 't>(held: Held<'f, 't>) -> Content<'f, 't>
-    ensures holds { (leaves : LeafTable) (meant : operands.Content) → Holds leaves held.entry meant
+fn content_held<'a, 'f, 't>(held: &'a Held<'t>) -> Content<'a, 'f, 't>
+    ensures holds { (leaves : LeafTable) (meant : operands.Content) → Holds leaves held.now meant
         → IsContent leaves result meant }
     ensures makes { node_held result ≡ [] }
-    ensures kept { (seat : SeatView) → IsKeptIn seat held.entry → IsFoundIn seat result }
+    ensures kept { (seat : SeatView) → IsKeptIn seat held.now → IsFoundIn seat result }
 {
     match held {
         Held::Handle(handle) => Content::Handle(HandleOperand::Held(handle)),
-        Held::Number(number) => Content::Value(Value::Boxed(Num::J(number))),
+        Held::Number(number) => Content::Value(Value::Boxed(Num::J(*number))),
     }
 }
 
 // A static argument as what a register holds.
-fn content_of<'f, 't>(alloc: Global, argument: &'f Argument) -> Result<Content<'f, 't>, NoMemory>
+fn content_of<'a, 'f, 't>(
+    alloc: Global,
+    argument: &'f Argument,
+) -> Result<Content<'a, 'f, 't>, NoMemory>
     ensures holds { (leaves : LeafTable) → IsLeafOf leaves argument.now
         → IfOk result (λ found. IsContent leaves found (content_of argument.now)) }
     ensures makes { IfOk result (λ found. node_held found ≡ leaf_among (Some argument.now)) }
@@ -117,10 +140,10 @@ fn wrong_sort(alloc: Global) -> CheckError
 }
 
 // The method handle that was held.
-fn as_handle<'f, 't>(
+fn as_handle<'a, 't>(
     alloc: Global,
-    held: Content<'f, 't>,
-) -> Result<HandleOperand<'f, 't>, CheckError>
+    held: Content<'a, '_, 't>,
+) -> Result<HandleOperand<'a, 't>, CheckError>
     ensures holds { (leaves : LeafTable) (meant : operands.Content)
         → IsContent leaves held.entry meant
         → TellsBy (StandsFor leaves) result (as_handle meant) }
@@ -134,7 +157,7 @@ fn as_handle<'f, 't>(
 }
 
 // The value that was held.
-fn as_value(alloc: Global, held: Content<'_, '_>) -> Result<Value, CheckError>
+fn as_value(alloc: Global, held: Content<'_, '_, '_>) -> Result<Value, CheckError>
     ensures { (leaves : LeafTable) (meant : operands.Content) → IsContent leaves held.entry meant
         → Tells result (as_value meant) }
 {
@@ -145,7 +168,7 @@ fn as_value(alloc: Global, held: Content<'_, '_>) -> Result<Value, CheckError>
 }
 
 // The method type that was held.
-fn as_method_type(alloc: Global, held: Content<'_, '_>) -> Result<Shared<MethodTy>, CheckError>
+fn as_method_type(alloc: Global, held: Content<'_, '_, '_>) -> Result<Shared<MethodTy>, CheckError>
     ensures { (leaves : LeafTable) (meant : operands.Content) → IsContent leaves held.entry meant
         → Tells result (as_method_type meant) }
 {
@@ -156,7 +179,7 @@ fn as_method_type(alloc: Global, held: Content<'_, '_>) -> Result<Shared<MethodT
 }
 
 // The class that was held.
-fn as_class(alloc: Global, held: Content<'_, '_>) -> Result<Ty, CheckError>
+fn as_class(alloc: Global, held: Content<'_, '_, '_>) -> Result<Ty, CheckError>
     ensures { (leaves : LeafTable) (meant : operands.Content) → IsContent leaves held.entry meant
         → Tells result (as_class meant) }
 {
@@ -167,8 +190,79 @@ fn as_class(alloc: Global, held: Content<'_, '_>) -> Result<Ty, CheckError>
 }
 
 impl<'f, 't> Registers<'f, 't> {
+    /// The registers of a script before its first line.
+    pub fn new(alloc: Global, call: &'f BootstrapCall, serial: u64) -> Registers<'f, 't>
+        ensures call { result.call.now ≡ call.now }
+        ensures serial { result.serial ≡ serial }
+        ensures assigned { result.assigned.items ≡ [] }
+    {
+        Registers {
+            call,
+            serial,
+            assigned: Vec::new(alloc),
+        }
+    }
+
+    /// Makes room for an assignment. Where memory is short all stays as it was.
+    pub fn reserve(&mut self) -> Result<(), NoMemory>
+        ensures same { HoldSame self.old self.new }
+        ensures room { OnOk result (HasRoom self.new) }
+    {
+        self.assigned.reserve(1)?;
+        Ok(())
+    }
+
+    // Assigns a register, and hands out what it held before, if it held anything.
+    fn exchange(&mut self, name: &'f [u8], held: Held<'t>) -> Option<Held<'t>>
+        requires { HasRoom self.old }
+        ensures before { result ≡ held_under name.now self.old.assigned.items }
+        ensures call { self.new.call ≡ self.old.call }
+        ensures serial { self.new.serial ≡ self.old.serial }
+        ensures assigned { self.new.assigned.items
+            ≡ assigned_to name.entry held.entry self.old.assigned.items }
+    {
+        match place_of(self.assigned.as_slice(), name) {
+            Some(place) => Some(mem::replace(&mut self.assigned[place].held, held)),
+            None => {
+                self.assigned.push_reserved(Assignment { name, held });
+                None
+            }
+        }
+    }
+
+    /// Assigns a register, for which there is room, and gives up what it held before.
+    pub fn assign(&mut self, w: &mut Work<'_, 't>, name: &'f [u8], held: Held<'t>)
+        requires room { HasRoom self.old }
+        requires of_types { w.old.seat.now.table ≡ w.old.types.now }
+        requires kept { HoldsTypes w.old (holds_in self.old.assigned.items ++ holds_of held) }
+        ensures call { self.new.call ≡ self.old.call }
+        ensures serial { self.new.serial ≡ self.old.serial }
+        ensures assigned { self.new.assigned.items
+            ≡ assigned_to name.entry held.entry self.old.assigned.items }
+        ensures unchanged { IsUnchanged w.old w.new }
+        ensures types { Exchanges [] (holds_in self.old.assigned.items ++ holds_of held.entry)
+            (holds_in self.new.assigned.items) w.old.seat.now w.new.seat.now }
+    {
+        if let Some(before) = self.exchange(name, held) {
+            before.give_back(w);
+        }
+    }
+
+    /// Gives up the handles that registers hold, with the types that these hold.
+    pub fn give_back(mut self, w: &mut Work<'_, 't>)
+        requires of_types { w.old.seat.now.table ≡ w.old.types.now }
+        requires kept { AreKept w.old.seat.now self }
+        ensures unchanged { IsUnchanged w.old w.new }
+        ensures types { Exchanges [] (holds_in self.entry.assigned.items) []
+            w.old.seat.now w.new.seat.now }
+    {
+        while let Some(assignment) = self.assigned.pop() {
+            assignment.held.give_back(w);
+        }
+    }
+
     // What the register of a static argument holds.
-    fn argument(&self, alloc: Global, number: u64) -> Result<Content<'f, 't>, CheckError>
+    fn argument(&self, alloc: Global, number: u64) -> Result<Content<'_, 'f, 't>, CheckError>
         ensures holds { (leaves : LeafTable) (frame : Frame) → Hold leaves self.now frame
             → TellsBy (IsContent leaves) result (content frame (register.Argument number)) }
         ensures makes { (leaves : LeafTable) (frame : Frame) → Hold leaves self.now frame
@@ -185,27 +279,14 @@ impl<'f, 't> Registers<'f, 't> {
         }
     }
 
-    // What was assigned last under a name.
-    fn held(&self, name: &[u8]) -> Option<Held<'f, 't>>
-        ensures holds { (leaves : LeafTable) (frame : Frame) → Hold leaves self.now frame
-            → HoldsLast leaves result (last_assigned name.now frame.assigned) }
-        ensures kept { (seat : SeatView) → AreKept seat self.now
-            → IfSome result (IsKeptIn seat) }
-    {
-        match self.assigned {
-            Some(last) => last_assigned(last, name),
-            None => None,
-        }
-    }
-
     // What a register that a line assigned holds.
-    fn assigned(&self, alloc: Global, name: &[u8]) -> Result<Content<'f, 't>, CheckError>
+    fn assigned(&self, alloc: Global, name: &[u8]) -> Result<Content<'_, 'f, 't>, CheckError>
         ensures holds { (leaves : LeafTable) (frame : Frame) → Hold leaves self.now frame
             → TellsBy (IsContent leaves) result (content frame (register.Assigned name.now)) }
         ensures makes { IfOk result (λ found. node_held found ≡ []) }
         ensures kept { (seat : SeatView) → AreKept seat self.now → IfOk result (IsFoundIn seat) }
     {
-        match self.held(name) {
+        match held_under(self.assigned.as_slice(), name) {
             Some(held) => Ok(content_held(held)),
             None => Err(no_argument(alloc)),
         }
@@ -213,7 +294,7 @@ impl<'f, 't> Registers<'f, 't> {
 
     // What a register holds; of those that a script may name, only the register of a static
     // argument may hold nothing.
-    fn content(&self, alloc: Global, register: &Register) -> Result<Content<'f, 't>, CheckError>
+    fn content(&self, alloc: Global, register: &Register) -> Result<Content<'_, 'f, 't>, CheckError>
         ensures holds { (leaves : LeafTable) (frame : Frame) → Hold leaves self.now frame
             → TellsBy (IsContent leaves) result (content frame register.now) }
         ensures makes { (leaves : LeafTable) (frame : Frame) → Hold leaves self.now frame
@@ -233,7 +314,7 @@ impl<'f, 't> Registers<'f, 't> {
         &self,
         alloc: Global,
         register: &Register,
-    ) -> Result<HandleOperand<'f, 't>, CheckError>
+    ) -> Result<HandleOperand<'_, 't>, CheckError>
         ensures stands { (leaves : LeafTable) (frame : Frame) → Hold leaves self.now frame
             → TellsBy (StandsFor leaves) result (handle_in frame register.now) }
         ensures makes { (leaves : LeafTable) (frame : Frame) → Hold leaves self.now frame

@@ -1,21 +1,23 @@
 //! A run of a script: its lines, one after the other, and the last one.
 
-ghost use Rattle.std.specs.Prelude.{◌≤◌};
+ghost use Rattle.std.specs.Prelude.{◌≤◌, ◌<◌, ◌^◌};
 ghost use Rattle.mh_script.specs.declared.script.End.TheVariants as end;
+ghost use Rattle.mh_script.specs.Limits.{CanDivide};
 ghost use Rattle.mh_handle.specs.Works.{IsReady, GoesOn, leaves_of};
 ghost use Rattle.mh_attempt.specs.Asked.{AsksOrThrows};
+ghost use Rattle.mh_attempt.specs.AskedTypes.{AsksTypesOrThrows, end_types};
 ghost use Rattle.mh_attempt.specs.Lines.{MakesNode, passes, raised};
 ghost use Rattle.mh_link.specs.Linked.{ended};
 ghost use Rattle.mh_link.specs.Operands.{Frame};
 ghost use Rattle.mh_attempt.specs.Recipes.{end_recipes};
 ghost use Rattle.mh_attempt.specs.Registers.{AreKept, Hold, HoldSome};
-ghost use Rattle.mh_attempt.specs.Runs.{MayRun, Runs};
+ghost use Rattle.mh_attempt.specs.Runs.{MayRun, Runs, RunsStep};
 ghost use Rattle.mh_attempt.specs.Told.{Tells};
 ghost use Rattle.mh_attempt.specs.Several.{AddsTypes};
 
 use crate::lines::node;
 use crate::names::class_of;
-use crate::registers::{Assignment, Held, Registers};
+use crate::registers::{Held, Registers};
 use crate::thrown::thrown;
 use mh_handle::{Handle, HandleError, Work};
 use mh_script::{End, Register, Step};
@@ -68,6 +70,8 @@ fn returned<'t, R: Wait>(
         → MakesNode (ended (leaves_of w.old) (end.Return register.now) frame) w.old w.new result }
     ensures asks { (frame : Frame) → Hold (leaves_of w.old) registers.now frame → AsksOrThrows
         (end_recipes (leaves_of w.old) (end.Return register.now) frame) w.old w.new result }
+    ensures asked { (frame : Frame) → Hold (leaves_of w.old) registers.now frame → AsksTypesOrThrows
+        (end_types (leaves_of w.old) (end.Return register.now) frame) w.old w.new result }
 {
     let target = registers.handle(w.alloc, register)?;
     let (own, asked) = (target.ty(w.leaves), registers.call.ty.get());
@@ -93,6 +97,8 @@ fn ended<'t, R: Wait>(
         → MakesNode (ended (leaves_of w.old) end.now frame) w.old w.new result }
     ensures asks { (frame : Frame) → Hold (leaves_of w.old) registers.now frame → AsksOrThrows
         (end_recipes (leaves_of w.old) end.now frame) w.old w.new result }
+    ensures asked { (frame : Frame) → Hold (leaves_of w.old) registers.now frame → AsksTypesOrThrows
+        (end_types (leaves_of w.old) end.now frame) w.old w.new result }
 {
     match end {
         End::Return(register) => returned(w, rt, registers, register),
@@ -103,52 +109,55 @@ fn ended<'t, R: Wait>(
     }
 }
 
-/// The lines from where a script stands, up to the first that throws. A handle that a line makes is
-/// given back once the lines after it have run.
-pub(crate) fn ran<'f, 't, R: Wait>(
+/// A line before the last one. A value that its register had is given back once the line has used
+/// it; the registers hold a handle that it makes.
+fn stepped<'f, 't, R: Wait>(
     w: &mut Work<'_, 't>,
     rt: &R,
-    registers: &Registers<'f, 't>,
-    steps: &'f [Step],
-    end: &End,
-) -> Result<Handle<'t>, HandleError>
-    requires { MayRun steps.now registers.now w.old }
-    ensures { Runs steps.now end.now registers.now w.old w.new result }
+    registers: &mut Registers<'f, 't>,
+    step: &'f Step,
+) -> Result<(), HandleError>
+    requires ready { IsReady w.old 4 }
+    requires registers { HoldSome (leaves_of w.old) registers.old }
+    requires kept { AreKept w.old.seat.now registers.old }
+    requires divides { CanDivide step.now }
+    requires serial { registers.old.serial < 2 ^ 63 }
+    ensures { RunsStep step.now registers.old registers.new w.old w.new result }
 {
-    let Some((step, rest)) = steps.split_first() else {
-        return ended(w, rt, registers, end);
-    };
     match step {
         Step::Let(name, operation) => {
+            registers.reserve()?;
             let handle = node(w, rt, registers, operation)?;
-            let last = Assignment {
-                name: name.as_slice(),
-                held: Held::Handle(&handle),
-                before: registers.assigned,
-            };
-            let next = Registers {
-                assigned: Some(&last),
-                ..*registers
-            };
-            let target = ran(w, rt, &next, rest, end);
-            handle.give_back(w);
-            target
+            registers.assign(w, name.as_slice(), Held::Handle(handle));
+            Ok(())
         }
         Step::Serial(name) => {
-            let last = Assignment {
-                name: name.as_slice(),
-                held: Held::Number(registers.serial as i64),
-                before: registers.assigned,
-            };
-            let next = Registers {
-                assigned: Some(&last),
-                ..*registers
-            };
-            ran(w, rt, &next, rest, end)
+            registers.reserve()?;
+            let serial = registers.serial as i64;
+            registers.assign(w, name.as_slice(), Held::Number(serial));
+            Ok(())
         }
         Step::FailMod { modulus, remainder } => {
             pass(w.alloc, registers.serial, *modulus, *remainder)?;
-            ran(w, rt, registers, rest, end)
+            Ok(())
         }
     }
+}
+
+/// The lines from where a script stands, up to the first that throws. The registers hold what the
+/// lines have assigned, whatever they answer.
+pub(crate) fn ran<'f, 't, R: Wait>(
+    w: &mut Work<'_, 't>,
+    rt: &R,
+    registers: &mut Registers<'f, 't>,
+    steps: &'f [Step],
+    end: &End,
+) -> Result<Handle<'t>, HandleError>
+    requires { MayRun steps.now registers.old w.old }
+    ensures { Runs steps.now end.now registers.old registers.new w.old w.new result }
+{
+    for step in steps {
+        stepped(w, rt, registers, step)?;
+    }
+    ended(w, rt, registers, end)
 }

@@ -6,6 +6,7 @@ ghost use Rattle.mh_tree.specs.Tree as tree;
 ghost use Rattle.mh_script.specs.declared.script.Operation.TheVariants as operation;
 ghost use Rattle.mh_handle.specs.Works.{GoesOn, IsReady, leaves_of};
 ghost use Rattle.mh_attempt.specs.Asked.{AsksIfMade, AsksOrThrows};
+ghost use Rattle.mh_attempt.specs.AskedTypes.{AsksTypesOrThrows, line_types, node_types};
 ghost use Rattle.mh_attempt.specs.Lines.{MakesNode, typed};
 ghost use Rattle.mh_link.specs.Operands.{Frame};
 ghost use Rattle.mh_link.specs.Operations.{node_of, spread_of};
@@ -41,6 +42,9 @@ fn gathered<'t, R: Wait>(
     ensures asks { (t : Tree) → StandsFor (leaves_of w.old) target.now t
         → AsksIfMade (recipes_made (leaves_of w.old) (target.now ∷ [])
         (tree.Gather t array count ∷ [])) w.old w.new result }
+    ensures asked { (t : Tree) → StandsFor (leaves_of w.old) target.now t
+        → AsksTypesOrThrows (node_types (leaves_of w.old) (target.now ∷ [])
+        (typed (leaves_of w.old) (tree.Gather t array count))) w.old w.new result }
 {
     let ty = target.ty(w.leaves);
     check_gather(w.alloc, ty, target.weight(), array, count, w.classes())?;
@@ -68,6 +72,9 @@ pub(crate) fn gather_line<'t, R: Wait>(
     ensures asks { (frame : Frame) → Hold (leaves_of w.old) registers.now frame → AsksOrThrows
         (line_recipes (leaves_of w.old) frame (operation.Gather target.now array.now count))
         w.old w.new result }
+    ensures asked { (frame : Frame) → Hold (leaves_of w.old) registers.now frame → AsksTypesOrThrows
+        (line_types (leaves_of w.old) frame (operation.Gather target.now array.now count))
+        w.old w.new result }
 {
     let target = registers.handle(w.alloc, target)?;
     let array = registers.ty(w.alloc, w.classes(), array)?;
@@ -93,6 +100,9 @@ fn spread_out<'t, R: Wait>(
         → spread_of (leaves_of w.old) t array count ≡ Ok s
         → AsksIfMade (recipes_made (leaves_of w.old) (target.now ∷ [])
         (spread_asked (leaves_of w.old) t s)) w.old w.new result }
+    ensures asked { (t : Tree) → StandsFor (leaves_of w.old) target.now t
+        → AsksTypesOrThrows (node_types (leaves_of w.old) (target.now ∷ [])
+        (typed_spread (leaves_of w.old) t array count)) w.old w.new result }
 {
     let ty = target.ty(w.leaves);
     check_spread_use(w.alloc, ty, target.weight(), array, count, w.classes())?;
@@ -119,6 +129,9 @@ pub(crate) fn spread_line<'t, R: Wait>(
         w.old w.new result }
     ensures asks { (frame : Frame) → Hold (leaves_of w.old) registers.now frame → AsksOrThrows
         (line_recipes (leaves_of w.old) frame (operation.Spread target.now array.now count))
+        w.old w.new result }
+    ensures asked { (frame : Frame) → Hold (leaves_of w.old) registers.now frame → AsksTypesOrThrows
+        (line_types (leaves_of w.old) frame (operation.Spread target.now array.now count))
         w.old w.new result }
 {
     let target = registers.handle(w.alloc, target)?;

@@ -6,6 +6,7 @@ ghost use Rattle.mh_tree.specs.Tree as tree;
 ghost use Rattle.mh_script.specs.declared.script.Operation.TheVariants as operation;
 ghost use Rattle.mh_handle.specs.Works.{GoesOn, IsReady, leaves_of};
 ghost use Rattle.mh_attempt.specs.Asked.{AsksIfMade, AsksOrThrows};
+ghost use Rattle.mh_attempt.specs.AskedTypes.{AsksTypesOrThrows, line_types, node_types};
 ghost use Rattle.mh_attempt.specs.Lines.{MakesNode, typed};
 ghost use Rattle.mh_link.specs.Operands.{Frame};
 ghost use Rattle.mh_link.specs.Operations.{node_of};
@@ -48,6 +49,11 @@ fn guarded<'t, R: Wait>(
         → StandsFor (leaves_of w.old) target.now t → StandsFor (leaves_of w.old) fallback.now e
         → AsksIfMade (recipes_made (leaves_of w.old) (test.now ∷ target.now ∷ fallback.now ∷ [])
         (tree.Guard c t e ∷ [])) w.old w.new result }
+    ensures asked { (c t e : Tree) → StandsFor (leaves_of w.old) test.now c
+        → StandsFor (leaves_of w.old) target.now t → StandsFor (leaves_of w.old) fallback.now e
+        → AsksTypesOrThrows (node_types (leaves_of w.old)
+        (test.now ∷ target.now ∷ fallback.now ∷ [])
+        (typed (leaves_of w.old) (tree.Guard c t e))) w.old w.new result }
 {
     let test_ty = test.ty(w.leaves);
     let ty = target.ty(w.leaves);
@@ -89,6 +95,9 @@ pub(crate) fn guard_line<'t, R: Wait>(
     ensures asks { (frame : Frame) → Hold (leaves_of w.old) registers.now frame → AsksOrThrows
         (line_recipes (leaves_of w.old) frame (operation.Guard test.now target.now fallback.now))
         w.old w.new result }
+    ensures asked { (frame : Frame) → Hold (leaves_of w.old) registers.now frame → AsksTypesOrThrows
+        (line_types (leaves_of w.old) frame (operation.Guard test.now target.now fallback.now))
+        w.old w.new result }
 {
     let test = registers.handle(w.alloc, test)?;
     let target = registers.handle(w.alloc, target)?;
@@ -118,6 +127,10 @@ fn caught<'t, R: Wait>(
         → StandsFor (leaves_of w.old) handler.now p
         → AsksIfMade (recipes_made (leaves_of w.old) (target.now ∷ handler.now ∷ [])
         (tree.Catch t class p ∷ [])) w.old w.new result }
+    ensures asked { (t p : Tree) → StandsFor (leaves_of w.old) target.now t
+        → StandsFor (leaves_of w.old) handler.now p
+        → AsksTypesOrThrows (node_types (leaves_of w.old) (target.now ∷ handler.now ∷ [])
+        (typed (leaves_of w.old) (tree.Catch t class p))) w.old w.new result }
 {
     let ty = target.ty(w.leaves);
     let part_ty = handler.ty(w.leaves);
@@ -155,6 +168,9 @@ pub(crate) fn catch_line<'t, R: Wait>(
         w.old w.new result }
     ensures asks { (frame : Frame) → Hold (leaves_of w.old) registers.now frame → AsksOrThrows
         (line_recipes (leaves_of w.old) frame (operation.Catch target.now class.now handler.now))
+        w.old w.new result }
+    ensures asked { (frame : Frame) → Hold (leaves_of w.old) registers.now frame → AsksTypesOrThrows
+        (line_types (leaves_of w.old) frame (operation.Catch target.now class.now handler.now))
         w.old w.new result }
 {
     let target = registers.handle(w.alloc, target)?;

@@ -6,6 +6,7 @@ ghost use Rattle.mh_tree.specs.Tree as tree;
 ghost use Rattle.mh_script.specs.declared.script.Operation.TheVariants as operation;
 ghost use Rattle.mh_handle.specs.Works.{GoesOn, IsReady, leaves_of};
 ghost use Rattle.mh_attempt.specs.Asked.{AsksIfMade, AsksOrThrows};
+ghost use Rattle.mh_attempt.specs.AskedTypes.{AsksTypesOrThrows, line_types, node_types};
 ghost use Rattle.mh_attempt.specs.Lines.{MakesNode, typed};
 ghost use Rattle.mh_link.specs.Operands.{Frame};
 ghost use Rattle.mh_link.specs.Operations.{node_of};
@@ -41,6 +42,9 @@ fn bound<'t, R: Wait>(
     ensures asks { (t : Tree) → StandsFor (leaves_of w.old) target.now t
         → AsksIfMade (recipes_made (leaves_of w.old) (target.now ∷ [])
         (tree.Bind t position value ∷ [])) w.old w.new result }
+    ensures asked { (t : Tree) → StandsFor (leaves_of w.old) target.now t
+        → AsksTypesOrThrows (node_types (leaves_of w.old) (target.now ∷ [])
+        (typed (leaves_of w.old) (tree.Bind t position value))) w.old w.new result }
 {
     let ty = target.ty(w.leaves);
     check_bind(w.alloc, ty, target.weight(), position, &value, w.classes())?;
@@ -68,6 +72,9 @@ pub(crate) fn bind_line<'t, R: Wait>(
     ensures asks { (frame : Frame) → Hold (leaves_of w.old) registers.now frame → AsksOrThrows
         (line_recipes (leaves_of w.old) frame (operation.Bind target.now position value.now))
         w.old w.new result }
+    ensures asked { (frame : Frame) → Hold (leaves_of w.old) registers.now frame → AsksTypesOrThrows
+        (line_types (leaves_of w.old) frame (operation.Bind target.now position value.now))
+        w.old w.new result }
 {
     let target = registers.handle(w.alloc, target)?;
     let value = registers.value(w.alloc, value)?;
@@ -92,6 +99,9 @@ fn dropped<'t, R: Wait>(
     ensures asks { (t : Tree) → StandsFor (leaves_of w.old) target.now t
         → AsksIfMade (recipes_made (leaves_of w.old) (target.now ∷ [])
         (tree.Drop t position types.now ∷ [])) w.old w.new result }
+    ensures asked { (t : Tree) → StandsFor (leaves_of w.old) target.now t
+        → AsksTypesOrThrows (node_types (leaves_of w.old) (target.now ∷ [])
+        (typed (leaves_of w.old) (tree.Drop t position types.now))) w.old w.new result }
 {
     let ty = target.ty(w.leaves);
     check_drop(w.alloc, ty, target.weight(), position, types, w.classes())?;
@@ -119,6 +129,9 @@ pub(crate) fn drop_line<'t, R: Wait>(
     ensures asks { (frame : Frame) → Hold (leaves_of w.old) registers.now frame → AsksOrThrows
         (line_recipes (leaves_of w.old) frame (operation.Drop target.now position types.now))
         w.old w.new result }
+    ensures asked { (frame : Frame) → Hold (leaves_of w.old) registers.now frame → AsksTypesOrThrows
+        (line_types (leaves_of w.old) frame (operation.Drop target.now position types.now))
+        w.old w.new result }
 {
     let target = registers.handle(w.alloc, target)?;
     let types = types_of_text(w.alloc, w.classes(), types)?;
@@ -143,6 +156,9 @@ fn permuted<'t, R: Wait>(
     ensures asks { (t : Tree) → StandsFor (leaves_of w.old) target.now t
         → AsksIfMade (recipes_made (leaves_of w.old) (target.now ∷ [])
         (tree.Permute t asked.now order.now ∷ [])) w.old w.new result }
+    ensures asked { (t : Tree) → StandsFor (leaves_of w.old) target.now t
+        → AsksTypesOrThrows (node_types (leaves_of w.old) (target.now ∷ [])
+        (typed (leaves_of w.old) (tree.Permute t asked.now order.now))) w.old w.new result }
 {
     let ty = target.ty(w.leaves);
     check_permute(w.alloc, ty, target.weight(), asked, order, w.classes())?;
@@ -169,6 +185,9 @@ pub(crate) fn permute_line<'t, R: Wait>(
         w.old w.new result }
     ensures asks { (frame : Frame) → Hold (leaves_of w.old) registers.now frame → AsksOrThrows
         (line_recipes (leaves_of w.old) frame (operation.Permute target.now asked.now order.now))
+        w.old w.new result }
+    ensures asked { (frame : Frame) → Hold (leaves_of w.old) registers.now frame → AsksTypesOrThrows
+        (line_types (leaves_of w.old) frame (operation.Permute target.now asked.now order.now))
         w.old w.new result }
 {
     let target = registers.handle(w.alloc, target)?;

@@ -7,6 +7,7 @@ ghost use Rattle.mh_tree.specs.Tree as tree;
 ghost use Rattle.mh_script.specs.declared.script.Operation.TheVariants as operation;
 ghost use Rattle.mh_handle.specs.Works.{GoesOn, IsReady, leaves_of};
 ghost use Rattle.mh_attempt.specs.Asked.{AsksIfMade, AsksOrThrows};
+ghost use Rattle.mh_attempt.specs.AskedTypes.{AsksTypesOrThrows, line_types, node_types};
 ghost use Rattle.mh_attempt.specs.Lines.{MakesNode, typed};
 ghost use Rattle.mh_link.specs.Operands.{Frame};
 ghost use Rattle.mh_link.specs.Operations.{node_of};
@@ -45,6 +46,10 @@ fn filtered<'t, R: Wait>(
         → StandsFor (leaves_of w.old) part.now p
         → AsksIfMade (recipes_made (leaves_of w.old) (target.now ∷ part.now ∷ [])
         (tree.FilterArg t position p ∷ [])) w.old w.new result }
+    ensures asked { (t p : Tree) → StandsFor (leaves_of w.old) target.now t
+        → StandsFor (leaves_of w.old) part.now p
+        → AsksTypesOrThrows (node_types (leaves_of w.old) (target.now ∷ part.now ∷ [])
+        (typed (leaves_of w.old) (tree.FilterArg t position p))) w.old w.new result }
 {
     let ty = target.ty(w.leaves);
     let part_ty = part.ty(w.leaves);
@@ -83,6 +88,9 @@ pub(crate) fn filter_line<'t, R: Wait>(
     ensures asks { (frame : Frame) → Hold (leaves_of w.old) registers.now frame → AsksOrThrows
         (line_recipes (leaves_of w.old) frame (operation.Filter target.now position part.now))
         w.old w.new result }
+    ensures asked { (frame : Frame) → Hold (leaves_of w.old) registers.now frame → AsksTypesOrThrows
+        (line_types (leaves_of w.old) frame (operation.Filter target.now position part.now))
+        w.old w.new result }
 {
     let target = registers.handle(w.alloc, target)?;
     let part = registers.handle(w.alloc, part)?;
@@ -110,6 +118,10 @@ fn return_filtered<'t, R: Wait>(
         → StandsFor (leaves_of w.old) filter.now p
         → AsksIfMade (recipes_made (leaves_of w.old) (target.now ∷ filter.now ∷ [])
         (tree.FilterRet t p ∷ [])) w.old w.new result }
+    ensures asked { (t p : Tree) → StandsFor (leaves_of w.old) target.now t
+        → StandsFor (leaves_of w.old) filter.now p
+        → AsksTypesOrThrows (node_types (leaves_of w.old) (target.now ∷ filter.now ∷ [])
+        (typed (leaves_of w.old) (tree.FilterRet t p))) w.old w.new result }
 {
     let ty = target.ty(w.leaves);
     let part_ty = filter.ty(w.leaves);
@@ -139,6 +151,9 @@ pub(crate) fn filterret_line<'t, R: Wait>(
     ensures asks { (frame : Frame) → Hold (leaves_of w.old) registers.now frame → AsksOrThrows
         (line_recipes (leaves_of w.old) frame (operation.FilterReturn target.now filter.now))
         w.old w.new result }
+    ensures asked { (frame : Frame) → Hold (leaves_of w.old) registers.now frame → AsksTypesOrThrows
+        (line_types (leaves_of w.old) frame (operation.FilterReturn target.now filter.now))
+        w.old w.new result }
 {
     let target = registers.handle(w.alloc, target)?;
     let filter = registers.handle(w.alloc, filter)?;
@@ -167,6 +182,10 @@ fn folded<'t, R: Wait>(
         → StandsFor (leaves_of w.old) combiner.now p
         → AsksIfMade (recipes_made (leaves_of w.old) (target.now ∷ combiner.now ∷ [])
         (tree.Fold t position p ∷ [])) w.old w.new result }
+    ensures asked { (t p : Tree) → StandsFor (leaves_of w.old) target.now t
+        → StandsFor (leaves_of w.old) combiner.now p
+        → AsksTypesOrThrows (node_types (leaves_of w.old) (target.now ∷ combiner.now ∷ [])
+        (typed (leaves_of w.old) (tree.Fold t position p))) w.old w.new result }
 {
     let ty = target.ty(w.leaves);
     let part_ty = combiner.ty(w.leaves);
@@ -205,6 +224,9 @@ pub(crate) fn fold_line<'t, R: Wait>(
     ensures asks { (frame : Frame) → Hold (leaves_of w.old) registers.now frame → AsksOrThrows
         (line_recipes (leaves_of w.old) frame (operation.Fold target.now position combiner.now))
         w.old w.new result }
+    ensures asked { (frame : Frame) → Hold (leaves_of w.old) registers.now frame → AsksTypesOrThrows
+        (line_types (leaves_of w.old) frame (operation.Fold target.now position combiner.now))
+        w.old w.new result }
 {
     let target = registers.handle(w.alloc, target)?;
     let combiner = registers.handle(w.alloc, combiner)?;
@@ -233,6 +255,10 @@ fn collected<'t, R: Wait>(
         → StandsFor (leaves_of w.old) filter.now p
         → AsksIfMade (recipes_made (leaves_of w.old) (target.now ∷ filter.now ∷ [])
         (tree.Collect t position p ∷ [])) w.old w.new result }
+    ensures asked { (t p : Tree) → StandsFor (leaves_of w.old) target.now t
+        → StandsFor (leaves_of w.old) filter.now p
+        → AsksTypesOrThrows (node_types (leaves_of w.old) (target.now ∷ filter.now ∷ [])
+        (typed (leaves_of w.old) (tree.Collect t position p))) w.old w.new result }
 {
     let ty = target.ty(w.leaves);
     let part_ty = filter.ty(w.leaves);
@@ -270,6 +296,9 @@ pub(crate) fn collect_line<'t, R: Wait>(
         w.old w.new result }
     ensures asks { (frame : Frame) → Hold (leaves_of w.old) registers.now frame → AsksOrThrows
         (line_recipes (leaves_of w.old) frame (operation.Collect target.now position filter.now))
+        w.old w.new result }
+    ensures asked { (frame : Frame) → Hold (leaves_of w.old) registers.now frame → AsksTypesOrThrows
+        (line_types (leaves_of w.old) frame (operation.Collect target.now position filter.now))
         w.old w.new result }
 {
     let target = registers.handle(w.alloc, target)?;

@@ -3,6 +3,7 @@
 ghost use Rattle.mh_script.specs.declared.script.Operation.TheVariants as operation;
 ghost use Rattle.mh_handle.specs.Works.{GoesOn, IsReady, leaves_of};
 ghost use Rattle.mh_attempt.specs.Asked.{AsksOrThrows};
+ghost use Rattle.mh_attempt.specs.AskedTypes.{AsksTypesOrThrows, line_types};
 ghost use Rattle.mh_attempt.specs.Lines.{MakesNode};
 ghost use Rattle.mh_link.specs.Operands.{Frame};
 ghost use Rattle.mh_link.specs.Operations.{node_of};
@@ -31,6 +32,9 @@ pub(crate) fn leaf_line<'t, R: Wait>(
     ensures asks { (frame : Frame) → AsksOrThrows
         (line_recipes (leaves_of w.old) frame (operation.Leaf method.now))
         w.old w.new result }
+    ensures asked { (frame : Frame) → AsksTypesOrThrows
+        (line_types (leaves_of w.old) frame (operation.Leaf method.now))
+        w.old w.new result }
 {
     let id = leaf_named(w.alloc, w.leaves, method)?;
     leaf(w, rt, id)
@@ -55,6 +59,9 @@ pub(crate) fn constant_line<'t, R: Wait>(
     ensures asks { (frame : Frame) → Hold (leaves_of w.old) registers.now frame → AsksOrThrows
         (line_recipes (leaves_of w.old) frame (operation.Constant ty.now value.now))
         w.old w.new result }
+    ensures asked { (frame : Frame) → Hold (leaves_of w.old) registers.now frame → AsksTypesOrThrows
+        (line_types (leaves_of w.old) frame (operation.Constant ty.now value.now))
+        w.old w.new result }
 {
     let ty = registers.ty(w.alloc, w.classes(), ty)?;
     let value = registers.value(w.alloc, value)?;
@@ -78,6 +85,9 @@ pub(crate) fn identity_line<'t, R: Wait>(
     ensures asks { (frame : Frame) → Hold (leaves_of w.old) registers.now frame → AsksOrThrows
         (line_recipes (leaves_of w.old) frame (operation.Identity ty.now))
         w.old w.new result }
+    ensures asked { (frame : Frame) → Hold (leaves_of w.old) registers.now frame → AsksTypesOrThrows
+        (line_types (leaves_of w.old) frame (operation.Identity ty.now))
+        w.old w.new result }
 {
     let ty = registers.ty(w.alloc, w.classes(), ty)?;
     identity(w, rt, ty)
@@ -100,6 +110,9 @@ pub(crate) fn throw_line<'t, R: Wait>(
         (node_of (leaves_of w.old) frame (operation.Throw ret.now class.now)) w.old w.new result }
     ensures asks { (frame : Frame) → Hold (leaves_of w.old) registers.now frame → AsksOrThrows
         (line_recipes (leaves_of w.old) frame (operation.Throw ret.now class.now))
+        w.old w.new result }
+    ensures asked { (frame : Frame) → Hold (leaves_of w.old) registers.now frame → AsksTypesOrThrows
+        (line_types (leaves_of w.old) frame (operation.Throw ret.now class.now))
         w.old w.new result }
 {
     let classes = w.classes();

@@ -4,6 +4,7 @@ ghost use Rattle.std.specs.Prelude.{[], ◌∷◌, IfOk};
 ghost use Rattle.mh_tree.specs.Tree.{Tree};
 ghost use Rattle.mh_handle.specs.Works.{GoesOn, IsReady, StandsIn, leaves_of};
 ghost use Rattle.mh_attempt.specs.Asked.{AsksIfMade};
+ghost use Rattle.mh_attempt.specs.AskedTypes.{AsksTypesOrThrows, types_made};
 ghost use Rattle.mh_attempt.specs.Recipes.{recipes_made};
 ghost use Rattle.mh_attempt.specs.Registers.{IsHeldIn, StandsFor, StandsForSome};
 ghost use Rattle.mh_attempt.specs.Several.{AddsBoth, AddsThree, AreAccepted};
@@ -29,6 +30,8 @@ pub(crate) fn both_made<'t, R: Wait>(
     ensures types { AddsBoth w.old w.new result }
     ensures asks { AsksIfMade (recipes_made (leaves_of w.old) (first.now ∷ second.now ∷ []) [])
         w.old w.new result }
+    ensures asked { AsksTypesOrThrows (types_made (leaves_of w.old)
+        (first.now ∷ second.now ∷ []) []) w.old w.new result }
     ensures first { (t : Tree) → StandsFor (leaves_of w.old) first.now t
         → IfOk result (λ made. StandsIn w.old made.0 t) }
     ensures second { (t : Tree) → StandsFor (leaves_of w.old) second.now t
@@ -63,6 +66,8 @@ pub(crate) fn three_made<'t, R: Wait>(
     ensures accepted { AreAccepted result }
     ensures types { AddsThree w.old w.new result }
     ensures asks { AsksIfMade (recipes_made (leaves_of w.old)
+        (first.now ∷ second.now ∷ third.now ∷ []) []) w.old w.new result }
+    ensures asked { AsksTypesOrThrows (types_made (leaves_of w.old)
         (first.now ∷ second.now ∷ third.now ∷ []) []) w.old w.new result }
     ensures first { (t : Tree) → StandsFor (leaves_of w.old) first.now t
         → IfOk result (λ made. StandsIn w.old made.0 t) }

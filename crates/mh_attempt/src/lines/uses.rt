@@ -7,6 +7,7 @@ ghost use Rattle.mh_tree.specs.Use.{use_row};
 ghost use Rattle.mh_script.specs.declared.script.Operation.TheVariants as operation;
 ghost use Rattle.mh_handle.specs.Works.{GoesOn, IsReady, leaves_of};
 ghost use Rattle.mh_attempt.specs.Asked.{AsksIfMade, AsksOrThrows};
+ghost use Rattle.mh_attempt.specs.AskedTypes.{AsksTypesOrThrows, line_types, node_types};
 ghost use Rattle.mh_attempt.specs.Lines.{MakesNode};
 ghost use Rattle.mh_link.specs.Operands.{Frame};
 ghost use Rattle.mh_link.specs.Operations.{node_of, use_of};
@@ -61,6 +62,9 @@ fn used<'t, R: Wait>(
         → use_of (leaves_of w.old) t asked.now ≡ Ok u
         → AsksIfMade (recipes_made (leaves_of w.old) (target.now ∷ [])
         (use_asked (leaves_of w.old) t u)) w.old w.new result }
+    ensures asked { (t : Tree) → StandsFor (leaves_of w.old) target.now t
+        → AsksTypesOrThrows (node_types (leaves_of w.old) (target.now ∷ [])
+        (typed_use (leaves_of w.old) t asked.now)) w.old w.new result }
 {
     let ty = target.ty(w.leaves);
     check_use(w.alloc, ty, target.weight(), asked, w.classes())?;
@@ -86,6 +90,9 @@ pub(crate) fn astype_line<'t, R: Wait>(
         w.old w.new result }
     ensures asks { (frame : Frame) → Hold (leaves_of w.old) registers.now frame → AsksOrThrows
         (line_recipes (leaves_of w.old) frame (operation.AsType target.now asked.now))
+        w.old w.new result }
+    ensures asked { (frame : Frame) → Hold (leaves_of w.old) registers.now frame → AsksTypesOrThrows
+        (line_types (leaves_of w.old) frame (operation.AsType target.now asked.now))
         w.old w.new result }
 {
     let target = registers.handle(w.alloc, target)?;

@@ -8,6 +8,9 @@ use Rattle.mh_attempt.proofs.Asking.{asked-two, thrown-first, thrown-second, tol
 use Rattle.mh_attempt.proofs.LineNodes.{same-node}
 use Rattle.mh_attempt.proofs.AskedOperations.{line-makes, line-thrown, one-use}
 use Rattle.mh_attempt.proofs.Adding.{adds-none, adds-unmade}
+use Rattle.mh_attempt.specs.AskedTypes.{line_types}
+use Rattle.mh_attempt.proofs.AskingTypes.{types-refused}
+use Rattle.mh_attempt.proofs.NodeTypes.{line-types}
 use Rattle.mh_attempt.proofs.lines.arrays.gather_line.Goals as goal
 
 pub returns-in_err-target-clause-node : goal.returns-in_err-target-clause-node
@@ -73,3 +76,30 @@ returns-in_err-array-clause-types g c =
 
 pub gathered-requires-clause-target_held : goal.gathered-requires-clause-target_held
 gathered-requires-clause-target_held g c = c.in_ok-target.ensures.kept c.args.w.now.seat.now c.requires.kept
+
+-- ---- the types that are asked for
+
+pub returns-in_err-target-clause-asked : goal.returns-in_err-target-clause-asked
+returns-in_err-target-clause-asked g c frame hold =
+    let w = c.args.w.now in
+    types-refused (line_types w.leaves.now frame (operation.Gather c.args.target.now c.args.array.now c.args.count)) w c.in_err-target.field-0.0
+    c.from_residual.result c.from_residual.ensures.1
+
+pub returns-in_err-array-clause-asked : goal.returns-in_err-array-clause-asked
+returns-in_err-array-clause-asked g c frame hold =
+    let w = c.args.w.now in
+    types-refused (line_types w.leaves.now frame (operation.Gather c.args.target.now c.args.array.now c.args.count)) w c.in_err-array.field-0.0
+    c.from_residual-in_err-array.result c.from_residual-in_err-array.ensures.1
+
+pub returns-clause-asked : goal.returns-clause-asked
+returns-clause-asked g c frame hold =
+    let w = c.args.w.now in
+    let target = c.in_ok-target.ensures.stands w.leaves.now frame hold in
+    let array = ap (λ classes. type_in classes frame c.args.array.now)
+    (sym c.classes.ensures.classes) ∙ c.in_ok-array.ensures w.leaves.now frame hold in
+    line-types w.leaves.now frame (operation.Gather c.args.target.now c.args.array.now c.args.count) (c.in_ok-target.target ∷ [])
+    _ w c.gathered.new.w c.gathered.result
+    (one-use frame c.in_ok-target.target c.args.target.now
+    (c.in_ok-target.ensures.makes w.leaves.now frame hold))
+    (asked-two w.leaves.now _ _ (λ t array. tree.Gather t array c.args.count) target.0 c.in_ok-array.array target.1 array)
+    (c.gathered.ensures.asked target.0 target.2)

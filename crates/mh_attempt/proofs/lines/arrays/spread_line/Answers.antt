@@ -8,6 +8,9 @@ use Rattle.mh_attempt.proofs.Asking.{asked-then, thrown-first, thrown-second, to
 use Rattle.mh_attempt.proofs.LineNodes.{same-node}
 use Rattle.mh_attempt.proofs.AskedOperations.{line-asks, line-thrown, one-use, spread-itself}
 use Rattle.mh_attempt.proofs.Adding.{adds-none, adds-unmade}
+use Rattle.mh_attempt.specs.AskedTypes.{line_types}
+use Rattle.mh_attempt.proofs.AskingTypes.{types-refused}
+use Rattle.mh_attempt.proofs.NodeTypes.{line-types}
 use Rattle.mh_attempt.proofs.lines.arrays.spread_line.Goals as goal
 
 pub returns-in_err-target-clause-node : goal.returns-in_err-target-clause-node
@@ -75,3 +78,29 @@ returns-in_err-array-clause-types g c =
 
 pub spread_out-requires-clause-target_held : goal.spread_out-requires-clause-target_held
 spread_out-requires-clause-target_held g c = c.in_ok-target.ensures.kept c.args.w.now.seat.now c.requires.kept
+
+-- ---- the types that are asked for
+
+pub returns-in_err-target-clause-asked : goal.returns-in_err-target-clause-asked
+returns-in_err-target-clause-asked g c frame hold =
+    let w = c.args.w.now in
+    types-refused (line_types w.leaves.now frame (operation.Spread c.args.target.now c.args.array.now c.args.count)) w c.in_err-target.field-0.0
+    c.from_residual.result c.from_residual.ensures.1
+
+pub returns-in_err-array-clause-asked : goal.returns-in_err-array-clause-asked
+returns-in_err-array-clause-asked g c frame hold =
+    let w = c.args.w.now in
+    types-refused (line_types w.leaves.now frame (operation.Spread c.args.target.now c.args.array.now c.args.count)) w c.in_err-array.field-0.0
+    c.from_residual-in_err-array.result c.from_residual-in_err-array.ensures.1
+
+pub returns-clause-asked : goal.returns-clause-asked
+returns-clause-asked g c frame hold =
+    let w = c.args.w.now in
+    let operands = c.in_ok-target.target ∷ [] in
+    let target = c.in_ok-target.ensures.stands w.leaves.now frame hold in
+    let array = ap (λ classes. type_in classes frame c.args.array.now)
+    (sym c.classes.ensures.classes) ∙ c.in_ok-array.ensures w.leaves.now frame hold in
+    line-types w.leaves.now frame (operation.Spread c.args.target.now c.args.array.now c.args.count) operands _ w c.spread_out.new.w c.spread_out.result
+    (one-use frame c.in_ok-target.target c.args.target.now (c.in_ok-target.ensures.makes w.leaves.now frame hold))
+    (asked-then w.leaves.now _ _ (λ t array. spread_of w.leaves.now t array c.args.count) target.0 c.in_ok-array.array target.1 array)
+    (c.spread_out.ensures.asked target.0 target.2)

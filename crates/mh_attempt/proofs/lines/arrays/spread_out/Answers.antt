@@ -3,9 +3,10 @@ use Rattle.mh_tree.specs.Tree as tree
 use Rattle.mh_tree.specs.Use.{items_used_as}
 use Rattle.mh_handle.specs.Errors.{of_check}
 use Rattle.mh_jobs.specs.Thrown.{◌>>=◌}
+use Rattle.mh_handle.specs.declared.handle.Handle.{Handle}
 use Rattle.mh_attempt.specs.Lines.{typed}
 use Rattle.mh_attempt.proofs.Asking.{error-node}
-use Rattle.mh_attempt.proofs.LineNodes.{same-node, unmade-node}
+use Rattle.mh_attempt.proofs.LineNodes.{same-node, typed-is, unmade-node}
 use Rattle.mh_attempt.proofs.Rooms.{goes_on-sum, ready-after}
 use Rattle.mh_attempt.proofs.SpreadNodes.{node-of-spread, refused-spread, spread-is, spread-rule}
 use Rattle.mh_attempt.proofs.AskedOperands.{asks-unmade}
@@ -13,6 +14,10 @@ use Rattle.mh_attempt.proofs.AskedNodes.{asks-refused}
 use Rattle.mh_attempt.proofs.AskedUses.{asks-spread}
 use Rattle.mh_attempt.specs.Recipes.{spread_asked}
 use Rattle.mh_attempt.proofs.Adding.{adds-none, adds-then, adds-unmade, holds-came}
+use Rattle.mh_attempt.specs.AskedTypes.{node_types}
+use Rattle.mh_attempt.specs.Uses.{typed_spread}
+use Rattle.mh_attempt.proofs.AskingTypes.{types-refused}
+use Rattle.mh_attempt.proofs.NodeTypes.{types-spread, types-unmade_node}
 use Rattle.mh_attempt.proofs.lines.arrays.spread_out.Goals as goal
 
 pub returns-in_err-check_spread_use-clause-node : goal.returns-in_err-check_spread_use-clause-node
@@ -86,3 +91,31 @@ spread-requires-clause-held g c =
 pub returns-clause-types : goal.returns-clause-types
 returns-clause-types g c =
     adds-then _ c.in_ok-target.target.held c.args.w.now c.made.new.w c.spread.new.w c.spread.result c.in_ok-target.ensures.types c.spread.ensures.types
+
+-- ---- the types that are asked for
+
+pub returns-in_err-check_spread_use-clause-asked : goal.returns-in_err-check_spread_use-clause-asked
+returns-in_err-check_spread_use-clause-asked g c t stands =
+    let w = c.args.w.now in
+    types-refused (node_types w.leaves.now (c.args.target.now ∷ []) (typed_spread w.leaves.now t c.args.array c.args.count)) w
+    c.in_err-check_spread_use.field-0.0 c.from_residual.result c.from_residual.ensures.1
+
+pub returns-in_err-target-clause-asked : goal.returns-in_err-target-clause-asked
+returns-in_err-target-clause-asked g c t stands =
+    let w = c.args.w.now in
+    let spread = tree.Spread (items_used_as c.ty-ty.result.now c.args.array c.args.count t) c.args.array c.args.count in
+    let rule = spread-rule w.leaves.now t c.ty-ty.result.now c.args.array c.args.count (c.ty-ty.ensures t stands) c.classes.result.now c.weight.result
+    c.classes.ensures.classes (c.weight.ensures.weight w.leaves.now t stands) in
+    let is = spread-is w.leaves.now t c.ty-ty.result.now c.args.array c.args.count (c.ty-ty.ensures t stands) _
+    (rule ∙ c.in_ok-check_spread_use.ensures) in
+    types-unmade_node Handle w.leaves.now (c.args.target.now ∷ []) _ spread w c.made.new.w c.in_err-target.field-0.0 c.from_residual-in_err-target.result
+    (ap (λ m. m >>= typed w.leaves.now) is.0 ∙ typed-is w.leaves.now spread _ is.1) c.from_residual-in_err-target.ensures.1 c.in_err-target.ensures.asked
+
+pub returns-clause-asked : goal.returns-clause-asked
+returns-clause-asked g c t stands =
+    let w = c.args.w.now in
+    let rule = spread-rule w.leaves.now t c.ty-ty.result.now c.args.array c.args.count (c.ty-ty.ensures t stands) c.classes.result.now c.weight.result
+    c.classes.ensures.classes (c.weight.ensures.weight w.leaves.now t stands) in
+    types-spread (c.args.target.now ∷ []) w c.made.new.w c.spread.new.w t c.in_ok-target.target _ c.spread.result c.made.ensures.goes_on.leaves
+    (c.in_ok-target.ensures.stands t stands) c.in_ok-target.ensures.asked c.args.array c.args.count _ (rule ∙ c.in_ok-check_spread_use.ensures)
+    c.spread.ensures.types

@@ -9,6 +9,9 @@ use Rattle.mh_attempt.proofs.Asking.{asked-three, thrown-first, thrown-second, t
 use Rattle.mh_attempt.proofs.LineNodes.{same-node}
 use Rattle.mh_attempt.proofs.AskedOperations.{line-makes, line-thrown, two-uses}
 use Rattle.mh_attempt.proofs.Adding.{adds-none, adds-unmade}
+use Rattle.mh_attempt.specs.AskedTypes.{line_types}
+use Rattle.mh_attempt.proofs.AskingTypes.{types-refused}
+use Rattle.mh_attempt.proofs.NodeTypes.{line-types}
 use Rattle.mh_attempt.proofs.lines.branches.catch_line.Goals as goal
 
 pub returns-in_err-target-clause-node : goal.returns-in_err-target-clause-node
@@ -99,3 +102,36 @@ caught-requires-clause-target_held g c = c.in_ok-target.ensures.kept c.args.w.no
 
 pub caught-requires-clause-handler_held : goal.caught-requires-clause-handler_held
 caught-requires-clause-handler_held g c = c.in_ok-handler.ensures.kept c.args.w.now.seat.now c.requires.kept
+
+-- ---- the types that are asked for
+
+pub returns-in_err-target-clause-asked : goal.returns-in_err-target-clause-asked
+returns-in_err-target-clause-asked g c frame hold =
+    let w = c.args.w.now in
+    types-refused (line_types w.leaves.now frame (operation.Catch c.args.target.now c.args.class.now c.args.handler.now)) w c.in_err-target.field-0.0
+    c.from_residual.result c.from_residual.ensures.1
+
+pub returns-in_err-class-clause-asked : goal.returns-in_err-class-clause-asked
+returns-in_err-class-clause-asked g c frame hold =
+    let w = c.args.w.now in
+    types-refused (line_types w.leaves.now frame (operation.Catch c.args.target.now c.args.class.now c.args.handler.now)) w c.in_err-class.field-0.0
+    c.from_residual-in_err-class.result c.from_residual-in_err-class.ensures.1
+
+pub returns-in_err-handler-clause-asked : goal.returns-in_err-handler-clause-asked
+returns-in_err-handler-clause-asked g c frame hold =
+    let w = c.args.w.now in
+    types-refused (line_types w.leaves.now frame (operation.Catch c.args.target.now c.args.class.now c.args.handler.now)) w c.in_err-handler.field-0.0
+    c.from_residual-in_err-handler.result c.from_residual-in_err-handler.ensures.1
+
+pub returns-clause-asked : goal.returns-clause-asked
+returns-clause-asked g c frame hold =
+    let w = c.args.w.now in
+    let target = c.in_ok-target.ensures.stands w.leaves.now frame hold in
+    let class = ap (λ classes. class_of plainly classes c.args.class.now) (sym c.classes.ensures.classes) ∙ c.in_ok-class.ensures in
+    let handler = c.in_ok-handler.ensures.stands w.leaves.now frame hold in
+    line-types w.leaves.now frame (operation.Catch c.args.target.now c.args.class.now c.args.handler.now)
+    (c.in_ok-target.target ∷ c.in_ok-handler.handler ∷ []) _ w c.caught.new.w c.caught.result
+    (two-uses frame c.in_ok-target.target c.in_ok-handler.handler c.args.target.now c.args.handler.now
+    (c.in_ok-target.ensures.makes w.leaves.now frame hold) (c.in_ok-handler.ensures.makes w.leaves.now frame hold))
+    (asked-three w.leaves.now _ _ _ (λ t class p. tree.Catch t class p) target.0 c.in_ok-class.class handler.0 target.1 class handler.1)
+    (c.caught.ensures.asked target.0 handler.0 target.2 handler.2)

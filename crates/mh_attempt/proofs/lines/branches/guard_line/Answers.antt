@@ -6,6 +6,9 @@ use Rattle.mh_attempt.proofs.LineNodes.{same-node}
 use Rattle.std.proofs.Common.{[], ◌∷◌}
 use Rattle.mh_attempt.proofs.AskedOperations.{line-makes, line-thrown, three-uses}
 use Rattle.mh_attempt.proofs.Adding.{adds-none, adds-unmade}
+use Rattle.mh_attempt.specs.AskedTypes.{line_types}
+use Rattle.mh_attempt.proofs.AskingTypes.{types-refused}
+use Rattle.mh_attempt.proofs.NodeTypes.{line-types}
 use Rattle.mh_attempt.proofs.lines.branches.guard_line.Goals as goal
 
 pub returns-in_err-test-clause-node : goal.returns-in_err-test-clause-node
@@ -104,3 +107,37 @@ guarded-requires-clause-target_held g c = c.in_ok-target.ensures.kept c.args.w.n
 
 pub guarded-requires-clause-fallback_held : goal.guarded-requires-clause-fallback_held
 guarded-requires-clause-fallback_held g c = c.in_ok-fallback.ensures.kept c.args.w.now.seat.now c.requires.kept
+
+-- ---- the types that are asked for
+
+pub returns-in_err-test-clause-asked : goal.returns-in_err-test-clause-asked
+returns-in_err-test-clause-asked g c frame hold =
+    let w = c.args.w.now in
+    types-refused (line_types w.leaves.now frame (operation.Guard c.args.test.now c.args.target.now c.args.fallback.now)) w c.in_err-test.field-0.0
+    c.from_residual.result c.from_residual.ensures.1
+
+pub returns-in_err-target-clause-asked : goal.returns-in_err-target-clause-asked
+returns-in_err-target-clause-asked g c frame hold =
+    let w = c.args.w.now in
+    types-refused (line_types w.leaves.now frame (operation.Guard c.args.test.now c.args.target.now c.args.fallback.now)) w c.in_err-target.field-0.0
+    c.from_residual-in_err-target.result c.from_residual-in_err-target.ensures.1
+
+pub returns-in_err-fallback-clause-asked : goal.returns-in_err-fallback-clause-asked
+returns-in_err-fallback-clause-asked g c frame hold =
+    let w = c.args.w.now in
+    types-refused (line_types w.leaves.now frame (operation.Guard c.args.test.now c.args.target.now c.args.fallback.now)) w c.in_err-fallback.field-0.0
+    c.from_residual-in_err-fallback.result c.from_residual-in_err-fallback.ensures.1
+
+pub returns-clause-asked : goal.returns-clause-asked
+returns-clause-asked g c frame hold =
+    let w = c.args.w.now in
+    let test = c.in_ok-test.ensures.stands w.leaves.now frame hold in
+    let target = c.in_ok-target.ensures.stands w.leaves.now frame hold in
+    let fallback = c.in_ok-fallback.ensures.stands w.leaves.now frame hold in
+    line-types w.leaves.now frame (operation.Guard c.args.test.now c.args.target.now c.args.fallback.now)
+    (c.in_ok-test.test ∷ c.in_ok-target.target ∷ c.in_ok-fallback.fallback ∷ []) _ w c.guarded.new.w c.guarded.result
+    (three-uses frame c.in_ok-test.test c.in_ok-target.target c.in_ok-fallback.fallback c.args.test.now c.args.target.now c.args.fallback.now
+    (c.in_ok-test.ensures.makes w.leaves.now frame hold) (c.in_ok-target.ensures.makes w.leaves.now frame hold)
+    (c.in_ok-fallback.ensures.makes w.leaves.now frame hold))
+    (asked-three w.leaves.now _ _ _ (λ f t e. tree.Guard f t e) test.0 target.0 fallback.0 test.1 target.1 fallback.1)
+    (c.guarded.ensures.asked test.0 target.0 fallback.0 test.2 target.2 fallback.2)

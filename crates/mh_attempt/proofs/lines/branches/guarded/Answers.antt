@@ -2,6 +2,7 @@ use Rattle.std.proofs.Common.{refl, arith, ◌∙◌, [], ◌∷◌, ◌++◌}
 use Rattle.mh_tree.specs.Rows.{guard_row}
 use Rattle.mh_tree.specs.Tree as tree
 use Rattle.mh_handle.proofs.Going.{goes_on-more}
+use Rattle.mh_handle.specs.declared.handle.Handle.{Handle}
 use Rattle.mh_attempt.proofs.Asking.{error-node}
 use Rattle.mh_attempt.proofs.LineNodes.{unmade-node}
 use Rattle.mh_attempt.proofs.Rooms.{goes_on-sum, ready-after}
@@ -9,6 +10,10 @@ use Rattle.mh_attempt.proofs.Rules.{node-of-three, rule-of-three}
 use Rattle.mh_attempt.proofs.AskedOperands.{asks-three, asks-unmade}
 use Rattle.mh_attempt.proofs.AskedNodes.{asks-refused}
 use Rattle.mh_attempt.proofs.Adding.{adds-none, adds-then, adds-unmade, holds-came}
+use Rattle.mh_attempt.specs.AskedTypes.{node_types}
+use Rattle.mh_attempt.specs.Lines.{typed}
+use Rattle.mh_attempt.proofs.AskingTypes.{types-refused}
+use Rattle.mh_attempt.proofs.NodeTypes.{types-three, types-unmade}
 use Rattle.mh_attempt.proofs.lines.branches.guarded.Goals as goal
 
 pub returns-in_err-made-clause-goes_on : goal.returns-in_err-made-clause-goes_on
@@ -83,3 +88,38 @@ pub returns-clause-types : goal.returns-clause-types
 returns-clause-types g c =
     adds-then _ (c.in_ok-made.made.0.held ++ c.in_ok-made.made.1.held ++ c.in_ok-made.made.2.held) c.args.w.now c.three_made.new.w c.guard.new.w
     c.guard.result c.in_ok-made.ensures.types c.guard.ensures.types
+
+-- ---- the types that are asked for
+
+pub returns-in_err-check_guard-clause-asked : goal.returns-in_err-check_guard-clause-asked
+returns-in_err-check_guard-clause-asked g c f t e tests stands others =
+    let w = c.args.w.now in
+    types-refused (node_types w.leaves.now (c.args.test.now ∷ c.args.target.now ∷ c.args.fallback.now ∷ []) (typed w.leaves.now (tree.Guard f t e))) w
+    c.in_err-check_guard.field-0.0 c.from_residual.result c.from_residual.ensures.1
+
+pub returns-in_err-made-clause-asked : goal.returns-in_err-made-clause-asked
+returns-in_err-made-clause-asked g c f t e tests stands others =
+    let checked = rule-of-three (λ test l ty n other m. guard_row test l ty n other m) c.args.w.now.leaves.now f t e c.ty-test_ty.result.now
+    c.ty-ty.result.now
+    c.ty-fallback_ty.result.now c.weight-test_weight.result c.weight-weight.result c.weight-fallback_weight.result
+    (c.ty-test_ty.ensures f tests) (c.weight-test_weight.ensures.weight c.args.w.now.leaves.now f tests) (c.ty-ty.ensures t stands)
+    (c.weight-weight.ensures.weight c.args.w.now.leaves.now t stands)
+    (c.ty-fallback_ty.ensures e others) (c.weight-fallback_weight.ensures.weight c.args.w.now.leaves.now e others) ∙ c.in_ok-check_guard.ensures in
+    let w = c.args.w.now in
+    types-unmade (Handle × Handle × Handle) w.leaves.now (c.args.test.now ∷ c.args.target.now ∷ c.args.fallback.now ∷ []) (tree.Guard f t e) _ w
+    c.three_made.new.w c.in_err-made.field-0.0 c.from_residual-in_err-made.result checked c.from_residual-in_err-made.ensures.1 c.in_err-made.ensures.asked
+
+pub returns-clause-asked : goal.returns-clause-asked
+returns-clause-asked g c f t e tests stands others =
+    let checked = rule-of-three (λ test l ty n other m. guard_row test l ty n other m) c.args.w.now.leaves.now f t e c.ty-test_ty.result.now
+    c.ty-ty.result.now
+    c.ty-fallback_ty.result.now c.weight-test_weight.result c.weight-weight.result c.weight-fallback_weight.result
+    (c.ty-test_ty.ensures f tests) (c.weight-test_weight.ensures.weight c.args.w.now.leaves.now f tests) (c.ty-ty.ensures t stands)
+    (c.weight-weight.ensures.weight c.args.w.now.leaves.now t stands)
+    (c.ty-fallback_ty.ensures e others) (c.weight-fallback_weight.ensures.weight c.args.w.now.leaves.now e others) ∙ c.in_ok-check_guard.ensures in
+    let w = c.args.w.now in
+    types-three (λ test l ty n other m. guard_row test l ty n other m)
+    (c.args.test.now ∷ c.args.target.now ∷ c.args.fallback.now ∷ []) w c.three_made.new.w c.guard.new.w f t e (tree.Guard f t e)
+    c.in_ok-made.made.0 c.in_ok-made.made.1 c.in_ok-made.made.2 _ _ c.guard.result
+    (c.in_ok-made.ensures.first f tests) (c.in_ok-made.ensures.second t stands) (c.in_ok-made.ensures.third e others) refl refl checked
+    c.in_ok-made.ensures.asked c.guard.ensures.types

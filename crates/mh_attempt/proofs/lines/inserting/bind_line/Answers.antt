@@ -6,6 +6,9 @@ use Rattle.mh_attempt.proofs.LineNodes.{same-node}
 use Rattle.std.proofs.Common.{[], ◌∷◌}
 use Rattle.mh_attempt.proofs.AskedOperations.{line-makes, line-thrown, one-use}
 use Rattle.mh_attempt.proofs.Adding.{adds-none, adds-unmade}
+use Rattle.mh_attempt.specs.AskedTypes.{line_types}
+use Rattle.mh_attempt.proofs.AskingTypes.{types-refused}
+use Rattle.mh_attempt.proofs.NodeTypes.{line-types}
 use Rattle.mh_attempt.proofs.lines.inserting.bind_line.Goals as goal
 
 pub returns-in_err-target-clause-node : goal.returns-in_err-target-clause-node
@@ -68,3 +71,29 @@ returns-in_err-value-clause-types g c =
 
 pub bound-requires-clause-target_held : goal.bound-requires-clause-target_held
 bound-requires-clause-target_held g c = c.in_ok-target.ensures.kept c.args.w.now.seat.now c.requires.kept
+
+-- ---- the types that are asked for
+
+pub returns-in_err-target-clause-asked : goal.returns-in_err-target-clause-asked
+returns-in_err-target-clause-asked g c frame hold =
+    let w = c.args.w.now in
+    types-refused (line_types w.leaves.now frame (operation.Bind c.args.target.now c.args.position c.args.value.now)) w c.in_err-target.field-0.0
+    c.from_residual.result c.from_residual.ensures.1
+
+pub returns-in_err-value-clause-asked : goal.returns-in_err-value-clause-asked
+returns-in_err-value-clause-asked g c frame hold =
+    let w = c.args.w.now in
+    types-refused (line_types w.leaves.now frame (operation.Bind c.args.target.now c.args.position c.args.value.now)) w c.in_err-value.field-0.0
+    c.from_residual-in_err-value.result c.from_residual-in_err-value.ensures.1
+
+pub returns-clause-asked : goal.returns-clause-asked
+returns-clause-asked g c frame hold =
+    let w = c.args.w.now in
+    let target = c.in_ok-target.ensures.stands w.leaves.now frame hold in
+    let value = c.in_ok-value.ensures w.leaves.now frame hold in
+    line-types w.leaves.now frame (operation.Bind c.args.target.now c.args.position c.args.value.now) (c.in_ok-target.target ∷ [])
+    _ w c.bound.new.w c.bound.result
+    (one-use frame c.in_ok-target.target c.args.target.now
+    (c.in_ok-target.ensures.makes w.leaves.now frame hold))
+    (asked-two w.leaves.now _ _ (λ t v. tree.Bind t c.args.position v) target.0 c.in_ok-value.value target.1 value)
+    (c.bound.ensures.asked target.0 target.2)

@@ -9,6 +9,9 @@ use Rattle.mh_attempt.proofs.Asking.{asked-two, thrown-first, thrown-second, tol
 use Rattle.mh_attempt.proofs.LineNodes.{same-node}
 use Rattle.mh_attempt.proofs.AskedOperations.{line-makes, line-thrown, one-use}
 use Rattle.mh_attempt.proofs.Adding.{adds-none, adds-unmade}
+use Rattle.mh_attempt.specs.AskedTypes.{line_types}
+use Rattle.mh_attempt.proofs.AskingTypes.{types-refused}
+use Rattle.mh_attempt.proofs.NodeTypes.{line-types}
 use Rattle.mh_attempt.proofs.lines.inserting.drop_line.Goals as goal
 
 pub returns-in_err-target-clause-node : goal.returns-in_err-target-clause-node
@@ -72,3 +75,29 @@ returns-in_err-types-clause-types g c =
 
 pub dropped-requires-clause-target_held : goal.dropped-requires-clause-target_held
 dropped-requires-clause-target_held g c = c.in_ok-target.ensures.kept c.args.w.now.seat.now c.requires.kept
+
+-- ---- the types that are asked for
+
+pub returns-in_err-target-clause-asked : goal.returns-in_err-target-clause-asked
+returns-in_err-target-clause-asked g c frame hold =
+    let w = c.args.w.now in
+    types-refused (line_types w.leaves.now frame (operation.Drop c.args.target.now c.args.position c.args.types.now)) w c.in_err-target.field-0.0
+    c.from_residual.result c.from_residual.ensures.1
+
+pub returns-in_err-types-clause-asked : goal.returns-in_err-types-clause-asked
+returns-in_err-types-clause-asked g c frame hold =
+    let w = c.args.w.now in
+    types-refused (line_types w.leaves.now frame (operation.Drop c.args.target.now c.args.position c.args.types.now)) w c.in_err-types.field-0.0
+    c.from_residual-in_err-types.result c.from_residual-in_err-types.ensures.1
+
+pub returns-clause-asked : goal.returns-clause-asked
+returns-clause-asked g c frame hold =
+    let w = c.args.w.now in
+    let target = c.in_ok-target.ensures.stands w.leaves.now frame hold in
+    let types = ap (λ classes. types_of_text plainly classes c.args.types.now) (sym c.classes.ensures.classes) ∙ c.in_ok-types.ensures in
+    line-types w.leaves.now frame (operation.Drop c.args.target.now c.args.position c.args.types.now) (c.in_ok-target.target ∷ [])
+    _ w c.dropped.new.w c.dropped.result
+    (one-use frame c.in_ok-target.target c.args.target.now
+    (c.in_ok-target.ensures.makes w.leaves.now frame hold))
+    (asked-two w.leaves.now _ _ (λ t types. tree.Drop t c.args.position types) target.0 c.in_ok-types.types target.1 types)
+    (c.dropped.ensures.asked target.0 target.2)

@@ -6,6 +6,9 @@ use Rattle.mh_attempt.proofs.LineNodes.{same-node}
 use Rattle.std.proofs.Common.{[], ◌∷◌}
 use Rattle.mh_attempt.proofs.AskedOperations.{line-makes, line-thrown, two-uses}
 use Rattle.mh_attempt.proofs.Adding.{adds-none, adds-unmade}
+use Rattle.mh_attempt.specs.AskedTypes.{line_types}
+use Rattle.mh_attempt.proofs.AskingTypes.{types-refused}
+use Rattle.mh_attempt.proofs.NodeTypes.{line-types}
 use Rattle.mh_attempt.proofs.lines.parts.collect_line.Goals as goal
 
 pub returns-in_err-target-clause-node : goal.returns-in_err-target-clause-node
@@ -76,3 +79,29 @@ collected-requires-clause-target_held g c = c.in_ok-target.ensures.kept c.args.w
 
 pub collected-requires-clause-filter_held : goal.collected-requires-clause-filter_held
 collected-requires-clause-filter_held g c = c.in_ok-filter.ensures.kept c.args.w.now.seat.now c.requires.kept
+
+-- ---- the types that are asked for
+
+pub returns-in_err-target-clause-asked : goal.returns-in_err-target-clause-asked
+returns-in_err-target-clause-asked g c frame hold =
+    let w = c.args.w.now in
+    types-refused (line_types w.leaves.now frame (operation.Collect c.args.target.now c.args.position c.args.filter.now)) w c.in_err-target.field-0.0
+    c.from_residual.result c.from_residual.ensures.1
+
+pub returns-in_err-filter-clause-asked : goal.returns-in_err-filter-clause-asked
+returns-in_err-filter-clause-asked g c frame hold =
+    let w = c.args.w.now in
+    types-refused (line_types w.leaves.now frame (operation.Collect c.args.target.now c.args.position c.args.filter.now)) w c.in_err-filter.field-0.0
+    c.from_residual-in_err-filter.result c.from_residual-in_err-filter.ensures.1
+
+pub returns-clause-asked : goal.returns-clause-asked
+returns-clause-asked g c frame hold =
+    let w = c.args.w.now in
+    let target = c.in_ok-target.ensures.stands w.leaves.now frame hold in
+    let filter = c.in_ok-filter.ensures.stands w.leaves.now frame hold in
+    line-types w.leaves.now frame (operation.Collect c.args.target.now c.args.position c.args.filter.now)
+    (c.in_ok-target.target ∷ c.in_ok-filter.filter ∷ []) _ w c.collected.new.w c.collected.result
+    (two-uses frame c.in_ok-target.target c.in_ok-filter.filter c.args.target.now c.args.filter.now
+    (c.in_ok-target.ensures.makes w.leaves.now frame hold) (c.in_ok-filter.ensures.makes w.leaves.now frame hold))
+    (asked-two w.leaves.now _ _ (λ t p. tree.Collect t c.args.position p) target.0 filter.0 target.1 filter.1)
+    (c.collected.ensures.asked target.0 filter.0 target.2 filter.2)

@@ -6,6 +6,9 @@ use Rattle.mh_attempt.proofs.LineNodes.{same-node}
 use Rattle.std.proofs.Common.{[], ◌∷◌}
 use Rattle.mh_attempt.proofs.AskedOperations.{line-makes, line-thrown, two-uses}
 use Rattle.mh_attempt.proofs.Adding.{adds-none, adds-unmade}
+use Rattle.mh_attempt.specs.AskedTypes.{line_types}
+use Rattle.mh_attempt.proofs.AskingTypes.{types-refused}
+use Rattle.mh_attempt.proofs.NodeTypes.{line-types}
 use Rattle.mh_attempt.proofs.lines.parts.filter_line.Goals as goal
 
 pub returns-in_err-target-clause-node : goal.returns-in_err-target-clause-node
@@ -76,3 +79,29 @@ filtered-requires-clause-target_held g c = c.in_ok-target.ensures.kept c.args.w.
 
 pub filtered-requires-clause-part_held : goal.filtered-requires-clause-part_held
 filtered-requires-clause-part_held g c = c.in_ok-part.ensures.kept c.args.w.now.seat.now c.requires.kept
+
+-- ---- the types that are asked for
+
+pub returns-in_err-target-clause-asked : goal.returns-in_err-target-clause-asked
+returns-in_err-target-clause-asked g c frame hold =
+    let w = c.args.w.now in
+    types-refused (line_types w.leaves.now frame (operation.Filter c.args.target.now c.args.position c.args.part.now)) w c.in_err-target.field-0.0
+    c.from_residual.result c.from_residual.ensures.1
+
+pub returns-in_err-part-clause-asked : goal.returns-in_err-part-clause-asked
+returns-in_err-part-clause-asked g c frame hold =
+    let w = c.args.w.now in
+    types-refused (line_types w.leaves.now frame (operation.Filter c.args.target.now c.args.position c.args.part.now)) w c.in_err-part.field-0.0
+    c.from_residual-in_err-part.result c.from_residual-in_err-part.ensures.1
+
+pub returns-clause-asked : goal.returns-clause-asked
+returns-clause-asked g c frame hold =
+    let w = c.args.w.now in
+    let target = c.in_ok-target.ensures.stands w.leaves.now frame hold in
+    let part = c.in_ok-part.ensures.stands w.leaves.now frame hold in
+    line-types w.leaves.now frame (operation.Filter c.args.target.now c.args.position c.args.part.now)
+    (c.in_ok-target.target ∷ c.in_ok-part.part ∷ []) _ w c.filtered.new.w c.filtered.result
+    (two-uses frame c.in_ok-target.target c.in_ok-part.part c.args.target.now c.args.part.now
+    (c.in_ok-target.ensures.makes w.leaves.now frame hold) (c.in_ok-part.ensures.makes w.leaves.now frame hold))
+    (asked-two w.leaves.now _ _ (λ t p. tree.FilterArg t c.args.position p) target.0 part.0 target.1 part.1)
+    (c.filtered.ensures.asked target.0 part.0 target.2 part.2)

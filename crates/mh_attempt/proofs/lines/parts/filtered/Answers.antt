@@ -2,6 +2,7 @@ use Rattle.std.proofs.Common.{refl, arith, [], ◌∷◌, ◌++◌}
 use Rattle.mh_tree.specs.Rows.{filter_row}
 use Rattle.mh_tree.specs.Tree as tree
 use Rattle.mh_handle.proofs.Going.{goes_on-more}
+use Rattle.mh_handle.specs.declared.handle.Handle.{Handle}
 use Rattle.mh_attempt.proofs.Asking.{error-node}
 use Rattle.mh_attempt.proofs.LineNodes.{unmade-node}
 use Rattle.mh_attempt.proofs.Rooms.{goes_on-sum, ready-after}
@@ -9,6 +10,10 @@ use Rattle.mh_attempt.proofs.Rules.{checked-two, node-of-two}
 use Rattle.mh_attempt.proofs.AskedOperands.{asks-two, asks-unmade}
 use Rattle.mh_attempt.proofs.AskedNodes.{asks-refused}
 use Rattle.mh_attempt.proofs.Adding.{adds-none, adds-then, adds-unmade, holds-came}
+use Rattle.mh_attempt.specs.AskedTypes.{node_types}
+use Rattle.mh_attempt.specs.Lines.{typed}
+use Rattle.mh_attempt.proofs.AskingTypes.{types-refused}
+use Rattle.mh_attempt.proofs.NodeTypes.{types-two, types-unmade}
 use Rattle.mh_attempt.proofs.lines.parts.filtered.Goals as goal
 
 pub returns-in_err-made-clause-goes_on : goal.returns-in_err-made-clause-goes_on
@@ -78,3 +83,33 @@ pub returns-clause-types : goal.returns-clause-types
 returns-clause-types g c =
     adds-then _ (c.in_ok-made.made.0.held ++ c.in_ok-made.made.1.held) c.args.w.now c.both_made.new.w c.filter.new.w c.filter.result
     c.in_ok-made.ensures.types c.filter.ensures.types
+
+-- ---- the types that are asked for
+
+pub returns-in_err-check_filter-clause-asked : goal.returns-in_err-check_filter-clause-asked
+returns-in_err-check_filter-clause-asked g c t p stands others =
+    let w = c.args.w.now in
+    types-refused (node_types w.leaves.now (c.args.target.now ∷ c.args.part.now ∷ []) (typed w.leaves.now (tree.FilterArg t c.args.position p))) w
+    c.in_err-check_filter.field-0.0 c.from_residual.result c.from_residual.ensures.1
+
+pub returns-in_err-made-clause-asked : goal.returns-in_err-made-clause-asked
+returns-in_err-made-clause-asked g c t p stands others =
+    let checked = checked-two (λ classes ty n part m. filter_row ty n c.args.position part m) c.args.w.now.leaves.now c.classes.result.now t p
+    c.ty-ty.result.now c.ty-part_ty.result.now _ c.weight-weight.result c.weight-part_weight.result c.classes.ensures.classes (c.ty-ty.ensures t stands)
+    (c.weight-weight.ensures.weight c.args.w.now.leaves.now t stands)
+    (c.ty-part_ty.ensures p others) (c.weight-part_weight.ensures.weight c.args.w.now.leaves.now p others) c.in_ok-check_filter.ensures in
+    let w = c.args.w.now in
+    types-unmade (Handle × Handle) w.leaves.now (c.args.target.now ∷ c.args.part.now ∷ []) (tree.FilterArg t c.args.position p) _ w c.both_made.new.w
+    c.in_err-made.field-0.0 c.from_residual-in_err-made.result checked c.from_residual-in_err-made.ensures.1 c.in_err-made.ensures.asked
+
+pub returns-clause-asked : goal.returns-clause-asked
+returns-clause-asked g c t p stands others =
+    let checked = checked-two (λ classes ty n part m. filter_row ty n c.args.position part m) c.args.w.now.leaves.now c.classes.result.now t p
+    c.ty-ty.result.now c.ty-part_ty.result.now _ c.weight-weight.result c.weight-part_weight.result c.classes.ensures.classes (c.ty-ty.ensures t stands)
+    (c.weight-weight.ensures.weight c.args.w.now.leaves.now t stands)
+    (c.ty-part_ty.ensures p others) (c.weight-part_weight.ensures.weight c.args.w.now.leaves.now p others) c.in_ok-check_filter.ensures in
+    let w = c.args.w.now in
+    types-two (λ classes ty n part m. filter_row ty n c.args.position part m) (c.args.target.now ∷ c.args.part.now ∷ []) w c.both_made.new.w
+    c.filter.new.w t p (tree.FilterArg t c.args.position p) c.in_ok-made.made.0 c.in_ok-made.made.1 _ _ c.filter.result
+    c.both_made.ensures.goes_on.leaves (c.in_ok-made.ensures.first t stands) (c.in_ok-made.ensures.second p others) refl refl checked
+    c.in_ok-made.ensures.asked c.filter.ensures.types

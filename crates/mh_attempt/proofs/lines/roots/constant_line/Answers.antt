@@ -10,6 +10,9 @@ use Rattle.mh_attempt.proofs.Rules.{node-of-root}
 use Rattle.mh_attempt.proofs.AskedNodes.{asks-made}
 use Rattle.mh_attempt.proofs.AskedOperations.{line-makes, line-thrown}
 use Rattle.mh_attempt.proofs.Adding.{adds-made, adds-none, adds-unmade}
+use Rattle.mh_attempt.specs.AskedTypes.{line_types}
+use Rattle.mh_attempt.proofs.AskingTypes.{types-refused}
+use Rattle.mh_attempt.proofs.NodeTypes.{line-types, types-root}
 use Rattle.mh_attempt.proofs.lines.roots.constant_line.Goals as goal
 
 pub returns-in_err-ty-clause-node : goal.returns-in_err-ty-clause-node
@@ -71,3 +74,27 @@ returns-in_err-value-clause-types g c =
 
 pub returns-clause-types : goal.returns-clause-types
 returns-clause-types g c = adds-made _ c.args.w.now c.constant.new.w c.constant.result c.constant.ensures.types
+
+-- ---- the types that are asked for
+
+pub returns-in_err-ty-clause-asked : goal.returns-in_err-ty-clause-asked
+returns-in_err-ty-clause-asked g c frame hold =
+    let w = c.args.w.now in
+    types-refused (line_types w.leaves.now frame (operation.Constant c.args.ty.now c.args.value.now)) w c.in_err-ty.field-0.0
+    c.from_residual.result c.from_residual.ensures.1
+
+pub returns-in_err-value-clause-asked : goal.returns-in_err-value-clause-asked
+returns-in_err-value-clause-asked g c frame hold =
+    let w = c.args.w.now in
+    types-refused (line_types w.leaves.now frame (operation.Constant c.args.ty.now c.args.value.now)) w c.in_err-value.field-0.0
+    c.from_residual-in_err-value.result c.from_residual-in_err-value.ensures.1
+
+pub returns-clause-asked : goal.returns-clause-asked
+returns-clause-asked g c frame hold =
+    let w = c.args.w.now in
+    let ty = ap (λ classes. type_in classes frame c.args.ty.now) (sym c.classes.ensures.classes) ∙ c.in_ok-ty.ensures w.leaves.now frame hold in
+    let value = c.in_ok-value.ensures w.leaves.now frame hold in
+    line-types w.leaves.now frame (operation.Constant c.args.ty.now c.args.value.now) [] _ w c.constant.new.w c.constant.result
+    refl
+    (asked-two w.leaves.now _ _ (λ t v. tree.Constant t v) c.in_ok-ty.ty c.in_ok-value.value ty value)
+    (types-root w c.constant.new.w (tree.Constant c.in_ok-ty.ty c.in_ok-value.value) c.constant.result refl c.constant.ensures.types)

@@ -10,6 +10,9 @@ use Rattle.mh_attempt.proofs.Rules.{node-of-root}
 use Rattle.mh_attempt.proofs.AskedNodes.{asks-made}
 use Rattle.mh_attempt.proofs.AskedOperations.{line-makes, line-thrown}
 use Rattle.mh_attempt.proofs.Adding.{adds-made, adds-none, adds-unmade}
+use Rattle.mh_attempt.specs.AskedTypes.{line_types}
+use Rattle.mh_attempt.proofs.AskingTypes.{types-refused}
+use Rattle.mh_attempt.proofs.NodeTypes.{line-types, types-root}
 use Rattle.mh_attempt.proofs.lines.roots.identity_line.Goals as goal
 
 pub returns-in_err-ty-clause-node : goal.returns-in_err-ty-clause-node
@@ -53,3 +56,19 @@ returns-in_err-ty-clause-types g c = adds-unmade c.args.w.now c.args.w.now c.fro
 
 pub returns-clause-types : goal.returns-clause-types
 returns-clause-types g c = adds-made _ c.args.w.now c.identity.new.w c.identity.result c.identity.ensures.types
+
+-- ---- the types that are asked for
+
+pub returns-in_err-ty-clause-asked : goal.returns-in_err-ty-clause-asked
+returns-in_err-ty-clause-asked g c frame hold =
+    let w = c.args.w.now in
+    types-refused (line_types w.leaves.now frame (operation.Identity c.args.ty.now)) w c.in_err-ty.field-0.0 c.from_residual.result c.from_residual.ensures.1
+
+pub returns-clause-asked : goal.returns-clause-asked
+returns-clause-asked g c frame hold =
+    let w = c.args.w.now in
+    let ty = ap (λ classes. type_in classes frame c.args.ty.now) (sym c.classes.ensures.classes) ∙ c.in_ok-ty.ensures w.leaves.now frame hold in
+    line-types w.leaves.now frame (operation.Identity c.args.ty.now) [] _ w c.identity.new.w c.identity.result
+    refl
+    (asked-one w.leaves.now _ (λ t. tree.Identity t) c.in_ok-ty.ty ty)
+    (types-root w c.identity.new.w (tree.Identity c.in_ok-ty.ty) c.identity.result refl c.identity.ensures.types)

@@ -9,6 +9,9 @@ use Rattle.mh_attempt.proofs.Rules.{node-of-leaf}
 use Rattle.mh_attempt.proofs.AskedNodes.{asks-made}
 use Rattle.mh_attempt.proofs.AskedOperations.{line-makes, line-thrown}
 use Rattle.mh_attempt.proofs.Adding.{adds-made, adds-none, adds-unmade}
+use Rattle.mh_attempt.specs.AskedTypes.{line_types}
+use Rattle.mh_attempt.proofs.AskingTypes.{types-refused}
+use Rattle.mh_attempt.proofs.NodeTypes.{line-types, types-root}
 use Rattle.mh_attempt.proofs.lines.roots.leaf_line.Goals as goal
 
 pub returns-in_err-id-clause-node : goal.returns-in_err-id-clause-node
@@ -49,3 +52,18 @@ returns-in_err-id-clause-types g c = adds-unmade c.args.w.now c.args.w.now c.fro
 
 pub returns-clause-types : goal.returns-clause-types
 returns-clause-types g c = adds-made _ c.args.w.now c.leaf.new.w c.leaf.result c.leaf.ensures.types
+
+-- ---- the types that are asked for
+
+pub returns-in_err-id-clause-asked : goal.returns-in_err-id-clause-asked
+returns-in_err-id-clause-asked g c frame =
+    let w = c.args.w.now in
+    types-refused (line_types w.leaves.now frame (operation.Leaf c.args.method.now)) w c.in_err-id.field-0.0 c.from_residual.result c.from_residual.ensures.1
+
+pub returns-clause-asked : goal.returns-clause-asked
+returns-clause-asked g c frame =
+    let w = c.args.w.now in
+    line-types w.leaves.now frame (operation.Leaf c.args.method.now) [] _ w c.leaf.new.w c.leaf.result
+    refl
+    (asked-one w.leaves.now _ (λ l. tree.Leaf l) c.in_ok-id.id c.in_ok-id.ensures.found)
+    (types-root w c.leaf.new.w (tree.Leaf c.in_ok-id.id) c.leaf.result refl c.leaf.ensures.types)

@@ -12,6 +12,9 @@ use Rattle.mh_attempt.proofs.Rules.{node-of-root}
 use Rattle.mh_attempt.proofs.AskedNodes.{asks-made}
 use Rattle.mh_attempt.proofs.AskedOperations.{line-makes, line-thrown}
 use Rattle.mh_attempt.proofs.Adding.{adds-made, adds-none, adds-unmade}
+use Rattle.mh_attempt.specs.AskedTypes.{line_types}
+use Rattle.mh_attempt.proofs.AskingTypes.{types-refused}
+use Rattle.mh_attempt.proofs.NodeTypes.{line-types, types-root}
 use Rattle.mh_attempt.proofs.lines.roots.throw_line.Goals as goal
 
 pub returns-in_err-ret-clause-node : goal.returns-in_err-ret-clause-node
@@ -77,3 +80,28 @@ returns-in_err-class-clause-types g c =
 
 pub returns-clause-types : goal.returns-clause-types
 returns-clause-types g c = adds-made _ c.args.w.now c.throw.new.w c.throw.result c.throw.ensures.types
+
+-- ---- the types that are asked for
+
+pub returns-in_err-ret-clause-asked : goal.returns-in_err-ret-clause-asked
+returns-in_err-ret-clause-asked g c frame hold =
+    let w = c.args.w.now in
+    types-refused (line_types w.leaves.now frame (operation.Throw c.args.ret.now c.args.class.now)) w c.in_err-ret.field-0.0
+    c.from_residual.result c.from_residual.ensures.1
+
+pub returns-in_err-class-clause-asked : goal.returns-in_err-class-clause-asked
+returns-in_err-class-clause-asked g c frame hold =
+    let w = c.args.w.now in
+    types-refused (line_types w.leaves.now frame (operation.Throw c.args.ret.now c.args.class.now)) w c.in_err-class.field-0.0
+    c.from_residual-in_err-class.result c.from_residual-in_err-class.ensures.1
+
+pub returns-clause-asked : goal.returns-clause-asked
+returns-clause-asked g c frame hold =
+    let w = c.args.w.now in
+    let ret = ap (λ classes. type_in classes frame c.args.ret.now)
+    (sym c.classes-classes.ensures.classes) ∙ c.in_ok-ret.ensures w.leaves.now frame hold in
+    let class = ap (λ classes. class_of plainly classes c.args.class.now) (sym c.classes-classes.ensures.classes) ∙ c.in_ok-class.ensures in
+    line-types w.leaves.now frame (operation.Throw c.args.ret.now c.args.class.now) [] _ w c.throw.new.w c.throw.result
+    refl
+    (asked-two w.leaves.now _ _ (λ t class. tree.Throw t class) c.in_ok-ret.ret c.in_ok-class.class ret class)
+    (types-root w c.throw.new.w (tree.Throw c.in_ok-ret.ret c.in_ok-class.class) c.throw.result refl c.throw.ensures.types)

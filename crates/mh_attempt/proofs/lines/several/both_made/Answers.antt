@@ -1,10 +1,13 @@
 use Rattle.std.proofs.Common.{[], ◌∷◌, Ok, Err}
 use Rattle.mh_handle.specs.declared.handle.Handle.{Handle}
+use Rattle.mh_attempt.specs.AskedTypes.{types_made}
 use Rattle.mh_attempt.specs.Recipes.{recipes_made}
 use Rattle.mh_attempt.proofs.AskedNodes.{asks-unchanged}
 use Rattle.mh_attempt.proofs.AskedOperands.{asks-more, asks-unmade-both}
 use Rattle.mh_handle.proofs.Going.{goes_on-before, goes_on-both, seated-back}
 use Rattle.mh_attempt.proofs.Adding.{adds-back, adds-both, holds-after, of-types, operand-yet}
+use Rattle.mh_attempt.proofs.AskingTypes.{types-back}
+use Rattle.mh_attempt.proofs.NodeTypes.{types-others, types-unmade_both}
 use Rattle.mh_attempt.proofs.lines.several.both_made.Goals as goal
 
 -- ---- what is asked for
@@ -57,3 +60,24 @@ returns-in-Err-clause-goes_on g c =
     let made = goes_on-both 1 1 c.args.w.now c.made.new.w c.made-2.new.w c.made.ensures.goes_on c.made-2.ensures.goes_on in
     goes_on-before 2 c.args.w.now c.made-2.new.w c.give_back.new.w made c.give_back.ensures.unchanged
     (seated-back [] c.in_ok-first.first.held c.made-2.new.w c.give_back.new.w c.give_back.ensures.types)
+
+-- ---- the types that are asked for
+
+pub returns-in_err-first-clause-asked : goal.returns-in_err-first-clause-asked
+returns-in_err-first-clause-asked g c =
+    let w = c.args.w.now in
+    types-unmade_both Handle w.leaves.now (c.args.first.now ∷ []) (c.args.second.now ∷ []) w c.made.new.w
+    c.in_err-first.field-0.0 c.from_residual.result c.from_residual.ensures.1 c.in_err-first.ensures.asked
+
+pub returns-in-Ok-clause-asked : goal.returns-in-Ok-clause-asked
+returns-in-Ok-clause-asked g c =
+    types-others (c.args.first.now ∷ []) (c.args.second.now ∷ []) c.args.w.now c.made.new.w c.made-2.new.w (Ok c.in-Ok.second)
+    c.made.ensures.goes_on.leaves c.in_ok-first.ensures.asked c.in-Ok.ensures.asked
+
+pub returns-in-Err-clause-asked : goal.returns-in-Err-clause-asked
+returns-in-Err-clause-asked g c =
+    let w = c.args.w.now in
+    types-back {A = Handle × Handle} (types_made w.leaves.now (c.args.first.now ∷ c.args.second.now ∷ []) []) c.in_ok-first.first.held w c.made-2.new.w
+    c.give_back.new.w (Err c.in-Err.error) c.give_back.ensures.types
+    (types-others {A = Handle} (c.args.first.now ∷ []) (c.args.second.now ∷ []) w c.made.new.w c.made-2.new.w (Err c.in-Err.error)
+    c.made.ensures.goes_on.leaves c.in_ok-first.ensures.asked c.in-Err.ensures.asked)

@@ -1,11 +1,14 @@
 use Rattle.std.proofs.Common.{◌∙◌, arith, [], ◌∷◌, ◌++◌, Ok, Err}
 use Rattle.mh_handle.proofs.Going.{goes_on-before, goes_on-both, seated-back}
 use Rattle.mh_handle.specs.declared.handle.Handle.{Handle}
+use Rattle.mh_attempt.specs.AskedTypes.{types_made}
 use Rattle.mh_attempt.specs.Recipes.{recipes_made}
 use Rattle.mh_attempt.proofs.AskedNodes.{asks-unchanged}
 use Rattle.mh_attempt.proofs.AskedOperands.{asks-more, asks-unmade-both}
 use Rattle.mh_attempt.proofs.Rooms.{goes_on-sum}
 use Rattle.mh_attempt.proofs.Adding.{adds-back-both, adds-three, holds-after, holds-first, holds-second, of-types, operand-yet}
+use Rattle.mh_attempt.proofs.AskingTypes.{types-back}
+use Rattle.mh_attempt.proofs.NodeTypes.{types-others, types-unmade_both}
 use Rattle.mh_attempt.proofs.lines.several.three_made.Goals as goal
 
 pub returns-in-Ok-clause-goes_on : goal.returns-in-Ok-clause-goes_on
@@ -74,3 +77,25 @@ pub returns-in-Err-clause-types : goal.returns-in-Err-clause-types
 returns-in-Err-clause-types g c =
     adds-back-both c.in_ok-first.first.held c.in_ok-first.second.held c.args.w.now c.both_made.new.w c.made.new.w c.give_back.new.w
     c.give_back-in-Err.new.w c.in_ok-first.ensures.types c.in-Err.ensures.types c.give_back.ensures.types c.give_back-in-Err.ensures.types
+
+-- ---- the types that are asked for
+
+pub returns-in_err-first-clause-asked : goal.returns-in_err-first-clause-asked
+returns-in_err-first-clause-asked g c =
+    let w = c.args.w.now in
+    types-unmade_both (Handle × Handle) w.leaves.now (c.args.first.now ∷ c.args.second.now ∷ []) (c.args.third.now ∷ []) w c.both_made.new.w
+    c.in_err-first.field-0.0 c.from_residual.result c.from_residual.ensures.1 c.in_err-first.ensures.asked
+
+pub returns-in-Ok-clause-asked : goal.returns-in-Ok-clause-asked
+returns-in-Ok-clause-asked g c =
+    types-others (c.args.first.now ∷ c.args.second.now ∷ []) (c.args.third.now ∷ []) c.args.w.now c.both_made.new.w c.made.new.w (Ok c.in-Ok.third)
+    c.both_made.ensures.goes_on.leaves c.in_ok-first.ensures.asked c.in-Ok.ensures.asked
+
+pub returns-in-Err-clause-asked : goal.returns-in-Err-clause-asked
+returns-in-Err-clause-asked g c =
+    let w = c.args.w.now in
+    let types = types_made w.leaves.now (c.args.first.now ∷ c.args.second.now ∷ c.args.third.now ∷ []) [] in
+    types-back {A = Handle} types c.in_ok-first.second.held w c.give_back.new.w c.give_back-in-Err.new.w (Err c.in-Err.error) c.give_back-in-Err.ensures.types
+    (types-back {A = Handle} types c.in_ok-first.first.held w c.made.new.w c.give_back.new.w (Err c.in-Err.error) c.give_back.ensures.types
+    (types-others {A = Handle} (c.args.first.now ∷ c.args.second.now ∷ []) (c.args.third.now ∷ []) w c.both_made.new.w c.made.new.w (Err c.in-Err.error)
+    c.both_made.ensures.goes_on.leaves c.in_ok-first.ensures.asked c.in-Err.ensures.asked))

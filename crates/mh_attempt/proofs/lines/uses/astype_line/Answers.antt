@@ -8,6 +8,9 @@ use Rattle.mh_attempt.proofs.Asking.{asked-then, thrown-first, thrown-second, to
 use Rattle.mh_attempt.proofs.LineNodes.{same-node}
 use Rattle.mh_attempt.proofs.AskedOperations.{line-asks, line-thrown, one-use, use-itself}
 use Rattle.mh_attempt.proofs.Adding.{adds-none, adds-unmade}
+use Rattle.mh_attempt.specs.AskedTypes.{line_types}
+use Rattle.mh_attempt.proofs.AskingTypes.{types-refused}
+use Rattle.mh_attempt.proofs.NodeTypes.{line-types}
 use Rattle.mh_attempt.proofs.lines.uses.astype_line.Goals as goal
 
 pub returns-in_err-target-clause-node : goal.returns-in_err-target-clause-node
@@ -74,3 +77,29 @@ returns-in_err-asked-clause-types g c =
 
 pub used-requires-clause-target_held : goal.used-requires-clause-target_held
 used-requires-clause-target_held g c = c.in_ok-target.ensures.kept c.args.w.now.seat.now c.requires.kept
+
+-- ---- the types that are asked for
+
+pub returns-in_err-target-clause-asked : goal.returns-in_err-target-clause-asked
+returns-in_err-target-clause-asked g c frame hold =
+    let w = c.args.w.now in
+    types-refused (line_types w.leaves.now frame (operation.AsType c.args.target.now c.args.asked.now)) w c.in_err-target.field-0.0
+    c.from_residual.result c.from_residual.ensures.1
+
+pub returns-in_err-asked-clause-asked : goal.returns-in_err-asked-clause-asked
+returns-in_err-asked-clause-asked g c frame hold =
+    let w = c.args.w.now in
+    types-refused (line_types w.leaves.now frame (operation.AsType c.args.target.now c.args.asked.now)) w c.in_err-asked.field-0.0
+    c.from_residual-in_err-asked.result c.from_residual-in_err-asked.ensures.1
+
+pub returns-clause-asked : goal.returns-clause-asked
+returns-clause-asked g c frame hold =
+    let w = c.args.w.now in
+    let operands = c.in_ok-target.target ∷ [] in
+    let target = c.in_ok-target.ensures.stands w.leaves.now frame hold in
+    let asked = ap (λ classes. method_type_in classes frame c.args.asked.now) (sym c.classes.ensures.classes)
+    ∙ (c.in_ok-asked.ensures w.leaves.now frame hold ∙ ap (λ m. Ok m) (sym c.get.ensures)) in
+    line-types w.leaves.now frame (operation.AsType c.args.target.now c.args.asked.now) operands _ w c.used.new.w c.used.result
+    (one-use frame c.in_ok-target.target c.args.target.now (c.in_ok-target.ensures.makes w.leaves.now frame hold))
+    (asked-then w.leaves.now _ _ (λ t asked. use_of w.leaves.now t asked) target.0 c.get.result.now target.1 asked)
+    (c.used.ensures.asked target.0 target.2)

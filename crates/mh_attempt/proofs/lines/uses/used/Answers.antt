@@ -1,8 +1,9 @@
 use Rattle.std.proofs.Common.{◌∙◌, arith, Err, [], ◌∷◌}
 use Rattle.mh_tree.specs.Use.{used_as}
 use Rattle.mh_handle.specs.Errors.{of_check}
+use Rattle.mh_handle.specs.declared.handle.Handle.{Handle}
 use Rattle.mh_attempt.proofs.Asking.{error-node}
-use Rattle.mh_attempt.proofs.LineNodes.{refused-node, same-node, unmade-node}
+use Rattle.mh_attempt.proofs.LineNodes.{refused-node, same-node, typed-is, unmade-node}
 use Rattle.mh_attempt.proofs.Rooms.{goes_on-sum, ready-after}
 use Rattle.mh_attempt.proofs.UsedNodes.{node-of-use, use-is, use-rule}
 use Rattle.mh_attempt.proofs.AskedOperands.{asks-unmade}
@@ -10,6 +11,10 @@ use Rattle.mh_attempt.proofs.AskedNodes.{asks-refused}
 use Rattle.mh_attempt.proofs.AskedUses.{asks-use}
 use Rattle.mh_attempt.specs.Recipes.{use_asked}
 use Rattle.mh_attempt.proofs.Adding.{adds-none, adds-then, adds-unmade, holds-came}
+use Rattle.mh_attempt.specs.AskedTypes.{node_types}
+use Rattle.mh_attempt.specs.Uses.{typed_use}
+use Rattle.mh_attempt.proofs.AskingTypes.{types-refused}
+use Rattle.mh_attempt.proofs.NodeTypes.{types-unmade_node, types-use}
 use Rattle.mh_attempt.proofs.lines.uses.used.Goals as goal
 
 pub returns-in_err-check_use-clause-node : goal.returns-in_err-check_use-clause-node
@@ -82,3 +87,31 @@ as_type-requires-clause-held g c =
 pub returns-clause-types : goal.returns-clause-types
 returns-clause-types g c =
     adds-then _ c.in_ok-target.target.held c.args.w.now c.made.new.w c.as_type.new.w c.as_type.result c.in_ok-target.ensures.types c.as_type.ensures.types
+
+-- ---- the types that are asked for
+
+pub returns-in_err-check_use-clause-asked : goal.returns-in_err-check_use-clause-asked
+returns-in_err-check_use-clause-asked g c t stands =
+    let w = c.args.w.now in
+    types-refused (node_types w.leaves.now (c.args.target.now ∷ []) (typed_use w.leaves.now t c.args.asked.now)) w
+    c.in_err-check_use.field-0.0 c.from_residual.result c.from_residual.ensures.1
+
+pub returns-in_err-target-clause-asked : goal.returns-in_err-target-clause-asked
+returns-in_err-target-clause-asked g c t stands =
+    let w = c.args.w.now in
+    let own = c.ty-ty.ensures t stands in
+    let used = used_as c.ty-ty.result.now c.args.asked.now t in
+    let rule = use-rule w.leaves.now c.classes.result.now t c.ty-ty.result.now c.args.asked.now c.weight.result c.classes.ensures.classes own
+    (c.weight.ensures.weight w.leaves.now t stands) in
+    types-unmade_node Handle w.leaves.now (c.args.target.now ∷ []) _ used w c.made.new.w c.in_err-target.field-0.0 c.from_residual-in_err-target.result
+    (use-is w.leaves.now t c.ty-ty.result.now c.args.asked.now own ∙ typed-is w.leaves.now used _ (rule ∙ c.in_ok-check_use.ensures))
+    c.from_residual-in_err-target.ensures.1 c.in_err-target.ensures.asked
+
+pub returns-clause-asked : goal.returns-clause-asked
+returns-clause-asked g c t stands =
+    let w = c.args.w.now in
+    let there = c.in_ok-target.ensures.stands t stands in
+    let rule = use-rule w.leaves.now c.classes.result.now t c.ty-ty.result.now c.args.asked.now c.weight.result c.classes.ensures.classes
+    (c.ty-ty.ensures t stands) (c.weight.ensures.weight w.leaves.now t stands) in
+    types-use (c.args.target.now ∷ []) w c.made.new.w c.as_type.new.w t c.in_ok-target.target _ c.as_type.result c.made.ensures.goes_on.leaves there
+    c.in_ok-target.ensures.asked c.ty-ty.result.now c.args.asked.now _ (c.ty-ty.ensures t stands) (rule ∙ c.in_ok-check_use.ensures) c.as_type.ensures.types

@@ -1,0 +1,197 @@
+-- Runs of scripts: the types of what registers hold, which a seat holds for them.
+use denote.Ref.{Bor}
+use Rattle.std.proofs.Common.{◌≡◌, sym, ◌∙◌, ap, subst, arith, ℕ, ◌+◌, Bool, true, false, List, [], ◌∷◌, ◌++◌, append-nil, length, length-append, Option, None, Some}
+use Rattle.std.specs.Prelude.{if◌then◌else◌}
+use Rattle.std.proofs.lemmas.Grind.{flat_map-append}
+use Rattle.atomic_table.specs.Seated.{TableId}
+use Rattle.mh_values.specs.declared.types.MethodTy.{MethodTy}
+use Rattle.mh_intern.specs.Exchanges.{AreHeld, AreOf, Exchanges, entries_of}
+use Rattle.mh_intern.specs.Held.{has}
+use Rattle.mh_intern.specs.Views.{HoldView, SeatView}
+use Rattle.mh_intern.proofs.Exchanging.{exchanges-still, exchanges-then, has-append, held-first, held-none, held-second, of-both, of-first, of-second}
+use Rattle.mh_handle.proofs.Trading.{Same, exchanges-kept, exchanges-same, same-swapped}
+use Rattle.mh_handle.specs.declared.work.Work.{Work}
+use Rattle.mh_handle.proofs.Going.{Seated}
+use Rattle.mh_attempt.specs.declared.registers.Assignment.{Assignment}
+use Rattle.mh_attempt.specs.declared.registers.Held.{Held}
+use Rattle.mh_attempt.specs.Registers.{IsKeptIn, assigned_to, held_under, holds_in, holds_of, is_named}
+use Rattle.mh_attempt.proofs.Assigning.{assignment}
+
+-- the holds of what was found, if anything was
+abbrev pub holds_found : Option Held → List HoldView
+holds_found (Some h) = holds_of h
+holds_found None = []
+
+-- ---- an assignment
+
+module _ (name : Bor (List ℕ)) (h : Held) where
+  -- each hold of what came before, and of what is assigned, as often
+  counts-assigned : (k : ℕ) (t : MethodTy) (assigned : List Assignment) →
+      has k t (entries_of (holds_in (assigned_to name h assigned))) + has k t (entries_of (holds_found (held_under name.now assigned)))
+      ≡ has k t (entries_of (holds_in assigned)) + has k t (entries_of (holds_of h))
+  counts-assigned k t [] = let last = has-append k t (holds_of h) [] in omega (arith, last)
+  counts-assigned k t (a ∷ assigned) = cases (is_named name.now a) (counts-assigned k t assigned)
+    where
+      cases : (b : Bool) →
+          has k t (entries_of (holds_in (assigned_to name h assigned))) + has k t (entries_of (holds_found (held_under name.now assigned)))
+          ≡ has k t (entries_of (holds_in assigned)) + has k t (entries_of (holds_of h)) →
+          has k t (entries_of (holds_in (if b then assignment a.name h ∷ assigned else a ∷ assigned_to name h assigned)))
+          + has k t (entries_of (holds_found (if b then Some a.held else held_under name.now assigned)))
+          ≡ has k t (entries_of (holds_in (a ∷ assigned))) + has k t (entries_of (holds_of h))
+      cases true rest =
+          let m = has-append k t (holds_of h) (holds_in assigned) in
+          let n = has-append k t (holds_of a.held) (holds_in assigned) in
+          omega (arith, m, n)
+      cases false rest =
+          let m = has-append k t (holds_of a.held) (holds_in (assigned_to name h assigned)) in
+          let n = has-append k t (holds_of a.held) (holds_in assigned) in
+          omega (arith, m, n, rest)
+
+  many-assigned : (assigned : List Assignment) →
+      length (holds_in (assigned_to name h assigned)) + length (holds_found (held_under name.now assigned))
+      ≡ length (holds_in assigned) + length (holds_of h)
+  many-assigned [] = let last = length-append (holds_of h) [] in omega (arith, last)
+  many-assigned (a ∷ assigned) = cases (is_named name.now a) (many-assigned assigned)
+    where
+      cases : (b : Bool) →
+          length (holds_in (assigned_to name h assigned)) + length (holds_found (held_under name.now assigned))
+          ≡ length (holds_in assigned) + length (holds_of h) →
+          length (holds_in (if b then assignment a.name h ∷ assigned else a ∷ assigned_to name h assigned))
+          + length (holds_found (if b then Some a.held else held_under name.now assigned))
+          ≡ length (holds_in (a ∷ assigned)) + length (holds_of h)
+      cases true rest =
+          let m = length-append (holds_of h) (holds_in assigned) in
+          let n = length-append (holds_of a.held) (holds_in assigned) in
+          omega (arith, m, n)
+      cases false rest =
+          let m = length-append (holds_of a.held) (holds_in (assigned_to name h assigned)) in
+          let n = length-append (holds_of a.held) (holds_in assigned) in
+          omega (arith, m, n, rest)
+
+  -- holds of the same table
+  of-assigned : (table : TableId) (assigned : List Assignment) → AreOf table (holds_in assigned) → AreOf table (holds_of h) →
+      AreOf table (holds_in (assigned_to name h assigned))
+  of-assigned table [] all last = of-both table (holds_of h) [] last tt
+  of-assigned table (a ∷ assigned) all last =
+      cases (is_named name.now a) (of-assigned table assigned (of-second table (holds_of a.held) (holds_in assigned) all) last)
+    where
+      cases : (b : Bool) → AreOf table (holds_in (assigned_to name h assigned)) → AreOf table (holds_in (if b then assignment a.name h ∷ assigned else a ∷ assigned_to name h assigned))
+      cases true rest = of-both table (holds_of h) (holds_in assigned) last (of-second table (holds_of a.held) (holds_in assigned) all)
+      cases false rest =
+          of-both table (holds_of a.held) (holds_in (assigned_to name h assigned)) (of-first table (holds_of a.held) (holds_in assigned) all) rest
+
+  same-assigned : (assigned : List Assignment) →
+      Same (holds_found (held_under name.now assigned) ++ holds_in (assigned_to name h assigned)) (holds_in assigned ++ holds_of h)
+  same-assigned assigned = record {
+    counts = λ k t.
+        let m = has-append k t (holds_found (held_under name.now assigned)) (holds_in (assigned_to name h assigned)) in
+        let n = has-append k t (holds_in assigned) (holds_of h) in
+        let c = counts-assigned k t assigned in
+        omega (arith, m, n, c);
+    many =
+        let m = length-append (holds_found (held_under name.now assigned)) (holds_in (assigned_to name h assigned)) in
+        let n = length-append (holds_in assigned) (holds_of h) in
+        let c = many-assigned assigned in
+        omega (arith, m, n, c);
+  }
+
+-- ---- what is found
+
+found-of : (table : TableId) (name : List ℕ) (assigned : List Assignment) → AreOf table (holds_in assigned) → AreOf table (holds_found (held_under name assigned))
+found-of table name [] all = tt
+found-of table name (a ∷ assigned) all = cases (is_named name a) (found-of table name assigned (of-second table (holds_of a.held) (holds_in assigned) all))
+  where
+    cases : (b : Bool) → AreOf table (holds_found (held_under name assigned)) → AreOf table (holds_found (if b then Some a.held else held_under name assigned))
+    cases true rest = of-first table (holds_of a.held) (holds_in assigned) all
+    cases false rest = rest
+
+-- a seat that holds the types of all holds those of what is found under a name
+pub found-held : (seat : SeatView) (name : List ℕ) (assigned : List Assignment) → AreHeld seat (holds_in assigned) →
+    AreHeld seat (holds_found (held_under name assigned))
+found-held seat name [] all = held-none seat
+found-held seat name (a ∷ assigned) all = cases (is_named name a) (found-held seat name assigned (held-second seat (holds_of a.held) (holds_in assigned) all))
+  where
+    cases : (b : Bool) → AreHeld seat (holds_found (held_under name assigned)) → AreHeld seat (holds_found (if b then Some a.held else held_under name assigned))
+    cases true rest = held-first seat (holds_of a.held) (holds_in assigned) all
+    cases false rest = rest
+
+pub found-kept : (seat : SeatView) (name : List ℕ) (assigned : List Assignment) (h : Held) → held_under name assigned ≡ Some h →
+    AreHeld seat (holds_in assigned) → IsKeptIn seat h
+found-kept seat name assigned h is all = subst (λ o. AreHeld seat (holds_found o)) is (found-held seat name assigned all)
+
+-- ---- seats
+
+-- the same holds in another order are held
+held-same : (seat : SeatView) (a b : List HoldView) → Same a b → AreOf seat.table.holders a → AreHeld seat b → AreHeld seat a
+held-same seat a b same of_table all = record {
+  tables = of_table;
+  held = record { counts = λ k t. let c = same.counts k t in let h = all.held.counts k t in omega (arith, c, h) };
+}
+
+-- what was found was given back, once the name was assigned
+pub assigned-exchanges : (name : Bor (List ℕ)) (h : Held) (assigned more : List Assignment) (old new : SeatView) → more ≡ assigned_to name h assigned →
+    AreHeld old (holds_in assigned ++ holds_of h) → Exchanges [] (holds_found (held_under name.now assigned)) [] old new →
+    Exchanges [] (holds_in assigned ++ holds_of h) (holds_in more) old new
+assigned-exchanges name h assigned more old new is all back =
+    let came = holds_in (assigned_to name h assigned) in
+    let gone = holds_found (held_under name.now assigned) in
+    let first = of-first old.table.holders (holds_in assigned) (holds_of h) all.tables in
+    let last = of-second old.table.holders (holds_in assigned) (holds_of h) all.tables in
+    let of_came = of-assigned name h old.table.holders assigned first last in
+    let both = held-same old (gone ++ came) (holds_in assigned ++ holds_of h) (same-assigned name h assigned)
+    (of-both old.table.holders gone came (found-of old.table.holders name.now assigned first) of_came) all in
+    subst (λ l. Exchanges [] (holds_in assigned ++ holds_of h) (holds_in l) old new) (sym is)
+    (exchanges-same [] (gone ++ came) (holds_in assigned ++ holds_of h) came old new (same-assigned name h assigned)
+    (exchanges-kept [] gone [] came old new (held-second old gone came both) back))
+
+-- nothing was found
+pub assigned-none : (name : Bor (List ℕ)) (h : Held) (assigned more : List Assignment) (seat : SeatView) → more ≡ assigned_to name h assigned →
+    AreHeld seat (holds_in assigned ++ holds_of h) → None ≡ held_under name.now assigned →
+    Exchanges [] (holds_in assigned ++ holds_of h) (holds_in more) seat seat
+assigned-none name h assigned more seat is all none =
+    assigned-exchanges name h assigned more seat seat is all (subst (λ o. Exchanges [] (holds_found o) [] seat seat) none (exchanges-still seat))
+
+-- something was found
+pub assigned-some : (name : Bor (List ℕ)) (h before : Held) (assigned more : List Assignment) (old new : SeatView) → more ≡ assigned_to name h assigned →
+    AreHeld old (holds_in assigned ++ holds_of h) → Some before ≡ held_under name.now assigned → Exchanges [] (holds_of before) [] old new →
+    Exchanges [] (holds_in assigned ++ holds_of h) (holds_in more) old new
+assigned-some name h before assigned more old new is all some back =
+    assigned-exchanges name h assigned more old new is all (subst (λ o. Exchanges [] (holds_found o) [] old new) some back)
+
+-- the seat has no less room than before
+pub assigned-seated : (name : Bor (List ℕ)) (h : Held) (assigned more : List Assignment) (old new : Work) → more ≡ assigned_to name h assigned →
+    Exchanges [] (holds_in assigned ++ holds_of h) (holds_in more) old.seat.now new.seat.now → Seated 0 old new
+assigned-seated name h assigned more old new is x = record {
+  seat = x.table;
+  holds =
+      let m : length (holds_in more) ≡ length (holds_in (assigned_to name h assigned)) = ap (λ l. length (holds_in l)) is in
+      let n = length-append (holds_in assigned) (holds_of h) in
+      let c = many-assigned name h assigned in
+      omega (arith, m, n, c, x.room);
+}
+
+-- ---- all at once
+
+last-holds : (assigned rest : List Assignment) (a : Assignment) → assigned ≡ rest ++ a ∷ [] → holds_in assigned ≡ holds_in rest ++ holds_of a.held
+last-holds assigned rest a is =
+    ap holds_in is ∙ (flat_map-append (λ (b : Assignment). holds_of b.held) rest (a ∷ []) ∙ ap (λ l. holds_in rest ++ l) (append-nil (holds_of a.held)))
+
+-- the last is held still, where those after it were given back
+pub last-kept : (assigned rest : List Assignment) (a : Assignment) (seat : SeatView) → assigned ≡ rest ++ a ∷ [] →
+    AreHeld seat (holds_in assigned) → IsKeptIn seat a.held
+last-kept assigned rest a seat is kept = held-second seat (holds_in rest) (holds_of a.held) (subst (AreHeld seat) (last-holds assigned rest a is) kept)
+
+-- it is given back too
+pub last-exchanges : (all : List HoldView) (assigned rest : List Assignment) (a : Assignment) (old mid new : SeatView) → assigned ≡ rest ++ a ∷ [] →
+    AreHeld mid (holds_in assigned) → Exchanges [] all (holds_in assigned) old mid → Exchanges [] (holds_of a.held) [] mid new →
+    Exchanges [] all (holds_in rest) old new
+last-exchanges all assigned rest a old mid new is kept so_far back =
+    let both = subst (AreHeld mid) (last-holds assigned rest a is) kept in
+    let next : Exchanges [] (holds_in assigned) (holds_in rest) mid new =
+    subst (λ l. Exchanges [] l (holds_in rest) mid new) (sym (last-holds assigned rest a is))
+    (exchanges-same [] (holds_of a.held ++ holds_in rest) (holds_in rest ++ holds_of a.held) (holds_in rest) mid new
+    (same-swapped (holds_of a.held) (holds_in rest))
+    (exchanges-kept [] (holds_of a.held) [] (holds_in rest) mid new (held-first mid (holds_in rest) (holds_of a.held) both) back)) in
+    subst (λ l. Exchanges [] l (holds_in rest) old new) (append-nil all)
+    (exchanges-then [] [] all (holds_in assigned) [] (holds_in rest) old mid new so_far
+    (subst (λ l. Exchanges [] l (holds_in rest) mid new) (sym (append-nil (holds_in assigned))) next))

@@ -1,0 +1,83 @@
+-- Which types a seat is asked for by calls, by the nodes that they make.
+use Rattle.std.specs.Prelude.{◌≡◌, ℕ, ◌+◌, List, ◌++◌, flat_map, Result, Ok, Err}
+use Rattle.mh_values.specs.declared.types.MethodTy.{MethodTy}
+use Rattle.mh_intern.specs.Exchanges.{FindsNoSlot}
+use Rattle.mh_intern.specs.Held.{times_type}
+use Rattle.mh_intern.specs.Views.{SeatView}
+use Rattle.mh_leaf.specs.LeafTable.{LeafTable}
+use Rattle.mh_tree.specs.Tree.{Tree}
+use Rattle.mh_handle.specs.declared.error.HandleError.{HandleError}
+use Rattle.mh_handle.specs.declared.error.HandleError.TheVariants as handle
+use Rattle.mh_handle.specs.declared.work.Work.{Work}
+use Rattle.mh_jobs.specs.declared.job.Job.{Job}
+use Rattle.mh_jobs.specs.Thrown.{OrThrown}
+use Rattle.mh_script.specs.declared.script.End.{End}
+use Rattle.mh_script.specs.declared.script.Operation.{Operation}
+use Rattle.mh_script.specs.declared.script.Script.{Script}
+use Rattle.mh_script.specs.declared.script.Step.{Step}
+use Rattle.mh_jobs.specs.declared.job.BootstrapCall.{BootstrapCall}
+use Rattle.mh_link.specs.Linked.{ended, called_script, at_start}
+use Rattle.mh_link.specs.Made.{handles_of, returned, nodes, nodes_from, nodes_of, nodes_of_uses, types_of, unless_thrown}
+use Rattle.mh_link.specs.Operands.{Frame}
+use Rattle.mh_link.specs.Operations.{node_of}
+use Rattle.mh_attempt.specs.declared.error.WorkError.{WorkError}
+use Rattle.mh_attempt.specs.declared.error.WorkError.TheVariants as work
+use Rattle.mh_attempt.specs.declared.handle.HandleOperand.{HandleOperand}
+use Rattle.mh_attempt.specs.Registers.{node_made}
+
+-- ---- the types of nodes
+
+-- the types of the nodes of operands of which handles are made, and then of these nodes
+abbrev pub types_made : LeafTable → List HandleOperand → List Tree → List MethodTy
+types_made leaves operands nodes = types_of leaves (flat_map node_made operands ++ nodes)
+
+-- the same of a node that an operation makes of them, with what that makes before it: none where the node is thrown
+abbrev pub node_types : LeafTable → List HandleOperand → OrThrown Tree → List MethodTy
+node_types leaves operands node = types_of leaves (unless_thrown node (λ n. flat_map node_made operands ++ nodes_of n))
+
+-- the types of the nodes that an operation makes, none where it throws: those of its uses of leaves stand first
+abbrev pub line_types : LeafTable → Frame → Operation → List MethodTy
+line_types leaves frame op =
+    types_of leaves (unless_thrown (node_of leaves frame op) (λ t. nodes_of_uses frame (handles_of op) ++ nodes_of t))
+
+-- the types of the nodes that the last line makes
+abbrev pub end_types : LeafTable → End → Frame → List MethodTy
+end_types leaves e frame = types_of leaves (unless_thrown (ended leaves e frame) (λ t. nodes_of_uses frame (returned e)))
+
+-- the types of the nodes that lines make from where a script stands, up to the one that throws
+abbrev pub script_types : LeafTable → List Step → End → Frame → List MethodTy
+script_types leaves steps e frame = types_of leaves (nodes_from leaves steps e frame)
+
+-- the types of the nodes that a call of a bootstrap method makes, in the attempt of a serial number
+abbrev pub target_types : LeafTable → List Script → ℕ → BootstrapCall → List MethodTy
+target_types leaves scripts serial call =
+    types_of leaves (unless_thrown (called_script scripts call) (λ script. nodes_from leaves script.steps script.end (at_start call serial)))
+
+-- the types of the nodes that the attempt of a serial number makes
+abbrev pub attempt_types : LeafTable → List Script → Job → ℕ → List MethodTy
+attempt_types leaves scripts job serial = types_of leaves (nodes leaves scripts job serial)
+
+-- ---- what a seat is asked for
+
+-- the seat was asked for no types but these and those before
+abbrev pub AsksNoOther : List MethodTy → SeatView → SeatView → Type 0
+AsksNoOther types old new = (t : MethodTy) → times_type t old.asked + times_type t types ≡ 0 → times_type t new.asked ≡ 0
+
+-- a type that the seat was asked for has no slot: its bucket was found full of others
+abbrev pub HasNoSlot : ℕ → SeatView → Type 0
+HasNoSlot bucket seat = (t : MethodTy) × FindsNoSlot bucket t seat
+
+-- what a call leaves of the seat that asks for these types and for no others
+abbrev pub AsksTypes : {A : Type 0} → List MethodTy → Work → Work → Result A WorkError → Type 0
+AsksTypes types old new (Ok a) = AsksNoOther types old.seat.now new.seat.now
+AsksTypes types old new (Err (work.TypesFull bucket)) = AsksNoOther types old.seat.now new.seat.now × HasNoSlot bucket new.seat.now
+AsksTypes types old new (Err (work.FormsFull drawn)) = AsksNoOther types old.seat.now new.seat.now
+AsksTypes types old new (Err work.NoMemory) = AsksNoOther types old.seat.now new.seat.now
+
+-- the same of a call that may throw
+abbrev pub AsksTypesOrThrows : {A : Type 0} → List MethodTy → Work → Work → Result A HandleError → Type 0
+AsksTypesOrThrows types old new (Ok a) = AsksNoOther types old.seat.now new.seat.now
+AsksTypesOrThrows types old new (Err (handle.Refused e)) = AsksNoOther types old.seat.now new.seat.now
+AsksTypesOrThrows types old new (Err (handle.TypesFull bucket)) = AsksNoOther types old.seat.now new.seat.now × HasNoSlot bucket new.seat.now
+AsksTypesOrThrows types old new (Err (handle.FormsFull drawn)) = AsksNoOther types old.seat.now new.seat.now
+AsksTypesOrThrows types old new (Err handle.NoMemory) = AsksNoOther types old.seat.now new.seat.now
