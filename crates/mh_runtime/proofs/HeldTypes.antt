@@ -1,15 +1,14 @@
 -- A seat that holds just what is recorded holds as many types as the table of what is recorded says.
-use Rattle.std.proofs.Common.{◌≡◌, refl, sym, ◌∙◌, ap, subst, ℕ, zero, suc, ◌+◌, ◌<◌, ◌==◌, Bool, true, false, ◌||◌, cond, List, [], ◌∷◌, length, get_or}
+use Rattle.std.proofs.Common.{◌≡◌, refl, sym, ◌∙◌, ap, subst, ℕ, zero, suc, ◌+◌, ◌<◌, ◌==◌, Bool, true, false, cond, List, [], ◌∷◌, length}
 use Rattle.std.proofs.Common.{⊎_elim, Option, None, Some, arith}
-use Rattle.std.specs.Prelude.{Contains, count_by}
-use Rattle.std.specs.Cmp.{IsEquivalence}
-use Rattle.std.specs.List.{flat_map, list_any, IsDistinct, AllByRecursion}
+use Rattle.std.specs.Prelude.{Contains}
+use Rattle.std.specs.List.{flat_map, list_any, IsDistinct}
 use Rattle.std.proofs.lemmas.Bool.{eqb-true, or_cases, or_left, or_right}
 use Rattle.std.proofs.lemmas.List.Folds.{list_any-append}
 use Rattle.std.proofs.lemmas.Map.Made.{length-from_keys}
 use Rattle.mh_values.specs.declared.types.MethodTy.{MethodTy}
 use Rattle.mh_values.specs.Same.{is_same_method_type}
-use Rattle.mh_values.proofs.SameTypes.{same_method_type-is, same_method_type-itself}
+use Rattle.mh_values.proofs.SameTypes.{same_method_type-is}
 use Rattle.mh_intern.specs.declared.holding.Entry.{Entry}
 use Rattle.mh_intern.specs.Held.{on_type, times_type}
 use Rattle.mh_intern.specs.Seats.{distinct_types}
@@ -21,64 +20,8 @@ use Rattle.mh_link.specs.Sites.{linked_at}
 use Rattle.mh_plan.specs.declared.attempt.Attempt.{Attempt}
 use Rattle.mh_plan.specs.Recorded.{held_at, held_from, types}
 use Rattle.mh_plan.specs.Results.{Serials, serial_at}
-
--- ---- tests
-
--- two tests have one answer where each of them passes with the other
-one-answer : (a b : Bool) → (a ≡ true → b ≡ true) → (b ≡ true → a ≡ true) → a ≡ b
-one-answer true b to from = sym (to refl)
-one-answer false true to from = from refl
-one-answer false false to from = refl
-
--- a test that cannot pass fails
-fails : (b : Bool) → (b ≡ true → ⊥) → b ≡ false
-fails true not_so = absurd (not_so refl)
-fails false not_so = refl
-
--- a number that is not zero is more
-not-zero : (n : ℕ) → (n == 0) ≡ false → 0 < n
-not-zero zero more = cc
-not-zero (suc n) more = omega arith
-
--- where a type is another one, the other is it
-same-turned : (s t : MethodTy) → is_same_method_type s t ≡ true → is_same_method_type t s ≡ true
-same-turned s t same = subst (λ (u : MethodTy). is_same_method_type u s ≡ true) (same_method_type-is s t same) (same_method_type-itself s)
-
--- the test of two types is an equivalence
-same-equivalence : IsEquivalence is_same_method_type
-same-equivalence = record {
-  refl = same_method_type-itself;
-  symm = λ s t. one-answer (is_same_method_type s t) (is_same_method_type t s) (same-turned s t) (same-turned t s);
-  congr = λ s t u same. ap (λ (v : MethodTy). is_same_method_type v u) (same_method_type-is s t same);
-}
-
--- whether a type is one of a list
-abbrev is_one : List MethodTy → MethodTy → Bool
-is_one ts t = list_any (is_same_method_type t) ts
-
--- ---- counts
-
-module _ {X : Type 0} (p : X → Bool) where
-  -- where some are counted, the list has one
-  counted-any : (xs : List X) → 0 < count_by p xs → list_any p xs ≡ true
-  counted-any [] some = absurd (omega (arith, some))
-  counted-any (x ∷ xs) some = cases (p x) refl (counted-any xs)
-    where
-      cases : (b : Bool) → p x ≡ b → (0 < count_by p xs → list_any p xs ≡ true) → (b || list_any p xs) ≡ true
-      cases true passes rest = refl
-      cases false not_so rest = let none : bit (p x) ≡ 0 = ap bit not_so in rest (omega (arith, some, none, count_cons p x xs))
-
-  -- where the list has one, some are counted
-  any-counted : (xs : List X) → list_any p xs ≡ true → 0 < count_by p xs
-  any-counted [] there = cc
-  any-counted (x ∷ xs) there = ⊎_elim
-      (λ (here : p x ≡ true). let one : bit (p x) ≡ 1 = ap bit here in omega (arith, one, count_cons p x xs))
-      (λ (rest : list_any p xs ≡ true). let more = any-counted xs rest in omega (arith, more, count_cons p x xs))
-      (or_cases (p x) (list_any p xs) there)
-
--- the test of a list does not depend on which of two types is named first
-any-turned : (t : MethodTy) (ts : List MethodTy) → list_any (λ u. is_same_method_type u t) ts ≡ is_one ts t
-any-turned t ts = λ i. list_any (λ u. same-equivalence.symm u t i) ts
+use Rattle.mh_runtime.proofs.Needed.{in-flat, of-flat}
+use Rattle.mh_runtime.proofs.TypeLists.{any-counted, any-turned, counted-any, differs, fails, is_one, not-zero, one-answer, same-equivalence, same-turned}
 
 -- ---- the types of a seat
 
@@ -131,17 +74,6 @@ held-last t (e ∷ es) some = cases (on_type e.ty es == 0) refl (is_same_method_
         rest (subst (λ (u : MethodTy). 0 < on_type u es) (same_method_type-is e.ty t same) (not-zero (on_type e.ty es) more))
     cases false more false other rest = rest (rest-held other)
 
--- a type that is none of a list differs from each of it
-differs : (t : MethodTy) (ts : List MethodTy) → is_one ts t ≡ false → AllByRecursion (λ u. is_same_method_type t u ≡ false) ts
-differs t [] none = tt
-differs t (u ∷ ts) none = cases (is_same_method_type t u) refl none (differs t ts)
-  where
-    cases : (b : Bool) → is_same_method_type t u ≡ b → (b || is_one ts t) ≡ false →
-        (is_one ts t ≡ false → AllByRecursion (λ u. is_same_method_type t u ≡ false) ts) →
-        (is_same_method_type t u ≡ false) × AllByRecursion (λ u. is_same_method_type t u ≡ false) ts
-    cases true same none rest = cc
-    cases false other none rest = (other, rest none)
-
 -- no two of them are one
 lasts-distinct : (es : List Entry) → IsDistinct is_same_method_type (lasts es)
 unfolding IsDistinct
@@ -159,28 +91,6 @@ lasts-distinct (e ∷ es) = cases (on_type e.ty es == 0) refl (lasts-distinct es
       rest,
     )
     cases false more rest = rest
-
--- ---- lists of lists
-
-module _ {X R : Type 0} (p : R → Bool) (f : X → List R) where
-  -- what an item gives is in what all give
-  in-flat : (xs : List X) (x : X) → Contains xs x → list_any p (f x) ≡ true → list_any p (flat_map f xs) ≡ true
-  in-flat [] x h there = absurd (omega (arith, h.1))
-  in-flat (y ∷ xs) x h there = list_any-append p (f y) (flat_map f xs) ∙ cases h.0 h.1 h.2 (λ rest. in-flat xs x rest there)
-    where
-      cases : (k : ℕ) → k < length (y ∷ xs) → get_or (y ∷ xs) k x ≡ x → (Contains xs x → list_any p (flat_map f xs) ≡ true) →
-          (list_any p (f y) || list_any p (flat_map f xs)) ≡ true
-      cases zero within same rest = or_left (list_any p (f y)) (list_any p (flat_map f xs)) (ap (λ z. list_any p (f z)) same ∙ there)
-      cases (suc k) within same rest = or_right (list_any p (f y)) (list_any p (flat_map f xs)) (rest (k, omega (arith, within), same))
-
-  -- what all give, some item gives
-  of-flat : (xs : List X) → list_any p (flat_map f xs) ≡ true → (x : X) × Contains xs x × (list_any p (f x) ≡ true)
-  of-flat [] there = cc
-  of-flat (y ∷ xs) there = ⊎_elim
-      (λ (here : list_any p (f y) ≡ true). (y, (0, omega arith, refl), here))
-      (λ (rest : list_any p (flat_map f xs) ≡ true).
-      let found = of-flat xs rest in (found.0, (suc found.1.0, omega (arith, found.1.1), found.1.2), found.2))
-      (or_cases (list_any p (f y)) (list_any p (flat_map f xs)) (sym (list_any-append p (f y) (flat_map f xs)) ∙ there))
 
 -- ---- the types of a table
 

@@ -13,17 +13,20 @@ use Rattle.mh_jobs.specs.Given.{Given}
 use Rattle.mh_attempt.specs.Asked.{HasAsked, IsOver}
 use Rattle.mh_plan.specs.declared.call.Call.{Call}
 use Rattle.mh_plan.specs.Results.{keys_said, results_of, results_said, thread_keys_said, thread_results, thread_said}
+use Rattle.mh_plan.specs.Types.{thread_types}
 use Rattle.mh_runtime.specs.declared.joining.Full.{Full}
 use Rattle.mh_runtime.specs.declared.joining.Full.TheVariants as full
 use Rattle.mh_runtime.specs.declared.joining.Joined.{Joined}
 use Rattle.mh_runtime.specs.declared.lane.Lane.{Lane}
+use Rattle.mh_runtime.specs.Asking.{WasAsked, run_types}
 use Rattle.mh_runtime.specs.Joined.{AreDone, AreUsed, IsDoneBy, IsUsedBy, ThreadPasses}
-use Rattle.mh_runtime.specs.Joining.{Adds, AreJoinedSoFar, EndedWith, EndsSoFar, calls_of}
+use Rattle.mh_runtime.specs.Joining.{Adds, AreJoinedSoFar, EndedWith, EndsSoFar, calls_of, lanes_types}
 use Rattle.mh_runtime.specs.Keys.{plan_keys, thread_keys}
-use Rattle.mh_runtime.specs.Lanes.{DrawsFew, EndsAs, HasAnswered, HasRun, Tables, passes_of}
+use Rattle.mh_runtime.specs.Lanes.{DrawsFew, EndsAs, EndsWithoutSlot, HasAnswered, HasRun, Tables, passes_of}
 use Rattle.mh_runtime.specs.Passes.{HasSerials, LinkerView, split_room}
 use Rattle.mh_runtime.proofs.JoinedForms.{asked-joined}
-use Rattle.mh_runtime.proofs.LaneLists.{edits-push, flat-push}
+use Rattle.mh_runtime.proofs.JoinedTypes.{no-slot-mine, no-slot-theirs, types-joined}
+use Rattle.mh_runtime.proofs.LaneLists.{edits-push, flat-push, types-push}
 use Rattle.mh_runtime.proofs.MoreThreads.{done-push, used-push}
 use Rattle.mh_runtime.proofs.SeatTypes.{just-joined}
 use Rattle.mh_runtime.proofs.ThreadSteps.{serials-both}
@@ -88,14 +91,16 @@ module _ {J : Type 0} (given : Given) (linker : LinkerView) (tables : Tables) (c
     few-drawn (Some (full.Types bucket)) ended ends = subst (EndsAs given calls (passes_of lane)) ended.0 ends
 
     pub ends-push : (before ended : Option Full) → EndedWith lane old.threads new.threads ended → length (calls_of lanes) ≡ length (map passes_of lanes) →
-        Adds old lane new → EndsAs given calls (passes_of lane) lane.ran → EndsSoFar given lanes old before →
+        Adds old lane new → EndsAs given calls (passes_of lane) lane.ran → EndsWithoutSlot lane.ran lane.types → EndsSoFar given lanes old before →
         EndsSoFar given (lanes ++ lane ∷ []) new (option_or before ended)
-    ends-push (Some (full.Forms drawn)) ended how same adds ends before = over-old drawn adds before
-    ends-push (Some (full.Types bucket)) ended how same adds ends before = tt
-    ends-push None (Some (full.Forms drawn)) how same adds ends before =
+    ends-push (Some (full.Forms drawn)) ended how same adds ends no_slot before = over-old drawn adds before
+    ends-push (Some (full.Types bucket)) ended how same adds ends no_slot before =
+        (no-slot-mine old.types lane.types new.types adds.types bucket before.0, adds.types_known)
+    ends-push None (Some (full.Forms drawn)) how same adds ends no_slot before =
         over-lane drawn adds (subst (EndsAs given calls (passes_of lane)) how.0 ends).1
-    ends-push None (Some (full.Types bucket)) how same adds ends before = tt
-    ends-push None None how same adds ends before =
+    ends-push None (Some (full.Types bucket)) how same adds ends no_slot before =
+        (no-slot-theirs old.types lane.types new.types adds.types bucket (subst (λ r. EndsWithoutSlot r lane.types) how.0 no_slot), adds.types_known)
+    ends-push None None how same adds ends no_slot before =
         let told = subst (EndsAs given calls (passes_of lane)) how.1 ends in
         ends-done how.0 adds how.2 same before told.1 told.2
 
@@ -144,7 +149,10 @@ module _ {J : Type 0} (given : Given) (linker : LinkerView) (tables : Tables) (c
           types_room = omega (arith, before.types_room, types_more, types_count, ran.types_whole, more);
           types_held = just-joined given old.links.recorded lane.links.recorded new.links.recorded old.types lane.types new.types before.types_held
               ran.types_held adds.links.recorded adds.types;
+          types_asked = subst (λ ts. WasAsked ts new.types) (sym (types-push given lanes lane))
+              (types-joined old.types lane.types new.types adds.types (lanes_types given lanes)
+              (run_types given lane.links.attempts (thread_types given.leaves calls)) before.types_asked ran.types_asked);
           ends = subst (EndsSoFar given (lanes ++ lane ∷ []) new) (sym adds.full_is)
               (ends-push old.full adds.full adds.ended (length-map lanes (λ (l : Lane J). l.calls.now) ∙ sym (length-map lanes passes_of)) adds ran.ends
-              before.ends);
+              ran.no_slot before.ends);
         }

@@ -2,33 +2,31 @@
 use Rattle.std.proofs.Common.{◌≡◌, refl, sym, ◌∙◌, ap, subst, ℕ, ◌+◌, List, [], length, Some, Result, Ok, Err, arith}
 use Rattle.std.specs.Prelude.{IfOk, IsSome, OnOk}
 use Rattle.std.specs.List.{flat_map, IsDistinct}
-use Rattle.std.specs.Set.{distinct_count}
-use Rattle.std.proofs.lemmas.List.{length-map}
 use Rattle.std.proofs.lemmas.List.Elements.{All-nil}
-use Rattle.std.proofs.lemmas.Map.Made.{length-from_keys}
-use Rattle.mh_edit.specs.declared.key.Key.{Key}
 use Rattle.mh_handle.specs.declared.answer.Answer.{Answer}
-use Rattle.mh_handle.specs.Index.{recipe_of}
 use Rattle.mh_handle.specs.Passes.{PassView, TableView}
 use Rattle.mh_handle.specs.SameRecipes.{same_recipe}
-use Rattle.mh_handle.proofs.SameRecipes.{same_recipe-equivalence}
 use Rattle.mh_jobs.specs.Given.{Given}
 use Rattle.mh_attempt.specs.declared.error.WorkError.{WorkError}
 use Rattle.mh_attempt.specs.declared.error.WorkError.TheVariants.{NoMemory, FormsFull, TypesFull}
 use Rattle.mh_attempt.proofs.AskedAfter.{asked-drawn}
-use Rattle.mh_attempt.specs.Asked.{DrawsWithin, HasAsked, HasDrawn, asked_recipes}
+use Rattle.mh_attempt.specs.Asked.{DrawsWithin, HasAsked}
 use Rattle.mh_plan.specs.declared.attempt.Attempt.{Attempt}
 use Rattle.mh_plan.specs.declared.call.Call.{Call}
 use Rattle.mh_plan.specs.Forms.{thread_edits}
 use Rattle.mh_plan.specs.Naming.{sites_named}
 use Rattle.mh_plan.specs.Results.{Serials, serial_at, thread_keys_said, thread_results, thread_said}
+use Rattle.mh_plan.specs.Types.{thread_types}
 use Rattle.mh_runtime.specs.declared.lane.Lane.{Lane}
-use Rattle.mh_runtime.specs.Asking.{RunsOn, run_edits}
+use Rattle.mh_runtime.specs.Asking.{RunsOn, RunsOnTypes, WasAsked, run_edits, run_types}
 use Rattle.mh_runtime.specs.Attempts.{AreLinked, AttemptsMore, GoesOnLinking, IsThreadRun}
 use Rattle.mh_runtime.specs.Keys.{thread_keys}
-use Rattle.mh_runtime.specs.Lanes.{CanRun, EndsAs, HasRun, Tables, fresh_forms, fresh_links, passes_of}
+use Rattle.mh_runtime.specs.Lanes.{CanRun, EndsAs, EndsWithoutSlot, HasRun, Tables, fresh_forms, fresh_links, passes_of}
 use Rattle.mh_runtime.specs.Linking.{HoldsRecorded}
+use Rattle.mh_values.specs.declared.types.MethodTy.{MethodTy}
+use Rattle.mh_intern.specs.Held.{times_type}
 use Rattle.mh_intern.specs.Views.{SeatView}
+use Rattle.mh_runtime.proofs.SeatAsked.{asked-on}
 use Rattle.mh_runtime.proofs.SeatTypes.{just-recorded}
 use Rattle.mh_runtime.specs.Passes.{HasSerials, LinkPass, LinkerView, split_room}
 
@@ -79,6 +77,14 @@ module _ (given : Given) (calls : List Call) where
   ends-as table links forms (Err (TypesFull bucket)) gave runs = runs split_room (within-fresh table) [] (asked-fresh given table)
   ends-as table links forms (Err NoMemory) gave runs = tt
 
+-- where the calls have stopped for want of a slot
+no-slot : (given : Given) (a b : List Attempt) (more : List MethodTy) (old new : SeatView) (r : Result (List Answer) WorkError) →
+    RunsOnTypes given a b more old new r → EndsWithoutSlot (Some r) new
+no-slot given a b more old new (Ok answers) runs = tt
+no-slot given a b more old new (Err NoMemory) runs = tt
+no-slot given a b more old new (Err (FormsFull drawn)) runs = tt
+no-slot given a b more old new (Err (TypesFull bucket)) runs = runs.1
+
 -- a lane that could be run has run
 pub has-run : {J : Type 0} (given : Given) (linker : LinkerView) (tables : Tables) (before after : Lane J) (serials : ℕ)
     (r : Result (List Answer) WorkError) → CanRun given linker tables before → after.ran ≡ Some r → GoesOnLinking serials before.links after.links →
@@ -86,8 +92,9 @@ pub has-run : {J : Type 0} (given : Given) (linker : LinkerView) (tables : Table
     AttemptsMore (flat_map sites_named before.calls.now) before.links after.links →
     Gave given before.calls.now after.links r →
     RunsOn given before.links.attempts after.links.attempts (thread_edits given.leaves before.calls.now) before.forms after.forms r →
+    RunsOnTypes given before.links.attempts after.links.attempts (thread_types given.leaves before.calls.now) before.types after.types r →
     HasRun given linker tables before.links.thread before.calls.now after
-has-run given linker tables before after serials r can ran goes same holds attempts gave runs =
+has-run given linker tables before after serials r can ran goes same holds attempts gave runs asked =
     let calls : List Call = before.calls.now in
     let fresh : IsThreadRun [] before.links =
     subst (IsThreadRun []) (sym can.links) (run-fresh linker (length given.jobs) before.links.thread) in
@@ -103,6 +110,11 @@ has-run given linker tables before after serials r can ran goes same holds attem
       types_whole = holds.whole ∙ ap (λ (s : SeatView). s.room + length s.holds) can.types_are;
       types_held = just-recorded given after.links.recorded before.types after.types (ap (λ (s : SeatView). s.holds) can.types_are)
           (subst (λ (p : LinkPass). HoldsRecorded given p.recorded after.links.recorded before.types after.types) can.links holds);
+      types_asked = asked-on given before.links.attempts after.links.attempts (thread_types given.leaves calls) before.types after.types r asked []
+          (subst (λ (p : LinkPass). WasAsked (run_types given p.attempts []) before.types) (sym can.links)
+          (λ t none. ap (λ (s : SeatView). times_type t s.asked) can.types_are));
+      no_slot = subst (λ how. EndsWithoutSlot how after.types) (sym ran)
+          (no-slot given before.links.attempts after.links.attempts (thread_types given.leaves calls) before.types after.types r asked);
       ends = subst (EndsAs given calls (passes_of after)) (sym ran)
           (ends-as given calls tables.forms after.links after.forms r gave
           (subst (λ (p : PassView). RunsOn given [] after.links.attempts (thread_edits given.leaves calls) p after.forms r) can.forms_are

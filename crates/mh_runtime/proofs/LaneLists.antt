@@ -5,10 +5,11 @@ use Rattle.std.proofs.lemmas.Grind.{flat_map-append}
 use Rattle.std.proofs.lemmas.List.{map_push}
 use Rattle.mh_jobs.specs.Given.{Given}
 use Rattle.mh_plan.specs.Forms.{thread_edits}
+use Rattle.mh_plan.specs.Types.{thread_types}
 use Rattle.mh_runtime.specs.declared.lane.Lane.{Lane}
-use Rattle.mh_runtime.specs.Asking.{run_edits}
+use Rattle.mh_runtime.specs.Asking.{run_edits, run_types}
 use Rattle.mh_runtime.specs.Joined.{ThreadPasses}
-use Rattle.mh_runtime.specs.Joining.{lanes_edits}
+use Rattle.mh_runtime.specs.Joining.{lanes_edits, lanes_types}
 use Rattle.mh_runtime.specs.Lanes.{passes_of}
 
 pub edits-push : {J : Type 0} (given : Given) (lanes : List (Lane J)) (lane : Lane J) →
@@ -16,6 +17,13 @@ pub edits-push : {J : Type 0} (given : Given) (lanes : List (Lane J)) (lane : La
 edits-push {J} given lanes lane =
     flat_map-append (λ (l : Lane J). run_edits given l.links.attempts (thread_edits given.leaves l.calls.now)) lanes (lane ∷ [])
     ∙ ap (λ rs. lanes_edits given lanes ++ rs) (append-nil (run_edits given lane.links.attempts (thread_edits given.leaves lane.calls.now)))
+
+-- the types of one lane more
+pub types-push : {J : Type 0} (given : Given) (lanes : List (Lane J)) (lane : Lane J) →
+    lanes_types given (lanes ++ lane ∷ []) ≡ lanes_types given lanes ++ run_types given lane.links.attempts (thread_types given.leaves lane.calls.now)
+types-push {J} given lanes lane =
+    flat_map-append (λ (l : Lane J). run_types given l.links.attempts (thread_types given.leaves l.calls.now)) lanes (lane ∷ [])
+    ∙ ap (λ ts. lanes_types given lanes ++ ts) (append-nil (run_types given lane.links.attempts (thread_types given.leaves lane.calls.now)))
 
 pub flat-push : {J X : Type 0} (f : ThreadPasses → List X) (lanes : List (Lane J)) (lane : Lane J) →
     flat_map f (map passes_of (lanes ++ lane ∷ [])) ≡ flat_map f (map passes_of lanes) ++ f (passes_of lane)

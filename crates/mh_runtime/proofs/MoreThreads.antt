@@ -2,7 +2,6 @@
 use Rattle.std.proofs.Common.{◌≡◌, sym, ◌∙◌, ap, subst, ℕ, zero, suc, ◌+◌, ◌≤◌, List, [], ◌∷◌, ◌++◌, length, length-append, Some, ⊎_elim, arith}
 use Rattle.std.specs.Prelude.{slice_get}
 use Rattle.std.proofs.lemmas.Option.{slice_get_within}
-use Rattle.mh_handle.specs.Passes.{TableView}
 use Rattle.mh_jobs.specs.Given.{Given}
 use Rattle.mh_plan.specs.declared.call.Call.{Call}
 use Rattle.mh_plan.specs.Limits.{calls_in}

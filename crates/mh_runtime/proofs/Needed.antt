@@ -59,7 +59,7 @@ in-range n serial some few =
 -- ---- what attempts give rise to
 
 -- attempts of sites that are named, with serials up to a number, make no more than all attempts of those sites with such serials
-among-named : {R : Type 0} (p : R → Bool) (edits : ℕ → ℕ → List R) (naming : Naming) (attempts : List Attempt) (most : ℕ) →
+pub among-named : {R : Type 0} (p : R → Bool) (edits : ℕ → ℕ → List R) (naming : Naming) (attempts : List Attempt) (most : ℕ) →
     ((a : Attempt) → Contains attempts a → IsReached naming a × (1 ≤ a.serial) × (a.serial ≤ most)) →
     list_any p (flat_map (λ (a : Attempt). edits a.site a.serial) attempts) ≡ true →
     list_any p (flat_map (λ sites. flat_map (λ site. flat_map (λ serial. edits site serial) (range_with_len 1 most)) sites) naming) ≡ true

@@ -3,7 +3,6 @@ use Rattle.std.proofs.Common.{◌≡◌, sym, ◌∙◌, ap, subst, ℕ, ◌<◌
 use Rattle.std.specs.Prelude.{All, Contains}
 use Rattle.std.proofs.lemmas.List.Elements.{All-contains}
 use Rattle.std.specs.List.Sorted.{IsNonDecreasingBy, IsPermutation}
-use Rattle.mh_handle.specs.Passes.{TableView}
 use Rattle.mh_jobs.specs.Given.{Given}
 use Rattle.mh_attempt.specs.Asked.{HasAsked}
 use Rattle.mh_plan.specs.declared.attempt.Attempt.{Attempt}
@@ -11,6 +10,7 @@ use Rattle.mh_plan.specs.declared.call.Call.{Call}
 use Rattle.mh_plan.specs.Forms.{draws_needed}
 use Rattle.mh_plan.specs.Recorded.{recorded, serials_of, types}
 use Rattle.mh_plan.specs.Results.{Serials, keys_said, results_of, results_said, serial_at}
+use Rattle.mh_plan.specs.Types.{OverfillBucket, all_types}
 use Rattle.mh_runtime.specs.declared.joining.Full.TheVariants as full_table
 use Rattle.mh_runtime.specs.declared.joining.Joined.{Joined}
 use Rattle.mh_runtime.specs.declared.lane.Lane.{Lane}
@@ -29,7 +29,7 @@ use Rattle.mh_runtime.proofs.Numbers.{sorted-in_order}
 use Rattle.mh_runtime.proofs.RecordedSites.{serials-recorded}
 use Rattle.mh_runtime.proofs.RunLedger.{run-ledger}
 use Rattle.mh_runtime.proofs.ThreadSteps.{serials-self}
-use Rattle.mh_runtime.proofs.WholeJoin.{joined-all, joined-full}
+use Rattle.mh_runtime.proofs.WholeJoin.{joined-all, joined-full, joined-no-slot}
 
 -- what the parts of a report tell of the joined passes
 pub record TellsRun {J : Type 0} (given : Given) (joined : Joined J) (run : Linked) : Type 0 where
@@ -56,6 +56,11 @@ module _ {J : Type 0} (given : Given) (linker : LinkerView) (tables : Tables) (p
   -- a thread had no form left
   pub full-run : (drawn : ℕ) → joined.full ≡ Some (full_table.Forms drawn) → 16384 < draws_needed given plan
   full-run drawn some = subst (λ threads. 16384 < draws_needed given threads) calls_are (joined-full given linker tables lanes joined drawn some so_far)
+
+  -- a thread had no slot left
+  pub no-slot-run : (bucket : ℕ) → joined.full ≡ Some (full_table.Types bucket) → OverfillBucket (all_types given plan)
+  no-slot-run bucket some =
+      subst (λ threads. OverfillBucket (all_types given threads)) calls_are (joined-no-slot given linker tables lanes joined bucket some so_far)
 
   module _ (run : Linked) (none : joined.full ≡ None) (tells : TellsRun given joined run) where
     whole : IsJoinedRun given lanes joined

@@ -16,6 +16,7 @@ use Rattle.mh_attempt.specs.Asked.{HasAsked}
 use Rattle.mh_plan.specs.declared.call.Call.{Call}
 use Rattle.mh_plan.specs.Forms.{draws_needed}
 use Rattle.mh_plan.specs.Results.{keys_said, results_said}
+use Rattle.mh_plan.specs.Types.{OverfillBucket, all_types}
 use Rattle.mh_runtime.specs.declared.joining.Full.TheVariants as full_table
 use Rattle.mh_runtime.specs.declared.joining.Joined.{Joined}
 use Rattle.mh_runtime.specs.declared.lane.Lane.{Lane}
@@ -25,7 +26,9 @@ use Rattle.mh_runtime.specs.Lanes.{Tables, passes_of}
 use Rattle.mh_runtime.specs.Linking.{types_held}
 use Rattle.mh_runtime.specs.Passes.{HasSerials, LinkPass, LinkerView, split_room}
 use Rattle.mh_runtime.proofs.JoinedForms.{asked-edits}
+use Rattle.mh_runtime.proofs.FullBuckets.{no-slot-overfills}
 use Rattle.mh_runtime.proofs.Needed.{full}
+use Rattle.mh_runtime.proofs.RunTypes.{asked-needed}
 
 -- nothing is each number once
 none-once : EachOnce []
@@ -64,6 +67,7 @@ module _ {J : Type 0} (given : Given) (linker : LinkerView) (tables : Tables) wh
     types_room = let no : length joined.types.holds ≡ 0 = ap (λ (s : SeatView). length s.holds) types_are in omega (arith, no, types_room);
     types_held = λ t.
         ap (λ (s : SeatView). on_type t s.holds) types_are ∙ sym (ap (λ (p : LinkPass). times_type t (types_held given p.recorded)) links);
+    types_asked = λ t none. ap (λ (s : SeatView). times_type t s.asked) types_are;
     ends = subst (EndsSoFar {J = J} given [] joined) (sym full) (
       (λ thread calls passes is there. absurd cc),
       subst (HasAsked []) (sym forms_are) (none-asked tables.forms joined.forms.seat.room),
@@ -114,3 +118,11 @@ module _ {J : Type 0} (given : Given) (linker : LinkerView) (tables : Tables) wh
     joined-full drawn some all =
         let over = subst (EndsSoFar given lanes joined) some all.ends in
         full given (calls_of lanes) (map passes_of lanes) all.used joined.links (links-joined all) joined.forms drawn (forms-joined all) over.1 over.0
+
+    -- a lane has stopped for want of a slot
+    pub joined-no-slot : (bucket : ℕ) → joined.full ≡ Some (full_table.Types bucket) → AreJoinedSoFar given linker tables (length lanes) lanes joined →
+        OverfillBucket (all_types given (calls_of lanes))
+    joined-no-slot bucket some all =
+        let told = subst (EndsSoFar given lanes joined) some all.ends in
+        no-slot-overfills bucket joined.types (all_types given (calls_of lanes)) (let room = all.types_room in omega (arith, room)) told.1 told.0
+        (asked-needed given lanes all.used joined.links (links-joined all) joined.types all.types_asked)

@@ -1,16 +1,21 @@
 -- What the calls of a run leave of its work, by the recipes that its attempts and its calls make.
-use Rattle.std.specs.Prelude.{ℕ, ◌*◌, List, ◌++◌, length, Result, Ok, Err}
+use Rattle.std.specs.Prelude.{◌≡◌, ℕ, ◌*◌, List, ◌++◌, length, Result, Ok, Err}
 use Rattle.std.specs.List.{flat_map}
+use Rattle.mh_values.specs.declared.types.MethodTy.{MethodTy}
 use Rattle.mh_edit.specs.declared.key.Key.{Key}
+use Rattle.mh_intern.specs.Held.{times_type}
+use Rattle.mh_intern.specs.Views.{SeatView}
 use Rattle.mh_handle.specs.Passes.{PassView}
 use Rattle.mh_jobs.specs.Given.{Given}
 use Rattle.mh_attempt.specs.declared.error.WorkError.{WorkError}
 use Rattle.mh_attempt.specs.declared.error.WorkError.TheVariants.{NoMemory, FormsFull, TypesFull}
 use Rattle.mh_attempt.specs.Asked.{DrawsWithin, HasAsked, HasDrawn, IsOver}
+use Rattle.mh_attempt.specs.AskedTypes.{HasNoSlot}
 use Rattle.mh_plan.specs.declared.attempt.Attempt.{Attempt}
 use Rattle.mh_plan.specs.declared.call.Call.{Call}
 use Rattle.mh_plan.specs.Forms.{attempt_edits}
 use Rattle.mh_plan.specs.Limits.{calls_in}
+use Rattle.mh_plan.specs.Types.{attempt_types}
 
 -- ---- how many numbers are drawn
 
@@ -61,3 +66,34 @@ IfFull (Err (FormsFull drawn)) P = P
 IfFull (Err (TypesFull bucket)) P = Unit {0}
 IfFull (Err NoMemory) P = Unit {0}
 IfFull (Ok a) P = Unit {0}
+
+-- ---- which types are asked for
+
+-- the types of the nodes that attempts make, and those of calls
+abbrev pub run_types : Given → List Attempt → List MethodTy → List MethodTy
+run_types given attempts types = flat_map (attempt_types given) attempts ++ types
+
+-- the seat was asked for no types but these
+abbrev pub WasAsked : List MethodTy → SeatView → Type 0
+WasAsked types seat = (t : MethodTy) → times_type t types ≡ 0 → times_type t seat.asked ≡ 0
+
+-- where the seat was asked for none but the types of the attempts before and of calls, whichever, it was asked for none but those of the attempts after and of
+-- more calls now
+abbrev pub HasAskedOn : Given → List Attempt → List Attempt → List MethodTy → SeatView → SeatView → Type 0
+HasAskedOn given before after more old new =
+    (types : List MethodTy) → WasAsked (run_types given before types) old → WasAsked (run_types given after (types ++ more)) new
+
+-- what calls leave of a seat that ask for these types, and with which the attempts before become those after: where they stopped for want of a slot, a type
+-- that the seat was asked for has none
+abbrev pub RunsOnTypes : {A : Type 0} → Given → List Attempt → List Attempt → List MethodTy → SeatView → SeatView → Result A WorkError → Type 0
+RunsOnTypes given before after more old new (Ok a) = HasAskedOn given before after more old new
+RunsOnTypes given before after more old new (Err (TypesFull bucket)) = HasAskedOn given before after more old new × HasNoSlot bucket new
+RunsOnTypes given before after more old new (Err (FormsFull drawn)) = HasAskedOn given before after more old new
+RunsOnTypes given before after more old new (Err NoMemory) = HasAskedOn given before after more old new
+
+-- P holds where no slot was left for a type
+abbrev pub IfTypesFull : {A : Type 0} → Result A WorkError → Type 0 → Type 0
+IfTypesFull (Err (TypesFull bucket)) P = P
+IfTypesFull (Err (FormsFull drawn)) P = Unit {0}
+IfTypesFull (Err NoMemory) P = Unit {0}
+IfTypesFull (Ok a) P = Unit {0}

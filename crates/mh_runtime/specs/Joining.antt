@@ -2,27 +2,31 @@
 use Rattle.std.specs.Prelude.{◌≡◌, ℕ, ◌+◌, ◌*◌, List, [], ◌∷◌, ◌++◌, length, map, take, Option, None, Some, Ok, Err, slice_get}
 use Rattle.std.specs.List.{All, flat_map}
 use Rattle.std.specs.Option.{option_or}
+use Rattle.mh_values.specs.declared.types.MethodTy.{MethodTy}
 use Rattle.mh_edit.specs.declared.key.Key.{Key}
 use Rattle.mh_handle.specs.declared.answer.Answer.{Answer}
 use Rattle.mh_attempt.specs.declared.error.WorkError.TheVariants.{FormsFull, TypesFull}
 use Rattle.mh_handle.specs.Joins.{KnowsBoth}
 use Rattle.mh_handle.specs.Passes.{PassView, TableView, pass_at as forms_at}
 use Rattle.mh_handle.specs.Seats as forms_seat
+use Rattle.mh_intern.specs.Seats.{Knows}
 use Rattle.mh_intern.specs.Views as types_seat
 use Rattle.mh_intern.specs.Views.{SeatView, TypesId}
 use Rattle.mh_tickets.specs.Seats as serials
 use Rattle.mh_jobs.specs.Given.{Given}
 use Rattle.mh_seats.specs.Room.{limit}
 use Rattle.mh_attempt.specs.Asked.{HasAsked, IsOver}
+use Rattle.mh_attempt.specs.AskedTypes.{HasNoSlot}
 use Rattle.mh_plan.specs.declared.call.Call.{Call}
 use Rattle.mh_plan.specs.Forms.{thread_edits}
 use Rattle.mh_plan.specs.Limits.{IsWithinLimits}
+use Rattle.mh_plan.specs.Types.{thread_types}
 use Rattle.mh_plan.specs.Results.{AreCallsOf, Serials, keys_said, results_of, results_said}
 use Rattle.mh_runtime.specs.declared.joining.Full.{Full}
 use Rattle.mh_runtime.specs.declared.joining.Full.TheVariants as full
 use Rattle.mh_runtime.specs.declared.joining.Joined.{Joined}
 use Rattle.mh_runtime.specs.declared.lane.Lane.{Lane}
-use Rattle.mh_runtime.specs.Asking.{run_edits}
+use Rattle.mh_runtime.specs.Asking.{WasAsked, run_edits, run_types}
 use Rattle.mh_runtime.specs.Joined.{AreDone, AreFormsJoined, AreJoined, AreUsed, edits_of}
 use Rattle.mh_runtime.specs.Keys.{plan_keys}
 use Rattle.mh_runtime.specs.Lanes.{CanRun, Tables, passes_of}
@@ -92,6 +96,7 @@ pub record Adds {J : Type 0} (old : Joined J) (lane : Lane J) (new : Joined J) :
   pub forms_seat_is : new.forms.seat ≡ forms_seat.joined_seats old.forms.seat lane.forms.seat
   pub forms_known : forms_seat.KnowsAll new.forms.seat
   pub types : new.types ≡ types_seat.joined_seats old.types lane.types
+  pub types_known : Knows new.types
   pub full : Option Full
   pub ended : EndedWith lane old.threads new.threads full
   pub full_is : new.full ≡ option_or old.full full
@@ -99,6 +104,10 @@ pub record Adds {J : Type 0} (old : Joined J) (lane : Lane J) (new : Joined J) :
 -- the recipes of the forms that lanes have asked for, one lane after the other
 abbrev pub lanes_edits : {J : Type 0} → Given → List (Lane J) → List (List Key)
 lanes_edits given lanes = flat_map (λ lane. run_edits given lane.links.attempts (thread_edits given.leaves lane.calls.now)) lanes
+
+-- the types that lanes have asked for, one lane after the other
+abbrev pub lanes_types : {J : Type 0} → Given → List (Lane J) → List MethodTy
+lanes_types given lanes = flat_map (λ lane. run_types given lane.links.attempts (thread_types given.leaves lane.calls.now)) lanes
 
 -- what is known by whether a lane has stopped, and for which table
 abbrev pub EndsSoFar : {J : Type 0} → Given → List (Lane J) → Joined J → Option Full → Type 0
@@ -108,7 +117,7 @@ EndsSoFar given lanes joined None =
     × ((table : Serials) → HasSerials joined.links.linked table → results_said joined.threads ≡ results_of given table (calls_of lanes))
     × ((table : Serials) → HasSerials joined.links.linked table → keys_said joined.threads ≡ plan_keys given table (calls_of lanes))
 EndsSoFar given lanes joined (Some (full.Forms drawn)) = IsOver drawn joined.forms
-EndsSoFar given lanes joined (Some (full.Types bucket)) = Unit {0}
+EndsSoFar given lanes joined (Some (full.Types bucket)) = HasNoSlot bucket joined.types × Knows joined.types
 
 -- these lanes of so many were joined
 pub record AreJoinedSoFar {J : Type 0} (given : Given) (linker : LinkerView) (tables : Tables) (count : ℕ) (lanes : List (Lane J)) (joined : Joined J)
@@ -127,6 +136,7 @@ pub record AreJoinedSoFar {J : Type 0} (given : Given) (linker : LinkerView) (ta
   pub forms_known : forms_seat.KnowsAll joined.forms.seat
   pub types_room : joined.types.room + length joined.types.holds + split_room * count ≡ limit + split_room * length lanes
   pub types_held : HoldsJust given joined.links.recorded joined.types
+  pub types_asked : WasAsked (lanes_types given lanes) joined.types
   pub ends : EndsSoFar given lanes joined joined.full
 
 -- these lanes were joined of those that were forked off for the threads

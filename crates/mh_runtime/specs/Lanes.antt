@@ -6,19 +6,21 @@ use Rattle.mh_handle.specs.Joins as forms
 use Rattle.mh_handle.specs.Passes.{PassView, TableView}
 use Rattle.mh_handle.specs.Seats as forms_seat
 use Rattle.mh_intern.specs.Views as types_seat
-use Rattle.mh_intern.specs.Views.{TypesId}
+use Rattle.mh_intern.specs.Views.{SeatView, TypesId}
 use Rattle.mh_tickets.specs.Seats.{new_seat}
 use Rattle.mh_jobs.specs.Given.{Given}
 use Rattle.mh_attempt.specs.declared.error.WorkError.{WorkError}
 use Rattle.mh_attempt.specs.declared.error.WorkError.TheVariants.{NoMemory, FormsFull, TypesFull}
 use Rattle.mh_attempt.specs.Asked.{HasDrawn, IsOver}
+use Rattle.mh_attempt.specs.AskedTypes.{HasNoSlot}
 use Rattle.mh_plan.specs.declared.call.Call.{Call}
 use Rattle.mh_plan.specs.Forms.{thread_edits}
 use Rattle.mh_plan.specs.Plan.{most_calls}
 use Rattle.mh_plan.specs.Naming.{sites_named}
+use Rattle.mh_plan.specs.Types.{thread_types}
 use Rattle.mh_plan.specs.Results.{IsCallOf, Serials, thread_keys_said, thread_results, thread_said}
 use Rattle.mh_runtime.specs.declared.lane.Lane.{Lane}
-use Rattle.mh_runtime.specs.Asking.{run_edits}
+use Rattle.mh_runtime.specs.Asking.{WasAsked, run_edits, run_types}
 use Rattle.mh_runtime.specs.Attempts.{IsThreadRun}
 use Rattle.mh_runtime.specs.Joined.{IsDoneBy, ThreadPasses}
 use Rattle.mh_runtime.specs.Keys.{thread_keys}
@@ -30,6 +32,7 @@ pub record Tables : Type 0 where
   pub forms : TableView
   pub types : TypesId
 
+-- these two
 abbrev pub tables_at : TableView → TypesId → Tables
 tables_at forms types = record { forms = forms; types = types }
 
@@ -77,6 +80,14 @@ EndsAs given calls passes (Some (Err (FormsFull drawn))) = DrawsFew given calls 
 EndsAs given calls passes (Some (Err (TypesFull bucket))) = DrawsFew given calls passes
 EndsAs given calls passes (Some (Err NoMemory)) = Unit {0}
 
+-- where the calls have stopped for want of a slot, a type that the seat was asked for has none
+abbrev pub EndsWithoutSlot : Option (Result (List Answer) WorkError) → SeatView → Type 0
+EndsWithoutSlot (Some (Err (TypesFull bucket))) seat = HasNoSlot bucket seat
+EndsWithoutSlot (Some (Err (FormsFull drawn))) seat = Unit {0}
+EndsWithoutSlot (Some (Err NoMemory)) seat = Unit {0}
+EndsWithoutSlot (Some (Ok answers)) seat = Unit {0}
+EndsWithoutSlot None seat = Unit {0}
+
 -- a lane that has run the calls of a thread
 pub record HasRun {J : Type 0} (given : Given) (linker : LinkerView) (tables : Tables) (thread : ℕ) (calls : List Call) (lane : Lane J) : Type 0 where
   pub linker_is : lane.links.linker ≡ linker
@@ -87,4 +98,6 @@ pub record HasRun {J : Type 0} (given : Given) (linker : LinkerView) (tables : T
   pub whole : lane.links.seat.room + length lane.links.seat.numbers ≡ split_room
   pub types_whole : lane.types.room + length lane.types.holds ≡ split_room
   pub types_held : HoldsJust given lane.links.recorded lane.types
+  pub types_asked : WasAsked (run_types given lane.links.attempts (thread_types given.leaves calls)) lane.types
+  pub no_slot : EndsWithoutSlot lane.ran lane.types
   pub ends : EndsAs given calls (passes_of lane) lane.ran

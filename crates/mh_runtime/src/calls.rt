@@ -7,12 +7,15 @@ ghost use Rattle.mh_handle.specs.Recipe.{recipe};
 ghost use Rattle.mh_handle.specs.Works.{GoesOn, IsReady, StandsIn, classes_of, leaves_of};
 ghost use Rattle.mh_astype.specs.Calls.{exact_keys, generic_keys};
 ghost use Rattle.mh_attempt.specs.Asked.{Asks};
+ghost use Rattle.mh_attempt.specs.AskedTypes.{AsksTypes};
 ghost use Rattle.mh_attempt.specs.Several.{AddsTypes};
+ghost use Rattle.mh_link.specs.Made.{types_of};
 ghost use Rattle.mh_plan.specs.Forms.{used_edits, call_edits};
 ghost use Rattle.mh_plan.specs.Naming.{sites_named};
+ghost use Rattle.mh_plan.specs.Types.{call_types};
 ghost use Rattle.mh_plan.specs.Results.{IsCallOf, Serials, result_of};
 ghost use Rattle.mh_jobs.specs.Jobs.{params_at};
-ghost use Rattle.mh_runtime.specs.Asking.{RunsOn, call_draws};
+ghost use Rattle.mh_runtime.specs.Asking.{RunsOn, RunsOnTypes, call_draws};
 ghost use Rattle.mh_runtime.specs.Attempts.{AreLinked, AttemptsMore, GoesOnLinking};
 ghost use Rattle.mh_runtime.specs.Keys.{IsAnswerOf, keys_of};
 ghost use Rattle.mh_runtime.specs.Linking.{KeepsOthers, KeepsTypes};
@@ -42,6 +45,7 @@ fn leaf_handle<'t, R: Wait>(
     ensures types { AddsTypes w.old w.new result }
     ensures stands { IfOk result (λ h. StandsIn w.old h (tree.Leaf id)) }
     ensures asks { Asks (recipe (leaves_of w.old) (tree.Leaf id) ∷ []) w.old w.new result }
+    ensures asked { AsksTypes (types_of (leaves_of w.old) (tree.Leaf id ∷ [])) w.old w.new result }
 {
     match leaf(w, rt, id) {
         Ok(handle) => Ok(handle),
@@ -70,6 +74,7 @@ fn call_exact<'t, R: Wait>(
         (IsAnswer (exact (leaves_of w.old) (tree.Leaf id) ty.now args.now 0)
         (exact_keys (leaves_of w.old) (tree.Leaf id) ty.now)) }
     ensures asks { Asks (recipe (leaves_of w.old) (tree.Leaf id) ∷ []) w.old w.new result }
+    ensures asked { AsksTypes (types_of (leaves_of w.old) (tree.Leaf id ∷ [])) w.old w.new result }
 {
     let handle = leaf_handle(w, rt, id)?;
     let answer = invoke_exact_with(m, &handle, w.leaves, ty, args, 0);
@@ -96,6 +101,7 @@ fn call_generic<'t, R: Wait>(
         (generic_keys (leaves_of w.old) (tree.Leaf id) ty.now)) }
     ensures asks { Asks (recipe (leaves_of w.old) (tree.Leaf id)
         ∷ used_edits (leaves_of w.old) (tree.Leaf id) ty.now) w.old w.new result }
+    ensures asked { AsksTypes (types_of (leaves_of w.old) (tree.Leaf id ∷ [])) w.old w.new result }
 {
     let handle = leaf_handle(w, rt, id)?;
     let answer = invoke_generic_with(m, w, rt, &handle, ty, args, 0);
@@ -127,6 +133,8 @@ impl<'s, 't, J: Run, G: Gate> Context<'s, 't, J, G> {
         ensures types { KeepsOthers J.given pass.old.recorded pass.new.recorded w.old w.new }
         ensures runs { RunsOn J.given pass.old.attempts pass.new.attempts []
             w.old.pass.now w.new.pass.now result }
+        ensures asked { RunsOnTypes J.given pass.old.attempts pass.new.attempts
+            [] w.old.seat.now w.new.seat.now result }
     {
         let linkage = self.linker.resolve(w, rt, pass, self.gate, site)?;
         Ok(linkage.call_with(m, w.leaves, args)?)
@@ -161,6 +169,8 @@ impl<'s, 't, J: Run, G: Gate> Context<'s, 't, J, G> {
             (IsAnswer (result_of J.given table call.now) (keys_of J.given table call.now)) }
         ensures runs { RunsOn J.given pass.old.attempts pass.new.attempts
             (call_edits J.given.leaves call.now) w.old.pass.now w.new.pass.now result }
+        ensures asked { RunsOnTypes J.given pass.old.attempts pass.new.attempts
+            (call_types J.given.leaves call.now) w.old.seat.now w.new.seat.now result }
     {
         match call {
             Call::Exact(id, ty, args) => call_exact(m, w, rt, *id, ty, args),

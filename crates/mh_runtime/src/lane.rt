@@ -2,8 +2,9 @@ ghost use Rattle.std.specs.Prelude.{◌≡◌, ◌+◌, ◌<◌, ◌≤◌, All,
 ghost use Rattle.mh_handle.specs.Works.{GoesOn, IsReady, leaves_of};
 ghost use Rattle.mh_plan.specs.Forms.{thread_edits};
 ghost use Rattle.mh_plan.specs.Naming.{sites_named};
+ghost use Rattle.mh_plan.specs.Types.{thread_types};
 ghost use Rattle.mh_plan.specs.Results.{IsCallOf, Serials, thread_keys_said, thread_results, thread_said};
-ghost use Rattle.mh_runtime.specs.Asking.{RunsOn, thread_draws};
+ghost use Rattle.mh_runtime.specs.Asking.{RunsOn, RunsOnTypes, thread_draws};
 ghost use Rattle.mh_runtime.specs.Attempts.{AreLinked, AttemptsMore, GoesOnLinking};
 ghost use Rattle.mh_runtime.specs.Keys.{thread_keys};
 ghost use Rattle.mh_runtime.specs.Lanes.{CanRun, HasRun, tables_at};
@@ -60,6 +61,8 @@ impl<'s, 't, J: Run, G: Gate> Context<'s, 't, J, G> {
             (λ answers. thread_keys_said answers ≡ thread_keys J.given table calls.now) }
         ensures runs { RunsOn J.given pass.old.attempts pass.new.attempts
             (thread_edits J.given.leaves calls.now) w.old.pass.now w.new.pass.now result }
+        ensures asked { RunsOnTypes J.given pass.old.attempts pass.new.attempts
+            (thread_types J.given.leaves calls.now) w.old.seat.now w.new.seat.now result }
     {
         let mut m = Machine::new(w.alloc);
         let mut answers = Seq::new(w.alloc);

@@ -4,7 +4,7 @@ ghost use Rattle.mh_tickets.specs.Seats.{new_seat};
 ghost use Rattle.mh_seats.specs.Room.{limit};
 ghost use Rattle.mh_jobs.specs.Given.{AreJobs};
 ghost use Rattle.mh_plan.specs.Results.{serial_at};
-ghost use Rattle.mh_runtime.specs.Asking.{RunsOn};
+ghost use Rattle.mh_runtime.specs.Asking.{RunsOn, RunsOnTypes};
 ghost use Rattle.mh_runtime.specs.Attempts.{AttemptsMore, GoesOnLinking};
 ghost use Rattle.mh_runtime.specs.Linking.{KeepsOthers};
 ghost use Rattle.mh_runtime.specs.Passes.{IsLinkageOf, most_sites};
@@ -127,6 +127,8 @@ impl<'t, J: Run> Linker<'t, J> {
         ensures types { KeepsOthers J.given pass.old.recorded pass.new.recorded w.old w.new }
         ensures runs { RunsOn J.given pass.old.attempts pass.new.attempts []
             w.old.pass.now w.new.pass.now result }
+        ensures asked { RunsOnTypes J.given pass.old.attempts pass.new.attempts
+            [] w.old.seat.now w.new.seat.now result }
     {
         let serial = pass.begin(self, site)?;
         let linkage = attempt(w, rt, self.scripts, self.jobs.get(site), serial)?;
@@ -161,6 +163,8 @@ impl<'t, J: Run> Linker<'t, J> {
         ensures types { KeepsOthers J.given pass.old.recorded pass.new.recorded w.old w.new }
         ensures runs { RunsOn J.given pass.old.attempts pass.new.attempts []
             w.old.pass.now w.new.pass.now result }
+        ensures asked { RunsOnTypes J.given pass.old.attempts pass.new.attempts
+            [] w.old.seat.now w.new.seat.now result }
     {
         if let Some(found) = pass.find(self, site)? {
             return Ok(found);

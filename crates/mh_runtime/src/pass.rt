@@ -1,6 +1,7 @@
-ghost use Rattle.std.specs.Prelude.{◌≡◌, ◌+◌, ◌^◌, ◌<◌, ◌≤◌, length, All, Contains, IfOk, OnOk, OnErr, None};
+ghost use Rattle.std.specs.Prelude.{◌≡◌, ◌+◌, ◌^◌, ◌<◌, ◌≤◌, [], length, All, Contains, IfOk, OnOk, OnErr, None};
 ghost use Rattle.mh_tickets.specs.Seats.{KnowsAll, joined_seats, with_less_room};
 ghost use Rattle.mh_handle.specs.Works.{HoldsTypes, IsUnchanged};
+ghost use Rattle.mh_attempt.specs.AskedTypes.{AsksNoOther};
 ghost use Rattle.mh_plan.specs.Results.{serial_at};
 ghost use Rattle.mh_runtime.specs.Linking.{Records};
 ghost use Rattle.mh_runtime.specs.Passes.{Begins, FindsLinkage, HasBoth, IsLinkageOf, IsRecorded, LearnsSites, RecordsAtMost, attempt_of, pass_at, split_pass, split_room, with_seat};
@@ -221,6 +222,7 @@ impl<'s, 't, J: Run> Pass<'s, 't, J> {
         ensures unchanged { IsUnchanged w.old w.new }
         ensures types { Records J.given linkage.entry self.old.recorded self.new.recorded
             w.old.seat.now w.new.seat.now }
+        ensures asked { AsksNoOther [] w.old.seat.now w.new.seat.now }
     {
         if self.recorded.reserve(1).is_err() {
             linkage.give_back(w);

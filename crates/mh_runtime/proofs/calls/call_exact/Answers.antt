@@ -6,8 +6,11 @@ use Rattle.mh_tree.specs.Tree as tree
 use Rattle.mh_handle.specs.Answers.{IsAnswer}
 use Rattle.mh_handle.specs.Recipe.{recipe}
 use Rattle.mh_astype.specs.Calls.{exact_keys}
+use Rattle.mh_link.specs.Made.{types_of}
 use Rattle.mh_attempt.proofs.Adding.{holds-came}
 use Rattle.mh_runtime.proofs.Calling.{asks-back, moved}
+use Rattle.mh_runtime.proofs.LeafTypes.{memory-asks}
+use Rattle.mh_runtime.proofs.SeatAsked.{asks-still}
 use Rattle.mh_runtime.proofs.SeatTypes.{keeps-adds, keeps-back}
 use Rattle.mh_runtime.proofs.calls.call_exact.Goals as goal
 
@@ -37,3 +40,15 @@ returns-in_err-answer-clause-types g c =
 pub returns-clause-types : goal.returns-clause-types
 returns-clause-types g c =
     keeps-back c.in_ok-handle.handle.held c.args.w.now c.leaf_handle.new.w c.give_back.new.w c.in_ok-handle.ensures.types c.give_back.ensures.types
+
+pub returns-in_err-answer-clause-asked : goal.returns-in_err-answer-clause-asked
+returns-in_err-answer-clause-asked g c =
+    memory-asks (types_of c.args.w.now.leaves.now (tree.Leaf c.args.id ∷ [])) c.args.w.now c.give_back.new.w c.from_residual-in_err-answer.result
+    c.from_residual-in_err-answer.ensures.1
+    (asks-still (types_of c.args.w.now.leaves.now (tree.Leaf c.args.id ∷ [])) c.args.w.now.seat.now c.leaf_handle.new.w.seat.now c.give_back.new.w.seat.now
+    c.in_ok-handle.ensures.asked c.give_back.ensures.types.asked)
+
+pub returns-clause-asked : goal.returns-clause-asked
+returns-clause-asked g c =
+    asks-still (types_of c.args.w.now.leaves.now (tree.Leaf c.args.id ∷ [])) c.args.w.now.seat.now c.leaf_handle.new.w.seat.now c.give_back.new.w.seat.now
+    c.in_ok-handle.ensures.asked c.give_back.ensures.types.asked

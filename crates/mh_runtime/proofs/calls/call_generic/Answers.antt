@@ -10,10 +10,14 @@ use Rattle.mh_handle.specs.declared.answer.Answer.{Answer}
 use Rattle.mh_handle.proofs.Going.{goes_on-before, goes_on-both, seated-back}
 use Rattle.mh_intern.specs.Exchanges.{Exchanges}
 use Rattle.mh_branch.proofs.Trading.{held-same}
+use Rattle.mh_link.specs.Made.{types_of}
 use Rattle.mh_attempt.proofs.Adding.{holds-came}
+use Rattle.mh_attempt.specs.AskedTypes.{AsksNoOther}
 use Rattle.mh_astype.specs.Calls.{generic_keys}
 use Rattle.mh_plan.specs.Forms.{used_edits}
 use Rattle.mh_runtime.proofs.Calling.{asks-generic, asks-handed, moved, stopped-early}
+use Rattle.mh_runtime.proofs.LeafTypes.{edit-asks}
+use Rattle.mh_runtime.proofs.SeatAsked.{asks-still}
 use Rattle.mh_runtime.proofs.SeatTypes.{keeps-adds, keeps-back}
 use Rattle.mh_runtime.proofs.calls.call_generic.Goals as goal
 
@@ -66,6 +70,20 @@ pub returns-clause-types : goal.returns-clause-types
 returns-clause-types g c =
     keeps-back c.in_ok-handle.handle.held c.args.w.now c.leaf_handle.new.w c.give_back.new.w c.in_ok-handle.ensures.types
     (subst (λ s. Exchanges [] c.in_ok-handle.handle.held [] s c.give_back.new.w.seat.now) c.invoke_generic_with-answer.ensures.seat c.give_back.ensures.types)
+
+pub returns-in_err-answer-clause-asked : goal.returns-in_err-answer-clause-asked
+returns-in_err-answer-clause-asked g c =
+    edit-asks (types_of c.args.w.now.leaves.now (tree.Leaf c.args.id ∷ [])) c.args.w.now c.give_back.new.w c.in_err-answer.field-0.0
+    c.from_residual-in_err-answer.result c.from_residual-in_err-answer.ensures.1
+    (asks-still (types_of c.args.w.now.leaves.now (tree.Leaf c.args.id ∷ [])) c.args.w.now.seat.now c.leaf_handle.new.w.seat.now c.give_back.new.w.seat.now
+    c.in_ok-handle.ensures.asked
+    (subst (λ s. AsksNoOther [] s c.give_back.new.w.seat.now) c.invoke_generic_with-answer.ensures.seat c.give_back.ensures.types.asked))
+
+pub returns-clause-asked : goal.returns-clause-asked
+returns-clause-asked g c =
+    asks-still (types_of c.args.w.now.leaves.now (tree.Leaf c.args.id ∷ [])) c.args.w.now.seat.now c.leaf_handle.new.w.seat.now c.give_back.new.w.seat.now
+    c.in_ok-handle.ensures.asked
+    (subst (λ s. AsksNoOther [] s c.give_back.new.w.seat.now) c.invoke_generic_with-answer.ensures.seat c.give_back.ensures.types.asked)
 
 -- ---- the work
 

@@ -2,7 +2,7 @@ use Rattle.std.proofs.Common.{subst, rules, List}
 use Rattle.std.specs.List.Sorted.{IsPermutation}
 use Rattle.mh_plan.specs.declared.attempt.Attempt.{Attempt}
 use Rattle.mh_runtime.specs.Lanes.{tables_at}
-use Rattle.mh_runtime.proofs.Reports.{full-run, report-of}
+use Rattle.mh_runtime.proofs.Reports.{full-run, no-slot-run, report-of}
 use Rattle.mh_runtime.proofs.running.report.Goals as goal
 
 pub returns-in-Some-Forms-clause-full : goal.returns-in-Some-Forms-clause-full
@@ -10,6 +10,12 @@ returns-in-Some-Forms-clause-full g c =
     full-run g.J.Run.given c.args.context.now.linker.now (tables_at c.args.context.now.forms.now c.args.context.now.types.now) c.args.context.now.plan.now
     c.args.joined c.requires.joined
     c.in-Some-Forms.drawn (search rules)
+
+pub returns-in-Some-Types-clause-no_slot : goal.returns-in-Some-Types-clause-no_slot
+returns-in-Some-Types-clause-no_slot g c =
+    no-slot-run g.J.Run.given c.args.context.now.linker.now (tables_at c.args.context.now.forms.now c.args.context.now.types.now) c.args.context.now.plan.now
+    c.args.joined c.requires.joined
+    c.in-Some-Types.bucket (search rules)
 
 pub returns-clause-run : goal.returns-clause-run
 returns-clause-run g c =

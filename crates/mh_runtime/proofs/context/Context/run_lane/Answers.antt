@@ -21,4 +21,4 @@ returns-clause-ran g c =
       results = c.run_thread-ran.ensures.results;
       keys = c.run_thread-ran.ensures.keys;
     })
-    c.run_thread-ran.ensures.runs
+    c.run_thread-ran.ensures.runs c.run_thread-ran.ensures.asked

@@ -1,19 +1,24 @@
-use Rattle.std.proofs.Common.{sym, ◌∙◌, ap, subst, ◌+◌, ◌++◌, take, drop}
+use Rattle.std.proofs.Common.{sym, ◌∙◌, ap, subst, ◌+◌, ◌++◌, refl, take, drop, rules}
+use Rattle.std.specs.Prelude.{IsSome}
 use Rattle.std.specs.List.{flat_map}
+use Rattle.std.proofs.lemmas.List.Elements.{All-nil}
 use Rattle.mh_handle.specs.Answers.{AnswerView, IsAnswer}
+use Rattle.mh_handle.specs.declared.answer.Answer.{Answer}
 use Rattle.mh_plan.specs.Forms.{call_edits, thread_edits}
 use Rattle.mh_plan.specs.Naming.{sites_named}
-use Rattle.mh_plan.specs.Results.{Serials, result_of, result_said}
-use Rattle.mh_runtime.specs.Asking.{HasRunOn, RunStops, call_draws, thread_draws}
+use Rattle.mh_plan.specs.Results.{Serials, result_of, result_said, serial_at}
+use Rattle.mh_plan.specs.Types.{call_types, thread_types}
+use Rattle.mh_runtime.specs.Asking.{HasAskedOn, HasRunOn, RunStops, RunsOnTypes, call_draws, thread_draws}
 use Rattle.mh_runtime.specs.Attempts.{AreLinked, AttemptsMore}
 use Rattle.mh_runtime.specs.Keys.{keys_of}
 use Rattle.mh_runtime.specs.Passes.{HasSerials}
 use Rattle.mh_runtime.proofs.Repeating.{told-next}
 use Rattle.mh_runtime.proofs.Room.{calls-draw, goes-next}
-use Rattle.mh_runtime.proofs.RunSteps.{runs-both, stops-run, stops-second}
+use Rattle.mh_runtime.proofs.RunSteps.{runs-both, runs-none, stops-run, stops-second}
 use Rattle.mh_runtime.proofs.Items.{flat-all, flat-next, flat-whole}
-use Rattle.mh_runtime.proofs.ThreadSteps.{attempts-both, attempts-early, linked-both, links-both, serials-both}
-use Rattle.mh_runtime.proofs.SeatTypes.{keeps-both}
+use Rattle.mh_runtime.proofs.ThreadSteps.{attempts-both, attempts-early, attempts-none, linked-both, links-both, links-none, serials-both}
+use Rattle.mh_runtime.proofs.SeatAsked.{memory-on, on-both, on-early, on-none, second-stops}
+use Rattle.mh_runtime.proofs.SeatTypes.{keeps-both, keeps-recorded, keeps-still}
 use Rattle.mh_runtime.proofs.context.Context.run_thread.Goals as goal
 
 pub returns-in_err-call-clause-runs : goal.returns-in_err-call-clause-runs
@@ -53,6 +58,24 @@ returns-in_err-push-clause-attempts g c =
     (attempts-both (flat_map sites_named (take i items)) (sites_named c.next-item.result) c.args.pass.now c.loop-next.pass c.call.new.pass
     c.loop-next.invariant.pass.linked c.loop-next.invariant.linked c.loop-next.invariant.attempts c.call.ensures.attempts))
 
+-- no call was made yet
+pub loop-next-init : goal.loop-next-init
+loop-next-init g c =
+    let given = g.J.Run.given in
+    let w = c.args.w.now in
+    let pass = c.args.pass.now in
+    record {
+      goes_on = search rules;
+      pass = links-none pass 0;
+      attempts = attempts-none pass;
+      linked = All-nil (λ site. IsSome (serial_at pass.linked site));
+      types = keeps-recorded given pass.recorded w w (keeps-still w w refl);
+      results = λ table has. search rules;
+      keys = λ table has. search rules;
+      runs = runs-none given pass.attempts w.pass.now;
+      asked = on-none given pass.attempts w.seat.now;
+    }
+
 pub loop-next-preserved : goal.loop-next-preserved
 loop-next-preserved g c =
     let given = g.J.Run.given in
@@ -88,6 +111,10 @@ loop-next-preserved g c =
           (sym (flat-next (call_edits given.leaves) items i call within is))
           (runs-both given (flat_map (call_edits given.leaves) (take i items)) (call_edits given.leaves call) start.attempts mid.attempts end.attempts
           c.args.w.now.pass.now c.loop-next.w.pass.now c.call.new.w.pass.now c.loop-next.invariant.runs c.in_ok-call.ensures.runs);
+      asked = subst (λ ts. HasAskedOn given start.attempts end.attempts ts c.args.w.now.seat.now c.call.new.w.seat.now)
+          (sym (flat-next (call_types given.leaves) items i call within is))
+          (on-both given (flat_map (call_types given.leaves) (take i items)) (call_types given.leaves call) start.attempts mid.attempts end.attempts
+          c.args.w.now.seat.now c.loop-next.w.seat.now c.call.new.w.seat.now c.loop-next.invariant.asked c.in_ok-call.ensures.asked);
     }
 
 pub returns-clause-runs : goal.returns-clause-runs
@@ -106,3 +133,39 @@ pub returns-in_err-push-clause-types : goal.returns-in_err-push-clause-types
 returns-in_err-push-clause-types g c =
     keeps-both g.J.Run.given c.args.pass.now.recorded c.loop-next.pass.recorded c.call.new.pass.recorded c.args.w.now c.loop-next.w c.call.new.w
     c.loop-next.invariant.types c.call.ensures.types
+
+-- ---- which types were asked for
+
+pub returns-in_err-call-clause-asked : goal.returns-in_err-call-clause-asked
+returns-in_err-call-clause-asked g c =
+    let given = g.J.Run.given in
+    let types = call_types given.leaves in
+    let items = c.as_slice-next-items.result.now in
+    let i = c.loop-next.next-index in
+    subst (λ ts. RunsOnTypes given c.args.pass.now.attempts c.call.new.pass.attempts ts c.args.w.now.seat.now c.call.new.w.seat.now c.from_residual.result)
+    (sym (flat-whole types items i c.next-item.result c.loop-next-test.true c.next-item.is) ∙ ap (flat_map types) c.as_slice-next-items.ensures)
+    (second-stops given (flat_map types (take i items)) (types c.next-item.result) (flat_map types (drop (i + 1) items)) c.args.pass.now.attempts
+    c.loop-next.pass.attempts c.call.new.pass.attempts c.args.w.now.seat.now c.loop-next.w.seat.now c.call.new.w.seat.now Answer
+    c.in_err-call.field-0.0 c.from_residual.result c.from_residual.ensures.1 c.loop-next.invariant.asked c.in_err-call.ensures.asked)
+
+pub returns-in_err-push-clause-asked : goal.returns-in_err-push-clause-asked
+returns-in_err-push-clause-asked g c =
+    let given = g.J.Run.given in
+    let types = call_types given.leaves in
+    let items = c.as_slice-next-items.result.now in
+    let i = c.loop-next.next-index in
+    memory-on given c.args.pass.now.attempts c.call.new.pass.attempts (thread_types given.leaves c.args.calls.now) c.args.w.now.seat.now
+    c.call.new.w.seat.now c.from_residual-in_err-push.result c.from_residual-in_err-push.ensures.1
+    (subst (λ ts. HasAskedOn given c.args.pass.now.attempts c.call.new.pass.attempts ts c.args.w.now.seat.now c.call.new.w.seat.now)
+    (sym (flat-whole types items i c.next-item.result c.loop-next-test.true c.next-item.is) ∙ ap (flat_map types) c.as_slice-next-items.ensures)
+    (on-early given (flat_map types (take i items) ++ types c.next-item.result) (flat_map types (drop (i + 1) items)) c.args.pass.now.attempts
+    c.call.new.pass.attempts c.args.w.now.seat.now c.call.new.w.seat.now
+    (on-both given (flat_map types (take i items)) (types c.next-item.result) c.args.pass.now.attempts c.loop-next.pass.attempts c.call.new.pass.attempts
+    c.args.w.now.seat.now c.loop-next.w.seat.now c.call.new.w.seat.now c.loop-next.invariant.asked c.in_ok-call.ensures.asked)))
+
+pub returns-clause-asked : goal.returns-clause-asked
+returns-clause-asked g c =
+    subst (λ ts. HasAskedOn g.J.Run.given c.args.pass.now.attempts c.loop-next.pass.attempts ts c.args.w.now.seat.now c.loop-next.w.seat.now)
+    (flat-all (call_types g.J.Run.given.leaves) c.as_slice-next-items.result.now c.args.calls.now c.loop-next.next-index c.loop-next-test.false
+    c.as_slice-next-items.ensures)
+    c.loop-next.invariant.asked

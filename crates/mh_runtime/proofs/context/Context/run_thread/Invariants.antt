@@ -4,7 +4,8 @@ use Rattle.mh_handle.specs.Works.{GoesOn}
 use Rattle.mh_plan.specs.Forms.{call_edits}
 use Rattle.mh_plan.specs.Naming.{sites_named}
 use Rattle.mh_plan.specs.Results.{Serials, thread_said, thread_results, thread_keys_said}
-use Rattle.mh_runtime.specs.Asking.{HasRunOn, thread_draws}
+use Rattle.mh_plan.specs.Types.{call_types}
+use Rattle.mh_runtime.specs.Asking.{HasAskedOn, HasRunOn, thread_draws}
 use Rattle.mh_runtime.specs.Attempts.{AreLinked, AttemptsMore, GoesOnLinking}
 use Rattle.mh_runtime.specs.Keys.{thread_keys}
 use Rattle.mh_runtime.specs.Linking.{KeepsOthers}
@@ -24,4 +25,6 @@ invariant-loop-next g l = record {
       thread_keys_said l.answers ≡ thread_keys g.J.Run.given table (take l.next-index l.next-items);
   runs : HasRunOn g.J.Run.given l.initial.pass.attempts l.pass.attempts (flat_map (call_edits g.J.Run.given.leaves) (take l.next-index l.next-items))
       l.initial.w.pass.now l.w.pass.now;
+  asked : HasAskedOn g.J.Run.given l.initial.pass.attempts l.pass.attempts (flat_map (call_types g.J.Run.given.leaves) (take l.next-index l.next-items))
+      l.initial.w.seat.now l.w.seat.now;
 }

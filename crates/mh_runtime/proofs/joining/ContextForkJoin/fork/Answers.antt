@@ -1,4 +1,4 @@
-use Rattle.std.proofs.Common.{◌≡◌, refl, sym, ◌∙◌, ap, subst, IfOk}
+use Rattle.std.proofs.Common.{◌≡◌, sym, ◌∙◌, ap, subst, IfOk}
 use Rattle.std.specs.Prelude.{slice_get}
 use Rattle.mh_runtime.specs.Joining.{IsFreshFor}
 use Rattle.mh_runtime.specs.Lanes.{tables_at}

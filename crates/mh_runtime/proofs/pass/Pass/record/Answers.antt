@@ -2,6 +2,7 @@ use Rattle.std.proofs.Common.{◌≡◌, ◌∙◌, ap, ap₂, refl, [], ◌∷�
 use Rattle.mh_plan.specs.declared.attempt.Attempt.{Attempt}
 use Rattle.mh_runtime.specs.Passes.{attempt_of}
 use Rattle.mh_runtime.proofs.LinkPasses.{pass-learns, pass-puts}
+use Rattle.mh_runtime.proofs.SeatAsked.{asks-same}
 use Rattle.mh_runtime.proofs.SeatTypes.{handed-back, records-one}
 use Rattle.mh_runtime.proofs.pass.Pass.record.Given as given
 use Rattle.mh_runtime.proofs.pass.Pass.record.Goals as goal
@@ -89,3 +90,17 @@ pub returns-in-Err-clause-types : goal.returns-in-Err-clause-types
 returns-in-Err-clause-types g c =
     handed-back g.J.Run.given c.args.linkage c.in-Err.lost c.args.self.now.recorded c.reserve.new.self.items c.args.w.now.seat.now
     c.give_back-in-Err.new.w.seat.now (rw (← c.self.view_is) c.reserve.ensures.items) c.in-Err.ensures.put c.give_back-in-Err.ensures.types
+
+-- ---- the seat is asked for nothing
+
+pub returns-then-is_err-clause-asked : goal.returns-then-is_err-clause-asked
+returns-then-is_err-clause-asked g c = c.give_back.ensures.types.asked
+
+pub returns-in-Ok-Theirs-clause-asked : goal.returns-in-Ok-Theirs-clause-asked
+returns-in-Ok-Theirs-clause-asked g c = c.give_back-in-Ok-Theirs.ensures.types.asked
+
+pub returns-in-Err-clause-asked : goal.returns-in-Err-clause-asked
+returns-in-Err-clause-asked g c = c.give_back-in-Err.ensures.types.asked
+
+pub returns-in-Ok-Mine-clause-asked : goal.returns-in-Ok-Mine-clause-asked
+returns-in-Ok-Mine-clause-asked g c = asks-same c.args.w.now.seat.now c.args.w.now.seat.now refl
