@@ -1,5 +1,5 @@
 -- What the program's clauses say where a program was run, and where the reading stopped.
-use Rattle.std.proofs.Common.{◌≡◌, ◌≢◌, ◌∙◌, refl, sym, ℕ, List, Option, Some, arith}
+use Rattle.std.proofs.Common.{◌≡◌, ◌≢◌, ◌∙◌, sym, ℕ, List, Option, Some, arith}
 use Rattle.std.specs.Io.KnownBytes.{Appends}
 use Rattle.mh_outside.specs.Causes.{AppendsPart, AreSame, IsStill, Rose}
 use Rattle.mh_outside.specs.Told.{Told}
@@ -7,8 +7,8 @@ use Rattle.mh_words.specs.Words.{Command, command_of}
 use Rattle.mh_main.specs.declared.answer.TopAnswer.{TopAnswer}
 use Rattle.mh_main.specs.declared.program.Program.{Program}
 use Rattle.mh_main.specs.declared.stop.Stop.{Stop}
-use Rattle.mh_main.specs.Due.{AnswersCalls, AreAnswers, AreAnswersOf, FailsToRead, FillsForms, FillsTypes, types_line, IsProgram, IsDue, IsDueOf, IsFullOf, IsIdle, IsOutputOf, IsReportOf, NeedsManyForms, RefusesInput, Reports, Writes, WritesPart}
-use Rattle.mh_main.specs.Input.{AreAccepted, FitsForms, IfAccepted, IsMissing, IsRefused, command_input, input, program}
+use Rattle.mh_main.specs.Due.{AnswersCalls, AreAnswers, AreAnswersOf, FailsToRead, FillsForms, FillsTypes, IsDue, IsDueOf, IsFullOf, IsIdle, IsOutputOf, IsOverfullOf, IsReportOf, NeedsManyForms, NeedsManyTypes, RefusesInput, Reports, Writes, WritesPart}
+use Rattle.mh_main.specs.Input.{AreAccepted, FitsTables, IfAccepted, IsMissing, IsRefused, command_input, input, program}
 use Rattle.mh_main.specs.Status.{IsDoneFullOrWant, IsDoneOrWant, IsRefusedOrWant, IsUnreadOrWant, done, forms_full, types_full, no_memory, refused, unread, write_failed}
 use Rattle.mh_main.specs.Stops.{InputsStill, IsReachedInput, IsStopAmong, Refuses, stop_line, stop_status}
 use Rattle.mh_main.proofs.Endings.{accepted-of, due-at-stop, due-of-program, refused-at-stop, unread-at-stop}
@@ -24,7 +24,7 @@ pub record RunEnds (words : List (List ℕ)) (files : List ℕ → Told) (before
   pub types : answer.status ≡ types_full → Writes (FillsTypes words files) old new
   pub broken : answer.status ≡ write_failed → WritesPart (IsDue words files before now answer) old new
   pub refusal_wanted : IsRefused (input words files) → InputsStill (command_of words) before now → IsStill faults faults' → IsRefusedOrWant answer.status
-  pub complete : AreAccepted (input words files) → FitsForms (input words files) → InputsStill (command_of words) before now → IsStill faults faults' →
+  pub complete : AreAccepted (input words files) → FitsTables (input words files) → InputsStill (command_of words) before now → IsStill faults faults' →
       IsDoneOrWant answer.status
   pub unread_wanted : IsMissing (input words files) → IsStill faults faults' → IsUnreadOrWant answer.status
 
@@ -37,7 +37,7 @@ pub run-ends :
     (answer.status ≡ done → Writes (IsReportOf p answer) old new) →
     (answer.status ≡ done → AreAnswersOf p answer.table answer.threads) →
     (answer.status ≡ forms_full → Writes (IsFullOf p) old new) →
-    (answer.status ≡ types_full → Appends old new types_line) →
+    (answer.status ≡ types_full → Writes (IsOverfullOf p) old new) →
     (answer.status ≡ write_failed → WritesPart (IsDueOf p answer) old new) →
     (answer.status ≢ write_failed → IsDoneFullOrWant answer.status) →
     (answer.status ≡ write_failed → Rose faults faults') →
@@ -46,12 +46,12 @@ run-ends words files before now old new faults faults' answer command p asked is
   headline = λ d. let due = report d in (due.0, accepted-of words files command p (λ a. IsOutputOf a answer due.0) asked is due.1, due.2);
   answers = λ d. accepted-of words files command p (λ a. AreAnswers a answer) asked is (answers d);
   full = λ f. let due = full f in (due.0, (accepted-of words files command p NeedsManyForms asked is due.1.0, due.1.1), due.2);
-  types = λ f. (types_line, (accepted-of words files command p IsProgram asked is tt, refl), types f);
+  types = λ f. let due = types f in (due.0, (accepted-of words files command p NeedsManyTypes asked is due.1.0, due.1.1), due.2);
   broken = λ b. let due = broken b in (due.0, due-of-program words files before now answer command p due.0 asked is same due.1, due.2);
   refusal_wanted = λ wanted still quiet. absurd (taken-unrefused (command_of words) command files (λ a. a ≡ program p) asked is wanted);
   complete = λ taken fits still quiet.
       let spoken : answer.status ≢ write_failed = λ bad. never-both _ _ quiet (failed bad) in
-      run-done (command_of words) command files p answer.status asked is taken fits (status spoken) (λ f. (full f).1.0);
+      run-done (command_of words) command files p answer.status asked is taken fits (status spoken) (λ f. (full f).1.0) (λ f. (types f).1.0);
   unread_wanted = λ missing quiet. absurd (taken-there (command_of words) command files (λ a. a ≡ program p) asked is missing);
 }
 
@@ -62,7 +62,7 @@ pub record StopEnds (words : List (List ℕ)) (files : List ℕ → Told) (befor
   pub unreadable : answer.status ≡ unread → Writes (FailsToRead (command_of words) files before now) old new
   pub broken : answer.status ≡ write_failed → WritesPart (IsDue words files before now answer) old new
   pub refusal_wanted : IsRefused (input words files) → InputsStill (command_of words) before now → IsStill faults faults' → IsRefusedOrWant answer.status
-  pub complete : AreAccepted (input words files) → FitsForms (input words files) → InputsStill (command_of words) before now → IsStill faults faults' →
+  pub complete : AreAccepted (input words files) → FitsTables (input words files) → InputsStill (command_of words) before now → IsStill faults faults' →
       IsDoneOrWant answer.status
   pub unread_wanted : IsMissing (input words files) → IsStill faults faults' → IsUnreadOrWant answer.status
 

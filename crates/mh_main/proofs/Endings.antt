@@ -12,7 +12,7 @@ use Rattle.mh_words.specs.Words.{Command, sites, command_of}
 use Rattle.mh_main.specs.Input.{Accepted, AreListed, IfAccepted, IfRefused, Input, accepted, command_input, fault_line, input_of, listed, listing_input, missing, most_sites, place_line, program, refused, too_long_line, untold, usage}
 use Rattle.mh_main.specs.Status.{no_memory, refused as refusal, unread}
 use Rattle.mh_main.specs.Stops.{Refuses, IsStopAmong, IsReachedInput, stop_line, stop_status, unread_line}
-use Rattle.mh_main.specs.Due.{FailsToRead, IsDue, IsDueOf, IsIdle, IsOutputOf, IsProgram, NeedsManyForms, RefusesInput}
+use Rattle.mh_main.specs.Due.{FailsToRead, IsDue, IsDueOf, IsIdle, IsOutputOf, NeedsManyForms, NeedsManyTypes, RefusesInput}
 
 -- a stop that comes with a refusal has the line of the input that is refused
 pub refused-at-stop :
@@ -96,9 +96,9 @@ due-of-program words files before now answer command p bytes asked is same (inr 
     (taken (command_input command files) (program p) NeedsManyForms is full.0) in
     inr (idle, inr (inr (inr (inl (same, (fills, full.1))))))
 due-of-program words files before now answer command p bytes asked is same (inr (idle, inr types)) =
-    let fills : IfAccepted (input_of (command_of words) files) IsProgram =
-    subst (λ o. IfAccepted (input_of o files) IsProgram) asked (taken (command_input command files) (program p) IsProgram is tt) in
-    inr (idle, inr (inr (inr (inr (same, (fills, types))))))
+    let fills : IfAccepted (input_of (command_of words) files) NeedsManyTypes =
+    subst (λ o. IfAccepted (input_of o files) NeedsManyTypes) asked (taken (command_input command files) (program p) NeedsManyTypes is types.0) in
+    inr (idle, inr (inr (inr (inr (same, (fills, types.1))))))
 
 -- what holds of a program holds of what is accepted of the words and files that give it
 pub accepted-of :

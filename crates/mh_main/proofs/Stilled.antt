@@ -56,7 +56,7 @@ never-refused untold P so is = so
 done-status : (command : Command) (files : List ℕ → Told) (before now : List ℕ → ℕ) (i : Input) (stop : Stop) →
     InputsStill (Some command) before now → IsStopAmong (IsReachedInput command files) before now stop → Refuses i stop → AreAccepted i →
     IsDoneOrWant (stop_status stop)
-done-status command files before now i NoMemory still stops refuses taken = inr (inl refl)
+done-status command files before now i NoMemory still stops refuses taken = inr refl
 done-status command files before now i (ReadFault at) still stops refuses taken = absurd (unfailed command files before now at.now still stops.0 stops.1)
 done-status command files before now i (TooLong at) still stops refuses taken = absurd (never-refused i _ taken refuses)
 done-status command files before now i (Fault at line kind) still stops refuses taken = absurd (never-refused i _ taken refuses)

@@ -1,12 +1,13 @@
 -- Inputs that are accepted, as far as they are told: none is refused or told not to be there, and a program that fits is run to its end.
-use Rattle.std.proofs.Common.{◌≡◌, ◌<◌, ◌≤◌, sym, subst, inl, inr, List, ℕ, Option, Some, arith}
+use Rattle.std.proofs.Common.{◌≡◌, ◌<◌, ◌≤◌, sym, subst, inl, inr, ⊎_elim, List, ℕ, Option, Some, arith}
 use Rattle.mh_outside.specs.Told.{Told}
 use Rattle.mh_plan.specs.Forms.{draws_needed}
+use Rattle.mh_plan.specs.Types.{OverfillBucket, all_types}
 use Rattle.mh_main.specs.declared.program.Program.{Program}
 use Rattle.mh_words.specs.Words.{Command}
 use Rattle.mh_main.specs.Program.{given_of}
-use Rattle.mh_main.specs.Status.{IsDoneFullOrWant, IsDoneOrWant, forms_full}
-use Rattle.mh_main.specs.Input.{Accepted, AreAccepted, FitsForms, IfAccepted, Input, IsMissing, IsRefused, NeedsFewForms, accepted, command_input, input_of, missing, most_forms, program, refused, untold, usage}
+use Rattle.mh_main.specs.Status.{IsDoneFullOrWant, IsDoneOrWant, forms_full, types_full}
+use Rattle.mh_main.specs.Input.{Accepted, AreAccepted, FitsTables, IfAccepted, Input, IsMissing, IsRefused, NeedsFew, ProgramFits, accepted, command_input, input_of, missing, most_forms, program, refused, untold, usage}
 
 not-refused : (i : Input) (P : Accepted → Type 0) → IfAccepted i P → IsRefused i → ⊥
 not-refused usage P holds is = is
@@ -34,21 +35,24 @@ taken-there o command files P asked holds is = not-missing (input_of o files) P 
 
 -- ---- programs
 
-fits-few : (i : Input) (p : Program) → IfAccepted i (λ a. a ≡ program p) → AreAccepted i → FitsForms i → draws_needed (given_of p) p.plan ≤ most_forms
+fits-few : (i : Input) (p : Program) → IfAccepted i (λ a. a ≡ program p) → AreAccepted i → FitsTables i → ProgramFits p
 fits-few usage p is so fits = absurd so
 fits-few (refused line) p is so fits = absurd so
-fits-few (accepted a) p is so fits = subst NeedsFewForms is fits
+fits-few (accepted a) p is so fits = subst NeedsFew is fits
 fits-few missing p is so fits = absurd so
 fits-few untold p is so fits = absurd so
 
--- a program whose threads draw few numbers is run to its end, or memory is wanting
+-- a program that fits into the tables is run to its end, or memory is wanting
 pub run-done : (o : Option Command) (command : Command) (files : List ℕ → Told) (p : Program) (status : ℕ) → Some command ≡ o →
-    IfAccepted (command_input command files) (λ a. a ≡ program p) → AreAccepted (input_of o files) → FitsForms (input_of o files) → IsDoneFullOrWant status →
-    (status ≡ forms_full → most_forms < draws_needed (given_of p) p.plan) → IsDoneOrWant status
-run-done o command files p status asked is so fits (inl done) full = done
-run-done o command files p status asked is so fits (inr many) full =
-    let few : draws_needed (given_of p) p.plan ≤ most_forms =
+    IfAccepted (command_input command files) (λ a. a ≡ program p) → AreAccepted (input_of o files) → FitsTables (input_of o files) → IsDoneFullOrWant status →
+    (status ≡ forms_full → most_forms < draws_needed (given_of p) p.plan) → (status ≡ types_full → OverfillBucket (all_types (given_of p) p.plan)) →
+    IsDoneOrWant status
+run-done o command files p status asked is so fits (inl done) full overfull = done
+run-done o command files p status asked is so fits (inr many) full overfull =
+    let fit : ProgramFits p =
     fits-few (command_input command files) p is (subst (λ c. AreAccepted (input_of c files)) (sym asked) so)
-    (subst (λ c. FitsForms (input_of c files)) (sym asked) fits) in
-    let more : most_forms < draws_needed (given_of p) p.plan = full many in
-    absurd (omega arith)
+    (subst (λ c. FitsTables (input_of c files)) (sym asked) fits) in
+    absurd (⊎_elim
+    (λ (forms : status ≡ forms_full). let more = full forms in let few = fit.0 in omega (arith, more, few))
+    (λ (types : status ≡ types_full). let over = overfull types in let few = fit.1 over.0 in omega (arith, over.1, few))
+    many)

@@ -9,6 +9,7 @@ use Rattle.mh_handle.specs.declared.answer.Answer.{Answer}
 use Rattle.mh_plan.specs.Forms.{draws_needed}
 use Rattle.mh_plan.specs.Naming.{naming_of}
 use Rattle.mh_plan.specs.Results.{Serials, results_of, results_said, keys_said}
+use Rattle.mh_plan.specs.Types.{OverfillBucket, all_types}
 use Rattle.mh_runtime.specs.Keys.{plan_keys}
 use Rattle.mh_runtime.specs.Ledger.{Ledger}
 use Rattle.mh_main.specs.declared.answer.TopAnswer.{TopAnswer}
@@ -26,7 +27,7 @@ usage_line = codes "usage: mh --mode run --leaves F --scripts F --plan F [CLASS]
 abbrev pub forms_line : List ℕ
 forms_line = codes "forms full\n"
 
--- the line for a program with a type whose bucket is full of others that are held
+-- the line for a program with more types of a bucket than it has slots
 abbrev pub types_line : List ℕ
 types_line = codes "types full\n"
 
@@ -74,10 +75,14 @@ Reports words files answer bytes = IfAccepted (input words files) (λ a. IsOutpu
 abbrev pub IsFullOf : Program → List ℕ → Type 0
 IsFullOf p bytes = (most_forms < draws_needed (given_of p) p.plan) × (bytes ≡ forms_line)
 
--- what is due of a program: its report, or that its threads can draw too many numbers of forms, or that a bucket of types is full, and then nothing
--- is answered
+-- the line of a program that can need more types of a bucket than it has slots
+abbrev pub IsOverfullOf : Program → List ℕ → Type 0
+IsOverfullOf p bytes = OverfillBucket (all_types (given_of p) p.plan) × (bytes ≡ types_line)
+
+-- what is due of a program: its report, or that its threads can draw too many numbers of forms, or that it can need too many types of a bucket, and then
+-- nothing is answered
 abbrev pub IsDueOf : Program → TopAnswer → List ℕ → Type 0
-IsDueOf p answer bytes = IsReportOf p answer bytes ⊎ (IsIdle answer × (IsFullOf p bytes ⊎ (bytes ≡ types_line)))
+IsDueOf p answer bytes = IsReportOf p answer bytes ⊎ (IsIdle answer × (IsFullOf p bytes ⊎ IsOverfullOf p bytes))
 
 -- the answers of a program's calls; classes are not run
 abbrev pub AreAnswers : Accepted → TopAnswer → Type 0
@@ -97,14 +102,14 @@ NeedsManyForms (listed classes) = ⊥
 abbrev pub FillsForms : List (List ℕ) → (List ℕ → Told) → List ℕ → Type 0
 FillsForms words files bytes = IfAccepted (input words files) NeedsManyForms × (bytes ≡ forms_line)
 
--- what is accepted is a program
-abbrev pub IsProgram : Accepted → Type 0
-IsProgram (program p) = Unit {0}
-IsProgram (listed classes) = ⊥
+-- the program can need more types of a bucket than it has slots; a listing needs none
+abbrev pub NeedsManyTypes : Accepted → Type 0
+NeedsManyTypes (program p) = OverfillBucket (all_types (given_of p) p.plan)
+NeedsManyTypes (listed classes) = ⊥
 
--- the line of a program that the words and the files give, with a type whose bucket is full of others that are held
+-- the line of a program that the words and the files give and that can need more types of a bucket than it has slots
 abbrev pub FillsTypes : List (List ℕ) → (List ℕ → Told) → List ℕ → Type 0
-FillsTypes words files bytes = IfAccepted (input words files) IsProgram × (bytes ≡ types_line)
+FillsTypes words files bytes = IfAccepted (input words files) NeedsManyTypes × (bytes ≡ types_line)
 
 -- the line of the first input that is refused, where no read failed
 abbrev pub RefusesInput : List (List ℕ) → (List ℕ → Told) → (List ℕ → ℕ) → (List ℕ → ℕ) → List ℕ → Type 0

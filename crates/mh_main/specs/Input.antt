@@ -14,6 +14,7 @@ use Rattle.mh_jobs.specs.Given.{Given}
 use Rattle.mh_jobs.specs.Jobs.{jobs_of}
 use Rattle.mh_plan.specs.Forms.{draws_needed}
 use Rattle.mh_plan.specs.Plan.{plan, kind_word as plan_word}
+use Rattle.mh_plan.specs.Types.{FitBuckets, all_types}
 use Rattle.mh_generated.specs.Files.{files_of}
 use Rattle.mh_main.specs.declared.program.Output.{Output}
 use Rattle.mh_main.specs.declared.program.Output.TheVariants.{Report, Line}
@@ -181,14 +182,18 @@ AreListed P (listed classes) = P classes
 abbrev pub most_forms : ℕ
 most_forms = 16384
 
--- the threads of the program can draw at most as many numbers of forms as there are; a listing draws none
-abbrev pub NeedsFewForms : Accepted → Type 0
-NeedsFewForms (program p) = draws_needed (given_of p) p.plan ≤ most_forms
-NeedsFewForms (listed classes) = Unit {0}
+-- there are numbers for all forms that the threads of a program can draw, and slots for all types that it can need
+abbrev pub ProgramFits : Program → Type 0
+ProgramFits p = (draws_needed (given_of p) p.plan ≤ most_forms) × FitBuckets (all_types (given_of p) p.plan)
 
--- where they are told, the inputs are accepted, and the threads of what they give can draw at most as many numbers of forms as there are
-abbrev pub FitsForms : Input → Type 0
-FitsForms i = IfAccepted i NeedsFewForms
+-- the same of what is accepted; a listing needs none
+abbrev pub NeedsFew : Accepted → Type 0
+NeedsFew (program p) = ProgramFits p
+NeedsFew (listed classes) = Unit {0}
+
+-- where they are told, the inputs are accepted, and what they give fits into the tables of forms and of types
+abbrev pub FitsTables : Input → Type 0
+FitsTables i = IfAccepted i NeedsFew
 
 -- where it is told, a file within its limit has this meaning
 abbrev pub HasMeaning : {T K : Type 0} → ℕ → (List ℕ → Result T K) → Told → T → Type 0

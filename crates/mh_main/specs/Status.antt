@@ -50,13 +50,13 @@ IsRefusedOrWant status = (status ≡ refused) ⊎ (status ≡ no_memory)
 abbrev pub IsUnreadOrWant : ℕ → Type 0
 IsUnreadOrWant status = (status ≡ unread) ⊎ (status ≡ no_memory)
 
--- the run is complete, or memory or a slot for a type was wanting
+-- the run is complete, or memory was wanting
 abbrev pub IsDoneOrWant : ℕ → Type 0
-IsDoneOrWant status = (status ≡ done) ⊎ ((status ≡ no_memory) ⊎ (status ≡ types_full))
+IsDoneOrWant status = (status ≡ done) ⊎ (status ≡ no_memory)
 
--- the run is complete, or memory, a slot for a type or forms were wanting
+-- the run is complete, or memory was wanting, or a table is full: of forms or of types
 abbrev pub IsDoneFullOrWant : ℕ → Type 0
-IsDoneFullOrWant status = IsDoneOrWant status ⊎ (status ≡ forms_full)
+IsDoneFullOrWant status = IsDoneOrWant status ⊎ ((status ≡ forms_full) ⊎ (status ≡ types_full))
 
 -- the status tells exactly where the sink failed: then its count of faults rose, and at any other status it stayed
 pub record FailsWhere (status before now : ℕ) : Type 0 where

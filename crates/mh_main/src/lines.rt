@@ -12,7 +12,7 @@ pub const USAGE: &str =
 /// The line for a program whose calls need more forms than there are.
 pub const FORMS: &str = "forms full\n";
 
-/// The line for a program with a type whose bucket is full of others that are held.
+/// The line for a program with more types of a bucket than it has slots.
 pub const TYPES: &str = "types full\n";
 
 /// Writes the pieces of a line, one after the other. It takes no memory.

@@ -5,7 +5,8 @@ ghost use Rattle.mh_plan.specs.Naming.{naming_of};
 ghost use Rattle.mh_plan.specs.Recorded.{recorded, serials_of, types};
 ghost use Rattle.mh_plan.specs.Results.{results_said};
 ghost use Rattle.mh_plan.specs.Text.{report_text};
-ghost use Rattle.mh_runtime.specs.Asking.{IfFull};
+ghost use Rattle.mh_plan.specs.Types.{OverfillBucket, all_types};
+ghost use Rattle.mh_runtime.specs.Asking.{IfFull, IfTypesFull};
 ghost use Rattle.mh_runtime.specs.Ledger.{Ledger};
 ghost use Rattle.mh_main.specs.Program.{given_of, text, written};
 ghost use Rattle.mh_main.specs.Input.{most_forms};
@@ -78,6 +79,8 @@ fn run<R: Threads + Wait + Sync, G: Gate + Sync>(
         (λ run. run.types ≡ types (given_of program.now) (serials_of run.table)) }
     ensures full { IfFull result
         (most_forms < draws_needed (given_of program.now) program.now.plan) }
+    ensures no_slot { IfTypesFull result
+        (OverfillBucket (all_types (given_of program.now) program.now.plan)) }
 {
     let input = RunInput {
         leaves: &program.leaves,
@@ -165,6 +168,8 @@ pub fn run_and_report<R: Threads + Wait + Sync, G: Gate + Sync>(
     ensures status { IfOk result (λ r. r.0.status ≡ done) }
     ensures full { IfFull result
         (most_forms < draws_needed (given_of program.now) program.now.plan) }
+    ensures no_slot { IfTypesFull result
+        (OverfillBucket (all_types (given_of program.now) program.now.plan)) }
 {
     let run = run(rt, alloc, program, gate)?;
     let text = text_of(alloc, program, &run)?;

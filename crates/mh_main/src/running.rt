@@ -6,10 +6,10 @@ ghost use Rattle.mh_outside.specs.Kept.{KeepsInputs};
 ghost use Rattle.mh_words.specs.Options.{said};
 ghost use Rattle.mh_words.specs.Words.{command_of};
 ghost use Rattle.mh_main.specs.Runnable.{IsRunnable};
-ghost use Rattle.mh_main.specs.Input.{input, IsRefused, AreAccepted, IsMissing, FitsForms};
+ghost use Rattle.mh_main.specs.Input.{input, IsRefused, AreAccepted, IsMissing, FitsTables};
 ghost use Rattle.mh_main.specs.Stops.{stop_line, stop_status, InputsStill};
 ghost use Rattle.mh_main.specs.Status.{done, refused, usage_wanted, no_memory, forms_full, types_full, unread, write_failed, IsStatus, IsUsageOrWant, IsRefusedOrWant, IsUnreadOrWant, IsDoneOrWant, IsDoneFullOrWant, FailsWhere};
-ghost use Rattle.mh_main.specs.Due.{AnswersCalls, AreAnswersOf, FailsToRead, FillsForms, FillsTypes, types_line, IsDue, IsDueOf, IsFullOf, IsGenerated, IsIdle, IsListing, IsListingOf, IsReportOf, RefusesInput, RefusesWords, Reports, Writes, WritesPart};
+ghost use Rattle.mh_main.specs.Due.{AnswersCalls, AreAnswersOf, FailsToRead, FillsForms, FillsTypes, IsDue, IsDueOf, IsFullOf, IsGenerated, IsIdle, IsListing, IsListingOf, IsOverfullOf, IsReportOf, RefusesInput, RefusesWords, Reports, Writes, WritesPart};
 
 use crate::generated::read_generated;
 use crate::lines::{FORMS, TYPES, USAGE, write_pieces};
@@ -109,7 +109,7 @@ fn run_program<R: Threads + Wait + Sync, S: Sink, G: Gate + Sync>(
     ensures full { result.status ≡ forms_full
         → Writes (IsFullOf program.now) (S.taken sink.old) (S.taken sink.new) }
     ensures types { result.status ≡ types_full
-        → Appends (S.taken sink.old) (S.taken sink.new) types_line }
+        → Writes (IsOverfullOf program.now) (S.taken sink.old) (S.taken sink.new) }
     ensures broken { result.status ≡ write_failed
         → WritesPart (IsDueOf program.now result) (S.taken sink.old) (S.taken sink.new) }
     ensures nothing { result.status ≡ no_memory → Keeps (S.taken sink.old) (S.taken sink.new) }
@@ -247,15 +247,15 @@ pub fn top<'a, R: Threads + Wait + Sync, I: Inputs, S: Sink, G: Gate + Sync>(
         → AreSame (I.faults inputs.old) (I.faults inputs.new) }
 
     // Where nothing failed, the words and the inputs decide the status, but for want of memory; a
-    // program is run to its end if its calls need no more forms than there are, unless a bucket of
-    // types is full. No clause says how many types a program needs for that.
+    // program is run to its end if there are numbers for the forms that it can need, and slots for
+    // its types.
     ensures usage_due { command_of (said words.now) ≡ None
         → IsStill (S.faults sink.old) (S.faults sink.new) → IsUsageOrWant result.status }
     ensures refusal_wanted { IsRefused (input (said words.now) (I.told inputs.old))
         → InputsStill (command_of (said words.now)) (I.faults inputs.old) (I.faults inputs.new)
         → IsStill (S.faults sink.old) (S.faults sink.new) → IsRefusedOrWant result.status }
     ensures complete { AreAccepted (input (said words.now) (I.told inputs.old))
-        → FitsForms (input (said words.now) (I.told inputs.old))
+        → FitsTables (input (said words.now) (I.told inputs.old))
         → InputsStill (command_of (said words.now)) (I.faults inputs.old) (I.faults inputs.new)
         → IsStill (S.faults sink.old) (S.faults sink.new) → IsDoneOrWant result.status }
 

@@ -21,3 +21,8 @@ pub returns-in-Err-FormsFull-clause-full : goal.returns-in-Err-FormsFull-clause-
 returns-in-Err-FormsFull-clause-full g c = λ full.
     let ok : c.answer_line.result.status ≢ write_failed = λ bad. omega (arith, full, bad) in
     (forms_line, (search rules, refl), rw c.as_bytes.ensures.value at c.answer_line.ensures.written ok)
+
+pub returns-in-Err-TypesFull-clause-types : goal.returns-in-Err-TypesFull-clause-types
+returns-in-Err-TypesFull-clause-types g c = λ full.
+    let ok : c.answer_line-in-Err-TypesFull.result.status ≢ write_failed = λ bad. omega (arith, full, bad) in
+    (types_line, (search rules, refl), rw c.as_bytes-in-Err-TypesFull.ensures.value at c.answer_line-in-Err-TypesFull.ensures.written ok)
