@@ -25,33 +25,125 @@ const LINK: &str = "\
     script made/Boot link (Ljava/lang/invoke/MethodHandles$Lookup;Ljava/lang/String;Ljava/lang/invok\
     e/MethodType;)Ljava/lang/invoke/CallSite;\nlet h leaf demo/Host.add:(II)I\nreturn h\nend\n";
 
-/// A script with lines for 32 types, all of one bucket.
+/// A script with lines for handles of 32 types of one bucket, which are held until it has ended.
 const TYPES_32: &str = "\
-    script made/Boot link (Ljava/lang/invoke/MethodHandles$Lookup;Ljava/lang/String;Ljava/lang\
-    /invoke/MethodType;)Ljava/lang/invoke/CallSite;\nlet t0 leaf demo/Host.add:(II)I\nlet t1 d\
-    rop t0 0 IIII\nlet t2 drop t1 0 IIII\nlet t3 drop t2 0 IIII\nlet t4 drop t3 0 IIII\nlet t5 \
-    drop t4 0 IIII\nlet t6 drop t5 0 IIII\nlet t7 drop t6 0 IIII\nlet t8 drop t7 0 IIII\nlet t\
-    9 drop t8 0 IIII\nlet t10 drop t9 0 IIII\nlet t11 drop t10 0 IIII\nlet t12 drop t11 0 IIII\
-    \nlet t13 drop t12 0 IIII\nlet t14 drop t13 0 IIII\nlet t15 drop t14 0 IIII\nlet t16 drop \
-    t15 0 IIII\nlet t17 drop t16 0 IIII\nlet t18 drop t17 0 IIII\nlet t19 drop t18 0 IIII\nlet \
-    t20 drop t19 0 IIII\nlet t21 drop t20 0 IIII\nlet t22 drop t21 0 IIII\nlet t23 drop t22 0 \
-    IIII\nlet t24 drop t23 0 IIII\nlet t25 drop t24 0 IIII\nlet t26 drop t25 0 IIII\nlet t27 d\
-    rop t26 0 IIII\nlet t28 drop t27 0 IIII\nlet t29 drop t28 0 IIII\nlet t30 drop t29 0 IIII\
-    \nlet t31 drop t30 0 IIII\nreturn t0\nend\n";
+    script made/Boot link (Ljava/lang/invoke/MethodHandles$Lookup;Ljava/lang/String;\
+    Ljava/lang/invoke/MethodType;)Ljava/lang/invoke/CallSite;\n\
+    let t0 leaf demo/Host.add:(II)I\n\
+    let t1 drop t0 0 IIII\n\
+    let t2 drop t1 0 IIII\n\
+    let t3 drop t2 0 IIII\n\
+    let t4 drop t3 0 IIII\n\
+    let t5 drop t4 0 IIII\n\
+    let t6 drop t5 0 IIII\n\
+    let t7 drop t6 0 IIII\n\
+    let t8 drop t7 0 IIII\n\
+    let t9 drop t8 0 IIII\n\
+    let t10 drop t9 0 IIII\n\
+    let t11 drop t10 0 IIII\n\
+    let t12 drop t11 0 IIII\n\
+    let t13 drop t12 0 IIII\n\
+    let t14 drop t13 0 IIII\n\
+    let t15 drop t14 0 IIII\n\
+    let t16 drop t15 0 IIII\n\
+    let t17 drop t16 0 IIII\n\
+    let t18 drop t17 0 IIII\n\
+    let t19 drop t18 0 IIII\n\
+    let t20 drop t19 0 IIII\n\
+    let t21 drop t20 0 IIII\n\
+    let t22 drop t21 0 IIII\n\
+    let t23 drop t22 0 IIII\n\
+    let t24 drop t23 0 IIII\n\
+    let t25 drop t24 0 IIII\n\
+    let t26 drop t25 0 IIII\n\
+    let t27 drop t26 0 IIII\n\
+    let t28 drop t27 0 IIII\n\
+    let t29 drop t28 0 IIII\n\
+    let t30 drop t29 0 IIII\n\
+    let t31 drop t30 0 IIII\n\
+    return t0\n\
+    end\n";
 
 /// One with lines for 33.
 const TYPES_33: &str = "\
-    script made/Boot link (Ljava/lang/invoke/MethodHandles$Lookup;Ljava/lang/String;Ljava/lang\
-    /invoke/MethodType;)Ljava/lang/invoke/CallSite;\nlet t0 leaf demo/Host.add:(II)I\nlet t1 d\
-    rop t0 0 IIII\nlet t2 drop t1 0 IIII\nlet t3 drop t2 0 IIII\nlet t4 drop t3 0 IIII\nlet t5 \
-    drop t4 0 IIII\nlet t6 drop t5 0 IIII\nlet t7 drop t6 0 IIII\nlet t8 drop t7 0 IIII\nlet t\
-    9 drop t8 0 IIII\nlet t10 drop t9 0 IIII\nlet t11 drop t10 0 IIII\nlet t12 drop t11 0 IIII\
-    \nlet t13 drop t12 0 IIII\nlet t14 drop t13 0 IIII\nlet t15 drop t14 0 IIII\nlet t16 drop \
-    t15 0 IIII\nlet t17 drop t16 0 IIII\nlet t18 drop t17 0 IIII\nlet t19 drop t18 0 IIII\nlet \
-    t20 drop t19 0 IIII\nlet t21 drop t20 0 IIII\nlet t22 drop t21 0 IIII\nlet t23 drop t22 0 \
-    IIII\nlet t24 drop t23 0 IIII\nlet t25 drop t24 0 IIII\nlet t26 drop t25 0 IIII\nlet t27 d\
-    rop t26 0 IIII\nlet t28 drop t27 0 IIII\nlet t29 drop t28 0 IIII\nlet t30 drop t29 0 IIII\
-    \nlet t31 drop t30 0 IIII\nlet t32 drop t31 0 IIII\nreturn t0\nend\n";
+    script made/Boot link (Ljava/lang/invoke/MethodHandles$Lookup;Ljava/lang/String;\
+    Ljava/lang/invoke/MethodType;)Ljava/lang/invoke/CallSite;\n\
+    let t0 leaf demo/Host.add:(II)I\n\
+    let t1 drop t0 0 IIII\n\
+    let t2 drop t1 0 IIII\n\
+    let t3 drop t2 0 IIII\n\
+    let t4 drop t3 0 IIII\n\
+    let t5 drop t4 0 IIII\n\
+    let t6 drop t5 0 IIII\n\
+    let t7 drop t6 0 IIII\n\
+    let t8 drop t7 0 IIII\n\
+    let t9 drop t8 0 IIII\n\
+    let t10 drop t9 0 IIII\n\
+    let t11 drop t10 0 IIII\n\
+    let t12 drop t11 0 IIII\n\
+    let t13 drop t12 0 IIII\n\
+    let t14 drop t13 0 IIII\n\
+    let t15 drop t14 0 IIII\n\
+    let t16 drop t15 0 IIII\n\
+    let t17 drop t16 0 IIII\n\
+    let t18 drop t17 0 IIII\n\
+    let t19 drop t18 0 IIII\n\
+    let t20 drop t19 0 IIII\n\
+    let t21 drop t20 0 IIII\n\
+    let t22 drop t21 0 IIII\n\
+    let t23 drop t22 0 IIII\n\
+    let t24 drop t23 0 IIII\n\
+    let t25 drop t24 0 IIII\n\
+    let t26 drop t25 0 IIII\n\
+    let t27 drop t26 0 IIII\n\
+    let t28 drop t27 0 IIII\n\
+    let t29 drop t28 0 IIII\n\
+    let t30 drop t29 0 IIII\n\
+    let t31 drop t30 0 IIII\n\
+    let t32 drop t31 0 IIII\n\
+    return t0\n\
+    end\n";
+
+/// One with lines for 33 in one register, so that only two of them are held at a time.
+const TYPES_AGAIN: &str = "\
+    script made/Boot link (Ljava/lang/invoke/MethodHandles$Lookup;Ljava/lang/String;\
+    Ljava/lang/invoke/MethodType;)Ljava/lang/invoke/CallSite;\n\
+    let t leaf demo/Host.add:(II)I\n\
+    let t drop t 0 IIII\n\
+    let t drop t 0 IIII\n\
+    let t drop t 0 IIII\n\
+    let t drop t 0 IIII\n\
+    let t drop t 0 IIII\n\
+    let t drop t 0 IIII\n\
+    let t drop t 0 IIII\n\
+    let t drop t 0 IIII\n\
+    let t drop t 0 IIII\n\
+    let t drop t 0 IIII\n\
+    let t drop t 0 IIII\n\
+    let t drop t 0 IIII\n\
+    let t drop t 0 IIII\n\
+    let t drop t 0 IIII\n\
+    let t drop t 0 IIII\n\
+    let t drop t 0 IIII\n\
+    let t drop t 0 IIII\n\
+    let t drop t 0 IIII\n\
+    let t drop t 0 IIII\n\
+    let t drop t 0 IIII\n\
+    let t drop t 0 IIII\n\
+    let t drop t 0 IIII\n\
+    let t drop t 0 IIII\n\
+    let t drop t 0 IIII\n\
+    let t drop t 0 IIII\n\
+    let t drop t 0 IIII\n\
+    let t drop t 0 IIII\n\
+    let t drop t 0 IIII\n\
+    let t drop t 0 IIII\n\
+    let t drop t 0 IIII\n\
+    let t drop t 0 IIII\n\
+    let t drop t 0 IIII\n\
+    let u leaf demo/Host.add:(II)I\n\
+    return u\n\
+    end\n";
 
 /// A call of the first call site.
 const CALL: &str = "thread\nindy 0 i:1 i:2\n";
@@ -278,7 +370,7 @@ fn runs_of_which_an_input_stops_the_reading(rt: HostRuntime) -> Result<(), Fail>
 }
 
 /// Runs in which a call site is called.
-static CALLS: [ClassRun; 6] = [
+static CALLS: [ClassRun; 7] = [
     ClassRun {
         name: "a script whose owner is no class",
         leaves: LEAVES,
@@ -332,6 +424,15 @@ static CALLS: [ClassRun; 6] = [
         classes: &["made.class"],
         status: TYPES_FULL,
         text: "types full\n",
+    },
+    ClassRun {
+        name: "handles of 33 types of one bucket in one register",
+        leaves: LEAVES,
+        scripts: TYPES_AGAIN,
+        plan: CALL,
+        classes: &["made.class"],
+        status: DONE,
+        text: "site 0 serial 1 linked (II)I\nthread 0\nreturns i:3 calls 0\nattempts 1 forms 33 types 1\n",
     },
 ];
 
