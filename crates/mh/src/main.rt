@@ -8,7 +8,7 @@ ghost use Rattle.mh_outside.specs.Causes.{AreSame, IsStill};
 ghost use Rattle.mh_outside.specs.Kept.{KeepsInputs};
 ghost use Rattle.mh_words.specs.Options.{said};
 ghost use Rattle.mh_words.specs.Words.{command_of};
-ghost use Rattle.mh_main.specs.Input.{input, AreAccepted, FitsForms, IsMissing, IsRefused};
+ghost use Rattle.mh_main.specs.Input.{input, AreAccepted, FitsTables, IsMissing, IsRefused};
 ghost use Rattle.mh_main.specs.Stops.{InputsStill};
 ghost use Rattle.mh_main.specs.Status.{refused, usage_wanted, no_memory, forms_full, types_full, unread, write_failed, IsStatus, FailsWhere, IsUsageOrWant, IsRefusedOrWant, IsUnreadOrWant, IsDoneOrWant, IsDoneFullOrWant};
 ghost use Rattle.mh_main.specs.Due.{IsGenerated, FailsToRead, FillsForms, FillsTypes, RefusesInput, RefusesWords, Writes};
@@ -81,7 +81,7 @@ fn run<'a, R: Threads + Wait + Sync, I: Inputs, S: Sink>(
         → InputsStill (command_of (said words.now)) (I.faults inputs.old) (I.faults inputs.new)
         → IsStill (S.faults sink.old) (S.faults sink.new) → IsRefusedOrWant (exit_status result) }
     ensures complete { AreAccepted (input (said words.now) (I.told inputs.old))
-        → FitsForms (input (said words.now) (I.told inputs.old))
+        → FitsTables (input (said words.now) (I.told inputs.old))
         → InputsStill (command_of (said words.now)) (I.faults inputs.old) (I.faults inputs.new)
         → IsStill (S.faults sink.old) (S.faults sink.new) → IsDoneOrWant (exit_status result) }
     ensures generated { IsGenerated (command_of (said words.now))
