@@ -6,7 +6,7 @@ use Rattle.mh_values.specs.declared.types.Ty.{Ty}
 use Rattle.mh_values.specs.declared.value.Value.{Value}
 use Rattle.mh_convert.specs.Conversion.{fit}
 use Rattle.mh_tree.specs.declared.error.CheckError.{CheckError}
-use Rattle.mh_tree.specs.Check.{Tells}
+use Rattle.mh_tree.specs.Check.{TellsRow}
 use Rattle.mh_tree.specs.Rows.{TypeOrRefusal, bind_row}
 use Rattle.mh_form.specs.declared.field.Field.{Field}
 use Rattle.mh_form.specs.declared.field.Field.TheVariants as field
@@ -47,7 +47,7 @@ pub record AddsPart (t : HandleView) (k : Key) (part : HandleView) (by : Growth)
 -- what an adapter without fields adds, with the type that its rule gives, or its very refusal; want of memory tells nothing
 abbrev pub TellsNode : TypeOrRefusal → HandleView → Key → Result Growth CheckError → Type 0
 TellsNode row t k (Ok by) = (row ≡ Ok by.ty) × AddsNode t k [] by
-TellsNode row t k (Err e) = Tells (Err e) row
+TellsNode row t k (Err e) = TellsRow (Err e) row
 
 -- what a bound value adds: the value that fits the parameter there
 pub record AddsBound (classes : List Class) (t : HandleView) (place : ℕ) (v : Value) (by : Growth) : Type 0 where
@@ -60,12 +60,12 @@ pub record AddsBound (classes : List Class) (t : HandleView) (place : ℕ) (v : 
 -- the same, with the type that the rule gives, or its very refusal; want of memory tells nothing
 abbrev pub TellsBind : List Class → HandleView → ℕ → Value → Result Growth CheckError → Type 0
 TellsBind classes t place v (Ok by) = (bind_row classes t.ty t.weight place v ≡ Ok by.ty) × AddsBound classes t place v by
-TellsBind classes t place v (Err e) = Tells (Err e) (bind_row classes t.ty t.weight place v)
+TellsBind classes t place v (Err e) = TellsRow (Err e) (bind_row classes t.ty t.weight place v)
 
 -- what an adapter with a part adds, with the type that its rule gives, or its very refusal; want of memory tells nothing
 abbrev pub TellsPart : TypeOrRefusal → HandleView → Key → HandleView → Result Growth CheckError → Type 0
 TellsPart row t k part (Ok by) = (row ≡ Ok by.ty) × AddsPart t k part by
-TellsPart row t k part (Err e) = Tells (Err e) row
+TellsPart row t k part (Err e) = TellsRow (Err e) row
 
 -- a handle that was made has grown by the adapter's key, and by a field that holds the part
 abbrev pub GrowsByPart : HandleView → Growth → HandleView → Result Handle HandleError → Type 0

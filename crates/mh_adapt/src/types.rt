@@ -1,6 +1,6 @@
 //! The types of the handles that adapters make, found from the handles of their parts.
 
-ghost use Rattle.mh_tree.specs.Check.{Tells};
+ghost use Rattle.mh_tree.specs.Check.{TellsRow};
 ghost use Rattle.mh_tree.specs.Rows.{bind_row, collect_row, drop_row, filter_row, filterret_row, fold_row, permute_row};
 ghost use Rattle.mh_handle.specs.Stands.{IsShaped};
 ghost use Rattle.mh_handle.specs.Works.{classes_of};
@@ -20,7 +20,7 @@ pub(crate) fn bind_type<'t>(
     value: &Value,
 ) -> Result<MethodTy, CheckError>
     ensures shaped { IsShaped target.now }
-    ensures tells { Tells result
+    ensures tells { TellsRow result
         (bind_row (classes_of w.now) target.now.ty target.now.weight position value.now) }
 {
     check_bind(
@@ -41,7 +41,7 @@ pub(crate) fn drop_type<'t>(
     value_types: &Tys,
 ) -> Result<MethodTy, CheckError>
     ensures shaped { IsShaped target.now }
-    ensures tells { Tells result
+    ensures tells { TellsRow result
         (drop_row target.now.ty target.now.weight position value_types.now) }
 {
     check_drop(
@@ -62,7 +62,8 @@ pub(crate) fn permute_type<'t>(
     reorder: &[u8],
 ) -> Result<MethodTy, CheckError>
     ensures shaped { IsShaped target.now }
-    ensures tells { Tells result (permute_row target.now.ty target.now.weight ty.now reorder.now) }
+    ensures tells { TellsRow result
+        (permute_row target.now.ty target.now.weight ty.now reorder.now) }
 {
     check_permute(
         w.alloc,
@@ -83,7 +84,7 @@ pub(crate) fn filter_type<'t>(
 ) -> Result<MethodTy, CheckError>
     ensures shaped { IsShaped target.now }
     ensures part { IsShaped filter.now }
-    ensures tells { Tells result (filter_row
+    ensures tells { TellsRow result (filter_row
         target.now.ty target.now.weight position filter.now.ty filter.now.weight) }
 {
     check_filter(
@@ -105,7 +106,7 @@ pub(crate) fn filterret_type<'t>(
 ) -> Result<MethodTy, CheckError>
     ensures shaped { IsShaped target.now }
     ensures part { IsShaped filter.now }
-    ensures tells { Tells result (filterret_row
+    ensures tells { TellsRow result (filterret_row
         target.now.ty target.now.weight filter.now.ty filter.now.weight) }
 {
     check_filterret(
@@ -127,7 +128,7 @@ pub(crate) fn fold_type<'t>(
 ) -> Result<MethodTy, CheckError>
     ensures shaped { IsShaped target.now }
     ensures part { IsShaped combiner.now }
-    ensures tells { Tells result (fold_row
+    ensures tells { TellsRow result (fold_row
         target.now.ty target.now.weight position combiner.now.ty combiner.now.weight) }
 {
     check_fold(
@@ -150,7 +151,7 @@ pub(crate) fn collect_type<'t>(
 ) -> Result<MethodTy, CheckError>
     ensures shaped { IsShaped target.now }
     ensures part { IsShaped filter.now }
-    ensures tells { Tells result (collect_row
+    ensures tells { TellsRow result (collect_row
         target.now.ty target.now.weight position filter.now.ty filter.now.weight) }
 {
     check_collect(

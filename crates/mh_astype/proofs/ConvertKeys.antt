@@ -3,13 +3,14 @@ use Rattle.std.proofs.Common.{◌≡◌, sym, ap, ap₂, ◌∙◌, ℕ, ◌+◌
 use Rattle.std.specs.Prelude.{nat_le, option_to_list}
 use Rattle.std.proofs.lemmas.Bool.{and_from, and_parts, eq-eqb, leb-true}
 use Rattle.std.proofs.lemmas.List.{length-map}
+use Rattle.mh_base.specs.Provided.{provided}
 use Rattle.mh_values.specs.declared.class.Class.{Class}
 use Rattle.mh_values.specs.declared.types.MethodTy.{MethodTy}
 use Rattle.mh_values.specs.Class.{internal_error_class}
 use Rattle.mh_values.specs.Exception.{saying}
 use Rattle.mh_values.specs.Slots.{slots_of_all}
 use Rattle.mh_convert.specs.Conversion.{is_trivial_ret, ret_conversion_of}
-use Rattle.mh_tree.specs.Rows.{illegal, provided, limited, can_be_used_as, mismatch, astype_row}
+use Rattle.mh_tree.specs.Rows.{illegal, limited, can_be_used_as, mismatch, astype_row}
 use Rattle.mh_tree.proofs.RowParts.{provided-parts, astype_row-parts}
 use Rattle.mh_form.specs.declared.field.Field.{Field}
 use Rattle.mh_form.specs.declared.field.Field.TheVariants as field

@@ -11,7 +11,7 @@ use Rattle.mh_handle.specs.declared.handle.Handle.{Handle}
 use Rattle.mh_handle.specs.declared.work.Work.{Work}
 use Rattle.mh_handle.specs.Stands.{HandleView}
 use Rattle.mh_handle.specs.Works.{HoldsTypes, TradesTypes, types_in}
-use Rattle.mh_handle.proofs.Trading.{exchanges-few, exchanges-kept}
+use Rattle.mh_handle.proofs.HoldOrders.{exchanges-few, exchanges-kept}
 use Rattle.mh_astype.specs.Use.{used_types}
 
 -- a handle that comes back as it was handed over

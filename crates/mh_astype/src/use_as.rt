@@ -2,7 +2,7 @@ ghost use Rattle.std.specs.Prelude.{◌≡◌, ◌++◌, ◌∷◌, ◌&&◌, []
 ghost use Rattle.mh_values.specs.Same.{is_same_method_type};
 ghost use Rattle.mh_convert.specs.Conversion.{is_trivial_ret};
 ghost use Rattle.mh_values.specs.Classes.{AreClasses};
-ghost use Rattle.mh_tree.specs.Check.{Tells};
+ghost use Rattle.mh_tree.specs.Check.{TellsRow};
 ghost use Rattle.mh_tree.specs.Rows.{astype_row};
 ghost use Rattle.mh_tree.specs.Tree.{Tree};
 ghost use Rattle.mh_tree.specs.Use.{used_as, use_row};
@@ -48,7 +48,7 @@ fn use_type<'t>(
     ty: &MethodTy,
 ) -> Result<MethodTy, CheckError>
     ensures are { AreClasses (classes_of w.now) }
-    ensures tells { Tells result (astype_row (classes_of w.now)
+    ensures tells { TellsRow result (astype_row (classes_of w.now)
         target.now.ty target.now.weight ty.now) }
 {
     check_astype(w.alloc, target.ty(), target.weight(), ty, w.classes())

@@ -4,13 +4,15 @@ use Rattle.std.specs.Prelude.{IsErrAnd}
 use Rattle.mh_values.specs.declared.types.MethodTy.{MethodTy}
 use Rattle.mh_intern.specs.Exchanges.{Exchanges}
 use Rattle.mh_intern.specs.Views.{HoldView}
-use Rattle.mh_intern.proofs.Exchanging.{exchanges-both, exchanges-still, exchanges-then, held-came, held-first, held-none, held-still}
+use Rattle.mh_intern.proofs.Exchanging.{exchanges-both, exchanges-still, exchanges-then, held-came, held-still}
+use Rattle.mh_intern.proofs.HeldLists.{held-first, held-none}
 use Rattle.mh_handle.specs.declared.error.HandleError.{HandleError}
 use Rattle.mh_handle.specs.declared.error.HandleError.TheVariants.{NoMemory, FormsFull, TypesFull, Refused}
 use Rattle.mh_handle.specs.declared.handle.Handle.{Handle}
 use Rattle.mh_handle.specs.declared.work.Work.{Work}
 use Rattle.mh_handle.specs.Works.{GoesOn, HoldsTypes, IsReady, TradesTypes}
-use Rattle.mh_handle.proofs.Trading.{exchanges-back, held-yet}
+use Rattle.mh_handle.proofs.HoldOrders.{exchanges-back}
+use Rattle.mh_handle.proofs.SingleHolds.{held-yet}
 use Rattle.mh_attempt.specs.declared.handle.HandleOperand.{HandleOperand}
 use Rattle.mh_attempt.specs.declared.handle.HandleOperand.TheVariants as operand
 use Rattle.mh_attempt.specs.Registers.{IsHeldIn}

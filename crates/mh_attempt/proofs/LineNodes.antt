@@ -40,7 +40,7 @@ thrown-by-node Is w check.NoMemory m node strict h = tt
 thrown-by-node Is w (check.Refused e) m node strict h = (ap node h ∙ strict e, unchanged-still w)
 
 -- a node that the rule refuses
-pub refused-node : (w : Work) (t : Tree) (own : TypeOrRefusal) (error : CheckError) → type_of w.leaves.now t ≡ own → row.Tells (Err error) own →
+pub refused-node : (w : Work) (t : Tree) (own : TypeOrRefusal) (error : CheckError) → type_of w.leaves.now t ≡ own → row.TellsRow (Err error) own →
     MakesNode (typed w.leaves.now t) w w (Err (of_check error))
 refused-node w t own check.NoMemory is h = tt
 refused-node w t own (check.Refused e) is h = (ap (λ m. m >>= (λ (o : MethodTy). Ok t)) (is ∙ h), unchanged-still w)

@@ -5,7 +5,7 @@ use Rattle.mh_values.specs.Class.{illegal_argument_class}
 use Rattle.mh_values.specs.Exception.{bare}
 use Rattle.mh_intern.specs.Exchanges.{AreHeld}
 use Rattle.mh_intern.specs.Views.{SeatView}
-use Rattle.mh_intern.proofs.Exchanging.{held-none}
+use Rattle.mh_intern.proofs.HeldLists.{held-none}
 use Rattle.mh_leaf.specs.LeafTable.{LeafTable}
 use Rattle.mh_handle.specs.declared.work.Work.{Work}
 use Rattle.mh_handle.specs.Recipe.{recipe}
@@ -19,7 +19,7 @@ use Rattle.mh_jobs.specs.Thrown.{◌>>=◌}
 use Rattle.mh_link.specs.Linked.{at_start, called_script, ran}
 use Rattle.mh_link.specs.Made.{nodes_from, types_of, unless_thrown}
 use Rattle.mh_attempt.specs.declared.registers.Registers.{Registers}
-use Rattle.mh_attempt.specs.AskedTypes.{attempt_types, script_types, target_types}
+use Rattle.mh_attempt.specs.AskedTypes.{job_types, script_types, target_types}
 use Rattle.mh_attempt.specs.Linkage.{target_of, target_recipes}
 use Rattle.mh_attempt.specs.Recipes.{attempt_recipes, script_asked, script_recipes}
 use Rattle.mh_attempt.specs.Registers.{AreKept, HasLeaves, Hold, HoldsLast, held_under, holds_in}
@@ -96,7 +96,7 @@ job-asked leaves scripts job serial call called =
 
 -- and for the types that this asks for
 pub job-types : (leaves : LeafTable) (scripts : List Script) (job : Job) (serial : ℕ) (call : BootstrapCall) → job.call ≡ Ok call →
-    attempt_types leaves scripts job serial ≡ target_types leaves scripts serial call
+    job_types leaves scripts job serial ≡ target_types leaves scripts serial call
 job-types leaves scripts job serial call called =
     ap (λ m. types_of leaves (unless_thrown m (λ c. unless_thrown (called_script scripts c)
     (λ script. nodes_from leaves script.steps script.end (at_start c serial))))) called

@@ -2,10 +2,11 @@
 use Rattle.std.proofs.Common.{sym, subst, List, [], ◌++◌, append-nil}
 use Rattle.mh_intern.specs.Exchanges.{Exchanges}
 use Rattle.mh_intern.specs.Views.{HoldView}
-use Rattle.mh_intern.proofs.Exchanging.{exchanges-both, exchanges-still, exchanges-then, held-came, held-second}
+use Rattle.mh_intern.proofs.Exchanging.{exchanges-both, exchanges-still, exchanges-then, held-came}
+use Rattle.mh_intern.proofs.HeldLists.{held-second}
 use Rattle.mh_handle.specs.declared.work.Work.{Work}
 use Rattle.mh_handle.specs.Works.{HoldsTypes}
-use Rattle.mh_handle.proofs.Trading.{exchanges-kept}
+use Rattle.mh_handle.proofs.HoldOrders.{exchanges-kept}
 use Rattle.mh_attempt.specs.Runs.{Replaces}
 use Rattle.mh_attempt.specs.Several.{Adds}
 

@@ -2,7 +2,7 @@
 use Rattle.std.proofs.Common.{◌≡◌, ap, subst, List, [], ◌++◌, Result, Ok, Err, arith}
 use Rattle.mh_intern.specs.Exchanges.{Exchanges}
 use Rattle.mh_intern.specs.Views.{HoldView}
-use Rattle.mh_intern.proofs.Exchanging.{held-first}
+use Rattle.mh_intern.proofs.HeldLists.{held-first}
 use Rattle.mh_handle.specs.declared.error.HandleError.{HandleError}
 use Rattle.mh_handle.specs.declared.handle.Handle.{Handle}
 use Rattle.mh_handle.specs.declared.work.Work.{Work}

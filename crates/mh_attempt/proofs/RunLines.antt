@@ -1,6 +1,6 @@
--- Runs of scripts: where a script stands after some of its lines.
+-- Lines one after the other.
 use denote.Ref.{Bor}
-use Rattle.std.proofs.Common.{◌≡◌, refl, sym, ◌∙◌, ap, subst, ℕ, ◌+◌, ◌*◌, ◌^◌, ◌<◌, ◌≤◌, List, [], ◌∷◌, ◌++◌, append_assoc, map, Result, Ok, arith}
+use Rattle.std.proofs.Common.{◌≡◌, refl, sym, ◌∙◌, ap, subst, ℕ, ◌+◌, ◌*◌, List, [], ◌∷◌, ◌++◌, append_assoc, map, Result, Ok, arith}
 use Rattle.std.proofs.lemmas.List.{map-append}
 use Rattle.std.proofs.lemmas.Grind.{flat_map-append}
 use Rattle.mh_values.specs.declared.types.MethodTy.{MethodTy}
@@ -11,7 +11,7 @@ use Rattle.mh_edit.specs.declared.key.Key.{Key}
 use Rattle.mh_handle.specs.declared.error.HandleError.{HandleError}
 use Rattle.mh_handle.specs.declared.work.Work.{Work}
 use Rattle.mh_handle.specs.Recipe.{recipe}
-use Rattle.mh_handle.specs.Works.{GoesOn, IsReady}
+use Rattle.mh_handle.specs.Works.{GoesOn}
 use Rattle.mh_handle.proofs.Going.{goes_on-still}
 use Rattle.mh_script.specs.declared.script.End.{End}
 use Rattle.mh_script.specs.declared.script.Step.{Step}
@@ -23,12 +23,12 @@ use Rattle.mh_link.specs.Operands.{Frame}
 use Rattle.mh_attempt.specs.Asked.{AsksOrThrows, HasAskedMore}
 use Rattle.mh_attempt.specs.AskedTypes.{AsksNoOther, AsksTypesOrThrows, script_types}
 use Rattle.mh_attempt.specs.Recipes.{script_asked, script_recipes, step_asked}
-use Rattle.mh_attempt.specs.Registers.{AreKept, Hold, HoldSome, holds_in}
-use Rattle.mh_attempt.specs.Runs.{MayRun, Replaces, RunsStep, TellsStep, draws, step_recipes, step_types}
+use Rattle.mh_attempt.specs.Registers.{AreKept, Hold, holds_in}
+use Rattle.mh_attempt.specs.Runs.{Replaces, RunsStep, TellsStep, step_recipes, step_types}
 use Rattle.mh_attempt.proofs.AskedAfter.{asked_more-both, asked_more-none}
 use Rattle.mh_attempt.proofs.AskingTypes.{no_other-still, no_other-then}
-use Rattle.mh_attempt.proofs.Replacing.{replaces-held, replaces-none, replaces-then}
-use Rattle.mh_attempt.proofs.Rooms.{goes_on-sum, ready-after}
+use Rattle.mh_attempt.proofs.Replacing.{replaces-none, replaces-then}
+use Rattle.mh_attempt.proofs.Rooms.{goes_on-sum}
 
 -- registers stand for the frame that a script has reached, from which the rest of the lines gives what all lines give, and has only the rest to ask for
 pub record Reaches (steps rest : List Step) (e : End) (frame : Frame) (registers : Registers) (old new : Work) : Type 0 where
@@ -138,21 +138,3 @@ run-next lines more steps rest s e before mid after old now new u count so_far l
       next-reaches steps rest s e frame mid after old now new u r
       (steps-over s mid after old now new (Ok u) so_far.goes_on.leaves line r.reached r.holds);
 }
-
--- ---- what the next line needs
-
-module _ (lines : ℕ) (steps rest : List Step) (e : End) (before after : Registers) (old now : Work) (may : MayRun steps before old)
-    (so_far : HasRun lines steps rest e before after old now) where
-  pub next-ready : (numbers : ℕ) → 4 * lines + numbers ≤ draws steps → IsReady now numbers
-  next-ready numbers few = ready-after (4 * lines) numbers (draws steps) old now few so_far.goes_on may.ready
-
-  pub next-some : HoldSome now.leaves.now after
-  next-some =
-      let at = so_far.reaches may.holds.0 may.holds.1 in
-      (at.reached, subst (λ (leaves : Bor LeafTable). Hold leaves.now after at.reached) (sym so_far.goes_on.leaves) at.holds)
-
-  pub next-kept : AreKept now.seat.now after
-  next-kept = replaces-held (holds_in before.assigned.items) (holds_in after.assigned.items) old now may.kept so_far.types
-
-  pub next-serial : after.serial < 2 ^ 63
-  next-serial = rw so_far.serial may.serial

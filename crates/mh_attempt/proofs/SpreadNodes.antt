@@ -8,7 +8,7 @@ use Rattle.mh_values.specs.declared.value.Exc.{Exc}
 use Rattle.mh_leaf.specs.LeafTable.{LeafTable}
 use Rattle.mh_tree.specs.declared.error.CheckError.{CheckError}
 use Rattle.mh_tree.specs.declared.error.CheckError.TheVariants.{NoMemory, Refused}
-use Rattle.mh_tree.specs.Check.{Tells}
+use Rattle.mh_tree.specs.Check.{TellsRow}
 use Rattle.mh_tree.specs.Rows.{TypeOrRefusal, component_of, illegal}
 use Rattle.mh_tree.specs.Tree.{Tree, weight}
 use Rattle.mh_tree.specs.Tree as tree
@@ -64,7 +64,7 @@ module _ (leaves : LeafTable) (t : Tree) (own : MethodTy) (array : Option Ty) (c
 
 -- a spread that the rule refuses
 pub refused-spread : (w : Work) (t : Tree) (array : Option Ty) (count : ℕ) (row : TypeOrRefusal) (error : CheckError) →
-    (spread_of w.leaves.now t array count >>= type_of w.leaves.now) ≡ row → Tells (Err error) row →
+    (spread_of w.leaves.now t array count >>= type_of w.leaves.now) ≡ row → TellsRow (Err error) row →
     MakesNode (typed_spread w.leaves.now t array count) w w (Err (of_check error))
 refused-spread w t array count row NoMemory is tells = tt
 refused-spread w t array count row (Refused e) is tells =

@@ -53,9 +53,9 @@ abbrev pub target_types : LeafTable → List Script → ℕ → BootstrapCall �
 target_types leaves scripts serial call =
     types_of leaves (unless_thrown (called_script scripts call) (λ script. nodes_from leaves script.steps script.end (at_start call serial)))
 
--- the types of the nodes that the attempt of a serial number makes
-abbrev pub attempt_types : LeafTable → List Script → Job → ℕ → List MethodTy
-attempt_types leaves scripts job serial = types_of leaves (nodes leaves scripts job serial)
+-- the types of the nodes that the attempt to link a job makes that has a serial
+abbrev pub job_types : LeafTable → List Script → Job → ℕ → List MethodTy
+job_types leaves scripts job serial = types_of leaves (nodes leaves scripts job serial)
 
 -- ---- what a seat is asked for
 

@@ -3,6 +3,7 @@ pub mod AskedTypes
 pub mod Errors
 pub mod Lines
 pub mod Linkage
+pub mod Operations
 pub mod Recipes
 pub mod Registers
 pub mod Runs

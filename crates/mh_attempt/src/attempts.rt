@@ -8,7 +8,7 @@ ghost use Rattle.mh_jobs.specs.Thrown.{caused, recorded};
 ghost use Rattle.mh_link.specs.Linked.{held_by, linked, outcome};
 ghost use Rattle.mh_link.specs.Sites.{edits_at, types_at};
 ghost use Rattle.mh_attempt.specs.Asked.{Asks, AsksOrThrows};
-ghost use Rattle.mh_attempt.specs.AskedTypes.{AsksTypes, AsksTypesOrThrows, attempt_types, target_types};
+ghost use Rattle.mh_attempt.specs.AskedTypes.{AsksTypes, AsksTypesOrThrows, job_types, target_types};
 ghost use Rattle.mh_attempt.specs.Linkage.{AddsLinkage, AddsLinked, HasTypes, IsLinkedBy, held_in, target_of, target_recipes};
 ghost use Rattle.mh_attempt.specs.Lines.{TellsTarget};
 ghost use Rattle.mh_attempt.specs.Recipes.{attempt_recipes};
@@ -103,7 +103,7 @@ fn target<'t, R: Wait>(
         w.old result }
     ensures asks { AsksOrThrows (attempt_recipes (leaves_of w.old) scripts.now job.now serial)
         w.old w.new result }
-    ensures asked { AsksTypesOrThrows (attempt_types (leaves_of w.old) scripts.now job.now serial)
+    ensures asked { AsksTypesOrThrows (job_types (leaves_of w.old) scripts.now job.now serial)
         w.old w.new result }
 {
     match &job.call {
@@ -131,7 +131,7 @@ fn link<'t, R: Wait>(
         (held_by (leaves_of w.old) (linked (leaves_of w.old) scripts.now job.now serial))) }
     ensures asks { Asks (attempt_recipes (leaves_of w.old) scripts.now job.now serial)
         w.old w.new result }
-    ensures asked { AsksTypes (attempt_types (leaves_of w.old) scripts.now job.now serial)
+    ensures asked { AsksTypes (job_types (leaves_of w.old) scripts.now job.now serial)
         w.old w.new result }
 {
     match target(w, rt, scripts, job, serial) {

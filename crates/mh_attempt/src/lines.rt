@@ -1,12 +1,8 @@
 //! The lines of a script that make method handles.
 
 ghost use Rattle.mh_handle.specs.Works.{GoesOn, IsReady, leaves_of};
-ghost use Rattle.mh_attempt.specs.Asked.{AsksOrThrows};
-ghost use Rattle.mh_attempt.specs.AskedTypes.{AsksTypesOrThrows, line_types};
-ghost use Rattle.mh_attempt.specs.Lines.{MakesNode};
+ghost use Rattle.mh_attempt.specs.Operations.{MakesOperation};
 ghost use Rattle.mh_link.specs.Operands.{Frame};
-ghost use Rattle.mh_link.specs.Operations.{node_of};
-ghost use Rattle.mh_attempt.specs.Recipes.{line_recipes};
 ghost use Rattle.mh_attempt.specs.Registers.{AreKept, Hold, HoldSome};
 
 mod arrays;
@@ -43,12 +39,8 @@ pub(crate) fn node<'t, R: Wait>(
     requires kept { AreKept w.old.seat.now registers.now }
     ensures goes_on { GoesOn 4 w.old w.new }
     ensures types { AddsTypes w.old w.new result }
-    ensures node { (frame : Frame) → Hold (leaves_of w.old) registers.now frame → MakesNode
-        (node_of (leaves_of w.old) frame operation.now) w.old w.new result }
-    ensures asks { (frame : Frame) → Hold (leaves_of w.old) registers.now frame → AsksOrThrows
-        (line_recipes (leaves_of w.old) frame operation.now) w.old w.new result }
-    ensures asked { (frame : Frame) → Hold (leaves_of w.old) registers.now frame → AsksTypesOrThrows
-        (line_types (leaves_of w.old) frame operation.now) w.old w.new result }
+    ensures line { (frame : Frame) → Hold (leaves_of w.old) registers.now frame
+        → MakesOperation frame operation.now w.old w.new result }
 {
     match operation {
         Operation::Leaf(method) => leaf_line(w, rt, method),

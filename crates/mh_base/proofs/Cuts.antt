@@ -1,13 +1,18 @@
 -- A text is cut at the first place of a byte.
-use Rattle.std.proofs.Common.{◌≡◌, refl, ap, ◌∙◌, suc, ℕ, ◌+◌, ◌==◌, true, false, not, cond, nat_lt, List, [], ◌∷◌, ◌++◌, length, take, drop, None, Some, option_map, length-append, arith}
+use Rattle.std.proofs.Common.{◌≡◌, refl, ap, ◌∙◌, zero, suc, ℕ, ◌+◌, ◌==◌, true, false, not, cond, nat_lt, List, [], ◌∷◌, ◌++◌, length, take, drop, None, Some, option_map, length-append, arith}
 use Rattle.std.proofs.lemmas.Bool.{eq-eqb, lt-ltb, le-ltb}
-use Rattle.std.specs.List.{position_or_len}
+use Rattle.std.specs.List.{All, position_or_len}
 use Rattle.mh_base.specs.Lines.{cut_at}
 
 -- a text without a byte
 abbrev pub Lacks : ℕ → List ℕ → Type 0
 Lacks byte [] = Unit {0}
 Lacks byte (b ∷ bs) = ((b == byte) ≡ false) × Lacks byte bs
+
+pub all_lack : (byte : ℕ) (xs : List ℕ) → Lacks byte xs → All (λ b. (b == byte) ≡ false) xs
+all_lack byte [] lacks k d within = absurd (omega (arith, within))
+all_lack byte (x ∷ xs) lacks zero d within = lacks.0
+all_lack byte (x ∷ xs) lacks (suc k) d within = all_lack byte xs lacks.1 k d (omega arith)
 
 pub Lacks-append : (byte : ℕ) (xs ys : List ℕ) → Lacks byte xs → Lacks byte ys → Lacks byte (xs ++ ys)
 Lacks-append byte [] ys h k = k

@@ -1,5 +1,5 @@
--- The items of a list that is longer, and an answer that is the first of two.
-use Rattle.std.proofs.Common.{◌≡◌, refl, ap, zero, suc, ℕ, ◌<◌, ◌⊎◌, inl, inr, List, [], ◌∷◌, ◌++◌, length, slice_get, Option, None, Some, arith}
+-- The items of a list that is longer, an answer that is the first of two, and one that is not there.
+use Rattle.std.proofs.Common.{◌≡◌, refl, ap, zero, suc, ℕ, ◌<◌, ◌⊎◌, inl, inr, List, [], ◌∷◌, ◌++◌, length, slice_get, false, is_some, Option, None, Some, arith}
 use Rattle.std.specs.Option.{option_or}
 
 -- an item of the front of a list
@@ -25,3 +25,7 @@ slice_get-push (x ∷ xs) y (suc i) z h = elim (slice_get-push xs y i z h) [ inl
 pub option_or-none : {A : Type 0} (o : Option A) → option_or o None ≡ o
 option_or-none None = refl
 option_or-none (Some x) = refl
+
+pub not_some : {A : Type 0} (o : Option A) → is_some o ≡ false → o ≡ None
+not_some None h = refl
+not_some (Some a) h = cc

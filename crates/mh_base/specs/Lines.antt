@@ -1,17 +1,26 @@
 -- A text as lines, a line as tokens, and what lines build one after the other.
-use Rattle.std.specs.Prelude.{◌≡◌, ℕ, ◌+◌, ◌==◌, Bool, true, ◌&&◌, nat_le, List, [], ◌∷◌, take, drop, position, Option, option_map, Result, Ok, Err}
-use Rattle.std.specs.List.{slice_split, list_all}
+use Rattle.std.specs.Prelude.{◌≡◌, ℕ, ◌+◌, ◌==◌, Bool, true, not, ◌&&◌, nat_le, List, [], ◌∷◌, ◌++◌, codes, length, take, drop, position, Option, option_map, Result, Ok, Err}
+use Rattle.std.specs.List.{join_with_byte, slice_split, list_all}
+use Rattle.mh_base.specs.Ascii.{line_feed, number_sign, space}
 use Rattle.mh_base.specs.declared.lines.LineFault.{LineFault}
 use Rattle.mh_base.specs.declared.lines.LineError.{LineError}
 use Rattle.mh_base.specs.declared.lines.LineError.TheVariants as line_error
 
 -- LF ends a line; what stands after the last LF is a line too
 abbrev pub lines_of : List ℕ → List (List ℕ)
-lines_of text = slice_split (λ b. b == 10) text
+lines_of text = slice_split (λ b. b == line_feed) text
 
 -- the tokens of a line, between single spaces
 abbrev pub tokens_of : List ℕ → List (List ℕ)
-tokens_of line = slice_split (λ b. b == 32) line
+tokens_of line = slice_split (λ b. b == space) line
+
+-- a token that is not empty
+abbrev pub is_full : List ℕ → Bool
+is_full token = not (length token == 0)
+
+-- a line of tokens, with a space between two of them, and LF at its end
+abbrev pub line_text : List (List ℕ) → List ℕ
+line_text tokens = join_with_byte space tokens ++ codes "\n"
 
 -- a text before the first place of a byte, and after it
 abbrev pub cut_at : ℕ → List ℕ → Option (List ℕ × List ℕ)
@@ -20,7 +29,7 @@ cut_at byte text = option_map (λ at. (take at text, drop (at + 1) text)) (posit
 -- a line that is passed over: an empty one, or one that begins with `#`
 abbrev pub is_passed : List ℕ → Bool
 is_passed [] = true
-is_passed (b ∷ bs) = b == 35
+is_passed (b ∷ bs) = b == number_sign
 
 -- a line of the bytes 0x20 to 0x7E alone
 abbrev pub is_plain : List ℕ → Bool

@@ -1,6 +1,7 @@
 -- What the call of a gather answers, from what it adds to the handle that it adapts.
-use Rattle.std.proofs.Common.{◌≡◌, sym, subst, ap, ◌∙◌, ℕ, ◌+◌, ◌-◌, ◌≤◌, Bool, ◌&&◌, List, [], ◌∷◌, ◌++◌, append-nil, length, replicate, Option, Some, Result, Ok, Err, IfOk, codes, nat_lt, arith}
+use Rattle.std.proofs.Common.{◌≡◌, sym, subst, ap, ◌∙◌, ℕ, ◌+◌, ◌-◌, ◌≤◌, Bool, ◌&&◌, List, [], ◌∷◌, ◌++◌, append-nil, length, replicate, Option, Some, Result, Ok, Err, IfOk, codes, nat_le, nat_lt, arith}
 use Rattle.std.specs.Prelude.{slice_get, IsTrue}
+use Rattle.mh_base.specs.Provided.{provided}
 use Rattle.mh_values.specs.declared.class.Class.{Class}
 use Rattle.mh_values.specs.declared.types.Comp.{Comp}
 use Rattle.mh_values.specs.declared.types.Ty.{Ty}
@@ -8,8 +9,9 @@ use Rattle.mh_values.specs.declared.types.MethodTy.{MethodTy}
 use Rattle.mh_values.specs.Array.{item_type}
 use Rattle.mh_values.specs.Classes.{AreClasses}
 use Rattle.mh_values.specs.Computation.{spliced}
+use Rattle.mh_values.specs.ValueLimits.{most_items}
 use Rattle.mh_leaf.specs.LeafTable.{LeafTable}
-use Rattle.mh_tree.specs.Rows.{TypeOrRefusal, component_of, gather_row, illegal, limited, provided, takes_array, taking}
+use Rattle.mh_tree.specs.Rows.{TypeOrRefusal, component_of, gather_row, illegal, limited, takes_array, taking}
 use Rattle.mh_tree.specs.Tree.{Tree}
 use Rattle.mh_tree.specs.Tree as tree
 use Rattle.mh_tree.proofs.Provided.{provided-parts, provided_some-parts}
@@ -45,7 +47,7 @@ pub gather-light : (classes : List Class) (t : MethodTy) (weight : ℕ) (array :
 gather-light classes t weight array count u row =
     let made : Comp → MethodTy = λ c. taking (spliced (length t.params - 1) 1 (replicate count (item_type c)) t.params) t in
     let within : Comp → TypeOrRefusal = λ c. limited (codes "gather") (1 + weight) (made c) in
-    let test : Comp → Bool = λ c. nat_lt 0 (length t.params) && takes_array classes c (slice_get t.params (length t.params - 1)) && nat_lt count 255 in
+    let test : Comp → Bool = λ c. nat_lt 0 (length t.params) && takes_array classes c (slice_get t.params (length t.params - 1)) && nat_le count most_items in
     let q = provided_some-parts (component_of array) (illegal (codes "gather")) (λ c. provided (test c) (illegal (codes "gather")) (within c)) u row in
     let r = provided-parts (test q.0) (illegal (codes "gather")) (within q.0) u q.2 in
     (limited-low (codes "gather") (1 + weight) (made q.0) u r.1).1

@@ -15,6 +15,7 @@ mod RootStands
 mod Rooted
 mod SpreadCall
 mod SpreadRules
+mod SpreadEdits
 mod SpreadItems
 mod SpreadStands
 pub mod Trading

@@ -1,6 +1,7 @@
 -- What the call of a spread does, from what its check found and what its use of the handle made.
 use Rattle.std.proofs.Common.{◌≡◌, sym, subst, ap, ◌∙◌, ℕ, ◌+◌, ◌-◌, ◌≤◌, List, [], ◌∷◌, ◌++◌, append-nil, length, Option, Result, Ok, Err, IfOk, codes}
 use Rattle.std.specs.Prelude.{IsTrue}
+use Rattle.mh_base.specs.Provided.{provided}
 use Rattle.mh_values.specs.declared.class.Class.{Class}
 use Rattle.mh_values.specs.declared.types.Comp.{Comp}
 use Rattle.mh_values.specs.declared.types.Ty.{Ty}
@@ -10,7 +11,7 @@ use Rattle.mh_values.specs.Array.{item_type}
 use Rattle.mh_values.specs.Classes.{AreClasses}
 use Rattle.mh_values.specs.Computation.{spliced}
 use Rattle.mh_leaf.specs.LeafTable.{LeafTable}
-use Rattle.mh_tree.specs.Rows.{TypeOrRefusal, component_of, ends_with, illegal, limited, provided, spread_row, taking}
+use Rattle.mh_tree.specs.Rows.{TypeOrRefusal, component_of, ends_with, illegal, limited, spread_row, taking}
 use Rattle.mh_tree.specs.Tree.{Tree}
 use Rattle.mh_tree.specs.Tree as tree
 use Rattle.mh_tree.specs.Use.{items_used_as, spread_use_row, use_row, used_as}
@@ -38,7 +39,8 @@ use Rattle.mh_branch.specs.Growths.{spread_keys}
 use Rattle.mh_branch.specs.Spreading.{IsSpreading, MakesSpread}
 use Rattle.mh_branch.proofs.ArrayFits.{spread-fits}
 use Rattle.mh_branch.proofs.ArrayShapes.{spread-shaped}
-use Rattle.mh_branch.proofs.SpreadRules.{items-are, makes-second, spreading-row}
+use Rattle.mh_branch.proofs.SpreadRules.{items-are, spreading-row}
+use Rattle.mh_branch.proofs.SpreadEdits.{makes-second}
 use Rattle.mh_branch.proofs.SpreadStands.{spread-stands}
 
 spread-light : (t : MethodTy) (weight : ℕ) (array : Option Ty) (count : ℕ) (u : MethodTy) → spread_row t weight array count ≡ Ok u → 1 + weight ≤ 256

@@ -15,7 +15,9 @@ use Rattle.mh_handle.specs.declared.handle.Handle.{Handle}
 use Rattle.mh_handle.specs.declared.work.Work.{Work}
 use Rattle.mh_handle.specs.Works.{IsAccepted, IsReady, IsUnchanged, TradesTypes, types_in}
 use Rattle.mh_handle.proofs.Going.{seated-still, unchanged-ready}
-use Rattle.mh_handle.proofs.Trading.{exchanges-back, exchanges-few, exchanges-same, held-swapped, same-swapped, trades-row}
+use Rattle.mh_handle.proofs.HoldOrders.{exchanges-back, exchanges-few, exchanges-same, same-swapped}
+use Rattle.mh_handle.proofs.SingleHolds.{held-swapped}
+use Rattle.mh_handle.proofs.Trading.{trades-row}
 use Rattle.mh_branch.specs.Growths.{TradesParts}
 
 -- ---- holds that are handed back

@@ -7,7 +7,7 @@ use Rattle.mh_values.specs.declared.types.Ty.{Ty}
 use Rattle.mh_values.specs.declared.types.MethodTy.{MethodTy}
 use Rattle.mh_values.specs.Array.{item_type}
 use Rattle.mh_tree.specs.declared.error.CheckError.{CheckError}
-use Rattle.mh_tree.specs.Check.{Tells}
+use Rattle.mh_tree.specs.Check.{TellsRow}
 use Rattle.mh_tree.specs.Rows.{catch_row, component_of, gather_row, guard_row}
 use Rattle.mh_intern.specs.Exchanges.{Exchanges}
 use Rattle.mh_intern.specs.Views.{HoldView}
@@ -52,7 +52,7 @@ pub record IsGather (t : HandleView) (c : Comp) (count : ℕ) (by : Growth) : Ty
 abbrev pub TellsGather : List Class → HandleView → Option Ty → ℕ → Result Growth CheckError → Type 0
 TellsGather classes t array count (Ok by) =
     (gather_row classes t.ty t.weight array count ≡ Ok by.ty) × (c : Comp) × (component_of array ≡ Some c) × IsGather t c count by
-TellsGather classes t array count (Err e) = Tells (Err e) (gather_row classes t.ty t.weight array count)
+TellsGather classes t array count (Err e) = TellsRow (Err e) (gather_row classes t.ty t.weight array count)
 
 -- two parts more, one after the other
 abbrev pub AddsHandles : HandleView → HandleView → PartsView → PartsView → Type 0
@@ -85,7 +85,7 @@ TellsGuard test target fallback (Ok b) =
     (guard_row test.ty test.weight target.ty target.weight fallback.ty fallback.weight ≡ Ok b.ty)
     × (b.weight ≡ 1 + test.weight + target.weight + fallback.weight) × (b.key ≡ guard_key b.ty test.ty)
 TellsGuard test target fallback (Err e) =
-    Tells (Err e) (guard_row test.ty test.weight target.ty target.weight fallback.ty fallback.weight)
+    TellsRow (Err e) (guard_row test.ty test.weight target.ty target.weight fallback.ty fallback.weight)
 
 -- a catch before its parts are there, with the type that its rule gives, or its very refusal; want of memory tells nothing
 abbrev pub TellsCatch : List Class → HandleView → ClassId → HandleView → Result Branch CheckError → Type 0
@@ -93,7 +93,7 @@ TellsCatch classes target class handler (Ok b) =
     (catch_row classes target.ty target.weight class handler.ty handler.weight ≡ Ok b.ty)
     × (b.weight ≡ 1 + target.weight + handler.weight) × (b.key ≡ catch_key b.ty handler.ty)
 TellsCatch classes target class handler (Err e) =
-    Tells (Err e) (catch_row classes target.ty target.weight class handler.ty handler.weight)
+    TellsRow (Err e) (catch_row classes target.ty target.weight class handler.ty handler.weight)
 
 -- a handle that was made is the branch, with its parts
 abbrev pub RootsBranch : Branch → PartsView → Result Handle HandleError → Type 0

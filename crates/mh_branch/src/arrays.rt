@@ -1,6 +1,6 @@
 ghost use Rattle.std.specs.Prelude.{◌≡◌, IfOk, Some};
 ghost use Rattle.mh_values.specs.Classes.{AreClasses};
-ghost use Rattle.mh_tree.specs.Check.{Tells};
+ghost use Rattle.mh_tree.specs.Check.{TellsRow};
 ghost use Rattle.mh_tree.specs.Rows.{component_of, gather_row};
 ghost use Rattle.mh_tree.specs.Tree.{Tree};
 ghost use Rattle.mh_tree.specs.Tree as tree;
@@ -39,7 +39,7 @@ fn gather_type<'t>(
 ) -> Result<MethodTy, CheckError>
     ensures are { AreClasses (classes_of w.now) }
     ensures shaped { IsShaped target.now }
-    ensures tells { Tells result (gather_row (classes_of w.now)
+    ensures tells { TellsRow result (gather_row (classes_of w.now)
         target.now.ty target.now.weight array count) }
 {
     check_gather(

@@ -1,6 +1,6 @@
 ghost use Rattle.std.specs.Prelude.{◌≤◌, ◌+◌, ◌++◌, ◌∷◌, [], IfOk, IsTrue, length};
 ghost use Rattle.mh_values.specs.Classes.{AreClasses};
-ghost use Rattle.mh_tree.specs.Check.{Tells};
+ghost use Rattle.mh_tree.specs.Check.{TellsRow};
 ghost use Rattle.mh_tree.specs.Rows.{guard_row, catch_row};
 ghost use Rattle.mh_tree.specs.Tree.{Tree};
 ghost use Rattle.mh_tree.specs.Tree as tree;
@@ -29,7 +29,7 @@ fn guard_type<'t>(
     fallback: &Handle<'t>,
 ) -> Result<MethodTy, CheckError>
     ensures shaped { IsShaped test.now × IsShaped target.now × IsShaped fallback.now }
-    ensures tells { Tells result (guard_row test.now.ty test.now.weight
+    ensures tells { TellsRow result (guard_row test.now.ty test.now.weight
         target.now.ty target.now.weight fallback.now.ty fallback.now.weight) }
 {
     check_guard(
@@ -53,8 +53,8 @@ fn catch_type<'t>(
 ) -> Result<MethodTy, CheckError>
     ensures are { AreClasses (classes_of w.now) }
     ensures shaped { IsShaped target.now × IsShaped handler.now }
-    ensures tells { Tells result (catch_row (classes_of w.now) target.now.ty target.now.weight class
-        handler.now.ty handler.now.weight) }
+    ensures tells { TellsRow result (catch_row (classes_of w.now) target.now.ty target.now.weight
+        class handler.now.ty handler.now.weight) }
 {
     check_catch(
         w.alloc,

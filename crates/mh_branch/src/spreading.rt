@@ -1,6 +1,6 @@
 ghost use Rattle.std.specs.Prelude.{◌≡◌, ◌≤◌, length, IfOk};
 ghost use Rattle.mh_values.specs.Classes.{AreClasses};
-ghost use Rattle.mh_tree.specs.Check.{Tells};
+ghost use Rattle.mh_tree.specs.Check.{TellsRow};
 ghost use Rattle.mh_tree.specs.Tree.{Tree};
 ghost use Rattle.mh_tree.specs.Tree as tree;
 ghost use Rattle.mh_tree.specs.Use.{items_used_as, spread_use_row, taking_items};
@@ -107,7 +107,7 @@ pub fn check_spread_use(
     classes: &Classes,
 ) -> Result<MethodTy, CheckError>
     requires { weight ≤ 256 }
-    ensures { Tells result (spread_use_row classes.now target.now weight array count) }
+    ensures { TellsRow result (spread_use_row classes.now target.now weight array count) }
 {
     let spreading = match check_spreading(alloc, target, weight, array, count, classes) {
         Ok(spreading) => spreading,

@@ -1,23 +1,21 @@
 -- What conversions give has the type that was asked for, and what they throw is an exception.
-use Rattle.std.proofs.Common.{◌≡◌, refl, sym, ap, subst, Bool, true, false, ◌||◌, cond, List, Result, Ok, Err}
+use Rattle.std.proofs.Common.{◌≡◌, refl, ap, subst, Bool, true, ◌||◌, cond, List, Ok, Err}
 use Rattle.mh_values.specs.declared.class.Class.{Class}
-use Rattle.mh_values.specs.declared.class.ClassId.{ClassId}
 use Rattle.mh_values.specs.declared.types.Primitive.{Primitive}
 use Rattle.mh_values.specs.declared.types.Primitive.TheVariants as primitive
 use Rattle.mh_values.specs.declared.types.Ty.{Ty}
 use Rattle.mh_values.specs.declared.types.Ty.TheVariants as ty
 use Rattle.mh_values.specs.declared.value.Num.{Num}
 use Rattle.mh_values.specs.declared.value.Num.TheVariants as num
-use Rattle.mh_values.specs.declared.value.Exc.{Exc}
 use Rattle.mh_values.specs.declared.value.Value.{Value}
 use Rattle.mh_values.specs.declared.value.Value.TheVariants as value
-use Rattle.mh_values.specs.Class.{is_subclass, throwable_class, class_cast_class, null_pointer_class}
+use Rattle.mh_values.specs.Class.{class_cast_class}
 use Rattle.mh_values.specs.Classes.{AreClasses}
 use Rattle.mh_values.specs.Exception.{bare}
-use Rattle.mh_values.specs.HasType.{primitive_of, wrapper_of, is_same_primitive, has_type, is_type_below}
+use Rattle.mh_values.specs.HasType.{primitive_of, is_same_primitive, has_type, is_type_below}
 use Rattle.mh_values.proofs.SameTypes.{same_primitive-is}
-use Rattle.mh_values.proofs.BelowTypes.{class_cast-below, null_pointer-below, value-below, type_below-itself}
-use Rattle.mh_convert.specs.Conversion.{widens, serves_as, can, widened, widened_value, boxed, cast, unboxed, conv, fit, is_trivial}
+use Rattle.mh_values.proofs.BelowTypes.{value-below, type_below-itself}
+use Rattle.mh_convert.specs.Conversion.{widens, can, widened, widened_value, cast, conv, is_trivial}
 pub use Rattle.mh_convert.proofs.TypedConversions.{
   cast-throws,
   cast-typed,

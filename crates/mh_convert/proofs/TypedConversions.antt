@@ -1,5 +1,5 @@
 -- Casts, unboxing and conversions give values of the type that is asked for, or throw exceptions.
-use Rattle.std.proofs.Common.{◌≡◌, refl, sym, ap, subst, Bool, true, false, ◌||◌, cond, List, Result, Ok, Err}
+use Rattle.std.proofs.Common.{◌≡◌, refl, sym, subst, Bool, true, false, cond, List, Result, Ok, Err}
 use Rattle.mh_values.specs.declared.class.Class.{Class}
 use Rattle.mh_values.specs.declared.class.ClassId.{ClassId}
 use Rattle.mh_values.specs.declared.types.Primitive.{Primitive}
@@ -14,10 +14,10 @@ use Rattle.mh_values.specs.declared.value.Value.TheVariants as value
 use Rattle.mh_values.specs.Class.{is_subclass, throwable_class, class_cast_class, null_pointer_class}
 use Rattle.mh_values.specs.Classes.{AreClasses}
 use Rattle.mh_values.specs.Exception.{bare}
-use Rattle.mh_values.specs.HasType.{primitive_of, wrapper_of, is_same_primitive, has_type, is_type_below}
+use Rattle.mh_values.specs.HasType.{primitive_of, wrapper_of, has_type}
 use Rattle.mh_values.proofs.SameTypes.{same_primitive-is}
-use Rattle.mh_values.proofs.BelowTypes.{class_cast-below, null_pointer-below, value-below, type_below-itself}
-use Rattle.mh_convert.specs.Conversion.{widens, serves_as, can, widened, widened_value, boxed, cast, unboxed, conv, fit, is_trivial}
+use Rattle.mh_values.proofs.BelowTypes.{class_cast-below, null_pointer-below}
+use Rattle.mh_convert.specs.Conversion.{serves_as, can, widened, widened_value, boxed, cast, unboxed, conv, fit}
 
 -- the value of a result
 same_value : (v w : Value) → ◌≡◌ {A = Result Value Exc} (Ok v) (Ok w) → v ≡ w

@@ -26,5 +26,5 @@ unfoldable pub threads_text : ℕ → ℕ → List ℕ
 threads_text sites count = flat_map (thread_text sites) (range_with_len 0 count)
 
 -- the plan
-unfoldable pub plan_text : ℕ → List ℕ
-plan_text number = threads_text (site_count number) (thread_count number)
+unfoldable pub generated_plan : ℕ → List ℕ
+generated_plan number = threads_text (site_count number) (thread_count number)

@@ -3,13 +3,13 @@ use Rattle.std.specs.Prelude.{ℕ, List, ◌++◌, codes}
 use Rattle.mh_made_class.specs.Constants.{bootstrap_type}
 
 -- the manifest: the class `made/Host` with a leaf that adds two ints, and one that gives its int back
-unfoldable pub manifest_text : List ℕ
-manifest_text = codes "class made/Host java/lang/Object\nstatic made/Host add (II)I iadd\nstatic made/Host same (I)I same\n"
+unfoldable pub generated_manifest : List ℕ
+generated_manifest = codes "class made/Host java/lang/Object\nstatic made/Host add (II)I iadd\nstatic made/Host same (I)I same\n"
 
 -- the scripts: one, `made/Boot.link`, which gives a sum with its static argument, filters the argument of the call by the other leaf, and
 -- uses that as the type of the call site
-unfoldable pub scripts_text : List ℕ
-scripts_text =
+unfoldable pub generated_scripts : List ℕ
+generated_scripts =
     codes "script made/Boot link " ++ bootstrap_type
     ++ codes "\nlet add leaf made/Host.add:(II)I\nlet one bind add 1 a0\nlet sam leaf made/Host.same:(I)I\n"
     ++ codes "let two filter one 0 sam\nlet end astype two type\nreturn end\nend\n"

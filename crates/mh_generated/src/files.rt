@@ -1,14 +1,13 @@
-ghost use Rattle.std.specs.Prelude.{◌≡◌, ◌≤◌, length, IfOk};
-ghost use Rattle.mh_outside.specs.Told.{ReadsFrom};
+ghost use Rattle.std.specs.Prelude.{◌≡◌, IfOk};
 ghost use Rattle.mh_generated.specs.Files.{bytes_of, files_of};
 ghost use Rattle.mh_generated.specs.Sites.{class_file};
-ghost use Rattle.mh_generated.specs.Plan.{plan_text};
+ghost use Rattle.mh_generated.specs.Plan.{generated_plan};
 
 use crate::plan::plan_file;
 use crate::sites::class_file;
 use crate::texts::{manifest, scripts};
 use mh_base::NoMemory;
-use mh_outside::{Failed, Inputs};
+use mh_outside::{Failed, Inputs, copy_from};
 use std::alloc::Global;
 
 /// The name of the manifest.
@@ -31,7 +30,7 @@ pub struct GeneratedFiles {
     class: Vec<u8>,
     plan: Vec<u8>,
     ghost class_made: { class.items ≡ class_file number },
-    ghost plan_made: { plan.items ≡ plan_text number },
+    ghost plan_made: { plan.items ≡ generated_plan number },
 }
 
 /// Makes the input from a number.
@@ -60,25 +59,12 @@ impl GeneratedFiles {
     }
 }
 
-// Copies what lies from a place on, as far as there is room for it, and says how much that was.
-fn copy_from(bytes: &[u8], at: u64, buf: &mut [u8]) -> usize
-    ensures count { result ≤ length buf.new }
-    ensures bytes { ReadsFrom bytes.now at result buf.new }
-{
-    let at = at as usize;
-    if at >= bytes.len() {
-        return 0;
-    }
-    let rest = &bytes[at..];
-    let count = rest.len().min(buf.len());
-    buf[..count].copy_from_slice(&rest[..count]);
-    count
-}
-
 impl Inputs for GeneratedFiles {
     ghost told = { λ s. files_of s.number };
 
     ghost faults = { λ _ _. 0 };
+
+    ghost reached = { λ _ _. 0 };
 
     fn read(&mut self, name: &str, at: u64, buf: &mut [u8]) -> Result<usize, Failed> {
         Ok(copy_from(self.bytes(name), at, buf))

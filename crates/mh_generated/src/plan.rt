@@ -1,6 +1,6 @@
 ghost use Rattle.std.specs.Prelude.{◌≡◌, ◌++◌, ◌≤◌, ◌<◌, IfOk, OnOk};
 ghost use Rattle.std.specs.Fmt.{decimal};
-ghost use Rattle.mh_generated.specs.Plan.{call_text, plan_text, thread_text};
+ghost use Rattle.mh_generated.specs.Plan.{call_text, generated_plan, thread_text};
 
 use crate::counts::{CALLS_OF_THREAD, site_count, thread_count};
 use itoa::Buffer;
@@ -45,7 +45,7 @@ fn push_thread(text: &mut Vec<u8>, sites: u32, thread: u32) -> Result<(), NoMemo
 
 /// The plan.
 pub(crate) fn plan_file(alloc: Global, number: u32) -> Result<Vec<u8>, NoMemory>
-    ensures { IfOk result (λ text. text.items ≡ plan_text number) }
+    ensures { IfOk result (λ text. text.items ≡ generated_plan number) }
 {
     let sites = site_count(number);
     let mut text = Vec::new(alloc);

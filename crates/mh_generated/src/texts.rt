@@ -1,10 +1,10 @@
 ghost use Rattle.std.specs.Prelude.{◌≡◌};
-ghost use Rattle.mh_generated.specs.Texts.{manifest_text, scripts_text};
+ghost use Rattle.mh_generated.specs.Texts.{generated_manifest, generated_scripts};
 
 /// The manifest.
-#[tactic(auto, unfolding(crate::specs::Texts::manifest_text))]
+#[tactic(auto, unfolding(crate::specs::Texts::generated_manifest))]
 pub(crate) fn manifest() -> &'static [u8]
-    ensures { result.now ≡ manifest_text }
+    ensures { result.now ≡ generated_manifest }
 {
     b"\
 class made/Host java/lang/Object
@@ -15,9 +15,9 @@ static made/Host same (I)I same
 
 /// The scripts: a script of the class that [`mh_made_class::make_class`] names for the bootstrap
 /// methods.
-#[tactic(auto, unfolding(crate::specs::Texts::scripts_text))]
+#[tactic(auto, unfolding(crate::specs::Texts::generated_scripts))]
 pub(crate) fn scripts() -> &'static [u8]
-    ensures { result.now ≡ scripts_text }
+    ensures { result.now ≡ generated_scripts }
 {
     b"\
 script made/Boot link (Ljava/lang/invoke/MethodHandles$Lookup;Ljava/lang/String;\

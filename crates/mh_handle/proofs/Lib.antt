@@ -32,5 +32,8 @@ pub mod Recipes
 pub mod Refusals
 pub mod SameRecipes
 pub mod Standing
+pub mod HoldOrders
 pub mod Trading
+pub mod SingleHolds
+pub mod UnformedHandles
 pub mod TrivialConversions

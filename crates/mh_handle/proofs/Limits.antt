@@ -2,6 +2,7 @@
 use Rattle.std.proofs.Common.{◌≡◌, ℕ, ◌+◌, ◌≤◌, List, [], ◌∷◌, length, Ok, nat_le, codes, arith}
 use Rattle.std.proofs.lemmas.Bool.{leb-true}
 use Rattle.std.proofs.lemmas.List.Sums.{sum_by-cons}
+use Rattle.mh_base.specs.Provided.{provided}
 use Rattle.mh_values.specs.declared.types.Primitive.TheVariants as primitive
 use Rattle.mh_values.specs.declared.types.Ty.{Ty}
 use Rattle.mh_values.specs.declared.types.Ty.TheVariants as ty
@@ -9,7 +10,7 @@ use Rattle.mh_values.specs.declared.types.MethodTy.{MethodTy}
 use Rattle.mh_values.specs.Class.{internal_error_class}
 use Rattle.mh_values.specs.Exception.{saying}
 use Rattle.mh_values.specs.Slots.{slots_of, slots_of_all}
-use Rattle.mh_tree.specs.Rows.{illegal, limited, provided}
+use Rattle.mh_tree.specs.Rows.{illegal, limited}
 use Rattle.mh_tree.proofs.Provided.{provided-parts}
 
 -- each type takes at least one slot

@@ -4,7 +4,7 @@ use Rattle.std.specs.Prelude.{IsErrAnd}
 use Rattle.mh_values.specs.declared.types.MethodTy.{MethodTy}
 use Rattle.mh_tree.specs.declared.error.CheckError.{CheckError}
 use Rattle.mh_tree.specs.declared.error.CheckError.TheVariants as check
-use Rattle.mh_tree.specs.Check.{Tells}
+use Rattle.mh_tree.specs.Check.{TellsRow}
 use Rattle.mh_tree.specs.Rows.{TypeOrRefusal}
 use Rattle.mh_form.specs.declared.field.Field.{Field}
 use Rattle.mh_edit.specs.declared.key.Key.{Key}
@@ -21,11 +21,12 @@ use Rattle.mh_handle.proofs.Going.{unchanged-still}
 
 -- ---- a refusal by the rule
 
-refusal-obeys : (row : TypeOrRefusal) (e : CheckError) → Tells (Err e) row → Obeys row (Err (of_check e))
+refusal-obeys : (row : TypeOrRefusal) (e : CheckError) → TellsRow (Err e) row → Obeys row (Err (of_check e))
 refusal-obeys row check.NoMemory tells = tt
 refusal-obeys row (check.Refused e) tells = tells
 
-pub refused-obeys : (row : TypeOrRefusal) (e : CheckError) (r : Result Handle HandleError) → Tells (Err e) row → IsErrAnd r (λ x. x ≡ of_check e) → Obeys row r
+pub refused-obeys : (row : TypeOrRefusal) (e : CheckError) (r : Result Handle HandleError) → TellsRow (Err e) row → IsErrAnd r (λ x. x ≡ of_check e) →
+    Obeys row r
 refused-obeys row e (Ok h) tells is = absurd is
 refused-obeys row e (Err x) tells is = subst (λ v. Obeys row (Err v)) (sym is) (refusal-obeys row e tells)
 

@@ -2,7 +2,7 @@
 use Rattle.std.proofs.Common.{◌≡◌, refl, sym, subst, ℕ, List, Result, Err, IfOk, arith}
 use Rattle.std.specs.Prelude.{IsErrAnd}
 use Rattle.mh_tree.specs.declared.error.CheckError.{CheckError}
-use Rattle.mh_tree.specs.Check.{Tells}
+use Rattle.mh_tree.specs.Check.{TellsRow}
 use Rattle.mh_tree.specs.Rows.{TypeOrRefusal}
 use Rattle.mh_edit.specs.declared.key.Key.{Key}
 use Rattle.mh_handle.specs.declared.error.HandleError.{HandleError}
@@ -21,7 +21,7 @@ module _ (old new : Work) (e : CheckError) (r : Result Handle HandleError) (is :
   error-is : IsErrAnd r (λ x. x ≡ of_check e)
   error-is = subst (λ v. IsErrAnd v (λ x. x ≡ of_check e)) (sym is) refl
 
-  pub check-obeys : (row : TypeOrRefusal) → Tells (Err e) row → Obeys row r
+  pub check-obeys : (row : TypeOrRefusal) → TellsRow (Err e) row → Obeys row r
   check-obeys row tells = refused-obeys row e r tells error-is
 
   pub check-makes : (recipe : List Key) → IsUnchanged old new → Makes recipe old new r

@@ -20,4 +20,7 @@ pub mod Dealing
 pub mod HoldCounts
 pub mod Trading
 pub mod Granting
+pub mod HeldLists
 pub mod Exchanging
+pub mod SingleExchanges
+pub mod HoldLists

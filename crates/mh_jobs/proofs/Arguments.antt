@@ -12,7 +12,7 @@ use Rattle.mh_jobs.specs.declared.error.ResolutionError.{ResolutionError}
 use Rattle.mh_jobs.specs.declared.error.ResolutionError.TheVariants.{NoMemory, Thrown}
 use Rattle.mh_jobs.specs.Job.{argument_of, arguments_of}
 use Rattle.mh_jobs.specs.Thrown.{OrThrown, ◌>>=◌}
-use Rattle.mh_jobs.specs.Told.{Tells}
+use Rattle.mh_jobs.specs.Told.{TellsResolved}
 
 -- from a place on, a list is its item there and what is after it
 pub drop-here : {A : Type 0} (xs : List A) (k : ℕ) (x : A) → slice_get xs k ≡ Some x → drop k xs ≡ x ∷ drop (suc k) xs
@@ -48,8 +48,8 @@ none-read leaves all k before c e read there h =
 
 -- an argument that cannot be had ends all
 pub read_stops : (leaves : LeafTable) (all : List Constant) (k : ℕ) (before : List Argument) (c : Constant) (error : ResolutionError) →
-    AreRead leaves all k before → slice_get all k ≡ Some c → Tells {A = Argument} (Err error) (argument_of leaves c) →
-    Tells {A = List Argument} (Err error) (arguments_of leaves all)
+    AreRead leaves all k before → slice_get all k ≡ Some c → TellsResolved {A = Argument} (Err error) (argument_of leaves c) →
+    TellsResolved {A = List Argument} (Err error) (arguments_of leaves all)
 read_stops leaves all k before c NoMemory read there h = tt
 read_stops leaves all k before c (Thrown e) read there h = none-read leaves all k before c e read there h
 

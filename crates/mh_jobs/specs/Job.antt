@@ -10,6 +10,7 @@ use Rattle.mh_values.specs.declared.types.Ty.{Ty}
 use Rattle.mh_values.specs.declared.types.Ty.TheVariants as ty
 use Rattle.mh_values.specs.declared.value.Num.TheVariants as num
 use Rattle.mh_values.specs.declared.value.Value.TheVariants as value
+use Rattle.mh_values.specs.ValueLimits.{most_characters}
 use Rattle.mh_leaf.specs.LeafTable.{LeafTable}
 use Rattle.mh_leaves.specs.declared.naming.How.{How}
 use Rattle.mh_leaves.specs.declared.naming.How.TheVariants.{Static, Virtual}
@@ -36,11 +37,11 @@ abbrev pub unless_lone : Result (List ℕ) ℕ → OrThrown (List ℕ)
 unless_lone (Ok cs) = Ok cs
 unless_lone (Err at) = Err (unsupported (codes "lone surrogate"))
 
--- a text of a class file as a text of at most 4,096 characters
+-- a text of a class file as a text of a value, which has at most 4,096 characters
 abbrev pub text_of : List ℕ → OrThrown (List ℕ)
 text_of bytes = do
   cs ← unless_lone (chars_of bytes)
-  require (nat_le (length cs) 4096) (unsupported (codes "string too long"))
+  require (nat_le (length cs) most_characters) (unsupported (codes "string too long"))
   Ok cs
 
 -- ---- method handles

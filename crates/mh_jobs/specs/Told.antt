@@ -17,7 +17,7 @@ Throws NoMemory e = Unit {0}
 Throws (Thrown told) e = e ≡ told
 
 -- the value, or what is thrown; want of memory tells nothing
-abbrev pub Tells : {A : Type 0} → Result A ResolutionError → OrThrown A → Type 0
-Tells (Ok a) meaning = meaning ≡ Ok a
-Tells (Err NoMemory) meaning = Unit {0}
-Tells (Err (Thrown e)) meaning = meaning ≡ Err e
+abbrev pub TellsResolved : {A : Type 0} → Result A ResolutionError → OrThrown A → Type 0
+TellsResolved (Ok a) meaning = meaning ≡ Ok a
+TellsResolved (Err NoMemory) meaning = Unit {0}
+TellsResolved (Err (Thrown e)) meaning = meaning ≡ Err e

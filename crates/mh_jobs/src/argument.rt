@@ -1,7 +1,7 @@
 ghost use Rattle.std.specs.Prelude.{◌≡◌};
 ghost use Rattle.mh_class_bytes.specs.Chars.{chars_of};
 ghost use Rattle.mh_jobs.specs.Job.{unless_lone, text_of, way_of, handle_leaf, class_argument, argument_of};
-ghost use Rattle.mh_jobs.specs.Told.{Tells};
+ghost use Rattle.mh_jobs.specs.Told.{TellsResolved};
 
 use crate::Argument;
 use crate::error::ResolutionError;
@@ -11,15 +11,12 @@ use mh_base::{Frozen, Seq};
 use mh_class_bytes::{CharsError, Text};
 use mh_classfile::{Constant, HandleRef};
 use mh_leaves::{How, Leaves};
-use mh_values::{Classes, Num, Str, Ty, Value};
+use mh_values::{Classes, MOST_CHARACTERS, Num, Str, Ty, Value};
 use std::alloc::Global;
-
-/// How many characters a text has at most.
-const MOST_CHARACTERS: usize = 4096;
 
 /// The characters of a text.
 fn characters(alloc: Global, text: &Text<'_>) -> Result<Seq<char>, ResolutionError>
-    ensures { Tells result (unless_lone (chars_of text.now)) }
+    ensures { TellsResolved result (unless_lone (chars_of text.now)) }
 {
     match text.chars(alloc) {
         Ok(chars) => Ok(Seq::from_vec(chars)),
@@ -30,7 +27,7 @@ fn characters(alloc: Global, text: &Text<'_>) -> Result<Seq<char>, ResolutionErr
 
 /// A text of a class file as the text of a value.
 pub(crate) fn text_of(alloc: Global, text: &Text<'_>) -> Result<Str, ResolutionError>
-    ensures { Tells result (text_of text.now) }
+    ensures { TellsResolved result (text_of text.now) }
 {
     let characters = characters(alloc, text)?;
     if characters.len() > MOST_CHARACTERS {
@@ -56,7 +53,7 @@ fn handle_leaf(
     leaves: &Leaves,
     handle: &HandleRef<'_>,
 ) -> Result<Argument, ResolutionError>
-    ensures { Tells result (handle_leaf leaves.now handle.now) }
+    ensures { TellsResolved result (handle_leaf leaves.now handle.now) }
 {
     let Some(how) = way_of(handle.kind) else {
         return Err(unsupported(alloc, b"constant"));
@@ -67,7 +64,7 @@ fn handle_leaf(
 
 /// The class or the array type of a constant.
 fn class_argument(alloc: Global, classes: &Classes, text: &[u8]) -> Result<Ty, ResolutionError>
-    ensures { Tells result (class_argument classes.now text.now) }
+    ensures { TellsResolved result (class_argument classes.now text.now) }
 {
     if text.starts_with(b"[") {
         return type_of_text(alloc, classes, text);
@@ -82,7 +79,7 @@ pub(crate) fn argument_of(
     leaves: &Leaves,
     constant: &Constant<'_>,
 ) -> Result<Argument, ResolutionError>
-    ensures { Tells result (argument_of leaves.now constant.now) }
+    ensures { TellsResolved result (argument_of leaves.now constant.now) }
 {
     match constant {
         Constant::Integer(number) => Ok(Argument::Value(Value::Boxed(Num::I(*number)))),

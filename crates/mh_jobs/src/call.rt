@@ -1,6 +1,6 @@
 ghost use Rattle.std.specs.Prelude.{◌≡◌, ◌<◌, length, slice_get, Some, IfSome};
 ghost use Rattle.mh_jobs.specs.Job.{arguments_of, bootstrap_call, bootstrap_script, call_of, constants_at, site_type};
-ghost use Rattle.mh_jobs.specs.Told.{Tells};
+ghost use Rattle.mh_jobs.specs.Told.{TellsResolved};
 
 use crate::argument::{argument_of, text_of};
 use crate::error::ResolutionError;
@@ -48,7 +48,7 @@ fn arguments_of(
     bootstrap: u16,
 ) -> Result<Seq<Argument>, ResolutionError>
     requires { bootstrap < length from.now.view.now.bootstraps }
-    ensures { Tells result (arguments_of from.now.leaves.now
+    ensures { TellsResolved result (arguments_of from.now.leaves.now
         (constants_at from.now.view.now bootstrap)) }
 {
     let mut arguments = Seq::new(alloc);
@@ -66,8 +66,8 @@ fn bootstrap_script(
     from: &Resolving<'_, '_>,
     handle: &HandleRef<'_>,
 ) -> Result<ScriptId, ResolutionError>
-    ensures { Tells result (bootstrap_script from.now.leaves.now.classes from.now.scripts.now
-        handle.now) }
+    ensures { TellsResolved result (bootstrap_script
+        from.now.leaves.now.classes from.now.scripts.now handle.now) }
 {
     if handle.kind != 6 {
         return Err(unsupported(alloc, b"constant"));
@@ -77,7 +77,7 @@ fn bootstrap_script(
 
 /// A type that was read, once more.
 fn shared(alloc: Global, ty: &TypeOrThrown) -> Result<Shared<MethodTy>, ResolutionError>
-    ensures { Tells result ty.now }
+    ensures { TellsResolved result ty.now }
 {
     match ty {
         Ok(ty) => Ok(ty.share()?),
@@ -95,8 +95,8 @@ fn call_of(
 ) -> Result<BootstrapCall, ResolutionError>
     requires ty { ty.now ≡ site_type from.now.leaves.now.classes site.now }
     requires bootstrap { site.now.bootstrap < length from.now.view.now.bootstraps }
-    ensures { Tells result (call_of from.now.leaves.now from.now.scripts.now site.now handle.now
-        (constants_at from.now.view.now site.now.bootstrap)) }
+    ensures { TellsResolved result (call_of from.now.leaves.now from.now.scripts.now site.now
+        handle.now (constants_at from.now.view.now site.now.bootstrap)) }
 {
     let script = bootstrap_script(alloc, from, handle)?;
     let ty = shared(alloc, ty)?;
@@ -118,7 +118,7 @@ pub(crate) fn bootstrap_call(
     ty: &TypeOrThrown,
 ) -> Result<BootstrapCall, ResolutionError>
     requires { ty.now ≡ site_type from.now.leaves.now.classes site.now }
-    ensures { Tells result (bootstrap_call from.now.leaves.now from.now.scripts.now
+    ensures { TellsResolved result (bootstrap_call from.now.leaves.now from.now.scripts.now
         from.now.view.now site.now) }
 {
     if site.bootstrap >= from.view.bootstraps() {

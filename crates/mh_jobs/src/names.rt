@@ -2,7 +2,7 @@ ghost use Rattle.std.specs.Prelude.{◌≡◌};
 ghost use Rattle.mh_jobs.specs.Job.{method_of};
 ghost use Rattle.mh_jobs.specs.Names.{class_of, type_of_text, method_type_of_text, leaf_named, is_known_owner, script_of};
 ghost use Rattle.mh_jobs.specs.Thrown.{as_shown};
-ghost use Rattle.mh_jobs.specs.Told.{Tells};
+ghost use Rattle.mh_jobs.specs.Told.{TellsResolved};
 
 use crate::error::ResolutionError;
 use crate::thrown::{no_class, no_method, no_type};
@@ -19,7 +19,7 @@ pub(crate) fn class_of(
     classes: &Classes,
     name: &[u8],
 ) -> Result<ClassId, ResolutionError>
-    ensures { Tells result (class_of as_shown classes.now name.now) }
+    ensures { TellsResolved result (class_of as_shown classes.now name.now) }
 {
     match classes.find(name) {
         Some(class) => Ok(class),
@@ -33,7 +33,7 @@ pub(crate) fn type_of_text(
     classes: &Classes,
     text: &[u8],
 ) -> Result<Ty, ResolutionError>
-    ensures { Tells result (type_of_text as_shown classes.now text.now) }
+    ensures { TellsResolved result (type_of_text as_shown classes.now text.now) }
 {
     match read_type(text, classes) {
         Ok(ty) => Ok(ty),
@@ -47,7 +47,7 @@ pub(crate) fn method_type_of_text(
     classes: &Classes,
     text: &[u8],
 ) -> Result<Shared<MethodTy>, ResolutionError>
-    ensures { Tells result (method_type_of_text as_shown classes.now text.now) }
+    ensures { TellsResolved result (method_type_of_text as_shown classes.now text.now) }
 {
     match read_descriptor(alloc, text, classes) {
         Ok(ty) => Ok(Shared::new(alloc, ty)?),
@@ -62,7 +62,7 @@ pub(crate) fn leaf_named(
     how: How,
     method: &HandleRef<'_>,
 ) -> Result<LeafId, ResolutionError>
-    ensures { Tells result (leaf_named as_shown leaves.now how (method_of method.now)) }
+    ensures { TellsResolved result (leaf_named as_shown leaves.now how (method_of method.now)) }
 {
     let (owner, name, descriptor) = (
         method.owner.bytes(),
@@ -90,7 +90,8 @@ pub(crate) fn script_of(
     scripts: &Scripts,
     method: &HandleRef<'_>,
 ) -> Result<ScriptId, ResolutionError>
-    ensures { Tells result (script_of as_shown classes.now scripts.now (method_of method.now)) }
+    ensures { TellsResolved result
+        (script_of as_shown classes.now scripts.now (method_of method.now)) }
 {
     let owner = method.owner.bytes();
     if !is_known_owner(classes, scripts, owner) {

@@ -1,3 +1,6 @@
+ghost use Rattle.std.specs.Prelude.{OnOk, IfOk};
+ghost use Rattle.mh_jobs_tests.specs.Files.{IsLonger};
+
 use std::alloc::{AllocError, Global};
 
 /// Constants of a pool after the first 19, and how many they are: the last of them, if there is one,
@@ -42,21 +45,31 @@ const MEMBERS: &[u8] = b"\0\x21\0\x02\0\x04\0\0\0\0\0\x01\0\x09\0\x05\0\x06\0\x0
     \0\x07\0\0\0\x12\0\x02\0\0\0\0\0\x06\xBA\0\x13\0\0\xB1\0\0\0\0";
 
 /// A `Utf8` of these bytes.
-fn push_utf8(file: &mut Vec<u8>, text: &[u8]) -> Result<(), AllocError> {
+fn push_utf8(file: &mut Vec<u8>, text: &[u8]) -> Result<(), AllocError>
+    ensures { OnOk result (IsLonger file.old.items file.new.items) }
+{
     file.push(1)?;
     file.extend_from_slice(&(text.len() as u64).to_be_bytes()[6..])?;
     file.extend_from_slice(text)
 }
 
-/// The constants from the ninth on.
-fn push_site(file: &mut Vec<u8>, site: Site) -> Result<(), AllocError> {
+/// The constants from the ninth on, up to the bootstrap method's handle.
+fn push_handle(file: &mut Vec<u8>, site: Site) -> Result<(), AllocError>
+    ensures { OnOk result (IsLonger file.old.items file.new.items) }
+{
     push_utf8(file, site.owner.as_bytes())?;
     file.extend_from_slice(b"\x07\0\x09")?;
     push_utf8(file, site.method.as_bytes())?;
     push_utf8(file, b"()V")?;
     file.extend_from_slice(b"\x0C\0\x0B\0\x0C\x0A\0\x0A\0\x0D\x0F")?;
     file.push(site.kind)?;
-    file.extend_from_slice(b"\0\x0E")?;
+    file.extend_from_slice(b"\0\x0E")
+}
+
+/// The constants after it: what the site calls, and its static argument.
+fn push_site(file: &mut Vec<u8>, site: Site) -> Result<(), AllocError>
+    ensures { OnOk result (IsLonger file.old.items file.new.items) }
+{
     push_utf8(file, site.name)?;
     push_utf8(file, site.ty.as_bytes())?;
     file.extend_from_slice(b"\x0C\0\x10\0\x11\x12\0\0\0\x12")?;
@@ -64,7 +77,9 @@ fn push_site(file: &mut Vec<u8>, site: Site) -> Result<(), AllocError> {
 }
 
 /// The attribute `BootstrapMethods`, of one method.
-fn push_bootstrap(file: &mut Vec<u8>, count: u8) -> Result<(), AllocError> {
+fn push_bootstrap(file: &mut Vec<u8>, count: u8) -> Result<(), AllocError>
+    ensures { OnOk result (IsLonger file.old.items file.new.items) }
+{
     file.extend_from_slice(b"\0\x01\0\x08\0\0\0")?;
     if count == 0 {
         return file.extend_from_slice(b"\x06\0\x01\0\x0F\0\0");
@@ -74,13 +89,16 @@ fn push_bootstrap(file: &mut Vec<u8>, count: u8) -> Result<(), AllocError> {
     Ok(())
 }
 
-/// The class `made/Main` with one call site.
-pub fn class_file(alloc: Global, site: Site) -> Result<Vec<u8>, AllocError> {
+/// The class `made/Main` with one call site: magic and versions, and what stands after them.
+pub fn class_file(alloc: Global, site: Site) -> Result<Vec<u8>, AllocError>
+    ensures { IfOk result (λ file. IsLonger HEAD.now file.items) }
+{
     let mut file = Vec::new(alloc);
     file.extend_from_slice(HEAD)?;
     file.push(0)?;
     file.push(site.argument.1.wrapping_add(20))?;
     file.extend_from_slice(NAMES)?;
+    push_handle(&mut file, site)?;
     push_site(&mut file, site)?;
     file.extend_from_slice(MEMBERS)?;
     push_bootstrap(&mut file, site.argument.1)?;

@@ -1,6 +1,5 @@
 -- How the kinds of leaves end on arguments of their types, kind by kind.
 use Rattle.std.proofs.Common.{◌≡◌, refl, sym, ap, subst, ℕ, zero, suc, ◌==◌, ℤ, pos, negsuc, Bool, true, false, ◌&&◌, cond, List, [], ◌∷◌, ◌++◌, length, Option, Some, None, nat_lt, nat_le, codes, arith}
-use Rattle.std.specs.Int.{w32, cast_signed}
 use Rattle.std.proofs.lemmas.Bool.{eqb-true, and_parts}
 use Rattle.std.specs.Prelude.{option_map, slice_get}
 use Rattle.mh_values.specs.declared.class.Class.{Class}
@@ -10,24 +9,21 @@ use Rattle.mh_values.specs.declared.value.Num.TheVariants as num
 use Rattle.mh_values.specs.declared.value.Value.{Value}
 use Rattle.mh_values.specs.declared.value.Value.TheVariants as value
 use Rattle.mh_values.specs.declared.value.Outcome.{Outcome}
-use Rattle.mh_values.specs.declared.value.Outcome.TheVariants.{Return, Throw}
-use Rattle.mh_values.specs.declared.value.LeafId.{LeafId}
+use Rattle.mh_values.specs.declared.value.Outcome.TheVariants.{Throw}
 use Rattle.mh_values.specs.declared.calls.LeafCall.{LeafCall}
-use Rattle.mh_values.specs.Class.{string_class, internal_error_class, null_pointer_class}
+use Rattle.mh_values.specs.Class.{string_class, internal_error_class}
 use Rattle.mh_values.specs.Classes.{AreClasses}
 use Rattle.mh_values.specs.Computation.{Gave}
-use Rattle.mh_values.specs.Exception.{bare, saying}
+use Rattle.mh_values.specs.Exception.{saying}
 use Rattle.mh_values.specs.HasType.{has_type, HaveTypes}
 use Rattle.mh_values.specs.Returns.{Returns}
 use Rattle.mh_values.specs.Same.{is_same_type, is_same_return}
+use Rattle.mh_values.specs.ValueLimits.{most_characters}
 use Rattle.mh_values.proofs.BelowTypes.{arithmetic-below, class_cast-below, internal_error-below, null_pointer-below}
 use Rattle.mh_values.proofs.SameTypes.{same_type-is, same_return-is, same_method_type-is, method_type}
 use Rattle.mh_values.proofs.Subclasses.{is_subclass-itself}
-use Rattle.mh_leaf.specs.declared.leaf.Kind.{Kind}
-use Rattle.mh_leaf.specs.declared.leaf.Kind.TheVariants as kind
-use Rattle.mh_leaf.specs.declared.leaf.Leaf.{Leaf}
-use Rattle.mh_leaf.proofs.ArgumentTypes.{is_boolean, ints_there, longs_there, boolean_there, one_there, two_there}
-use Rattle.mh_leaf.specs.Outcome.{returned, int, divided, characters_of, text, joined, measured, two_ints, two_longs, one_boolean, one_value, two_values, first_value, picked_value, kind_on, lacks_receiver, leaf_outcome, calls_of, ran_of, ran_of_some, leaf_run, int_type, long_type, boolean_type, string_type, is_type, returns_first, chooses, is_kind_type, throws_exceptions, is_well_typed}
+use Rattle.mh_leaf.proofs.ArgumentTypes.{is_boolean, ints_there, one_there}
+use Rattle.mh_leaf.specs.Outcome.{returned, divided, text, joined, measured, two_ints, one_value, first_value, picked_value, ran_of, int_type, boolean_type, string_type, is_type, chooses}
 
 -- ---- what single outcomes return
 
@@ -39,7 +35,7 @@ divided-returns classes are a (negsuc b) calls = refl
 
 text-returns : (classes : List Class) → AreClasses classes → (s : List ℕ) (calls : List LeafCall) → Returns classes (ran_of (text s) calls) (Some string_type)
 text-returns classes are s calls =
-    elim (nat_lt 4096 (length s)) as
+    elim (nat_lt most_characters (length s)) as
     (λ b. Returns classes (ran_of (cond b (Throw (saying internal_error_class (codes "string too long"))) (returned (value.Text s))) calls)
     (Some string_type)) [
       | true ↦ internal_error-below classes are

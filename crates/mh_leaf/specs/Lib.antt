@@ -1,3 +1,4 @@
 pub mod LeafTable
+pub mod Limits
 pub mod Outcome
 pub mod WellTyped

@@ -17,6 +17,7 @@ use Rattle.mh_values.specs.Class.{is_subclass, string_class, throwable_class, ar
 use Rattle.mh_values.specs.Computation.{Ran, Gave, Threw, Stuck}
 use Rattle.mh_values.specs.Exception.{bare, saying}
 use Rattle.mh_values.specs.Same.{is_same_type, is_same_return, is_same_method_type}
+use Rattle.mh_values.specs.ValueLimits.{most_characters}
 use Rattle.mh_leaf.specs.declared.leaf.Kind.{Kind}
 use Rattle.mh_leaf.specs.declared.leaf.Kind.TheVariants as kind
 use Rattle.mh_leaf.specs.declared.leaf.Leaf.{Leaf}
@@ -57,7 +58,7 @@ characters_of v = None
 
 -- a text as a result, if it has no more characters than a text may have
 abbrev pub text : List ℕ → Outcome
-text s = if nat_lt 4096 (length s) then Throw (saying internal_error_class (codes "string too long")) else returned (value.Text s)
+text s = if nat_lt most_characters (length s) then Throw (saying internal_error_class (codes "string too long")) else returned (value.Text s)
 
 -- two texts joined
 abbrev pub joined : Option (List ℕ) → Option (List ℕ) → Outcome
@@ -68,9 +69,10 @@ joined _ _ = Throw (bare class_cast_class)
 abbrev pub units_of : ℕ → ℕ
 units_of c = if nat_lt c 65536 then 1 else 2
 
--- the number of UTF-16 units of a text; null has none, and anything else is no text
+-- the number of UTF-16 units of a text, wrapped to 32 bits; null has none, and anything else is no text
+-- of a text within its limits it is the number itself (`measured-is` of proofs/TextUnits)
 abbrev pub measured : Value → Outcome
-measured (value.Text s) = int (pos (sum_by units_of s))
+measured (value.Text s) = int (int_wrap w32 (pos (sum_by units_of s)))
 measured value.Null = Throw (bare null_pointer_class)
 measured v = Throw (bare class_cast_class)
 

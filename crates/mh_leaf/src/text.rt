@@ -1,14 +1,12 @@
-ghost use Rattle.std.specs.Prelude.{◌≡◌, ◌++◌, ◌≤◌, option_copied, sum_by, IfOk, pos};
+ghost use Rattle.std.specs.Prelude.{◌≡◌, ◌++◌, option_copied, sum_by, IfOk, pos};
+ghost use Rattle.std.specs.Int.{int_wrap, w32};
 ghost use Rattle.mh_leaf.specs.Outcome.{characters_of, joined, text, units_of, measured};
 
 use mh_base::{Frozen, NoMemory, Seq};
-use mh_values::{ClassId, Exc, Num, Outcome, Value};
+use mh_values::{ClassId, Exc, MOST_CHARACTERS, Num, Outcome, Value};
 use std::alloc::Global;
 
 const NULL_TEXT: [char; 4] = ['n', 'u', 'l', 'l'];
-
-/// How many characters a text may have.
-const LONGEST_TEXT: usize = 4096;
 
 /// The characters of a text, or of the word `null`; nothing else has any.
 fn characters_of(value: &Value) -> Option<&[char]>
@@ -25,7 +23,7 @@ fn characters_of(value: &Value) -> Option<&[char]>
 fn text(alloc: Global, front: &[char], back: &[char]) -> Result<Outcome, NoMemory>
     ensures { IfOk result (λ outcome. outcome ≡ text (front.now ++ back.now)) }
 {
-    if front.len() > LONGEST_TEXT || back.len() > LONGEST_TEXT - front.len() {
+    if front.len() > MOST_CHARACTERS || back.len() > MOST_CHARACTERS - front.len() {
         let refusal = Exc::saying(alloc, ClassId::INTERNAL_ERROR, b"string too long")?;
         return Ok(Outcome::Throw(refusal));
     }
@@ -47,31 +45,30 @@ pub fn joined(alloc: Global, first: &Value, second: &Value) -> Result<Outcome, N
 }
 
 /// How many UTF-16 units a character takes.
-fn units_of(character: char) -> u64
-    ensures value { result ≡ units_of character }
-    ensures most { result ≤ 2 }
+fn units_of(character: char) -> i32
+    ensures { result ≡ pos (units_of character) }
 {
     if u32::from(character) < 65536 { 1 } else { 2 }
 }
 
-/// The number of UTF-16 units of a text. One that no int can tell is want of memory.
-fn units(text: &[char]) -> Result<i32, NoMemory>
-    ensures { IfOk result (λ units. units ≡ pos (sum_by units_of text.now)) }
+/// The number of UTF-16 units of a text, wrapped to 32 bits.
+fn units(text: &[char]) -> i32
+    ensures { result ≡ int_wrap w32 (pos (sum_by units_of text.now)) }
 {
-    let mut units = 0u64;
+    let mut units = 0i32;
     for character in text {
-        units += units_of(*character);
+        units = units.wrapping_add(units_of(*character));
     }
-    i32::try_from(units).map_err(|_| NoMemory)
+    units
 }
 
 /// `length`: the number of UTF-16 units of the argument.
-pub fn measured(value: &Value) -> Result<Outcome, NoMemory>
-    ensures { IfOk result (λ outcome. outcome ≡ measured value.now) }
+pub fn measured(value: &Value) -> Outcome
+    ensures { result ≡ measured value.now }
 {
-    Ok(match value {
-        Value::Text(text) => Outcome::Return(Some(Value::Prim(Num::I(units(text.as_slice())?)))),
+    match value {
+        Value::Text(text) => Outcome::Return(Some(Value::Prim(Num::I(units(text.as_slice()))))),
         Value::Null => Outcome::Throw(Exc::bare(ClassId::NULL_POINTER)),
         _ => Outcome::Throw(Exc::bare(ClassId::CLASS_CAST)),
-    })
+    }
 }

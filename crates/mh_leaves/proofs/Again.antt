@@ -1,8 +1,8 @@
 -- The text of what a manifest registers is read as that again.
-use Rattle.std.proofs.Common.{◌≡◌, refl, sym, ap, ap₂, ◌∙◌, ℕ, ◌+◌, Bool, true, false, List, [], ◌∷◌, ◌++◌, drop, flat_map, codes, append_assoc, append-nil, Result, Ok, Err, if◌then◌else◌, IfOk}
+use Rattle.std.proofs.Common.{◌≡◌, refl, sym, ap, ap₂, ◌∙◌, ℕ, ◌+◌, Bool, true, false, List, [], ◌∷◌, ◌++◌, drop, length, flat_map, codes, append_assoc, append-nil, Result, Ok, Err, if◌then◌else◌, IfOk}
 use Rattle.std.specs.List.{join_with_byte}
 use Rattle.std.specs.Option.{option_map_or}
-use Rattle.mh_base.specs.Lines.{is_passed, lines_of, tokens_of, after_line, built_from}
+use Rattle.mh_base.specs.Lines.{is_passed, line_text, lines_of, tokens_of, built_from}
 use Rattle.mh_values.specs.declared.class.Class.{Class}
 use Rattle.mh_values.specs.Class.{builtin_classes}
 use Rattle.mh_values.specs.Classes.{name_of}
@@ -12,12 +12,12 @@ use Rattle.mh_leaves.specs.declared.manifest.ManifestKind.TheVariants.{BadLine}
 use Rattle.mh_leaves.specs.declared.manifest.ManifestError.{ManifestError}
 use Rattle.mh_leaves.specs.Fault.{TellsManifest}
 use Rattle.mh_leaves.specs.Manifest.{tokens_meaning, line_meaning, manifest}
-use Rattle.mh_leaves.specs.Provided.{provided}
-use Rattle.mh_leaves.specs.Written.{leaf_word, class_tokens, leaf_tokens, line_text, manifest_text}
-use Rattle.mh_leaves.proofs.LineTokens.{IsToken, AreTokens, tokens_joined, plain_joined, first_line}
+use Rattle.mh_base.specs.Provided.{provided}
+use Rattle.mh_leaves.specs.Written.{leaf_word, class_tokens, leaf_tokens, manifest_text}
+use Rattle.mh_base.proofs.LineTokens.{IsToken, AreTokens, tokens_joined, plain_joined, read_on}
 use Rattle.mh_leaves.proofs.MadeOf.{IsDeclared, AreDeclared, IsMade, IsNext, AreMade}
 use Rattle.mh_leaves.proofs.Meanings.{class_named-grown}
-use Rattle.mh_leaves.proofs.Names.{named_is}
+use Rattle.mh_values.proofs.NamedClass.{named_is}
 use Rattle.mh_leaves.proofs.ReadLines.{manifest-read}
 use Rattle.mh_leaves.proofs.TakenLines.{IsRead}
 use Rattle.mh_leaves.proofs.TakenAgain.{class-again, leaf-again}
@@ -39,8 +39,7 @@ text_again : (n : ℕ) (table next : LeafTable) (word : List ℕ) (rest : List (
     is_passed (join_with_byte 32 (word ∷ rest)) ≡ false → tokens_meaning table (word ∷ rest) ≡ Ok next →
     built_from line_meaning n table (lines_of (line_text (word ∷ rest) ++ text)) ≡ built_from line_meaning (n + 1) next (lines_of text)
 text_again n table next word rest text are not_passed is =
-    ap (built_from line_meaning n table) (first_line word rest text are)
-    ∙ ap (λ r. after_line n r (λ s. built_from line_meaning (n + 1) s (lines_of text))) (line_again table word rest are not_passed ∙ is)
+    read_on line_meaning n table next word rest text are (line_again table word rest are not_passed ∙ is)
 
 -- ---- classes
 
@@ -125,7 +124,7 @@ pub written_again : (table : LeafTable) → IsRead table → manifest (manifest_
 written_again table is =
     let leaves = flat_map (λ leaf. line_text (leaf_tokens table.classes leaf)) table.leaves in
     let front = classes_again 1 table.classes builtin_classes is.declared leaves is.classes is.are_declared in
-    let declared : drop 28 table.classes ≡ is.declared = ap (drop 28) is.classes in
+    let declared : drop (length builtin_classes) table.classes ≡ is.declared = ap (drop (length builtin_classes)) is.classes in
     ap (λ cs. manifest (flat_map (λ class. line_text (class_tokens table.classes class)) cs ++ leaves)) declared
     ∙ front.1
     ∙ leaves_again front.0 table.classes [] table.leaves is.are_made

@@ -17,7 +17,8 @@ use Rattle.mh_leaves.proofs.UnknownLines.{unknown_tokens}
 faulty : (table : LeafTable) (line : List ℕ) (kind : ManifestKind) → IsOther (Err kind) BadLine → line_meaning table line ≡ Err kind →
     tokens_meaning table (tokens_of line) ≡ Err kind
 faulty table line kind other h =
-    elim (is_passed line) as (λ b. (if b then Ok table else tokens_meaning table (tokens_of line)) ≡ Err kind → tokens_meaning table (tokens_of line) ≡ Err kind)
+    elim (is_passed line) as (λ b. (if b then Ok table else tokens_meaning table (tokens_of line)) ≡ Err kind →
+    tokens_meaning table (tokens_of line) ≡ Err kind)
     [ true ↦ λ k. absurd cc | false ↦ λ k. k ] (line_plain table line (Err kind) other h).1
 
 line_tells : (table : LeafTable) (line : List ℕ) (kind : ManifestKind) → line_meaning table line ≡ Err kind →

@@ -1,7 +1,7 @@
 -- Which leaves an index finds when texts get numbers.
 use Rattle.std.proofs.Common.{◌≡◌, refl, sym, ap, ap₂, ◌∙◌, ℕ, ◌≤◌, ◌⊎◌, inl, inr, List, Option, None, Some, arith}
 use Rattle.std.specs.BTreeMap.{BTreeMap, get, btree_map_len}
-use Rattle.mh_leaves.specs.Numbers.{number_at, Key, key_cmp, leaf_at, AreGrown, AreByTexts}
+use Rattle.mh_leaves.specs.Numbers.{text_number, Key, key_cmp, leaf_at, AreGrown, AreByTexts}
 use Rattle.mh_leaves.proofs.Numbering.{Texts}
 
 abbrev pub Found : Type 0
@@ -33,18 +33,18 @@ past_descriptor texts leaves owner j None by past = refl
 past_descriptor texts leaves owner j (Some i) by past = no_key texts leaves owner i j _ by (inr past) refl
 
 pub leaf_at-grown : (old new : Texts) (leaves : Found) (owner : ℕ) (a b : List ℕ) → AreByTexts old leaves → AreGrown old new →
-    leaf_at leaves owner (number_at new a) (number_at new b) ≡ leaf_at leaves owner (number_at old a) (number_at old b)
+    leaf_at leaves owner (text_number new a) (text_number new b) ≡ leaf_at leaves owner (text_number old a) (text_number old b)
 leaf_at-grown old new leaves owner a b by grown =
     elim (grown.numbers a) [
       | inl same_a ↦ elim (grown.numbers b) [
         | inl same_b ↦ ap₂ (leaf_at leaves owner) same_a same_b
         | inr w ↦
-            ap (leaf_at leaves owner (number_at new a)) w.2 ∙ past_descriptor old leaves owner w.0 (number_at new a) by w.3
-            ∙ sym (ap (leaf_at leaves owner (number_at old a)) w.1 ∙ leaf_at-none leaves owner (number_at old a))
+            ap (leaf_at leaves owner (text_number new a)) w.2 ∙ past_descriptor old leaves owner w.0 (text_number new a) by w.3
+            ∙ sym (ap (leaf_at leaves owner (text_number old a)) w.1 ∙ leaf_at-none leaves owner (text_number old a))
       ]
       | inr w ↦
-          ap (λ x. leaf_at leaves owner x (number_at new b)) w.2 ∙ past_name old leaves owner w.0 (number_at new b) by w.3
-          ∙ sym (ap (λ x. leaf_at leaves owner x (number_at old b)) w.1)
+          ap (λ x. leaf_at leaves owner x (text_number new b)) w.2 ∙ past_name old leaves owner w.0 (text_number new b) by w.3
+          ∙ sym (ap (λ x. leaf_at leaves owner x (text_number old b)) w.1)
     ]
 
 pub by_texts-grown : (old new : Texts) (leaves : Found) → AreByTexts old leaves → AreGrown old new → AreByTexts new leaves

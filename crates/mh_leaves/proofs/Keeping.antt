@@ -15,7 +15,7 @@ use Rattle.mh_leaves.specs.Index.{found_at, FindsSame, FindsOneMore, IsIndexOf}
 use Rattle.mh_leaves.specs.Kept.{AreKept}
 use Rattle.mh_leaves.specs.Registered.{IsLeafOf, most_leaves}
 use Rattle.mh_leaves.proofs.Growing.{registered-declared, registered-leaf}
-use Rattle.mh_leaves.proofs.Once.{position-push, once-push}
+use Rattle.mh_leaves.proofs.Once.{position-new, once-push}
 
 -- no leaf
 pub kept-nothing : (classes : List Class) (leaves : List Leaf) (index : Index) → leaves ≡ [] → ((o : ClassId) (a b : List ℕ) → found_at index o a b ≡ None) →
@@ -57,7 +57,7 @@ indexed-more : (leaves : List Leaf) (leaf : Leaf) (old new : Index) (n : ℕ) �
 indexed-more leaves leaf old new n is fresh here finds = record {
   found = λ o a b.
       finds o a b ∙ ap₂ (λ k p. cond (has_texts o a b leaf) (Some k) p) here (is.found o a b)
-      ∙ sym (position-push (has_texts o a b) leaves leaf (new_texts leaves leaf o a b fresh));
+      ∙ sym (position-new (has_texts o a b) leaves leaf (new_texts leaves leaf o a b fresh));
   once = λ o a b. once-push (has_texts o a b) leaves leaf (is.once o a b) (new_texts leaves leaf o a b fresh);
 }
 

@@ -15,7 +15,7 @@ use Rattle.mh_leaves.specs.declared.manifest.ManifestKind.{ManifestKind}
 use Rattle.mh_leaves.specs.declared.manifest.ManifestKind.TheVariants.{BadLine, Twice, UnknownClass, BadDescriptor, BadKind, TooMany}
 use Rattle.mh_leaves.specs.Manifest.{kind_among, knows_names, has_known_classes, leaf_line, is_leaf_text, class_added, class_line, tokens_meaning}
 use Rattle.mh_leaves.specs.Names.{descriptor_names}
-use Rattle.mh_leaves.specs.Provided.{provided, provided_some}
+use Rattle.mh_base.specs.Provided.{provided, provided_some}
 use Rattle.mh_leaves.specs.Reference.{Texts, is_class_name}
 use Rattle.mh_leaves.specs.Unknown.{LeafNamesUnknown, as_owner, as_thrown, in_types, NamesUnknown, of_class, of_static, of_virtual}
 use Rattle.mh_leaves.proofs.KnownNames.{names_known}

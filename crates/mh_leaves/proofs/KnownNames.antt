@@ -1,12 +1,12 @@
 -- The classes are known that a method descriptor names exactly where those of its types are.
-use Rattle.std.proofs.Common.{◌≡◌, refl, sym, ap, ◌∙◌, zero, suc, ℕ, ◌==◌, Bool, true, false, ◌&&◌, ◌||◌, List, [], ◌∷◌, ◌++◌, replicate, Option, None, Some, is_some, append_assoc, arith}
+use Rattle.std.proofs.Common.{◌≡◌, refl, sym, ap, ◌∙◌, zero, suc, ℕ, ◌==◌, Bool, true, false, ◌&&◌, ◌||◌, List, [], ◌∷◌, ◌++◌, replicate, Option, None, Some, is_some, append_assoc}
 use Rattle.std.proofs.lemmas.Bool.{and_parts, or_parts, not-true}
 use Rattle.std.proofs.lemmas.List.{append-nil}
 use Rattle.std.proofs.lemmas.List.Folds.{list_all-append}
 use Rattle.std.proofs.lemmas.List.Splits.{slice_split_none, slice_split_at}
-use Rattle.std.specs.List.{All, list_all}
+use Rattle.std.specs.List.{list_all}
 use Rattle.std.specs.Option.{option_map_or}
-use Rattle.mh_base.proofs.Cuts.{Lacks, Lacks-append, cut_found, cut_none}
+use Rattle.mh_base.proofs.Cuts.{Lacks, Lacks-append, all_lack, cut_found, cut_none}
 use Rattle.mh_values.specs.declared.class.Class.{Class}
 use Rattle.mh_values.specs.Classes.{class_named}
 use Rattle.mh_values.specs.Spelling.{Element, letter, named, Spelled, element_text, spelled_text, is_name_byte, IsElement, AreSpelled, texts_of, IsReturn, return_spelled, IsMethodDescriptor}
@@ -15,11 +15,6 @@ use Rattle.mh_leaves.specs.Manifest.{knows_name, knows_names}
 use Rattle.mh_leaves.specs.Names.{element_names, type_names, return_names, are_classes}
 
 -- ---- pieces that end with `;`
-
-pub all_lack : (byte : ℕ) (xs : List ℕ) → Lacks byte xs → All (λ b. (b == byte) ≡ false) xs
-all_lack byte [] lacks k d within = absurd (omega (arith, within))
-all_lack byte (x ∷ xs) lacks zero d within = lacks.0
-all_lack byte (x ∷ xs) lacks (suc k) d within = all_lack byte xs lacks.1 k d (omega arith)
 
 name_lacks : (name : List ℕ) → list_all is_name_byte name ≡ true → Lacks 59 name
 name_lacks [] good = tt

@@ -1,5 +1,4 @@
 mod Again
-mod Conditions
 mod FaultNames
 pub mod Finding
 pub mod Growing
@@ -7,10 +6,8 @@ pub mod Keeping
 mod KnownLines
 mod KnownNames
 mod LineParts
-mod LineTokens
 mod MadeOf
 mod Meanings
-mod Names
 pub mod Numbering
 pub mod Once
 mod ReadLines

@@ -12,11 +12,11 @@ use Rattle.mh_leaf.specs.LeafTable.{LeafTable}
 use Rattle.mh_leaf.specs.Outcome.{is_well_typed}
 use Rattle.mh_leaves.specs.declared.manifest.ManifestKind.{ManifestKind}
 use Rattle.mh_leaves.specs.declared.manifest.ManifestKind.TheVariants.{BadLine, Twice, UnknownClass, BadDescriptor, BadKind, TooMany}
-use Rattle.mh_leaves.specs.Manifest.{kind_among, type_if_read, is_repeated, leaf_added, leaf_of, owned_leaf, is_leaf_text, leaf_line, class_added, class_line, three_tokens, tokens_meaning, line_meaning}
-use Rattle.mh_leaves.specs.Provided.{provided, provided_some}
+use Rattle.mh_leaves.specs.Manifest.{kind_among, type_if_read, is_repeated, leaf_added, leaf_of_line, owned_leaf, is_leaf_text, leaf_line, class_added, class_line, three_tokens, tokens_meaning, line_meaning}
+use Rattle.mh_base.specs.Provided.{provided, provided_some}
 use Rattle.mh_leaves.specs.Reference.{Texts, is_class_name}
 use Rattle.mh_leaves.specs.Registered.{with_leaf, most_leaves}
-use Rattle.mh_leaves.proofs.Conditions.{passes}
+use Rattle.mh_base.proofs.Conditions.{passes}
 
 -- what a line may mean
 abbrev pub Answer : Type 0
@@ -80,7 +80,7 @@ leaf_line-parts table is_virtual texts word r bad twice h =
 -- of a leaf whose classes are known
 abbrev pub typed : LeafTable → Bool → Texts → ClassId → Kind → Answer
 typed table is_virtual texts owner kind =
-    provided_some (type_if_read (desc table.classes texts.descriptor)) BadDescriptor (λ t. leaf_added table (leaf_of is_virtual texts owner kind t))
+    provided_some (type_if_read (desc table.classes texts.descriptor)) BadDescriptor (λ t. leaf_added table (leaf_of_line is_virtual texts owner kind t))
 
 -- what holds where a leaf's slots, its kind and the room for it are no fault
 pub record LeafAdded (table : LeafTable) (leaf : Leaf) (r : Answer) : Type 0 where

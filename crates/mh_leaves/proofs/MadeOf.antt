@@ -11,7 +11,7 @@ use Rattle.mh_leaves.specs.Find.{has_texts}
 use Rattle.mh_leaves.specs.Manifest.{kind_among, has_known_classes, is_leaf_text}
 use Rattle.mh_leaves.specs.Reference.{is_class_name}
 use Rattle.mh_leaves.specs.Registered.{IsDescribed, most_leaves}
-use Rattle.mh_leaves.proofs.LineTokens.{AreTokens}
+use Rattle.mh_base.proofs.LineTokens.{AreTokens}
 use Rattle.mh_leaves.proofs.Meanings.{class_named-grown, desc-grown}
 use Rattle.mh_leaves.proofs.Steady.{known-steady, kind-steady, typed-steady}
 

@@ -44,7 +44,8 @@ known-grown : (o p : Option ClassId) (error : DescriptorError) (c : Comp) → ((
 known-grown None p error c grown h = absurd cc
 known-grown (Some class) p error c grown h = ap (λ q. option_map_or (λ d. Ok (comp.Class d)) q (Err error)) (grown class refl) ∙ h
 
-class-grown : (classes more : List Class) (at : ℕ) (name : List ℕ) (c : Comp) → class_meant classes at name ≡ Ok c → class_meant (classes ++ more) at name ≡ Ok c
+class-grown : (classes more : List Class) (at : ℕ) (name : List ℕ) (c : Comp) → class_meant classes at name ≡ Ok c →
+    class_meant (classes ++ more) at name ≡ Ok c
 class-grown classes more at name c h =
     known-grown (class_named classes name) (class_named (classes ++ more) name) (descriptor.NoClass at (length name)) c (class_named-grown classes more name) h
 

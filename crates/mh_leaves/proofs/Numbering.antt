@@ -9,7 +9,7 @@ use Rattle.std.specs.Map.{lookup}
 use Rattle.std.specs.Ordering.{nat_cmp}
 use Rattle.std.specs.Str.{bytes_eq}
 use Rattle.mh_base.proofs.TextMaps.{WritesText, at_text-other}
-use Rattle.mh_leaves.specs.Numbers.{number_at, AreBelow, AreNumbered, IsNumberedAnew, AreGrown}
+use Rattle.mh_leaves.specs.Numbers.{text_number, AreBelow, AreNumbered, IsNumberedAnew, AreGrown}
 
 -- the maps from texts to numbers
 abbrev pub Texts : Type 0
@@ -21,30 +21,31 @@ Texts = BTreeMap (Vec ℕ) ℕ
 abbrev pub Writes : Texts → Texts → List ℕ → ℕ → Type 0
 Writes m n key v = WritesText m n key (Some v)
 
-number_at-other : (m n : Texts) (key text : List ℕ) (v : ℕ) → Writes m n key v → bytes_eq key text ≡ false → number_at n text ≡ number_at m text
+number_at-other : (m n : Texts) (key text : List ℕ) (v : ℕ) → Writes m n key v → bytes_eq key text ≡ false → text_number n text ≡ text_number m text
 number_at-other m n key text v h e = at_text-other m n key text (Some v) h e
 
 -- ---- a new text
 
-pub number_at-written : (m n : Texts) (key text : List ℕ) (v : ℕ) → Writes m n key v → number_at n text ≡ cond (bytes_eq key text) (Some v) (number_at m text)
+pub number_at-written : (m n : Texts) (key text : List ℕ) (v : ℕ) → Writes m n key v →
+    text_number n text ≡ cond (bytes_eq key text) (Some v) (text_number m text)
 number_at-written m n key text v h =
     elim (cases_Bool (bytes_eq key text)) [
       | inl e ↦
           let is : key ≡ text = (bytes_eq-Decides key text).0 e in
-          subst (λ l. number_at n l ≡ Some v) is h.1 ∙ ap (λ b. cond b (Some v) (number_at m text)) (sym e)
-      | inr e ↦ number_at-other m n key text v h e ∙ ap (λ b. cond b (Some v) (number_at m text)) (sym e)
+          subst (λ l. text_number n l ≡ Some v) is h.1 ∙ ap (λ b. cond b (Some v) (text_number m text)) (sym e)
+      | inr e ↦ number_at-other m n key text v h e ∙ ap (λ b. cond b (Some v) (text_number m text)) (sym e)
     ]
 
-written-anew : (m n : Texts) (key text : List ℕ) (v : ℕ) → Writes m n key v → number_at m key ≡ None → v ≡ btree_map_len m → IsNumberedAnew m n text
+written-anew : (m n : Texts) (key text : List ℕ) (v : ℕ) → Writes m n key v → text_number m key ≡ None → v ≡ btree_map_len m → IsNumberedAnew m n text
 written-anew m n key text v h new here =
     elim (cases_Bool (bytes_eq key text)) [
       | inl e ↦
           let is : key ≡ text = (bytes_eq-Decides key text).0 e in
-          inr (v, subst (λ l. number_at m l ≡ None) is new, subst (λ l. number_at n l ≡ Some v) is h.1, omega (arith, here))
+          inr (v, subst (λ l. text_number m l ≡ None) is new, subst (λ l. text_number n l ≡ Some v) is h.1, omega (arith, here))
       | inr e ↦ inl (number_at-other m n key text v h e)
     ]
 
-pub grown-written : (m n : Texts) (key : List ℕ) (v : ℕ) → Writes m n key v → number_at m key ≡ None → v ≡ btree_map_len m →
+pub grown-written : (m n : Texts) (key : List ℕ) (v : ℕ) → Writes m n key v → text_number m key ≡ None → v ≡ btree_map_len m →
     btree_map_len n ≡ btree_map_len m + 1 → AreGrown m n
 grown-written m n key v h new here more = record {
   numbers = λ text. written-anew m n key text v h new here;
@@ -63,18 +64,19 @@ grown-unchanged m n same = record {
 }
 
 -- the two ways in which a text has a number after the call
-written_cases : (m n : Texts) (key text : List ℕ) (v k : ℕ) → Writes m n key v → number_at n text ≡ Some k → ((key ≡ text) × (k ≡ v))
-    ⊎ (number_at m text ≡ Some k)
+written_cases : (m n : Texts) (key text : List ℕ) (v k : ℕ) → Writes m n key v →
+    text_number n text ≡ Some k → ((key ≡ text) × (k ≡ v))
+    ⊎ (text_number m text ≡ Some k)
 written_cases m n key text v k h is =
     elim (cases_Bool (bytes_eq key text)) [
       | inl e ↦
           let same : key ≡ text = (bytes_eq-Decides key text).0 e in
-          let here : number_at n text ≡ Some v = subst (λ l. number_at n l ≡ Some v) same h.1 in
+          let here : text_number n text ≡ Some v = subst (λ l. text_number n l ≡ Some v) same h.1 in
           inl (same, cc)
       | inr e ↦ inr (sym (number_at-other m n key text v h e) ∙ is)
     ]
 
-not_below : (m : Texts) (a : List ℕ) (v : ℕ) → AreBelow m → v ≡ btree_map_len m → number_at m a ≡ Some v → ⊥
+not_below : (m : Texts) (a : List ℕ) (v : ℕ) → AreBelow m → v ≡ btree_map_len m → text_number m a ≡ Some v → ⊥
 not_below m a v below here is = omega (arith, below a v is, here)
 
 pub numbered-written : (m n : Texts) (key : List ℕ) (v : ℕ) → AreNumbered m → Writes m n key v → v ≡ btree_map_len m → btree_map_len n ≡ btree_map_len m + 1 →
@@ -84,10 +86,10 @@ numbered-written m n key v old h here more = record {
       elim (written_cases m n key a v k h at_a) [
         | inl x ↦ elim (written_cases m n key b v k h at_b) [
           | inl y ↦ sym x.0 ∙ y.0
-          | inr y ↦ absurd (not_below m b v old.below here (subst (λ l. number_at m b ≡ Some l) x.1 y))
+          | inr y ↦ absurd (not_below m b v old.below here (subst (λ l. text_number m b ≡ Some l) x.1 y))
         ]
         | inr x ↦ elim (written_cases m n key b v k h at_b) [
-          | inl y ↦ absurd (not_below m a v old.below here (subst (λ l. number_at m a ≡ Some l) y.1 x))
+          | inl y ↦ absurd (not_below m a v old.below here (subst (λ l. text_number m a ≡ Some l) y.1 x))
           | inr y ↦ old.apart a b k x y
         ]
       ];
@@ -117,5 +119,5 @@ grown-further a b c first second = record {
 }
 
 -- a number stays
-pub number_at-kept : (old new : Texts) (text : List ℕ) (n : ℕ) → AreGrown old new → number_at old text ≡ Some n → number_at new text ≡ Some n
+pub number_at-kept : (old new : Texts) (text : List ℕ) (n : ℕ) → AreGrown old new → text_number old text ≡ Some n → text_number new text ≡ Some n
 number_at-kept old new text n grown is = elim (grown.numbers text) [ inl same ↦ same ∙ is | inr w ↦ cc (w.1, is) ]

@@ -5,7 +5,8 @@ use Rattle.std.proofs.lemmas.Iterator.Adapters.{position_from-zero}
 use Rattle.std.proofs.lemmas.Option.{slice_get_read}
 use Rattle.std.specs.List.{list_any, position_from}
 use Rattle.std.specs.Option.{is_some, option_or}
-use Rattle.mh_base.proofs.Slices.{option_or-none}
+use Rattle.mh_base.proofs.Positions.{position-push}
+use Rattle.mh_base.proofs.Slices.{not_some, option_or-none}
 use Rattle.mh_leaf.specs.declared.leaf.Leaf.{Leaf}
 use Rattle.mh_leaves.specs.Index.{PassesOnce}
 
@@ -83,34 +84,17 @@ position-none f g xs h =
 
 -- ---- an item more
 
-position_from-push : {A : Type 0} (f : A → Bool) (n : ℕ) (xs : List A) (y : A) → position_from f n (xs ++ y ∷ []) ≡ option_or (position_from f n xs)
-    (cond (f y) (Some (n + length xs)) None)
-position_from-push f n [] y = ap (λ k. cond (f y) (Some k) None) (omega arith)
-position_from-push f n (x ∷ xs) y =
-    let later : position_from f (n + 1) (xs ++ y ∷ []) ≡ option_or (position_from f (n + 1) xs) (cond (f y) (Some (n + suc (length xs))) None) =
-    position_from-push f (n + 1) xs y ∙ ap (λ k. option_or (position_from f (n + 1) xs) (cond (f y) (Some k) None)) (omega arith) in
-    elim (f x) as (λ b. cond b (Some n) (position_from f (n + 1) (xs ++ y ∷ [])) ≡ option_or (cond b (Some n) (position_from f (n + 1) xs))
-    (cond (f y) (Some (n + suc (length xs))) None)) [
-      | true ↦ refl
-      | false ↦ later
-    ]
-
-not_some : {A : Type 0} (o : Option A) → is_some o ≡ false → o ≡ None
-not_some None h = refl
-not_some (Some a) h = cc
-
 -- the place of an item that is new
-pub position-push : {A : Type 0} (f : A → Bool) (xs : List A) (y : A) → (f y ≡ true → list_any f xs ≡ false) →
+pub position-new : {A : Type 0} (f : A → Bool) (xs : List A) (y : A) → (f y ≡ true → list_any f xs ≡ false) →
     position f (xs ++ y ∷ []) ≡ cond (f y) (Some (length xs)) (position f xs)
-position-push f xs y new =
-    position_from-zero f (xs ++ y ∷ []) ∙ position_from-push f 0 xs y ∙ ap (λ o. option_or o (cond (f y) (Some (0 + length xs)) None))
-    (sym (position_from-zero f xs))
+position-new f xs y new =
+    position-push f xs y
     ∙ elim (cases_Bool (f y)) [
       | inl e ↦
-          ap (λ o. option_or o (cond (f y) (Some (0 + length xs)) None)) (not_some (position f xs) (position-any f xs ∙ new e))
-          ∙ ap (λ b. cond b (Some (0 + length xs)) None) e ∙ ap Some (omega arith) ∙ sym (ap (λ b. cond b (Some (length xs)) (position f xs)) e)
+          ap (λ o. option_or o (cond (f y) (Some (length xs)) None)) (not_some (position f xs) (position-any f xs ∙ new e))
+          ∙ ap (λ b. cond b (Some (length xs)) None) e ∙ sym (ap (λ b. cond b (Some (length xs)) (position f xs)) e)
       | inr e ↦
-          ap (λ b. option_or (position f xs) (cond b (Some (0 + length xs)) None)) e ∙ option_or-none (position f xs)
+          ap (λ b. option_or (position f xs) (cond b (Some (length xs)) None)) e ∙ option_or-none (position f xs)
           ∙ sym (ap (λ b. cond b (Some (length xs)) (position f xs)) e)
     ]
 

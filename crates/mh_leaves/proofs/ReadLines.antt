@@ -1,16 +1,14 @@
 -- What a manifest registers are classes and leaves of its lines.
-use Rattle.std.proofs.Common.{◌≡◌, refl, subst, ℕ, ◌+◌, true, false, List, [], ◌∷◌, Result, Ok, Err, if◌then◌else◌}
-use Rattle.mh_base.specs.Lines.{is_passed, tokens_of, after_line, built_from}
-use Rattle.mh_base.specs.declared.lines.LineFault.{LineFault}
+use Rattle.std.proofs.Common.{◌≡◌, subst, ℕ, ◌+◌, true, false, List, [], ◌∷◌, Ok, if◌then◌else◌}
+use Rattle.mh_base.specs.Lines.{is_passed, tokens_of, built_from}
 use Rattle.mh_leaf.specs.LeafTable.{LeafTable}
-use Rattle.mh_leaves.specs.declared.manifest.ManifestKind.{ManifestKind}
 use Rattle.mh_leaves.specs.declared.manifest.ManifestKind.TheVariants.{BadLine}
 use Rattle.mh_leaves.specs.Manifest.{leaf_line, is_virtual_word, tokens_meaning, line_meaning}
 use Rattle.mh_leaves.specs.Reference.{Texts}
 use Rattle.mh_leaves.specs.Registered.{nothing_registered}
-use Rattle.mh_leaves.proofs.Conditions.{passes_some}
-use Rattle.mh_leaves.proofs.LineParts.{Answer, line_plain}
-use Rattle.mh_leaves.proofs.LineTokens.{AreTokens, tokens_are}
+use Rattle.mh_base.proofs.Conditions.{after_line-parts, passes_some}
+use Rattle.mh_leaves.proofs.LineParts.{line_plain}
+use Rattle.mh_base.proofs.LineTokens.{AreTokens, tokens_are}
 use Rattle.mh_leaves.proofs.TakenLines.{IsRead, nothing-read, taken_is, three-read, leaf_line-read}
 
 tokens-read : (table next : LeafTable) (tokens : List (List ℕ)) → AreTokens tokens → IsRead table → tokens_meaning table tokens ≡ Ok next → IsRead next
@@ -33,16 +31,11 @@ line-read table next line old h =
       | false ↦ λ k. tokens-read table next (tokens_of line) (tokens_are line plain.0) old k
     ] plain.1
 
-after-read : (n : ℕ) (r : Answer) (rest : LeafTable → Result LeafTable (LineFault ManifestKind)) (table : LeafTable) →
-    ((next : LeafTable) → r ≡ Ok next → rest next ≡ Ok table → IsRead table) → after_line n r rest ≡ Ok table → IsRead table
-after-read n (Ok next) rest table more h = more next refl h
-after-read n (Err kind) rest table more h = absurd cc
-
 lines-read : (n : ℕ) (start table : LeafTable) (lines : List (List ℕ)) → IsRead start → built_from line_meaning n start lines ≡ Ok table → IsRead table
 lines-read n start table [] old h = let same : start ≡ table = cc in subst IsRead same old
 lines-read n start table (line ∷ lines) old h =
-    after-read n (line_meaning start line) (λ next. built_from line_meaning (n + 1) next lines) table
-    (λ next is k. lines-read (n + 1) next table lines (line-read start next line old is) k) h
+    let first = after_line-parts n (line_meaning start line) (λ next. built_from line_meaning (n + 1) next lines) table h in
+    lines-read (n + 1) first.0 table lines (line-read start first.0 line old first.1) first.2
 
 -- what a manifest registers
 pub manifest-read : (table : LeafTable) (lines : List (List ℕ)) → built_from line_meaning 1 nothing_registered lines ≡ Ok table → IsRead table

@@ -13,7 +13,8 @@ use Rattle.mh_leaf.specs.declared.leaf.Kind.{Kind}
 use Rattle.mh_leaf.specs.declared.leaf.Kind.TheVariants as kind
 use Rattle.mh_leaf.specs.declared.leaf.Leaf.{Leaf}
 use Rattle.mh_leaf.specs.Outcome.{is_kind_type, throws_exceptions, is_well_typed}
-use Rattle.mh_leaves.specs.Manifest.{number_kind, other_kind, thrown_name, throw_kind, kind_among, knows_name, knows_names, has_known_classes}
+use Rattle.mh_leaves.specs.Kinds.{word_kind}
+use Rattle.mh_leaves.specs.Manifest.{thrown_name, throw_kind, kind_among, knows_name, knows_names, has_known_classes}
 use Rattle.mh_leaves.proofs.Growing.{superclass-grown}
 use Rattle.mh_leaves.proofs.Meanings.{class_named-grown}
 
@@ -67,8 +68,7 @@ or-steady (Some k) y z found grown h = h
 pub kind-steady : (classes more : List Class) (word : List ℕ) (found : Kind) → kind_among classes word ≡ Some found →
     kind_among (classes ++ more) word ≡ Some found
 kind-steady classes more word found h =
-    or-steady (number_kind word) (option_or (other_kind word) (throw_kind classes word)) (option_or (other_kind word) (throw_kind (classes ++ more) word)) found
-    (or-steady (other_kind word) (throw_kind classes word) (throw_kind (classes ++ more) word) found (throw-steady classes more (thrown_name word) found)) h
+    or-steady (word_kind word) (throw_kind classes word) (throw_kind (classes ++ more) word) found (throw-steady classes more (thrown_name word) found) h
 
 -- ---- exceptions
 

@@ -9,8 +9,8 @@ use Rattle.mh_leaf.specs.LeafTable.{LeafTable}
 use Rattle.mh_leaf.specs.Outcome.{is_well_typed}
 use Rattle.mh_leaves.specs.declared.manifest.ManifestKind.TheVariants.{BadLine, Twice, UnknownClass, BadDescriptor, BadKind, TooMany}
 use Rattle.mh_leaves.specs.Find.{has_texts}
-use Rattle.mh_leaves.specs.Manifest.{type_if_read, is_repeated, leaf_of, leaf_added, owned_leaf, leaf_line, class_added, is_virtual_word, tokens_meaning}
-use Rattle.mh_leaves.specs.Provided.{provided, provided_some}
+use Rattle.mh_leaves.specs.Manifest.{type_if_read, is_repeated, leaf_of_line, leaf_added, owned_leaf, leaf_line, class_added, is_virtual_word, tokens_meaning}
+use Rattle.mh_base.specs.Provided.{provided, provided_some}
 use Rattle.mh_leaves.specs.Reference.{Texts}
 use Rattle.mh_leaves.specs.Registered.{with_class, with_leaf, most_leaves}
 use Rattle.mh_leaves.specs.Written.{leaf_word}
@@ -57,7 +57,8 @@ typed-again classes before leaf is =
     let table : LeafTable = record { classes = classes; leaves = before } in
     let texts : Texts = record { owner = is.made.owner; name = leaf.name; descriptor = leaf.descriptor } in
     let t = is.made.described.0 in
-    ap (λ r. provided_some (type_if_read r) BadDescriptor (λ u. leaf_added table (leaf_of leaf.is_virtual texts leaf.owner leaf.kind u))) is.made.described.1
+    ap (λ r. provided_some (type_if_read r) BadDescriptor (λ u. leaf_added table (leaf_of_line leaf.is_virtual texts leaf.owner leaf.kind u)))
+    is.made.described.1
     ∙ ap (λ u. leaf_added table (record leaf { ty = u })) (sym is.made.described.2)
     ∙ added-again classes before leaf is
 

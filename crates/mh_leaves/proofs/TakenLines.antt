@@ -15,12 +15,12 @@ use Rattle.mh_leaf.specs.declared.leaf.Leaf.{Leaf}
 use Rattle.mh_leaf.specs.LeafTable.{LeafTable}
 use Rattle.mh_leaves.specs.declared.manifest.ManifestKind.TheVariants.{UnknownClass, BadDescriptor, TooMany}
 use Rattle.mh_leaves.specs.Find.{has_texts}
-use Rattle.mh_leaves.specs.Manifest.{kind_among, type_if_read, has_known_classes, is_repeated, is_leaf_text, leaf_of, leaf_added, owned_leaf, leaf_line, class_added, three_tokens}
+use Rattle.mh_leaves.specs.Manifest.{kind_among, type_if_read, has_known_classes, is_repeated, is_leaf_text, leaf_of_line, leaf_added, owned_leaf, leaf_line, class_added, three_tokens}
 use Rattle.mh_leaves.specs.Reference.{Texts}
 use Rattle.mh_leaves.specs.Registered.{nothing_registered, with_class, with_leaf}
-use Rattle.mh_leaves.proofs.Conditions.{passes, passes_some}
+use Rattle.mh_base.proofs.Conditions.{passes, passes_some}
 use Rattle.mh_leaves.proofs.LineParts.{Answer, class_line-parts, three_tokens-parts, with_owner, leaf_line-parts, typed, leaf_added-parts}
-use Rattle.mh_leaves.proofs.LineTokens.{AreTokens}
+use Rattle.mh_base.proofs.LineTokens.{AreTokens}
 use Rattle.mh_leaves.proofs.MadeOf.{IsDeclared, AreDeclared, declared-more, IsNext, AreMade, made-more, all_made-steady}
 
 -- the classes that are not built in, and the leaves, are those of lines
@@ -102,10 +102,10 @@ leaf-taken table next leaf new is = subst IsRead (taken_is (with_leaf table leaf
 
 typed-read : (table next : LeafTable) (is_virtual : Bool) (texts : Texts) (word : List ℕ) (owner : ClassId) (kind : Kind) (t : MethodTy) → IsRead table →
     IsTaken table texts word owner kind → has_known_classes table.classes texts.descriptor ≡ true → desc table.classes texts.descriptor ≡ Ok t →
-    leaf_added table (leaf_of is_virtual texts owner kind t) ≡ Ok next → IsRead next
+    leaf_added table (leaf_of_line is_virtual texts owner kind t) ≡ Ok next → IsRead next
 typed-read table next is_virtual texts word owner kind t old taken known means h =
-    let added = leaf_added-parts table (leaf_of is_virtual texts owner kind t) (Ok next) (λ e. cc) (λ e. cc) (λ e. cc) h in
-    leaf-taken table next (leaf_of is_virtual texts owner kind t) (leaf-read table (leaf_of is_virtual texts owner kind t) old (record {
+    let added = leaf_added-parts table (leaf_of_line is_virtual texts owner kind t) (Ok next) (λ e. cc) (λ e. cc) (λ e. cc) h in
+    leaf-taken table next (leaf_of_line is_virtual texts owner kind t) (leaf-read table (leaf_of_line is_virtual texts owner kind t) old (record {
       made = record {
         owner = texts.owner;
         word = word;
@@ -126,8 +126,8 @@ owned-read : (table next : LeafTable) (is_virtual : Bool) (texts : Texts) (word 
     IsTaken table texts word owner kind → owned_leaf table is_virtual texts owner kind ≡ Ok next → IsRead next
 owned-read table next is_virtual texts word owner kind old taken h =
     let known = passes (has_known_classes table.classes texts.descriptor) UnknownClass (typed table is_virtual texts owner kind) (Ok next) (λ e. cc) h in
-    let meant = passes_some (type_if_read (desc table.classes texts.descriptor)) BadDescriptor (λ t. leaf_added table (leaf_of is_virtual texts owner kind t))
-    (Ok next) (λ e. cc) known.1 in
+    let meant = passes_some (type_if_read (desc table.classes texts.descriptor)) BadDescriptor
+    (λ t. leaf_added table (leaf_of_line is_virtual texts owner kind t)) (Ok next) (λ e. cc) known.1 in
     typed-read table next is_virtual texts word owner kind meant.0 old taken known.0 (read_is (desc table.classes texts.descriptor) meant.0 meant.1) meant.2
 
 pub leaf_line-read : (table next : LeafTable) (is_virtual : Bool) (texts : Texts) (word : List ℕ) →

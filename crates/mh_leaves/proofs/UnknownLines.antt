@@ -9,12 +9,12 @@ use Rattle.mh_leaf.specs.declared.leaf.Kind.{Kind}
 use Rattle.mh_leaf.specs.declared.leaf.Leaf.{Leaf}
 use Rattle.mh_leaf.specs.LeafTable.{LeafTable}
 use Rattle.mh_leaves.specs.declared.manifest.ManifestKind.TheVariants.{BadLine, UnknownClass, BadDescriptor, TooMany}
-use Rattle.mh_leaves.specs.Manifest.{kind_among, type_if_read, has_known_classes, leaf_of, leaf_added, owned_leaf, leaf_line, class_added, class_line, three_tokens, is_virtual_word, five_tokens, tokens_meaning}
+use Rattle.mh_leaves.specs.Manifest.{kind_among, type_if_read, has_known_classes, leaf_of_line, leaf_added, owned_leaf, leaf_line, class_added, class_line, three_tokens, is_virtual_word, five_tokens, tokens_meaning}
 use Rattle.mh_leaves.specs.Reference.{Texts}
 use Rattle.mh_leaves.specs.Unknown.{LeafNamesUnknown, as_owner, NamesUnknown, of_class, of_static, of_virtual}
 use Rattle.mh_leaves.specs.Written.{leaf_word}
 use Rattle.mh_leaves.specs.Registered.{with_class, with_leaf}
-use Rattle.mh_leaves.proofs.Conditions.{passes, passes_some, either, either_some}
+use Rattle.mh_base.proofs.Conditions.{passes, passes_some, either, either_some}
 use Rattle.mh_leaves.proofs.LineParts.{Answer, class_line-parts, three_tokens-parts, with_owner, leaf_line-parts, typed, leaf_added-parts}
 use Rattle.mh_leaves.proofs.UnknownNames.{unknown_type, unknown_thrown, kind_word_of}
 use Rattle.mh_leaves.proofs.Words.{leaf_word_is}
@@ -29,7 +29,7 @@ leaf_added-other table leaf h =
 typed-other : (table : LeafTable) (is_virtual : Bool) (texts : Texts) (owner : ClassId) (kind : Kind) →
     typed table is_virtual texts owner kind ≡ Err UnknownClass → ⊥
 typed-other table is_virtual texts owner kind h =
-    let leaf = leaf_of is_virtual texts owner kind in
+    let leaf = leaf_of_line is_virtual texts owner kind in
     let read = passes_some (type_if_read (desc table.classes texts.descriptor)) BadDescriptor (λ t. leaf_added table (leaf t)) (Err UnknownClass) (λ e. cc) h in
     leaf_added-other table (leaf read.0) read.2
 

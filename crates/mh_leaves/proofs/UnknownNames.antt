@@ -3,6 +3,7 @@ use Rattle.std.proofs.Common.{◌≡◌, refl, sym, ◌∙◌, zero, suc, inl, i
 use Rattle.std.proofs.lemmas.Bool.{and_cases, and_parts, or_parts}
 use Rattle.std.specs.List.{list_all}
 use Rattle.std.specs.Option.{option_map, option_and_then, option_or}
+use Rattle.mh_base.proofs.Slices.{not_some}
 use Rattle.mh_values.specs.declared.class.Class.{Class}
 use Rattle.mh_values.specs.declared.class.ClassId.{ClassId}
 use Rattle.mh_values.specs.Classes.{class_named}
@@ -10,16 +11,13 @@ use Rattle.mh_values.specs.Grammar.{descriptor_fault}
 use Rattle.mh_values.proofs.Sound.{descriptor_sound}
 use Rattle.mh_leaf.specs.declared.leaf.Kind.{Kind}
 use Rattle.mh_leaf.specs.declared.leaf.Kind.TheVariants as kind
-use Rattle.mh_leaves.specs.Manifest.{number_kind, other_kind, thrown_name, is_kind_word, kind_among, knows_names, has_known_classes, is_leaf_text}
+use Rattle.mh_leaves.specs.Kinds.{word_kind}
+use Rattle.mh_leaves.specs.Manifest.{thrown_name, is_kind_word, kind_among, knows_names, has_known_classes, is_leaf_text}
 use Rattle.mh_leaves.specs.Names.{descriptor_names}
 use Rattle.mh_leaves.specs.Reference.{Texts}
 use Rattle.mh_leaves.specs.Unknown.{LeafNamesUnknown, as_thrown, in_types}
 use Rattle.mh_leaves.proofs.KnownNames.{names_known}
 use Rattle.mh_leaves.proofs.Words.{thrown_is}
-
-not_some : {A : Type 0} (o : Option A) → is_some o ≡ false → o ≡ None
-not_some None h = refl
-not_some (Some a) h = cc
 
 -- ---- descriptors
 
@@ -44,18 +42,17 @@ no_class : (o : Option ClassId) → option_map kind.Throw o ≡ None → o ≡ N
 no_class None h = refl
 no_class (Some class) h = absurd cc
 
-thrown_there : (classes : List Class) (x y : Option Kind) (t : Option (List ℕ)) → (is_some x || is_some y || is_some t) ≡ true →
-    option_or x (option_or y (option_and_then (λ name. option_map kind.Throw (class_named classes name)) t)) ≡ None →
+thrown_there : (classes : List Class) (x : Option Kind) (t : Option (List ℕ)) → (is_some x || is_some t) ≡ true →
+    option_or x (option_and_then (λ name. option_map kind.Throw (class_named classes name)) t) ≡ None →
     (name : List ℕ) × (t ≡ Some name) × (class_named classes name ≡ None)
-thrown_there classes (Some x) y t word h = absurd cc
-thrown_there classes None (Some y) t word h = absurd cc
-thrown_there classes None None None word h = absurd cc
-thrown_there classes None None (Some name) word h = (name, refl, no_class (class_named classes name) h)
+thrown_there classes (Some x) t word h = absurd cc
+thrown_there classes None None word h = absurd cc
+thrown_there classes None (Some name) word h = (name, refl, no_class (class_named classes name) h)
 
 pub unknown_thrown : (classes : List Class) (owner text word : List ℕ) → is_kind_word word ≡ true → kind_among classes word ≡ None →
     LeafNamesUnknown classes owner text word
 unknown_thrown classes owner text word is none =
-    let name = thrown_there classes (number_kind word) (other_kind word) (thrown_name word) is none in
+    let name = thrown_there classes (word_kind word) (thrown_name word) is none in
     as_thrown name.0 (thrown_is word name.0 name.1) name.2
 
 -- a leaf's line has the word of a kind

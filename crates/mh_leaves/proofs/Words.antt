@@ -1,9 +1,9 @@
 -- The words of kinds and of leaves' lines: what each was read from.
-use Rattle.std.proofs.Common.{◌≡◌, refl, sym, ap, ◌∙◌, inl, inr, ℕ, Bool, true, false, ◌&&◌, if◌then◌else◌, List, ◌++◌, codes, drop, Option, None, Some}
+use Rattle.std.proofs.Common.{◌≡◌, refl, sym, ap, ◌∙◌, inl, inr, ℕ, Bool, true, false, ◌&&◌, if◌then◌else◌, List, [], ◌∷◌, ◌++◌, codes, drop, Option, None, Some}
 use Rattle.std.proofs.lemmas.Bool.{cases_Bool, and_parts}
 use Rattle.std.proofs.lemmas.Bool.Decides.{Decides-eqb}
 use Rattle.std.proofs.lemmas.Slice.Eq.{bytes_eq-Decides, starts_is}
-use Rattle.std.specs.List.{starts_with}
+use Rattle.std.specs.List.{list_all, starts_with}
 use Rattle.std.specs.Option.{option_map, option_and_then, option_or}
 use Rattle.std.specs.Prelude.{nat_eq}
 use Rattle.std.specs.Str.{bytes_eq}
@@ -12,45 +12,35 @@ use Rattle.mh_values.specs.declared.class.ClassId.{ClassId}
 use Rattle.mh_values.specs.Classes.{class_named}
 use Rattle.mh_leaf.specs.declared.leaf.Kind.{Kind}
 use Rattle.mh_leaf.specs.declared.leaf.Kind.TheVariants as kind
-use Rattle.mh_leaves.specs.Manifest.{number_kind, other_kind, thrown_name, throw_kind, kind_among, is_virtual_word}
+use Rattle.mh_leaves.specs.Kinds.{word_kinds, kind_of_row, word_kind}
+use Rattle.mh_leaves.specs.Manifest.{thrown_name, throw_kind, kind_among, is_virtual_word}
 use Rattle.mh_leaves.specs.Reference.{is_class_name}
 use Rattle.mh_leaves.specs.Written.{kind_text, leaf_word}
-use Rattle.mh_leaves.proofs.Names.{named_is}
+use Rattle.mh_values.proofs.NamedClass.{named_is}
 
 -- ---- words alone
 
--- the kind of one of several words
-told : (classes : List Class) (word text : List ℕ) (k : Kind) (rest : Option Kind) (found : Kind) → kind_text classes k ≡ text →
-    (rest ≡ Some found → kind_text classes found ≡ word) → (if bytes_eq word text then Some k else rest) ≡ Some found → kind_text classes found ≡ word
-told classes word text k rest found is more h =
-    elim (cases_Bool (bytes_eq word text)) [
+-- each row has the word of its kind
+abbrev AreTold : List Class → List (List ℕ × Kind) → Type 0
+AreTold classes rows = list_all (λ row. bytes_eq (kind_text classes row.1) row.0) rows ≡ true
+
+-- those of the table have it
+pub rows_told : (classes : List Class) → AreTold classes word_kinds
+rows_told classes = refl
+
+row_told : (classes : List Class) (rows : List (List ℕ × Kind)) (word : List ℕ) (found : Kind) → AreTold classes rows → kind_of_row rows word ≡ Some found →
+    kind_text classes found ≡ word
+row_told classes [] word found told h = absurd cc
+row_told classes (row ∷ rows) word found told h =
+    let parts = and_parts (bytes_eq (kind_text classes row.1) row.0) (list_all (λ row. bytes_eq (kind_text classes row.1) row.0) rows) told in
+    let rest = kind_of_row rows word in
+    elim (cases_Bool (bytes_eq word row.0)) [
       | inl e ↦
-          let here : Some k ≡ Some found = sym (ap (λ b. if b then Some k else rest) e) ∙ h in
-          let same : k ≡ found = cc in
-          ap (kind_text classes) (sym same) ∙ is ∙ sym ((bytes_eq-Decides word text).0 e)
-      | inr e ↦ more (sym (ap (λ b. if b then Some k else rest) e) ∙ h)
+          let here : Some row.1 ≡ Some found = sym (ap (λ b. if b then Some row.1 else rest) e) ∙ h in
+          let same : row.1 ≡ found = cc in
+          ap (kind_text classes) (sym same) ∙ ((bytes_eq-Decides (kind_text classes row.1) row.0).0 parts.0 ∙ sym ((bytes_eq-Decides word row.0).0 e))
+      | inr e ↦ row_told classes rows word found parts.1 (sym (ap (λ b. if b then Some row.1 else rest) e) ∙ h)
     ]
-
-number_told : (classes : List Class) (word : List ℕ) (found : Kind) → number_kind word ≡ Some found → kind_text classes found ≡ word
-number_told classes word found =
-    told classes word (codes "iadd") kind.Iadd _ found refl
-    (told classes word (codes "isub") kind.Isub _ found refl
-    (told classes word (codes "imul") kind.Imul _ found refl
-    (told classes word (codes "idiv") kind.Idiv _ found refl
-    (told classes word (codes "ladd") kind.Ladd _ found refl
-    (told classes word (codes "ieq") kind.Ieq _ found refl
-    (told classes word (codes "ilt") kind.Ilt _ found refl
-    (told classes word (codes "not") kind.Not None found refl (λ h. absurd cc))))))))
-
-other_told : (classes : List Class) (word : List ℕ) (found : Kind) → other_kind word ≡ Some found → kind_text classes found ≡ word
-other_told classes word found =
-    told classes word (codes "concat") kind.Concat _ found refl
-    (told classes word (codes "length") kind.Length _ found refl
-    (told classes word (codes "same") kind.Same _ found refl
-    (told classes word (codes "first") kind.First _ found refl
-    (told classes word (codes "pick") kind.Pick _ found refl
-    (told classes word (codes "tick") kind.Tick _ found refl
-    (told classes word (codes "note") kind.Note None found refl (λ h. absurd cc)))))))
 
 -- ---- `throw:CLASS`
 
@@ -86,9 +76,8 @@ first_of_two (Some k) y found P first second h = first h
 -- the text of the kind of a word is the word
 pub kind_is : (classes : List Class) (word : List ℕ) (found : Kind) → kind_among classes word ≡ Some found → kind_text classes found ≡ word
 kind_is classes word found h =
-    first_of_two (number_kind word) _ found (kind_text classes found ≡ word) (number_told classes word found)
-    (first_of_two (other_kind word) (throw_kind classes word) found (kind_text classes found ≡ word) (other_told classes word found)
-    (throw_told classes word (thrown_name word) found refl)) h
+    first_of_two (word_kind word) (throw_kind classes word) found (kind_text classes found ≡ word) (row_told classes word_kinds word found (rows_told classes))
+    (throw_told classes word (thrown_name word) found refl) h
 
 -- ---- leaves' lines
 

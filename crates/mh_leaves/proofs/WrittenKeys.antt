@@ -8,7 +8,7 @@ use Rattle.std.specs.BTreeMap.{is_at, get, btree_map_len, Updates, IsUnchanged}
 use Rattle.std.specs.Map.{lookup}
 use Rattle.std.specs.Ordering.{nat_cmp, is_eq}
 use Rattle.std.specs.Str.{bytes_eq}
-use Rattle.mh_leaves.specs.Numbers.{number_at, Key, key_cmp, leaf_at, AreApart, AreNumbered, AreGrown, AreByTexts}
+use Rattle.mh_leaves.specs.Numbers.{text_number, Key, key_cmp, leaf_at, AreApart, AreNumbered, AreGrown, AreByTexts}
 use Rattle.mh_leaves.proofs.Numbering.{Texts}
 use Rattle.mh_leaves.proofs.Finding.{Found, leaf_at-grown}
 
@@ -23,7 +23,7 @@ key_test : (x y : Key) → is_at (key_cmp x) y ≡ ((x.0 == y.0 && x.1 == y.1) &
 key_test x y = sym (both_tied _ _ _ (nat_cmp x.2 y.2) (both_tied _ _ (nat_cmp x.0 y.0) (nat_cmp x.1 y.1) (is_eq-nat_cmp x.0 y.0) (is_eq-nat_cmp x.1 y.1))
     (is_eq-nat_cmp x.2 y.2))
 
-same_number : (texts : Texts) (a b : List ℕ) (i k : ℕ) → AreApart texts → number_at texts a ≡ Some i → number_at texts b ≡ Some k → bytes_eq a b ≡ (i == k)
+same_number : (texts : Texts) (a b : List ℕ) (i k : ℕ) → AreApart texts → text_number texts a ≡ Some i → text_number texts b ≡ Some k → bytes_eq a b ≡ (i == k)
 same_number texts a b i k apart is_a is_b =
     elim (cases_Bool (i == k)) [
       | inl e ↦
@@ -31,19 +31,19 @@ same_number texts a b i k apart is_a is_b =
           (bytes_eq-Decides a b).1 (apart a b i is_a (is_b ∙ ap Some (sym same))) ∙ sym e
       | inr e ↦ false_from_ne_true (bytes_eq a b) (λ h.
           let same : a ≡ b = (bytes_eq-Decides a b).0 h in
-          let numbers : Some i ≡ Some k = sym is_a ∙ ap (number_at texts) same ∙ is_b in
+          let numbers : Some i ≡ Some k = sym is_a ∙ ap (text_number texts) same ∙ is_b in
           let is : i ≡ k = cc in
           let test : (i == k) ≡ true = eq-eqb i k is in cc) ∙ sym e
     ]
 
-unnumbered : (texts : Texts) (a b : List ℕ) (i : ℕ) → number_at texts a ≡ Some i → number_at texts b ≡ None → bytes_eq a b ≡ false
+unnumbered : (texts : Texts) (a b : List ℕ) (i : ℕ) → text_number texts a ≡ Some i → text_number texts b ≡ None → bytes_eq a b ≡ false
 unnumbered texts a b i is_a is_b =
-    false_from_ne_true (bytes_eq a b) (λ h. let same : a ≡ b = (bytes_eq-Decides a b).0 h in cc (ap (number_at texts) same))
+    false_from_ne_true (bytes_eq a b) (λ h. let same : a ≡ b = (bytes_eq-Decides a b).0 h in cc (ap (text_number texts) same))
 
 -- whether a key is that of a leaf whose name and descriptor have these numbers
-written-at : (texts : Texts) (old new : Found) (owner i j n : ℕ) (name descriptor : List ℕ) → AreApart texts → number_at texts name ≡ Some i →
-    number_at texts descriptor ≡ Some j → Writes old new (owner, i, j) n → (o : ℕ) (a b : List ℕ) (x y : Option ℕ) → number_at texts a ≡ x →
-    number_at texts b ≡ y → leaf_at new o x y ≡ cond ((owner == o && bytes_eq name a) && bytes_eq descriptor b) (Some n) (leaf_at old o x y)
+written-at : (texts : Texts) (old new : Found) (owner i j n : ℕ) (name descriptor : List ℕ) → AreApart texts → text_number texts name ≡ Some i →
+    text_number texts descriptor ≡ Some j → Writes old new (owner, i, j) n → (o : ℕ) (a b : List ℕ) (x y : Option ℕ) → text_number texts a ≡ x →
+    text_number texts b ≡ y → leaf_at new o x y ≡ cond ((owner == o && bytes_eq name a) && bytes_eq descriptor b) (Some n) (leaf_at old o x y)
 written-at texts old new owner i j n name descriptor apart is_name is_descriptor writes o a b None y is_a is_b =
     sym (ap (λ t. cond ((owner == o && t) && bytes_eq descriptor b) (Some n) None) (unnumbered texts name a i is_name is_a)
     ∙ ap (λ t. cond (t && bytes_eq descriptor b) (Some n) None) (and_right (owner == o) false refl))
@@ -57,11 +57,11 @@ written-at texts old new owner i j n name descriptor apart is_name is_descriptor
 
 -- one more leaf is found
 pub leaf_at-more : (before texts : Texts) (old new : Found) (owner i j n : ℕ) (name descriptor : List ℕ) → AreByTexts before old → AreGrown before texts →
-    AreApart texts → number_at texts name ≡ Some i → number_at texts descriptor ≡ Some j → Writes old new (owner, i, j) n → (o : ℕ) (a b : List ℕ) →
-    leaf_at new o (number_at texts a) (number_at texts b) ≡ cond ((owner == o && bytes_eq name a) && bytes_eq descriptor b) (Some n)
-    (leaf_at old o (number_at before a) (number_at before b))
+    AreApart texts → text_number texts name ≡ Some i → text_number texts descriptor ≡ Some j → Writes old new (owner, i, j) n → (o : ℕ) (a b : List ℕ) →
+    leaf_at new o (text_number texts a) (text_number texts b) ≡ cond ((owner == o && bytes_eq name a) && bytes_eq descriptor b) (Some n)
+    (leaf_at old o (text_number before a) (text_number before b))
 leaf_at-more before texts old new owner i j n name descriptor by grown apart is_name is_descriptor writes o a b =
-    written-at texts old new owner i j n name descriptor apart is_name is_descriptor writes o a b (number_at texts a) (number_at texts b) refl refl
+    written-at texts old new owner i j n name descriptor apart is_name is_descriptor writes o a b (text_number texts a) (text_number texts b) refl refl
     ∙ ap (cond ((owner == o && bytes_eq name a) && bytes_eq descriptor b) (Some n)) (leaf_at-grown before texts old o a b by grown)
 
 -- ---- what holds of keys
@@ -86,7 +86,7 @@ by_texts-written texts old new owner i j n by name descriptor writes o k l m is 
 
 -- the same where nothing may have been written
 pub by_texts-inserted : {T E : Type 0} (r : Result T E) (texts : Texts) (old new : Found) (owner i j n : ℕ) (name descriptor : List ℕ) → AreByTexts texts old →
-    AreNumbered texts → number_at texts name ≡ Some i → number_at texts descriptor ≡ Some j → OnOk r (Updates key_cmp old new (owner, i, j) (Some n)) →
+    AreNumbered texts → text_number texts name ≡ Some i → text_number texts descriptor ≡ Some j → OnOk r (Updates key_cmp old new (owner, i, j) (Some n)) →
     OnErr r (IsUnchanged old new) → AreByTexts texts new
 by_texts-inserted (Ok x) texts old new owner i j n name descriptor by numbered is_name is_descriptor ok err =
     by_texts-written texts old new owner i j n by (numbered.below name i is_name) (numbered.below descriptor j is_descriptor) ok.0
@@ -100,9 +100,9 @@ leaf_at-unchanged old new o (Some k) (Some l) same = ap (lookup (is_at (key_cmp 
 
 -- the same leaves are found where nothing was written
 pub leaf_at-same : (before texts : Texts) (old new : Found) (o : ℕ) (a b : List ℕ) → AreByTexts before old → AreGrown before texts → IsUnchanged old new →
-    leaf_at new o (number_at texts a) (number_at texts b) ≡ leaf_at old o (number_at before a) (number_at before b)
+    leaf_at new o (text_number texts a) (text_number texts b) ≡ leaf_at old o (text_number before a) (text_number before b)
 leaf_at-same before texts old new o a b by grown same =
-    leaf_at-unchanged old new o (number_at texts a) (number_at texts b) same ∙ leaf_at-grown before texts old o a b by grown
+    leaf_at-unchanged old new o (text_number texts a) (text_number texts b) same ∙ leaf_at-grown before texts old o a b by grown
 
 pub on_err : {T E : Type 0} {P : Type 0} (r : Result T E) → P → OnErr r P
 on_err (Ok x) p = tt

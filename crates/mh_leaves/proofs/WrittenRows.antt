@@ -4,6 +4,7 @@ use Rattle.mh_values.specs.Class.{class_at, class_below, builtin_classes, string
 use Rattle.mh_values.specs.declared.types.Ty.TheVariants as ty
 use Rattle.mh_leaf.specs.declared.leaf.Kind.TheVariants as kind
 use Rattle.mh_leaf.specs.LeafTable.{LeafTable}
+use Rattle.mh_leaves.specs.Kinds.{word_kind}
 use Rattle.mh_leaves.specs.Manifest.{manifest}
 use Rattle.mh_leaves.specs.Written.{manifest_text}
 
@@ -28,9 +29,21 @@ table = record {
   } ∷ [];
 }
 
-written : manifest_text table ≡ codes "class demo/Text java/lang/Object\nclass demo/Fault java/lang/Exception\nstatic demo/Text same (Ljava/lang/String;)Ljava/lang/String; same\nvirtual demo/Text fail ()V throw:demo/Fault\n"
+written : manifest_text table ≡
+    codes "class demo/Text java/lang/Object\nclass demo/Fault java/lang/Exception\n" ++
+    codes "static demo/Text same (Ljava/lang/String;)Ljava/lang/String; same\nvirtual demo/Text fail ()V throw:demo/Fault\n"
 written = refl
 
 -- the same table, from lines in another order, with a comment and an empty line
-in_order : manifest (codes "# demo\nclass demo/Text java/lang/Object\n\nstatic demo/Text same (Ljava/lang/String;)Ljava/lang/String; same\nclass demo/Fault java/lang/Exception\nvirtual demo/Text fail ()V throw:demo/Fault") ≡ Ok table
+in_order :
+    manifest (codes "# demo\nclass demo/Text java/lang/Object\n\n" ++
+    codes "static demo/Text same (Ljava/lang/String;)Ljava/lang/String; same\n" ++
+    codes "class demo/Fault java/lang/Exception\nvirtual demo/Text fail ()V throw:demo/Fault")
+    ≡ Ok table
 in_order = refl
+
+a_word_alone : word_kind (codes "tick") ≡ Some kind.Tick
+a_word_alone = refl
+
+no_word_alone : word_kind (codes "throw:demo/Fault") ≡ None
+no_word_alone = refl

@@ -32,19 +32,19 @@ abbrev pub is_called : ClassId → List ℕ → List ℕ → How → Leaf → Bo
 is_called owner name descriptor how leaf = has_texts owner name descriptor leaf && is_way how leaf
 
 -- the number of a leaf that was found, or what is missing
-abbrev pub leaf_at : Option ℕ → Result LeafId Missing
-leaf_at (Some at) = Ok (record { 0 = at })
-leaf_at None = Err NoMethod
+abbrev pub leaf_numbered : Option ℕ → Result LeafId Missing
+leaf_numbered (Some at) = Ok (record { 0 = at })
+leaf_numbered None = Err NoMethod
 
 -- the leaf of an owner, if the owner is a class, that has these texts and is called in that way
-abbrev pub leaf_of : Option ClassId → List ℕ → List ℕ → How → List Leaf → Result LeafId Missing
-leaf_of None name descriptor how leaves = Err NoClass
-leaf_of (Some owner) name descriptor how leaves =
-    leaf_at (position (is_called owner name descriptor how) leaves)
+abbrev pub leaf_called : Option ClassId → List ℕ → List ℕ → How → List Leaf → Result LeafId Missing
+leaf_called None name descriptor how leaves = Err NoClass
+leaf_called (Some owner) name descriptor how leaves =
+    leaf_numbered (position (is_called owner name descriptor how) leaves)
 
 -- the leaf with this owner, name and descriptor that is called in that way, or what is missing
 abbrev pub find_leaf : LeafTable → List ℕ → List ℕ → List ℕ → How → Result LeafId Missing
-find_leaf table owner name descriptor how = leaf_of (class_named table.classes owner) name descriptor how table.leaves
+find_leaf table owner name descriptor how = leaf_called (class_named table.classes owner) name descriptor how table.leaves
 
 -- whether a leaf of the table has a receiver
 abbrev pub is_virtual_leaf : LeafTable → LeafId → Option Bool

@@ -5,11 +5,11 @@ use Rattle.mh_values.specs.declared.class.ClassId.{ClassId}
 use Rattle.mh_leaf.specs.declared.leaf.Leaf.{Leaf}
 use Rattle.mh_leaves.specs.declared.index.Index.{Index}
 use Rattle.mh_leaves.specs.Find.{are_texts, has_texts}
-use Rattle.mh_leaves.specs.Numbers.{number_at, leaf_at}
+use Rattle.mh_leaves.specs.Numbers.{text_number, leaf_at}
 
 -- the leaf of an owner with a name and a descriptor
 abbrev pub found_at : Index → ClassId → List ℕ → List ℕ → Option ℕ
-found_at index owner name descriptor = leaf_at index.leaves owner.0 (number_at index.texts name) (number_at index.texts descriptor)
+found_at index owner name descriptor = leaf_at index.leaves owner.0 (text_number index.texts name) (text_number index.texts descriptor)
 
 -- the same leaves are found
 abbrev pub FindsSame : Index → Index → Type 0

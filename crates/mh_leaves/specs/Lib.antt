@@ -2,10 +2,10 @@ pub mod Fault
 pub mod Find
 pub mod Index
 pub mod Kept
+pub mod Kinds
 pub mod Manifest
 pub mod Names
 pub mod Numbers
-pub mod Provided
 pub mod Reference
 pub mod Registered
 pub mod Unknown

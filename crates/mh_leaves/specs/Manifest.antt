@@ -3,6 +3,7 @@ use Rattle.std.specs.Prelude.{ℕ, ◌==◌, List, [], ◌∷◌, codes, Bool, t
 use Rattle.std.specs.Option.{option_map_or, option_or}
 use Rattle.std.specs.List.{list_all, list_any, slice_split, starts_with}
 use Rattle.std.specs.Str.{bytes_eq}
+use Rattle.mh_base.specs.Ascii.{capital_L, semicolon}
 use Rattle.mh_base.specs.Lines.{lines_of, tokens_of, cut_at, is_passed, is_plain, built_from}
 use Rattle.mh_base.specs.declared.lines.LineFault.{LineFault}
 use Rattle.mh_values.specs.declared.class.Class.{Class}
@@ -20,7 +21,8 @@ use Rattle.mh_leaf.specs.Outcome.{is_well_typed}
 use Rattle.mh_leaves.specs.declared.manifest.ManifestKind.{ManifestKind}
 use Rattle.mh_leaves.specs.declared.manifest.ManifestKind.TheVariants.{BadLine, Twice, UnknownClass, BadDescriptor, BadKind, TooMany}
 use Rattle.mh_leaves.specs.Find.{has_texts}
-use Rattle.mh_leaves.specs.Provided.{provided, provided_some}
+use Rattle.mh_leaves.specs.Kinds.{word_kind}
+use Rattle.mh_base.specs.Provided.{provided, provided_some}
 use Rattle.mh_leaves.specs.Reference.{Texts, is_class_name, is_method_name}
 use Rattle.mh_leaves.specs.Registered.{nothing_registered, with_class, with_leaf, most_leaves, handle_type}
 
@@ -48,36 +50,13 @@ class_line table name superclass =
 
 -- ---- kinds of leaves
 
--- a kind that computes with numbers or booleans, by its word
-abbrev pub number_kind : List ℕ → Option Kind
-number_kind word =
-    if bytes_eq word (codes "iadd") then Some kind.Iadd
-    else (if bytes_eq word (codes "isub") then Some kind.Isub
-    else (if bytes_eq word (codes "imul") then Some kind.Imul
-    else (if bytes_eq word (codes "idiv") then Some kind.Idiv
-    else (if bytes_eq word (codes "ladd") then Some kind.Ladd
-    else (if bytes_eq word (codes "ieq") then Some kind.Ieq
-    else (if bytes_eq word (codes "ilt") then Some kind.Ilt
-    else (if bytes_eq word (codes "not") then Some kind.Not else None)))))))
-
--- any other kind of a word alone
-abbrev pub other_kind : List ℕ → Option Kind
-other_kind word =
-    if bytes_eq word (codes "concat") then Some kind.Concat
-    else (if bytes_eq word (codes "length") then Some kind.Length
-    else (if bytes_eq word (codes "same") then Some kind.Same
-    else (if bytes_eq word (codes "first") then Some kind.First
-    else (if bytes_eq word (codes "pick") then Some kind.Pick
-    else (if bytes_eq word (codes "tick") then Some kind.Tick
-    else (if bytes_eq word (codes "note") then Some kind.Note else None))))))
-
 -- the class name of `throw:CLASS`
 abbrev pub thrown_name : List ℕ → Option (List ℕ)
 thrown_name word = if starts_with nat_eq word (codes "throw:") && is_class_name (drop 6 word) then Some (drop 6 word) else None
 
 -- whether a word is that of a kind
 abbrev pub is_kind_word : List ℕ → Bool
-is_kind_word word = is_some (number_kind word) || is_some (other_kind word) || is_some (thrown_name word)
+is_kind_word word = is_some (word_kind word) || is_some (thrown_name word)
 
 -- the kind that throws an exception of a class of this name
 abbrev pub throw_kind : List Class → List ℕ → Option Kind
@@ -85,17 +64,17 @@ throw_kind classes word = option_and_then (λ name. option_map kind.Throw (class
 
 -- the kind of a word, whose class must be there
 abbrev pub kind_among : List Class → List ℕ → Option Kind
-kind_among classes word = option_or (number_kind word) (option_or (other_kind word) (throw_kind classes word))
+kind_among classes word = option_or (word_kind word) (throw_kind classes word)
 
 -- ---- descriptors
 
 -- whether the class is there that a piece of a descriptor names, if it names one: after its first `L`
 abbrev pub knows_name : List Class → List ℕ → Bool
-knows_name classes piece = option_map_or (λ parts. is_some (class_named classes parts.1)) (cut_at 76 piece) true
+knows_name classes piece = option_map_or (λ parts. is_some (class_named classes parts.1)) (cut_at capital_L piece) true
 
 -- whether the classes are there that a descriptor names: each name ends with `;`
 abbrev pub knows_names : List Class → List ℕ → Bool
-knows_names classes descriptor = list_all (knows_name classes) (slice_split (λ b. b == 59) descriptor)
+knows_names classes descriptor = list_all (knows_name classes) (slice_split (λ b. b == semicolon) descriptor)
 
 -- no class is unknown that a descriptor names, if it is one
 abbrev pub has_known_classes : List Class → List ℕ → Bool
@@ -122,8 +101,8 @@ leaf_added table leaf =
     (Ok (with_leaf table leaf))))
 
 -- the leaf of an owner and a kind with these texts and a type, which lacks the receiver
-abbrev pub leaf_of : Bool → Texts → ClassId → Kind → MethodTy → Leaf
-leaf_of is_virtual texts owner kind t = record {
+abbrev pub leaf_of_line : Bool → Texts → ClassId → Kind → MethodTy → Leaf
+leaf_of_line is_virtual texts owner kind t = record {
   owner = owner;
   name = texts.name;
   descriptor = texts.descriptor;
@@ -136,7 +115,7 @@ leaf_of is_virtual texts owner kind t = record {
 abbrev pub owned_leaf : LeafTable → Bool → Texts → ClassId → Kind → Result LeafTable ManifestKind
 owned_leaf table is_virtual texts owner kind =
     provided (has_known_classes table.classes texts.descriptor) UnknownClass
-    (provided_some (type_if_read (desc table.classes texts.descriptor)) BadDescriptor (λ t. leaf_added table (leaf_of is_virtual texts owner kind t)))
+    (provided_some (type_if_read (desc table.classes texts.descriptor)) BadDescriptor (λ t. leaf_added table (leaf_of_line is_virtual texts owner kind t)))
 
 -- the texts of a leaf's line are such as it may have
 abbrev pub is_leaf_text : Texts → List ℕ → Bool

@@ -7,8 +7,8 @@ use Rattle.std.specs.declared.cmp.Ordering.{Ordering}
 use Rattle.std.specs.Ordering.{nat_cmp, ordering_then}
 
 -- the number of a text
-abbrev pub number_at : BTreeMap (Vec ℕ) ℕ → List ℕ → Option ℕ
-number_at texts text = get_by (λ k. slice_cmp nat_cmp text k.items) texts
+abbrev pub text_number : BTreeMap (Vec ℕ) ℕ → List ℕ → Option ℕ
+text_number texts text = get_by (λ k. slice_cmp nat_cmp text k.items) texts
 
 -- the numbers of an owner, a name and a descriptor
 abbrev pub Key : Type 0
@@ -24,11 +24,11 @@ leaf_at leaves owner name descriptor = option_and_then (λ i. option_and_then (�
 
 -- no two texts have one number
 abbrev pub AreApart : BTreeMap (Vec ℕ) ℕ → Type 0
-AreApart texts = (a b : List ℕ) (n : ℕ) → number_at texts a ≡ Some n → number_at texts b ≡ Some n → a ≡ b
+AreApart texts = (a b : List ℕ) (n : ℕ) → text_number texts a ≡ Some n → text_number texts b ≡ Some n → a ≡ b
 
 -- numbers are below the count of texts
 abbrev pub AreBelow : BTreeMap (Vec ℕ) ℕ → Type 0
-AreBelow texts = (a : List ℕ) (n : ℕ) → number_at texts a ≡ Some n → n < btree_map_len texts
+AreBelow texts = (a : List ℕ) (n : ℕ) → text_number texts a ≡ Some n → n < btree_map_len texts
 
 -- texts with numbers from 0 on
 pub record AreNumbered (texts : BTreeMap (Vec ℕ) ℕ) : Type 0 where
@@ -42,8 +42,8 @@ AreByTexts texts leaves = (owner i j n : ℕ) → get key_cmp leaves (owner, i, 
 -- a text's number stays, or it is new and after those that there were
 abbrev pub IsNumberedAnew : BTreeMap (Vec ℕ) ℕ → BTreeMap (Vec ℕ) ℕ → List ℕ → Type 0
 IsNumberedAnew old new text =
-    (number_at new text ≡ number_at old text)
-    ⊎ ((n : ℕ) × (number_at old text ≡ None) × (number_at new text ≡ Some n) × (btree_map_len old ≤ n))
+    (text_number new text ≡ text_number old text)
+    ⊎ ((n : ℕ) × (text_number old text ≡ None) × (text_number new text ≡ Some n) × (btree_map_len old ≤ n))
 
 -- each text keeps its number, and new ones have numbers after those that there were
 pub record AreGrown (old new : BTreeMap (Vec ℕ) ℕ) : Type 0 where

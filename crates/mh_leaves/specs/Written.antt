@@ -1,15 +1,16 @@
 -- What was read as the text of a manifest: the classes in their order, and then the leaves in theirs.
-use Rattle.std.specs.Prelude.{ℕ, Bool, true, false, List, [], ◌∷◌, ◌++◌, codes, drop, flat_map}
-use Rattle.std.specs.List.{join_with_byte}
+use Rattle.std.specs.Prelude.{ℕ, Bool, true, false, List, [], ◌∷◌, ◌++◌, codes, drop, flat_map, length}
 use Rattle.std.specs.Option.{option_map_or}
+use Rattle.mh_base.specs.Lines.{line_text}
 use Rattle.mh_values.specs.declared.class.Class.{Class}
+use Rattle.mh_values.specs.Class.{builtin_classes}
 use Rattle.mh_values.specs.Classes.{name_of}
 use Rattle.mh_leaf.specs.declared.leaf.Kind.{Kind}
 use Rattle.mh_leaf.specs.declared.leaf.Kind.TheVariants as kind
 use Rattle.mh_leaf.specs.declared.leaf.Leaf.{Leaf}
 use Rattle.mh_leaf.specs.LeafTable.{LeafTable}
 
--- the word of a kind of leaf
+-- the word of a kind of leaf: of a kind of a word alone that of its row in `word_kinds` (`rows_told` of proofs/Words)
 abbrev pub kind_text : List Class → Kind → List ℕ
 kind_text classes kind.Iadd = codes "iadd"
 kind_text classes kind.Isub = codes "isub"
@@ -41,13 +42,9 @@ class_tokens classes class = codes "class" ∷ class.name ∷ option_map_or (nam
 abbrev pub leaf_tokens : List Class → Leaf → List (List ℕ)
 leaf_tokens classes leaf = leaf_word leaf.is_virtual ∷ name_of classes leaf.owner ∷ leaf.name ∷ leaf.descriptor ∷ kind_text classes leaf.kind ∷ []
 
--- a line of tokens, with a space between two of them, and LF at its end
-abbrev pub line_text : List (List ℕ) → List ℕ
-line_text tokens = join_with_byte 32 tokens ++ codes "\n"
-
--- the classes that a manifest declares: those after the 28 that are built in
+-- the classes that a manifest declares: those after the ones that are built in
 abbrev pub declared_classes : LeafTable → List Class
-declared_classes table = drop 28 table.classes
+declared_classes table = drop (length builtin_classes) table.classes
 
 -- the text of a manifest: a line for each class that it declares, and then a line for each leaf
 abbrev pub manifest_text : LeafTable → List ℕ

@@ -1,7 +1,7 @@
 ghost use Rattle.std.specs.Prelude.{◌≡◌, ◌<◌, ◌^◌, ℕ, List, IfOk, OnOk, OnErr, None, Some};
 ghost use Rattle.mh_values.specs.declared.class.ClassId.{ClassId as Class};
 ghost use Rattle.std.specs.BTreeMap.{btree_map_len};
-ghost use Rattle.mh_leaves.specs.Numbers.{number_at, AreNumbered, AreGrown, AreByTexts};
+ghost use Rattle.mh_leaves.specs.Numbers.{text_number, AreNumbered, AreGrown, AreByTexts};
 
 use mh_base::NoMemory;
 use mh_values::ClassId;
@@ -15,7 +15,7 @@ fn number_text(
     text: &[u8],
 ) -> Result<usize, NoMemory>
     requires { AreNumbered texts.old }
-    ensures number { IfOk result (λ n. number_at texts.new text.now ≡ Some n) }
+    ensures number { IfOk result (λ n. text_number texts.new text.now ≡ Some n) }
     ensures grown { AreGrown texts.old texts.new }
     ensures numbered { AreNumbered texts.new }
 {

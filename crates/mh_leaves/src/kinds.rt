@@ -1,57 +1,48 @@
 ghost use Rattle.std.specs.Prelude.{◌≡◌, option_copied};
 ghost use Rattle.mh_leaf.specs.Outcome.{is_well_typed};
-ghost use Rattle.mh_leaves.specs.Manifest.{number_kind, other_kind, thrown_name, is_kind_word, throw_kind, kind_among};
+ghost use Rattle.mh_leaves.specs.Kinds.{rows_of, kind_of_row, word_kind};
+ghost use Rattle.mh_leaves.specs.Manifest.{thrown_name, is_kind_word, throw_kind, kind_among};
 
 use crate::reference::is_class_name;
 use mh_leaf::{Kind, Leaf, is_kind_type, throws_exceptions};
 use mh_values::Classes;
 
-/// A kind that computes with numbers or booleans, by its word.
-fn number_kind(word: &[u8]) -> Option<Kind>
-    ensures { result ≡ number_kind word.now }
+/// The kinds of a word alone, each after its word.
+const WORD_KINDS: [(&str, Kind); 15] = [
+    ("iadd", Kind::Iadd),
+    ("isub", Kind::Isub),
+    ("imul", Kind::Imul),
+    ("idiv", Kind::Idiv),
+    ("ladd", Kind::Ladd),
+    ("ieq", Kind::Ieq),
+    ("ilt", Kind::Ilt),
+    ("not", Kind::Not),
+    ("concat", Kind::Concat),
+    ("length", Kind::Length),
+    ("same", Kind::Same),
+    ("first", Kind::First),
+    ("pick", Kind::Pick),
+    ("tick", Kind::Tick),
+    ("note", Kind::Note),
+];
+
+/// The kind of a word among rows: that of the first row with the word.
+fn kind_of_row(rows: &[(&str, Kind)], word: &[u8]) -> Option<Kind>
+    ensures { result ≡ kind_of_row (rows_of rows.now) word.now }
 {
-    if word == b"iadd".as_slice() {
-        Some(Kind::Iadd)
-    } else if word == b"isub".as_slice() {
-        Some(Kind::Isub)
-    } else if word == b"imul".as_slice() {
-        Some(Kind::Imul)
-    } else if word == b"idiv".as_slice() {
-        Some(Kind::Idiv)
-    } else if word == b"ladd".as_slice() {
-        Some(Kind::Ladd)
-    } else if word == b"ieq".as_slice() {
-        Some(Kind::Ieq)
-    } else if word == b"ilt".as_slice() {
-        Some(Kind::Ilt)
-    } else if word == b"not".as_slice() {
-        Some(Kind::Not)
-    } else {
-        None
+    for (own, kind) in rows {
+        if word == own.as_bytes() {
+            return Some(*kind);
+        }
     }
+    None
 }
 
-/// Any other kind of a word alone.
-fn other_kind(word: &[u8]) -> Option<Kind>
-    ensures { result ≡ other_kind word.now }
+/// The kind of a word alone.
+fn word_kind(word: &[u8]) -> Option<Kind>
+    ensures { result ≡ word_kind word.now }
 {
-    if word == b"concat".as_slice() {
-        Some(Kind::Concat)
-    } else if word == b"length".as_slice() {
-        Some(Kind::Length)
-    } else if word == b"same".as_slice() {
-        Some(Kind::Same)
-    } else if word == b"first".as_slice() {
-        Some(Kind::First)
-    } else if word == b"pick".as_slice() {
-        Some(Kind::Pick)
-    } else if word == b"tick".as_slice() {
-        Some(Kind::Tick)
-    } else if word == b"note".as_slice() {
-        Some(Kind::Note)
-    } else {
-        None
-    }
+    kind_of_row(&WORD_KINDS, word)
 }
 
 /// The class name of `throw:CLASS`.
@@ -70,7 +61,7 @@ fn thrown_name(word: &[u8]) -> Option<&[u8]>
 pub(crate) fn is_kind_word(word: &[u8]) -> bool
     ensures { result ≡ is_kind_word word.now }
 {
-    number_kind(word).is_some() || other_kind(word).is_some() || thrown_name(word).is_some()
+    word_kind(word).is_some() || thrown_name(word).is_some()
 }
 
 /// The kind that throws an exception of a class of this name.
@@ -86,10 +77,7 @@ fn throw_kind(word: &[u8], classes: &Classes) -> Option<Kind>
 pub(crate) fn kind_among(word: &[u8], classes: &Classes) -> Option<Kind>
     ensures { result ≡ kind_among classes.now word.now }
 {
-    if let Some(kind) = number_kind(word) {
-        return Some(kind);
-    }
-    if let Some(kind) = other_kind(word) {
+    if let Some(kind) = word_kind(word) {
         return Some(kind);
     }
     throw_kind(word, classes)

@@ -8,7 +8,7 @@ ghost use Rattle.mh_leaves.specs.Find.{has_texts};
 ghost use Rattle.mh_leaves.specs.Names.{KnowsNames};
 ghost use Rattle.mh_leaves.specs.Reference.{texts_of};
 ghost use Rattle.mh_leaves.specs.Registered.{IsDescribed, handle_type};
-ghost use Rattle.mh_leaves.specs.Manifest.{manifest, kind_word, class_added, class_line, knows_name, knows_names, has_known_classes, type_if_read, leaf_added, leaf_of, owned_leaf, is_leaf_text, leaf_line, three_tokens, five_tokens, is_virtual_word, tokens_meaning, line_meaning};
+ghost use Rattle.mh_leaves.specs.Manifest.{manifest, kind_word, class_added, class_line, knows_name, knows_names, has_known_classes, type_if_read, leaf_added, leaf_of_line, owned_leaf, is_leaf_text, leaf_line, three_tokens, five_tokens, is_virtual_word, tokens_meaning, line_meaning};
 ghost use Rattle.mh_leaves.specs.Unknown.{TellsNames};
 ghost use Rattle.mh_leaves.specs.Written.{manifest_text};
 ghost use Rattle.mh_leaves.specs.declared.manifest.ManifestError.TheVariants.{NoMemory as WithoutMemory};
@@ -238,7 +238,7 @@ pub fn type_of(
 // The leaf of a line with a type, which lacks the receiver.
 fn leaf_of(alloc: Global, line: LeafLine<'_>, ty: MethodTy) -> Result<Leaf, NoMemory>
     ensures { IfOk result
-        (λ leaf. leaf ≡ leaf_of line.entry.is_virtual (texts_of line.entry.texts)
+        (λ leaf. leaf ≡ leaf_of_line line.entry.is_virtual (texts_of line.entry.texts)
         line.entry.owner line.entry.kind ty) }
 {
     let ty = handle_type(alloc, line.is_virtual, line.owner, ty)?;

@@ -10,7 +10,7 @@ use Rattle.mh_leaf.specs.declared.leaf.Leaf.{Leaf}
 use Rattle.mh_leaf.specs.LeafTable.{LeafTable}
 use Rattle.mh_leaves.specs.declared.naming.How.{How}
 use Rattle.mh_leaves.specs.declared.naming.Missing.{Missing}
-use Rattle.mh_leaves.specs.Find.{is_called, leaf_at, leaf_of, find_leaf}
+use Rattle.mh_leaves.specs.Find.{is_called, leaf_numbered, leaf_called, find_leaf}
 use Rattle.mh_leaves.proofs.Once.{position-within}
 use Rattle.mh_tree.specs.Tree as tree
 use Rattle.mh_tree.specs.Rows.{leaf_row}
@@ -39,12 +39,12 @@ get-within (x ∷ xs) (suc i) h = get-within xs i (omega arith)
 same_id : (a b : LeafId) → ◌≡◌ {A = Result LeafId Missing} (Ok a) (Ok b) → a ≡ b
 same_id a b h = cc
 
-at-within : (n : ℕ) (o : Option ℕ) (l : LeafId) → IfSome o (λ i. i < n) → leaf_at o ≡ Ok l → l.0 < n
+at-within : (n : ℕ) (o : Option ℕ) (l : LeafId) → IfSome o (λ i. i < n) → leaf_numbered o ≡ Ok l → l.0 < n
 at-within n (Some i) l h k = subst (λ (x : LeafId). x.0 < n) (same_id (record { 0 = i }) l k) h
 at-within n None l h k = absurd cc
 
 of-within : (owner : Option ClassId) (name descriptor : List ℕ) (how : How) (leaves : List Leaf) (l : LeafId) →
-    leaf_of owner name descriptor how leaves ≡ Ok l → l.0 < length leaves
+    leaf_called owner name descriptor how leaves ≡ Ok l → l.0 < length leaves
 of-within (Some owner) name descriptor how leaves l h =
     at-within (length leaves) (position (is_called owner name descriptor how) leaves) l
     (position-within (is_called owner name descriptor how) leaves (position (is_called owner name descriptor how) leaves) refl) h

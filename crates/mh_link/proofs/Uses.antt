@@ -1,12 +1,13 @@
 -- A use of a tree as a type, and a spread of one, have the types that the rules by types alone say.
 use Rattle.std.proofs.Common.{◌≡◌, refl, ap, ◌∙◌, Bool, true, false, ◌&&◌, ℕ, length, Option, Some, None, Ok, nat_le, codes}
 use Rattle.std.specs.Prelude.{is_some}
+use Rattle.mh_base.specs.Provided.{provided, provided_some}
 use Rattle.mh_values.specs.declared.types.Comp.{Comp}
 use Rattle.mh_values.specs.declared.types.Ty.{Ty}
 use Rattle.mh_values.specs.declared.types.MethodTy.{MethodTy}
 use Rattle.mh_values.specs.declared.value.Exc.{Exc}
 use Rattle.mh_leaf.specs.LeafTable.{LeafTable}
-use Rattle.mh_tree.specs.Rows.{TypeOrRefusal, component_of, illegal, provided, provided_some, spread_row}
+use Rattle.mh_tree.specs.Rows.{TypeOrRefusal, component_of, illegal, spread_row}
 use Rattle.mh_tree.specs.Tree.{Tree, weight}
 use Rattle.mh_tree.specs.Tree as tree
 use Rattle.mh_tree.specs.Typing.{type_of, with_type}

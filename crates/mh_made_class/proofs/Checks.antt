@@ -9,7 +9,7 @@ use Rattle.mh_made_class.specs.declared.site.MadeSite.{MadeSite}
 use Rattle.mh_made_class.specs.Layout.{PlacedSite, IsPlaced}
 use Rattle.mh_made_class.specs.Constants.{common_entries, site_entries}
 use Rattle.mh_made_class.specs.ReadBack.{IsReadable}
-use Rattle.mh_made_class.proofs.EntrySpelling.{IsWritable}
+use Rattle.mh_made_class.proofs.EntrySpelling.{IsWritableEntry}
 use Rattle.mh_made_class.proofs.Lookups.{each_slot}
 use Rattle.mh_made_class.proofs.Standing.{HasSite}
 use Rattle.mh_made_class.proofs.Good.{IsGood}
@@ -19,10 +19,10 @@ use Rattle.mh_made_class.proofs.Writable.{site_writable}
 use Rattle.mh_made_class.proofs.WholeClass.{both_all, all_entries, slots_of, HasArguments, IsStanding}
 
 pub entries_writable : (ps : List PlacedSite) → AllByRecursion IsPlaced ps → AllByRecursion (λ p. IsReadable p.site) ps →
-    AllByRecursion IsWritable (all_entries ps)
+    AllByRecursion IsWritableEntry (all_entries ps)
 entries_writable ps fit readable =
-    all_append IsWritable common_entries (flat_map site_entries ps) common_writable (all_parts IsWritable site_entries ps
-    (all_from (λ p. IsPlaced p × IsReadable p.site) (λ p. AllByRecursion IsWritable (site_entries p)) ps (λ p h. site_writable p h.0 h.1.args)
+    all_append IsWritableEntry common_entries (flat_map site_entries ps) common_writable (all_parts IsWritableEntry site_entries ps
+    (all_from (λ p. IsPlaced p × IsReadable p.site) (λ p. AllByRecursion IsWritableEntry (site_entries p)) ps (λ p h. site_writable p h.0 h.1.args)
     (both_all IsPlaced (λ p. IsReadable p.site) ps fit readable)))
 
 sites_good : (made : List MadeSite) (ps qs : List PlacedSite) (pool : List Slot) → IsStanding made qs pool → AllByRecursion (HasSite pool) ps →

@@ -12,17 +12,17 @@ use Rattle.mh_made_class.specs.Constants.{u2, u4, entry_bytes}
 use Rattle.mh_made_class.proofs.Spelling.{u2_is, u4_is}
 
 -- an entry whose numbers fit, and whose text is one
-abbrev pub IsWritable : Entry → Type 0
-IsWritable (entries.Utf8 text) = (sound_len text ≡ length text) × (length text < 2 ^ 16)
-IsWritable (entries.Integer n) = n < 2 ^ 32
-IsWritable (entries.Long high low) = (high < 2 ^ 32) × (low < 2 ^ 32)
-IsWritable (entries.Class name) = name < 2 ^ 16
-IsWritable (entries.Str text) = text < 2 ^ 16
-IsWritable (entries.Methodref class name) = (class < 2 ^ 16) × (name < 2 ^ 16)
-IsWritable (entries.NameAndType name descriptor) = (name < 2 ^ 16) × (descriptor < 2 ^ 16)
-IsWritable (entries.MethodHandle kind reference) = (kind ≡ 6) × (reference < 2 ^ 16)
-IsWritable (entries.InvokeDynamic bootstrap name) = (bootstrap < 2 ^ 16) × (name < 2 ^ 16)
-IsWritable _ = ⊥
+abbrev pub IsWritableEntry : Entry → Type 0
+IsWritableEntry (entries.Utf8 text) = (sound_len text ≡ length text) × (length text < 2 ^ 16)
+IsWritableEntry (entries.Integer n) = n < 2 ^ 32
+IsWritableEntry (entries.Long high low) = (high < 2 ^ 32) × (low < 2 ^ 32)
+IsWritableEntry (entries.Class name) = name < 2 ^ 16
+IsWritableEntry (entries.Str text) = text < 2 ^ 16
+IsWritableEntry (entries.Methodref class name) = (class < 2 ^ 16) × (name < 2 ^ 16)
+IsWritableEntry (entries.NameAndType name descriptor) = (name < 2 ^ 16) × (descriptor < 2 ^ 16)
+IsWritableEntry (entries.MethodHandle kind reference) = (kind ≡ 6) × (reference < 2 ^ 16)
+IsWritableEntry (entries.InvokeDynamic bootstrap name) = (bootstrap < 2 ^ 16) × (name < 2 ^ 16)
+IsWritableEntry _ = ⊥
 
 -- What is spelled after a tag is an entry, at any index but the last for one that takes two.
 after_tag : (is_last : Bool) (at tag : ℕ) (rest : List ℕ) (e : Entry) → tag ≡ big_number 1 (tag ∷ []) → (is_last && is_wide_tag tag) ≡ false →
@@ -32,7 +32,7 @@ unfolding entry
 after_tag is_last at tag rest e is last inside =
     (at, [], tag ∷ rest, refl, (refl, refl), (tag, tag ∷ [], rest, refl, (refl, is), (tt, [], rest, refl, (refl, ap not last), inside)))
 
-text_spelled : (at : ℕ) (text : List ℕ) → IsWritable (entries.Utf8 text) → Spells utf8 at (u2 (length text) ++ text) (entries.Utf8 text)
+text_spelled : (at : ℕ) (text : List ℕ) → IsWritableEntry (entries.Utf8 text) → Spells utf8 at (u2 (length text) ++ text) (entries.Utf8 text)
 unfolding utf8 utf8_bytes
 text_spelled at text w =
     let all = u2 (length text) ++ text in (
@@ -52,7 +52,7 @@ text_spelled at text w =
     )
 
 -- An entry is spelled by its bytes, at any index but the last for one that takes two.
-pub entry_spelled : (is_last : Bool) (at : ℕ) (e : Entry) → IsWritable e → (is_last && is_wide e) ≡ false → Spells (entry is_last) at (entry_bytes e) e
+pub entry_spelled : (is_last : Bool) (at : ℕ) (e : Entry) → IsWritableEntry e → (is_last && is_wide e) ≡ false → Spells (entry is_last) at (entry_bytes e) e
 unfolding entry_bytes contents numeric named paired handle
 entry_spelled is_last at (entries.Utf8 text) w last =
     after_tag is_last at 1 (u2 (length text) ++ text) (entries.Utf8 text) refl last (text_spelled (at + 0 + 1 + 0) text w)

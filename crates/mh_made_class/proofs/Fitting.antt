@@ -9,7 +9,7 @@ use Rattle.mh_made_class.specs.declared.site.MadeSite.{MadeSite}
 use Rattle.mh_made_class.specs.Sites.{IsMakeableArgument, IsMakeableSite, argument_width, site_width}
 use Rattle.mh_made_class.specs.Layout.{IsPlacedArgument, arguments_from, IsPlaced, sites_from}
 use Rattle.mh_made_class.specs.Constants.{common_entries}
-use Rattle.mh_made_class.proofs.EntrySpelling.{IsWritable}
+use Rattle.mh_made_class.proofs.EntrySpelling.{IsWritableEntry}
 
 pub all_append : {X : Type 0} (P : X → Type 0) (xs ys : List X) → AllByRecursion P xs → AllByRecursion P ys → AllByRecursion P (xs ++ ys)
 all_append P [] ys h k = k
@@ -53,7 +53,7 @@ sites_placed number first (site ∷ sites) h le fits = (
   sites_placed (number + 1) (first + site_width site) sites h.1 (omega (arith, le)) (omega (arith, fits, sum_by-cons site_width site sites)),
 )
 
-pub common_writable : AllByRecursion IsWritable common_entries
+pub common_writable : AllByRecursion IsWritableEntry common_entries
 unfolding sound_from unit_len
 common_writable = (
   (refl, omega arith),

@@ -8,7 +8,7 @@ use Rattle.mh_class_pool.specs.declared.entry.Entry.{Entry}
 use Rattle.mh_class_pool.specs.Entries.{ClassPart, Slot, entry, is_wide, indexes_of, next_slots}
 use Rattle.mh_made_class.specs.Constants.{entry_bytes}
 use Rattle.mh_made_class.proofs.Spelling.{otherwise, where_true}
-use Rattle.mh_made_class.proofs.EntrySpelling.{IsWritable, entry_spelled}
+use Rattle.mh_made_class.proofs.EntrySpelling.{IsWritableEntry, entry_spelled}
 
 -- how many indexes an entry takes
 abbrev pub entry_width : Entry → ℕ
@@ -59,7 +59,7 @@ one_more count so_far = do
   x ← entry (eqb (length so_far + 1) count)
   done (so_far ++ indexes_of place x)
 
-next_spelled : (count : ℕ) (so_far : List Slot) (at : ℕ) (e : Entry) → IsWritable e → length so_far + entry_width e ≤ count →
+next_spelled : (count : ℕ) (so_far : List Slot) (at : ℕ) (e : Entry) → IsWritableEntry e → length so_far + entry_width e ≤ count →
     Spells (next_slots count so_far) at (entry_bytes e) (so_far ++ indexes_of at e)
 next_spelled count so_far at e w le =
     let left : leb count (length so_far) ≡ false = grind (arith, nat_tests, width_pos e) in
@@ -96,7 +96,7 @@ full_spelled count (suc most) so_far at le =
 
 -- Entries that take all the indexes that are left are spelled, one after the other.
 pub entries_spelled : (es : List Entry) (count most : ℕ) (so_far : List Slot) (at : ℕ) → length so_far + entries_width es ≡ count → length es ≤ most →
-    AllByRecursion IsWritable es
+    AllByRecursion IsWritableEntry es
     → Spells (repeated (next_slots count) most so_far) at (flat_map entry_bytes es) (so_far ++ slots_from at es)
 unfolding repeated
 entries_spelled [] count most so_far at all enough w =

@@ -8,7 +8,7 @@ use Rattle.mh_script.specs.declared.script.Script.{Script}
 use Rattle.mh_jobs.specs.declared.job.Job.{Job}
 use Rattle.mh_jobs.specs.Jobs.{with_class}
 use Rattle.mh_jobs.proofs.OfClasses.{with_class-length}
-use Rattle.mh_main.specs.Input.{most_sites}
+use Rattle.mh_runtime.specs.Passes.{most_sites}
 use Rattle.mh_main.specs.Classes.{MakesAllJobs, MakesJobs}
 use Rattle.mh_main.specs.Stops.{AreClassesOf}
 use Rattle.mh_main.proofs.ClassListing.{sites-left}

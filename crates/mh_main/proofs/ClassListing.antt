@@ -3,7 +3,8 @@ use Rattle.std.proofs.Common.{◌≡◌, ◌∙◌, subst, ap, ℕ, ◌+◌, ◌
 use Rattle.mh_outside.specs.Told.{Told}
 use Rattle.mh_classfile.specs.Class.{Class}
 use Rattle.mh_listing.specs.Listing.{lines_from, listing, listing_from}
-use Rattle.mh_main.specs.Input.{AreListed, IfAccepted, listing_input, most_sites, to_list}
+use Rattle.mh_runtime.specs.Passes.{most_sites}
+use Rattle.mh_main.specs.Input.{AreListed, IfAccepted, listing_input, to_list}
 use Rattle.mh_main.specs.Classes.{ListsClass, ListsClasses}
 use Rattle.mh_main.specs.Stops.{AreClassesOf}
 use Rattle.mh_main.proofs.ReadOn.{classes-read}

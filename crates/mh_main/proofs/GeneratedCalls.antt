@@ -9,7 +9,7 @@ use Rattle.mh_values.specs.declared.types.Ty.{Ty}
 use Rattle.mh_values.specs.declared.types.Ty.TheVariants as ty
 use Rattle.mh_values.specs.HasType.{has_type}
 use Rattle.mh_leaf.specs.LeafTable.{LeafTable}
-use Rattle.mh_leaves.specs.Provided.{provided_some}
+use Rattle.mh_base.specs.Provided.{provided_some}
 use Rattle.mh_jobs.specs.declared.job.Job.{Job}
 use Rattle.mh_jobs.specs.Jobs.{params_at}
 use Rattle.mh_plan.specs.declared.call.Call.{Call}

@@ -6,13 +6,13 @@ use Rattle.std.proofs.lemmas.Bool.Decides.{nat_tests}
 use Rattle.std.proofs.lemmas.List.{append-nil}
 use Rattle.mh_base.specs.Lines.{after_line, built_from, lines_of}
 use Rattle.mh_leaf.specs.LeafTable.{LeafTable}
-use Rattle.mh_leaves.specs.Provided.{provided}
+use Rattle.mh_base.specs.Provided.{provided}
 use Rattle.mh_jobs.specs.declared.job.Job.{Job}
 use Rattle.mh_plan.specs.declared.call.Call.{Call}
 use Rattle.mh_plan.specs.declared.kinds.PlanKind.TheVariants.{TooMany}
 use Rattle.mh_plan.specs.Plan.{faultless, line_counted, line_meaning, none_counted, plan, plan_of}
 use Rattle.mh_generated.specs.Counts.{calls_of_thread, site_count, thread_count}
-use Rattle.mh_generated.specs.Plan.{called_site, plan_text}
+use Rattle.mh_generated.specs.Plan.{called_site, generated_plan}
 use Rattle.mh_generated.proofs.Lines.{call_line, lines-of-ended}
 use Rattle.mh_main.proofs.GeneratedCalls.{TakeInts, call_of, call-meant}
 use Rattle.mh_main.proofs.GeneratedPlan.{call-counted}
@@ -125,7 +125,7 @@ threads-meant leaves jobs sites count first (suc more) n threads take some few f
 
 -- the plan is one of calls of sites
 pub plan-made : (number : ℕ) (leaves : LeafTable) (jobs : List Job) → TakeInts jobs (site_count number) →
-    (threads : List (List Call)) × (plan (plan_text number) leaves jobs ≡ Ok threads)
+    (threads : List (List Call)) × (plan (generated_plan number) leaves jobs ≡ Ok threads)
 plan-made number leaves jobs take =
     let sites = site_count number in
     let few : sites ≤ 64 = omega arith in

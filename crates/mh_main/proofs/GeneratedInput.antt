@@ -8,13 +8,14 @@ use Rattle.mh_plan.specs.Plan.{plan, kind_word as plan_word}
 use Rattle.mh_words.specs.Words.{Named}
 use Rattle.mh_generated.specs.Files.{files_of}
 use Rattle.mh_generated.specs.Sites.{class_file}
-use Rattle.mh_generated.specs.Plan.{plan_text}
-use Rattle.mh_generated.specs.Texts.{manifest_text, scripts_text}
+use Rattle.mh_generated.specs.Plan.{generated_plan}
+use Rattle.mh_generated.specs.Texts.{generated_manifest, generated_scripts}
 use Rattle.mh_main.specs.declared.program.Output.TheVariants.{Line}
 use Rattle.mh_main.specs.declared.program.Program.{Program}
 use Rattle.mh_main.specs.declared.stop.Stop.{Stop}
 use Rattle.mh_main.specs.declared.stop.Stop.TheVariants.{NoMemory, ReadFault, TooLong, Fault, Place}
-use Rattle.mh_main.specs.Input.{IfAccepted, IfRefused, Input, accepted, fault_line, generated_input, generated_names, leaves_limit, most_sites, named_input, place_line, plan_limit, program, too_long_line}
+use Rattle.mh_runtime.specs.Passes.{most_sites}
+use Rattle.mh_main.specs.Input.{IfAccepted, IfRefused, Input, accepted, fault_line, generated_input, generated_names, leaves_limit, named_input, place_line, plan_limit, program, too_long_line}
 use Rattle.mh_main.specs.Stops.{IsStopAmong, Refuses}
 use Rattle.mh_main.proofs.GeneratedClass.{class-made, class-short}
 use Rattle.mh_main.proofs.GeneratedFolds.{plan-made}
@@ -35,10 +36,10 @@ generated_accepted number =
     let p : Program = record { leaves = leaves; scripts = all; jobs = jobs; plan = threads.0; output = Line number } in
     let Q : Input → Type 0 = λ i. i ≡ accepted (program p) in (
       p,
-      file-read Q leaves_limit (codes "leaves") manifest_word manifest manifest_text leaves _ manifest_made.1 manifest_short
-          (file-read Q leaves_limit (codes "scripts") script_word scripts scripts_text all _ scripts_made.1 scripts_short
+      file-read Q leaves_limit (codes "leaves") manifest_word manifest generated_manifest leaves _ manifest_made.1 manifest_short
+          (file-read Q leaves_limit (codes "scripts") script_word scripts generated_scripts all _ scripts_made.1 scripts_short
           (class-file-read Q most_sites (codes "class") (class_file number) class.0 _ class.1 (class-short number)
-          (file-read Q plan_limit (codes "plan") plan_word (λ bytes. plan bytes leaves jobs) (plan_text number) threads.0 _ threads.1
+          (file-read Q plan_limit (codes "plan") plan_word (λ bytes. plan bytes leaves jobs) (generated_plan number) threads.0 _ threads.1
           (plan-short number) refl))),
     )
 

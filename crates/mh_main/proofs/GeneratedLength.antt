@@ -3,7 +3,7 @@ use Rattle.std.proofs.Common.{ℕ, zero, suc, ◌+◌, ◌*◌, ◌<◌, ◌≤�
 use Rattle.std.specs.List.{flat_map, range_with_len}
 use Rattle.std.proofs.lemmas.Fmt.{length-decimal-le}
 use Rattle.mh_generated.specs.Counts.{calls_of_thread, site_count, thread_count}
-use Rattle.mh_generated.specs.Plan.{call_text, called_site, calls_text, plan_text, thread_text, threads_text}
+use Rattle.mh_generated.specs.Plan.{call_text, called_site, calls_text, generated_plan, thread_text, threads_text}
 
 -- texts of at most so many bytes, one after the other
 texts-length : (f : ℕ → List ℕ) (most first count : ℕ) → ((n : ℕ) → n < first + count → length (f n) ≤ most) →
@@ -28,8 +28,8 @@ thread-length sites thread some few =
     let calls = texts-length (call_text sites thread) 14 0 calls_of_thread (λ call low. call-length sites thread call some few (omega arith)) in
     omega (arith, length-append (codes "thread\n") (flat_map (call_text sites thread) (range_with_len 0 calls_of_thread)))
 
-pub plan-short : (number : ℕ) → length (plan_text number) ≤ 1048576
-unfolding plan_text threads_text
+pub plan-short : (number : ℕ) → length (generated_plan number) ≤ 1048576
+unfolding generated_plan threads_text
 plan-short number =
     let few : site_count number ≤ 64 = omega arith in
     let some : 0 < site_count number = omega arith in

@@ -7,10 +7,10 @@ use Rattle.std.proofs.lemmas.Bool.{eq-eqb, ne_eqb}
 use Rattle.std.proofs.lemmas.List.Folds.{list_all-append}
 use Rattle.std.proofs.lemmas.Bool.Decides.{nat_tests}
 use Rattle.std.proofs.lemmas.Fmt.{decimal_digit, decimal_nonempty, first_decimal}
-use Rattle.mh_base.specs.Lines.{is_plain, tokens_of}
-use Rattle.mh_leaves.specs.Provided.{provided}
+use Rattle.mh_base.specs.Lines.{is_full, is_plain, tokens_of}
+use Rattle.mh_base.specs.Provided.{provided}
 use Rattle.mh_plan.specs.declared.kinds.PlanKind.TheVariants.{BadLine, TooMany}
-use Rattle.mh_plan.specs.Plan.{call_counted, is_digit, is_full, is_number, line_counted, none_counted, tokens_counted}
+use Rattle.mh_plan.specs.Plan.{call_counted, is_digit, is_number, line_counted, none_counted, tokens_counted}
 use Rattle.mh_generated.specs.Plan.{called_site}
 use Rattle.mh_generated.proofs.Digits.{IsDigit, are-digits, all-of}
 use Rattle.mh_generated.proofs.Lines.{call_line, call-tokens}

@@ -5,20 +5,20 @@ use Rattle.mh_leaf.specs.LeafTable.{LeafTable}
 use Rattle.mh_leaves.specs.Manifest.{manifest}
 use Rattle.mh_script.specs.declared.script.Script.{Script}
 use Rattle.mh_script.specs.Scripts.{scripts}
-use Rattle.mh_generated.specs.Texts.{manifest_text, scripts_text}
+use Rattle.mh_generated.specs.Texts.{generated_manifest, generated_scripts}
 
-pub manifest_made : (leaves : LeafTable) × (manifest manifest_text ≡ Ok leaves)
-unfolding manifest_text digits
+pub manifest_made : (leaves : LeafTable) × (manifest generated_manifest ≡ Ok leaves)
+unfolding generated_manifest digits
 manifest_made = (_, refl)
 
-pub scripts_made : (all : List Script) × (scripts scripts_text ≡ Ok all)
-unfolding scripts_text digits
+pub scripts_made : (all : List Script) × (scripts generated_scripts ≡ Ok all)
+unfolding generated_scripts digits
 scripts_made = (_, refl)
 
-pub manifest_short : length manifest_text ≤ 262144
-unfolding manifest_text
-manifest_short = let n : length manifest_text ≡ 97 = refl in omega arith
+pub manifest_short : length generated_manifest ≤ 262144
+unfolding generated_manifest
+manifest_short = let n : length generated_manifest ≡ 97 = refl in omega arith
 
-pub scripts_short : length scripts_text ≤ 262144
-unfolding scripts_text
-scripts_short = let n : length scripts_text ≡ 290 = refl in omega arith
+pub scripts_short : length generated_scripts ≤ 262144
+unfolding generated_scripts
+scripts_short = let n : length generated_scripts ≡ 290 = refl in omega arith

@@ -4,7 +4,7 @@ use Rattle.std.specs.List.{AllByRecursion, flat_map, range_with_len}
 use Rattle.std.proofs.lemmas.List.Concat.{flat_map-append}
 use Rattle.std.proofs.lemmas.List.Folds.{flat_map-map}
 use Rattle.mh_generated.specs.Counts.{calls_of_thread, site_count, thread_count}
-use Rattle.mh_generated.specs.Plan.{call_text, called_site, calls_text, plan_text, thread_text, threads_text}
+use Rattle.mh_generated.specs.Plan.{call_text, called_site, calls_text, generated_plan, thread_text, threads_text}
 use Rattle.mh_generated.proofs.Digits.{Lacks}
 use Rattle.mh_generated.proofs.Lines.{call_line, call_text-ended, call-lacks, ended}
 
@@ -36,8 +36,8 @@ parts-ended f [] = refl
 parts-ended f (n ∷ ns) = ap (λ t. flat_map ended (f n) ++ t) (parts-ended f ns) ∙ sym (flat_map-append ended (f n) (flat_map f ns))
 
 -- the text of the plan is that of all lines
-pub plan-ended : (number : ℕ) → plan_text number ≡ flat_map ended (lines_from (site_count number) calls_of_thread 0 (thread_count number))
-unfolding plan_text threads_text lines_from
+pub plan-ended : (number : ℕ) → generated_plan number ≡ flat_map ended (lines_from (site_count number) calls_of_thread 0 (thread_count number))
+unfolding generated_plan threads_text lines_from
 plan-ended number =
     same-texts (thread_text (site_count number)) (λ thread. flat_map ended (thread_lines (site_count number) calls_of_thread thread))
     (thread-ended (site_count number)) (range_with_len 0 (thread_count number))

@@ -19,7 +19,8 @@ use Rattle.mh_main.specs.declared.program.Output.{Output}
 use Rattle.mh_main.specs.declared.program.Program.{Program}
 use Rattle.mh_main.specs.declared.stop.Stop.{Stop}
 use Rattle.mh_words.specs.Words.{Named}
-use Rattle.mh_main.specs.Input.{HasMeaning, IfAccepted, Input, leaves_limit, most_sites, classes_input, named_input, plan_input, plan_limit, program, untold}
+use Rattle.mh_runtime.specs.Passes.{most_sites}
+use Rattle.mh_main.specs.Input.{HasMeaning, IfAccepted, Input, leaves_limit, classes_input, named_input, plan_input, plan_limit, program, untold}
 use Rattle.mh_main.specs.Classes.{HasJobs}
 use Rattle.mh_main.specs.Stops.{IsStopAmong, IsStopOf, ReachesClass, ReachesInput, Refuses, StopsClasses, StopsText, TextsMean}
 use Rattle.mh_main.proofs.ReadOn.{classes-read, refuses-untold, text-read, text-stopped}

@@ -6,7 +6,8 @@ use Rattle.mh_outside.specs.Causes.{IsStill, Rose}
 use Rattle.mh_main.specs.declared.stop.Stop.{Stop}
 use Rattle.mh_main.specs.declared.stop.Stop.TheVariants.{NoMemory, ReadFault, TooLong, Fault, Place}
 use Rattle.mh_words.specs.Words.{Command, run, sites, generate}
-use Rattle.mh_main.specs.Input.{AreAccepted, IfRefused, Input, IsMissing, accepted, command_input, input_of, missing, most_sites, refused, untold, usage}
+use Rattle.mh_runtime.specs.Passes.{most_sites}
+use Rattle.mh_main.specs.Input.{AreAccepted, IfRefused, Input, IsMissing, accepted, command_input, input_of, missing, refused, untold, usage}
 use Rattle.mh_main.specs.Status.{IsDoneOrWant, IsRefusedOrWant, IsUnreadOrWant, write_failed}
 use Rattle.mh_main.specs.Stops.{InputsStill, IsInput, IsReachedInput, ReachesClass, Refuses, IsStopAmong, stop_status}
 

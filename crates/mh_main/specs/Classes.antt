@@ -8,7 +8,8 @@ use Rattle.mh_listing.specs.Listing.{lines_from, listing_from}
 use Rattle.mh_script.specs.declared.script.Script.{Script}
 use Rattle.mh_jobs.specs.declared.job.Job.{Job}
 use Rattle.mh_jobs.specs.Jobs.{jobs_of, with_class}
-use Rattle.mh_main.specs.Input.{HasMeaning, class_limit, most_sites}
+use Rattle.mh_runtime.specs.Passes.{most_sites}
+use Rattle.mh_main.specs.Input.{HasMeaning, class_limit}
 use Rattle.mh_main.specs.Stops.{AreClassesOf}
 
 -- the file is of a class, as far as it is told, whose sites were listed from a number to another one

@@ -16,6 +16,7 @@ use Rattle.mh_plan.specs.Forms.{draws_needed}
 use Rattle.mh_plan.specs.Plan.{plan, kind_word as plan_word}
 use Rattle.mh_plan.specs.Types.{FitBuckets, all_types}
 use Rattle.mh_generated.specs.Files.{files_of}
+use Rattle.mh_runtime.specs.Passes.{most_sites}
 use Rattle.mh_main.specs.declared.program.Output.{Output}
 use Rattle.mh_main.specs.declared.program.Output.TheVariants.{Report, Line}
 use Rattle.mh_main.specs.declared.program.Program.{Program}
@@ -71,10 +72,6 @@ plan_limit = 1048576
 -- how many bytes a class file may have
 abbrev pub class_limit : ℕ
 class_limit = 1048576
-
--- how many call sites all class files may have together
-abbrev pub most_sites : ℕ
-most_sites = 4096
 
 -- goes on with a class
 abbrev pub class_meant : List ℕ → Checked ClassKind Class → (Class → Input) → Input

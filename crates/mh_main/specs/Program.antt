@@ -11,7 +11,7 @@ use Rattle.mh_plan.specs.Text.{report_text}
 use Rattle.mh_main.specs.declared.program.Output.{Output}
 use Rattle.mh_main.specs.declared.program.Output.TheVariants.{Report, Line}
 use Rattle.mh_main.specs.declared.program.Program.{Program}
-use Rattle.mh_main.specs.Sums.{line_text, sum_of}
+use Rattle.mh_main.specs.Sums.{sum_line, sum_of}
 
 -- what a run of the program is given before anything is linked
 abbrev pub given_of : Program → Given
@@ -21,7 +21,7 @@ given_of p = record { leaves = p.leaves; scripts = p.scripts; jobs = p.jobs }
 abbrev pub written_as : Output → Program → List (Option Recorded) → List (List Result) → ℕ → ℕ → ℕ → List ℕ
 written_as Report p table threads attempts forms types = report_text p.leaves.classes table threads attempts forms types
 written_as (Line number) p table threads attempts forms types =
-    line_text number (length p.jobs) (calls_in p.plan) (sum_of threads) forms types
+    sum_line number (length p.jobs) (calls_in p.plan) (sum_of threads) forms types
 
 -- what is written of a run, by what is recorded at its sites, the results of its calls, and how many attempts, forms and types there are
 abbrev pub written : Program → List (Option Recorded) → List (List Result) → ℕ → ℕ → ℕ → List ℕ

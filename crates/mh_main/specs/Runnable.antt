@@ -5,7 +5,7 @@ use Rattle.mh_plan.specs.Limits.{IsWithinLimits}
 use Rattle.mh_plan.specs.Results.{AreCallsOf}
 use Rattle.mh_main.specs.declared.program.Program.{Program}
 use Rattle.mh_main.specs.Program.{given_of}
-use Rattle.mh_main.specs.Input.{most_sites}
+use Rattle.mh_runtime.specs.Passes.{most_sites}
 
 -- the calls of the plan can be made, they are within the limits, and the jobs are those of call sites, of which there are no more than there may be
 pub record IsRunnable (p : Program) : Type 0 where

@@ -17,7 +17,8 @@ use Rattle.mh_classfile.specs.File.{class_or_fault}
 use Rattle.mh_main.specs.Kinds.{class_word}
 use Rattle.mh_main.specs.Status.{refused, no_memory, unread}
 use Rattle.mh_words.specs.Words.{Named, Command, run, sites, generate}
-use Rattle.mh_main.specs.Input.{Input, IfRefused, HasMeaning, too_long_line, fault_line, place_line, leaves_limit, class_limit, classes_input, most_sites}
+use Rattle.mh_runtime.specs.Passes.{most_sites}
+use Rattle.mh_main.specs.Input.{Input, IfRefused, HasMeaning, too_long_line, fault_line, place_line, leaves_limit, class_limit, classes_input}
 
 -- the line for an input that could not be read
 abbrev pub unread_line : List ℕ → List ℕ

@@ -36,7 +36,7 @@ abbrev pub sum_of : List (List Result) → ℤ
 sum_of threads = fold with_results (pos 0) threads
 
 -- the line: the number, how many call sites and calls there are, the sum, and how many forms and types
-abbrev pub line_text : ℕ → ℕ → ℕ → ℤ → ℕ → ℕ → List ℕ
-line_text number sites calls sum forms types =
+abbrev pub sum_line : ℕ → ℕ → ℕ → ℤ → ℕ → ℕ → List ℕ
+sum_line number sites calls sum forms types =
     codes "gen " ++ decimal number ++ codes " sites " ++ decimal sites ++ codes " calls " ++ decimal calls ++ codes " sum " ++ signed_decimal sum
     ++ codes " forms " ++ decimal forms ++ codes " types " ++ decimal types ++ codes "\n"

@@ -3,7 +3,7 @@ ghost use Rattle.mh_jobs.specs.Jobs.{jobs_of};
 ghost use Rattle.mh_outside.specs.Causes.{AreSame};
 ghost use Rattle.mh_outside.specs.Kept.{KeepsInputs};
 ghost use Rattle.mh_words.specs.Options.{said};
-ghost use Rattle.mh_main.specs.Input.{most_sites};
+ghost use Rattle.mh_runtime.specs.Passes.{most_sites};
 ghost use Rattle.mh_main.specs.Classes.{MakesJobs, MakesAllJobs, HasJobs};
 ghost use Rattle.mh_main.specs.Stops.{IsStopAmong, IsStopOf, ReachesClass, StopsClass, StopsClasses};
 

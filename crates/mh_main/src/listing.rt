@@ -3,7 +3,8 @@ ghost use Rattle.mh_listing.specs.Listing.{listing};
 ghost use Rattle.mh_outside.specs.Causes.{AreSame};
 ghost use Rattle.mh_outside.specs.Kept.{KeepsInputs};
 ghost use Rattle.mh_words.specs.Options.{said};
-ghost use Rattle.mh_main.specs.Input.{AreListed, IfAccepted, listing_input, most_sites};
+ghost use Rattle.mh_runtime.specs.Passes.{most_sites};
+ghost use Rattle.mh_main.specs.Input.{AreListed, IfAccepted, listing_input};
 ghost use Rattle.mh_main.specs.Classes.{ListsClass, ListsClasses};
 ghost use Rattle.mh_main.specs.Stops.{IsStopAmong, IsStopOf, ReachesClass, Refuses, StopsClass, StopsClasses};
 

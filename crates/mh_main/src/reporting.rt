@@ -5,7 +5,7 @@ ghost use Rattle.mh_plan.specs.Naming.{naming_of};
 ghost use Rattle.mh_plan.specs.Recorded.{recorded, serials_of, types};
 ghost use Rattle.mh_plan.specs.Results.{results_said};
 ghost use Rattle.mh_plan.specs.Text.{report_text};
-ghost use Rattle.mh_plan.specs.Types.{OverfillBucket, all_types};
+ghost use Rattle.mh_plan.specs.Types.{Overfill, all_types};
 ghost use Rattle.mh_runtime.specs.Asking.{IfFull, IfTypesFull};
 ghost use Rattle.mh_runtime.specs.Ledger.{Ledger};
 ghost use Rattle.mh_main.specs.Program.{given_of, text, written};
@@ -13,7 +13,7 @@ ghost use Rattle.mh_main.specs.Input.{most_forms};
 ghost use Rattle.mh_main.specs.Runnable.{IsRunnable};
 ghost use Rattle.mh_main.specs.Status.{done};
 ghost use Rattle.mh_main.specs.Due.{AreAnswersOf};
-ghost use Rattle.mh_main.specs.Sums.{line_text, sum_of};
+ghost use Rattle.mh_main.specs.Sums.{sum_line, sum_of};
 
 use crate::status::DONE;
 use crate::sums::{Sums, calls_in, line, sum_of};
@@ -80,7 +80,7 @@ fn run<R: Threads + Wait + Sync, G: Gate + Sync>(
     ensures full { IfFull result
         (most_forms < draws_needed (given_of program.now) program.now.plan) }
     ensures no_slot { IfTypesFull result
-        (OverfillBucket (all_types (given_of program.now) program.now.plan)) }
+        (λ bucket. Overfill bucket (all_types (given_of program.now) program.now.plan)) }
 {
     let input = RunInput {
         leaves: &program.leaves,
@@ -112,7 +112,7 @@ fn line_of(
 ) -> Result<Vec<u8>, NoMemory>
     requires { IsWithinLimits program.now.plan }
     ensures { IfOk result (λ text. text.items
-        ≡ line_text number (length program.now.jobs) (calls_in program.now.plan)
+        ≡ sum_line number (length program.now.jobs) (calls_in program.now.plan)
         (sum_of (results_said run.now.threads)) run.now.forms run.now.types) }
 {
     let sums = Sums {
@@ -169,7 +169,7 @@ pub fn run_and_report<R: Threads + Wait + Sync, G: Gate + Sync>(
     ensures full { IfFull result
         (most_forms < draws_needed (given_of program.now) program.now.plan) }
     ensures no_slot { IfTypesFull result
-        (OverfillBucket (all_types (given_of program.now) program.now.plan)) }
+        (λ bucket. Overfill bucket (all_types (given_of program.now) program.now.plan)) }
 {
     let run = run(rt, alloc, program, gate)?;
     let text = text_of(alloc, program, &run)?;

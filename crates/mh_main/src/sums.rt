@@ -2,7 +2,7 @@ ghost use Rattle.std.specs.Prelude.{◌≡◌, ◌++◌, IfOk, OnOk};
 ghost use Rattle.std.specs.Fmt.{decimal, signed_decimal};
 ghost use Rattle.mh_plan.specs.Limits.{IsWithinLimits, calls_in};
 ghost use Rattle.mh_plan.specs.Results.{result_said, results_said, thread_said};
-ghost use Rattle.mh_main.specs.Sums.{int_of, line_text, result_int, returned_int, sum_of, with_results};
+ghost use Rattle.mh_main.specs.Sums.{int_of, result_int, returned_int, sum_line, sum_of, with_results};
 
 use itoa::Buffer;
 use mh_base::NoMemory;
@@ -93,7 +93,7 @@ fn push_part(text: &mut Vec<u8>, word: &[u8], digits: &str) -> Result<(), NoMemo
 /// The line of a run.
 pub(crate) fn line(alloc: Global, sums: &Sums) -> Result<Vec<u8>, NoMemory>
     ensures { IfOk result (λ text. text.items
-        ≡ line_text sums.now.number sums.now.sites sums.now.calls
+        ≡ sum_line sums.now.number sums.now.sites sums.now.calls
         sums.now.sum sums.now.forms sums.now.types) }
 {
     let mut digits = Buffer::new();

@@ -40,24 +40,11 @@ const TURNS: u64 = 2_000_000_000;
 pub struct TestGate {
     loser_came: AtomicBool,
     winner_recorded: AtomicBool,
-    gave_up: AtomicBool,
+    /// Whether a thread was let go because it had waited too long.
+    pub gave_up: AtomicBool,
 }
 
 impl TestGate {
-    /// A gate to which nobody has come.
-    pub fn new() -> TestGate {
-        TestGate {
-            loser_came: AtomicBool::new(false),
-            winner_recorded: AtomicBool::new(false),
-            gave_up: AtomicBool::new(false),
-        }
-    }
-
-    /// Whether a thread was let go because it had waited too long.
-    pub fn gave_up(&self) -> bool {
-        self.gave_up.load(Ordering::SeqCst)
-    }
-
     // Holds the caller until it is told to go on.
     fn hold(&self, go_on: &AtomicBool) {
         for _ in 0..TURNS {
@@ -71,8 +58,13 @@ impl TestGate {
 }
 
 impl Default for TestGate {
+    /// A gate to which nobody has come.
     fn default() -> Self {
-        TestGate::new()
+        TestGate {
+            loser_came: AtomicBool::new(false),
+            winner_recorded: AtomicBool::new(false),
+            gave_up: AtomicBool::new(false),
+        }
     }
 }
 

@@ -1,4 +1,4 @@
-ghost use Rattle.std.specs.Prelude.{◌≡◌, ◌≤◌, List, ℕ, OnOk, OnErr, IfOk, length};
+ghost use Rattle.std.specs.Prelude.{◌≡◌, ◌≤◌, ◌+◌, List, ℕ, max, OnOk, OnErr, IfOk, length};
 ghost use Rattle.mh_outside.specs.Told.{Told, HasRead};
 ghost use Rattle.mh_outside.specs.Causes.{Rose, AreSame};
 
@@ -26,6 +26,10 @@ pub trait Inputs {
     /// How often the calls for a name have failed.
     ghost faults: { Self → List ℕ → ℕ };
 
+    /// How many bytes from the front of a file the calls for its name have asked for, at most: the
+    /// end of the buffer that reached furthest.
+    ghost reached: { Self → List ℕ → ℕ };
+
     /// Reads bytes of the file from the place `at` on, into the front of the buffer, and says how
     /// many. It is none only where the buffer is empty or the file ends at `at` or before. A name that
     /// cannot be opened is a fault.
@@ -34,6 +38,8 @@ pub trait Inputs {
         ensures later { (n : List ℕ) → faults self.old n ≤ faults self.new n }
         ensures cause { OnErr result (Rose (faults self.old name.now) (faults self.new name.now)) }
         ensures no_fault { OnOk result (AreSame (faults self.old) (faults self.new)) }
+        ensures reached { reached self.new name.now
+            ≤ max (reached self.old name.now) (at + length buf.new) }
         ensures count { IfOk result (λ n. n ≤ length buf.new) }
         ensures bytes { IfOk result (λ n. HasRead (told self.old name.now) at n buf.new) };
 }

@@ -10,6 +10,7 @@ mod real;
 mod sink;
 mod whole;
 
+pub use copies::copy_from;
 pub use gate::{Gate, OpenGate, TestGate};
 pub use honest::{HonestInputs, HonestSink};
 pub use inputs::{Failed, Inputs};

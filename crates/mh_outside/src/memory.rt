@@ -1,4 +1,4 @@
-ghost use Rattle.std.specs.Prelude.{◌≡◌, ◌≤◌, ◌||◌, ◌++◌, Some, IsTrue, IsErr, OnOk, OnErr, IfOk, is_err, is_none, length};
+ghost use Rattle.std.specs.Prelude.{◌≡◌, ◌≤◌, ◌||◌, ◌+◌, ◌-◌, ◌^◌, ◌++◌, min, max, Some, IsTrue, IsErr, OnOk, OnErr, IfOk, is_err, is_none, length};
 ghost use Rattle.std.specs.BTreeMap.{get_by_text};
 ghost use Rattle.mh_outside.specs.Told.{HasRead, file_or_absent};
 ghost use Rattle.mh_outside.specs.Causes.{Rose};
@@ -18,6 +18,24 @@ pub struct MemoryInputs {
     pub calls: u64,
     /// How many calls failed; the count of every name.
     pub faults: u64,
+    /// How many bytes from the front of a file a call has asked for; the most of every name.
+    pub reached: u64,
+}
+
+impl MemoryInputs {
+    /// Files of which no call was made yet, and the numbers of the calls that are to fail.
+    pub fn new(files: BTreeMap<String, Vec<u8>>, fail: Vec<u64>) -> MemoryInputs
+        ensures { result
+            ≡ record { files = files; fail = fail; calls = 0; faults = 0; reached = 0 } }
+    {
+        MemoryInputs {
+            files,
+            fail,
+            calls: 0,
+            faults: 0,
+            reached: 0,
+        }
+    }
 }
 
 impl Inputs for MemoryInputs {
@@ -25,24 +43,30 @@ impl Inputs for MemoryInputs {
 
     ghost faults = { λ s _. s.faults };
 
+    ghost reached = { λ s _. s.reached };
+
     fn read(&mut self, name: &str, at: u64, buf: &mut [u8]) -> Result<usize, Failed>
         // Just the listed calls fail, and those for a name that has no file.
         ensures fails { is_err result ≡ (is_listed self.old.fail.items self.old.calls
             || is_none (get_by_text self.old.files name.now)) }
         ensures calls { CountsCall self.old.calls self.new.calls
             self.old.fail.items self.new.fail.items }
+        ensures furthest { self.new.reached
+            ≡ max self.old.reached (min (at + length buf.new) (2 ^ 64 - 1)) }
 
         // What each impl promises.
         ensures told { self.new.files ≡ self.old.files }
         ensures later { self.old.faults ≤ self.new.faults }
         ensures cause { OnErr result (Rose self.old.faults self.new.faults) }
         ensures no_fault { OnOk result (self.new.faults ≡ self.old.faults) }
+        ensures reached { self.new.reached ≤ max self.old.reached (at + length buf.new) }
         ensures count { IfOk result (λ n. n ≤ length buf.new) }
         ensures bytes { IfOk result
             (λ n. HasRead (file_or_absent (get_by_text self.old.files name.now)) at n buf.new) }
     {
         let call = self.calls;
         self.calls = call.saturating_add(1);
+        self.reached = self.reached.max(at.saturating_add(buf.len() as u64));
         if !self.fail.contains(&call)
             && let Some(bytes) = self.files.get(name)
         {

@@ -15,7 +15,8 @@ struct Opened<F: Drop> {
     at: u64,
 }
 
-/// The files of the system. Of what they hold nothing is told: that is the trusted edge. A file that
+/// The files of the system. Of what they hold, and how far they are read, nothing is told: that is
+/// the trusted edge. A file that
 /// is read from its front on is opened once, and read on where the last piece ended.
 #[derive(Drop)]
 pub struct RealInputs<'r, R: Files> {
@@ -75,6 +76,8 @@ impl<'r, R: Files> Inputs for RealInputs<'r, R> {
     ghost told = { λ _ _. nothing };
 
     ghost faults = { λ s _. s.faults };
+
+    ghost reached = { λ _ _. 0 };
 
     fn read(&mut self, name: &str, at: u64, buf: &mut [u8]) -> Result<usize, Failed> {
         match self.read_at(name, at, buf) {

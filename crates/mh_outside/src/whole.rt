@@ -1,4 +1,4 @@
-ghost use Rattle.std.specs.Prelude.{◌≡◌, ◌≤◌, ◌<◌, ◌+◌, ◌-◌, List, ℕ, OnOk, OnErr, IfOk, IsErrOf, length};
+ghost use Rattle.std.specs.Prelude.{◌≡◌, ◌≤◌, ◌<◌, ◌+◌, ◌-◌, List, ℕ, max, OnOk, OnErr, IfOk, IsErrOf, length};
 ghost use Rattle.std.specs.Io.KnownBytes.{Appends};
 ghost use Rattle.mh_outside.specs.Told.{IsFront, IsWhole, MayBeLonger, KeepsFront, EndsAt};
 ghost use Rattle.mh_outside.specs.Causes.{Rose, AreSame, AppendsPart};
@@ -63,6 +63,8 @@ fn read_piece<I: Inputs>(
         → Rose (I.faults inputs.old name.now) (I.faults inputs.new name.now) }
     ensures memory { IsErrOf result ReadWhole.NoMemory
         → AreSame (I.faults inputs.old) (I.faults inputs.new) }
+    ensures reached { I.reached inputs.new name.now
+        ≤ max (I.reached inputs.old name.now) (length bytes.old.items + room) }
     ensures short { IsErrOf result ReadWhole.TooLong → ⊥ }
 {
     let mut piece = [0u8; PIECE];
@@ -77,7 +79,7 @@ fn read_piece<I: Inputs>(
 }
 
 /// Reads a file to its end. It is `TooLong` once a byte past the limit was taken, and `ReadFault`
-/// at the first read that fails.
+/// at the first read that fails. It asks for one byte past the limit, and for none after it.
 pub fn read_whole<I: Inputs>(
     alloc: Global,
     inputs: &mut I,
@@ -97,6 +99,9 @@ pub fn read_whole<I: Inputs>(
     // A read that failed is never told as want of memory.
     ensures memory { IsErrOf result ReadWhole.NoMemory
         → AreSame (I.faults inputs.old) (I.faults inputs.new) }
+
+    ensures reached { I.reached inputs.new name.now
+        ≤ max (I.reached inputs.old name.now) (limit + 1) }
 
     // Where a file is within the limit, `file` excludes that it is longer; so TooLong is exact.
     ensures too_long { IsErrOf result ReadWhole.TooLong

@@ -1,8 +1,8 @@
 -- Threads and calls are as many as were counted.
-use Rattle.std.proofs.Common.{◌≡◌, refl, ap, subst, ◌⊎◌, inl, inr, ℕ, suc, ◌+◌, ◌<◌, ◌≤◌, Bool, true, false, ◌&&◌, not, if◌then◌else◌, List, [], ◌∷◌, ◌++◌, length, length-append, Result, Ok, arith}
+use Rattle.std.proofs.Common.{◌≡◌, refl, ap, subst, ◌⊎◌, inl, inr, ℕ, suc, ◌+◌, ◌<◌, ◌≤◌, Bool, true, false, ◌&&◌, not, if◌then◌else◌, List, [], ◌∷◌, ◌++◌, length, length-append, Ok, arith}
 use Rattle.std.specs.Prelude.{nat_lt, ◌==◌}
 use Rattle.std.proofs.lemmas.Bool.Decides.{nat_tests}
-use Rattle.mh_leaves.specs.Provided.{provided}
+use Rattle.mh_base.proofs.Conditions.{provided-parts}
 use Rattle.mh_plan.specs.declared.call.Call.{Call}
 use Rattle.mh_plan.specs.declared.counting.Counts.{Counts}
 use Rattle.mh_plan.specs.declared.kinds.PlanKind.TheVariants.{BadLine, TooMany}
@@ -34,10 +34,6 @@ pub record IsCounted (counts : Counts) (threads : List (List Call)) : Type 0 whe
   pub calls_counted : calls_in threads ≤ counts.calls
   pub few_threads : counts.threads ≤ most_threads
   pub few_calls : counts.calls ≤ most_calls
-
-pub provided-parts : {A K : Type 0} (b : Bool) (kind : K) (next : Result A K) (a : A) → provided b kind next ≡ Ok a → (b ≡ true) × (next ≡ Ok a)
-provided-parts true kind next a is = (refl, is)
-provided-parts false kind next a is = cc
 
 pub chosen : {A : Type 0} (b : Bool) (x y z : A) → (if b then x else y) ≡ z → ((b ≡ true) × (x ≡ z)) ⊎ ((b ≡ false) × (y ≡ z))
 chosen true x y z is = inl (refl, is)

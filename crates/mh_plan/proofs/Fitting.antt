@@ -2,8 +2,9 @@
 use Rattle.std.proofs.Common.{◌≡◌, refl, sym, ◌∙◌, ap, subst, inl, inr, ℕ, ◌+◌, Bool, if◌then◌else◌, List, [], ◌∷◌, ◌++◌, Result, Ok, Err, IfOk}
 use Rattle.std.specs.List.{All}
 use Rattle.std.proofs.lemmas.Bool.{cases_Bool}
-use Rattle.std.proofs.lemmas.List.Elements.{All-nil, All-cons, All-head, All-tail, All-push}
-use Rattle.mh_base.specs.Lines.{tokens_of, is_passed, after_line, built_from}
+use Rattle.std.proofs.lemmas.List.Elements.{All-nil}
+use Rattle.mh_base.specs.Lines.{tokens_of, is_passed, built_from}
+use Rattle.mh_base.proofs.Conditions.{after_line-parts}
 use Rattle.mh_base.specs.declared.lines.LineFault.{LineFault}
 use Rattle.mh_leaf.specs.LeafTable.{LeafTable}
 use Rattle.mh_jobs.specs.declared.job.Job.{Job}
@@ -13,30 +14,21 @@ use Rattle.mh_plan.specs.declared.kinds.PlanKind.{PlanKind}
 use Rattle.mh_plan.specs.Fault.{TellsLines}
 use Rattle.mh_plan.specs.Plan.{call_meaning, with_call, call_put, tokens_meaning, line_meaning, line_counted, none_counted, faultless, plan_of}
 use Rattle.mh_plan.specs.Results.{IsCallOf, AreCallsOf}
+use Rattle.mh_plan.proofs.EachCall.{each-call, each-thread}
 use Rattle.mh_plan.proofs.FoundSites.{call_meaning-fits}
 
 -- ---- lines
-
-with_call-fits : (leaves : LeafTable) (jobs : List Job) (threads : List (List Call)) (call : Call) → AreCallsOf leaves jobs threads →
-    IsCallOf leaves jobs call → AreCallsOf leaves jobs (with_call threads call)
-with_call-fits leaves jobs [] call all fits = all
-with_call-fits leaves jobs (calls ∷ []) call all fits =
-    All-cons (All (IsCallOf leaves jobs)) _ [] (All-push (IsCallOf leaves jobs) calls call (All-head (All (IsCallOf leaves jobs)) calls [] all) fits)
-    (All-nil (All (IsCallOf leaves jobs)))
-with_call-fits leaves jobs (calls ∷ next ∷ more) call all fits =
-    All-cons (All (IsCallOf leaves jobs)) calls _ (All-head (All (IsCallOf leaves jobs)) calls (next ∷ more) all)
-    (with_call-fits leaves jobs (next ∷ more) call (All-tail (All (IsCallOf leaves jobs)) calls (next ∷ more) all) fits)
 
 put-fits : (leaves : LeafTable) (jobs : List Job) (threads next : List (List Call)) (r : Result Call PlanKind) → AreCallsOf leaves jobs threads →
     ((call : Call) → r ≡ Ok call → IsCallOf leaves jobs call) → call_put threads r ≡ Ok next → AreCallsOf leaves jobs next
 put-fits leaves jobs threads next (Err kind) all fits is = cc
 put-fits leaves jobs threads next (Ok call) all fits is =
-    let same : with_call threads call ≡ next = cc in subst (AreCallsOf leaves jobs) same (with_call-fits leaves jobs threads call all (fits call refl))
+    let same : with_call threads call ≡ next = cc in subst (AreCallsOf leaves jobs) same (each-call (IsCallOf leaves jobs) threads call all (fits call refl))
 
 thread-fits : (leaves : LeafTable) (jobs : List Job) (threads next : List (List Call)) → AreCallsOf leaves jobs threads → threads ++ [] ∷ [] ≡ next →
     AreCallsOf leaves jobs next
 thread-fits leaves jobs threads next all same =
-    subst (AreCallsOf leaves jobs) same (All-push (All (IsCallOf leaves jobs)) threads [] all (All-nil (IsCallOf leaves jobs)))
+    subst (AreCallsOf leaves jobs) same (each-thread (IsCallOf leaves jobs) threads all)
 
 tokens-fit : (leaves : LeafTable) (jobs : List Job) (threads next : List (List Call)) (tokens : List (List ℕ)) → AreCallsOf leaves jobs threads →
     tokens_meaning leaves jobs threads tokens ≡ Ok next → AreCallsOf leaves jobs next
@@ -58,20 +50,12 @@ line-fits leaves jobs threads next line all is =
 
 -- ---- plans
 
-after_line-fits : (leaves : LeafTable) (jobs : List Job) (n : ℕ) (r : Result (List (List Call)) PlanKind) (rest : List (List Call) →
-    Result (List (List Call)) (LineFault PlanKind))
-    (threads : List (List Call)) → ((next : List (List Call)) → r ≡ Ok next → rest next ≡ Ok threads → AreCallsOf leaves jobs threads) →
-    after_line n r rest ≡ Ok threads
-    → AreCallsOf leaves jobs threads
-after_line-fits leaves jobs n (Err kind) rest threads goes is = cc
-after_line-fits leaves jobs n (Ok next) rest threads goes is = goes next refl is
-
 lines-fit : (leaves : LeafTable) (jobs : List Job) (n : ℕ) (so_far threads : List (List Call)) (lines : List (List ℕ)) → AreCallsOf leaves jobs so_far →
     built_from (line_meaning leaves jobs) n so_far lines ≡ Ok threads → AreCallsOf leaves jobs threads
 lines-fit leaves jobs n so_far threads [] all is = let same : so_far ≡ threads = cc in subst (AreCallsOf leaves jobs) same all
 lines-fit leaves jobs n so_far threads (line ∷ lines) all is =
-    after_line-fits leaves jobs n (line_meaning leaves jobs so_far line) (λ next. built_from (line_meaning leaves jobs) (n + 1) next lines) threads
-    (λ next taken rest. lines-fit leaves jobs (n + 1) next threads lines (line-fits leaves jobs so_far next line all taken) rest) is
+    let first = after_line-parts n (line_meaning leaves jobs so_far line) (λ next. built_from (line_meaning leaves jobs) (n + 1) next lines) threads is in
+    lines-fit leaves jobs (n + 1) first.0 threads lines (line-fits leaves jobs so_far first.0 line all first.1) first.2
 
 -- what goes on after a good part is good itself
 pub first_part : {A B : Type 0} (r : Result A (LineFault PlanKind)) (next : A → Result B (LineFault PlanKind)) (b : B) → faultless r next ≡ Ok b →

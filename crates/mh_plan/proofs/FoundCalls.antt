@@ -16,9 +16,9 @@ use Rattle.mh_texts.specs.Literal.{literal_of}
 use Rattle.mh_leaf.specs.LeafTable.{LeafTable}
 use Rattle.mh_leaves.specs.declared.naming.How.{How}
 use Rattle.mh_leaves.specs.declared.naming.How.TheVariants.{Any}
-use Rattle.mh_leaves.specs.Find.{is_called, leaf_at, leaf_of, find_leaf}
+use Rattle.mh_leaves.specs.Find.{is_called, leaf_numbered, leaf_called, find_leaf}
 use Rattle.mh_leaves.specs.Manifest.{type_if_read}
-use Rattle.mh_leaves.specs.Provided.{provided_some}
+use Rattle.mh_base.specs.Provided.{provided_some}
 use Rattle.mh_leaves.specs.Reference.{Texts}
 use Rattle.mh_leaves.proofs.Once.{position-within}
 use Rattle.mh_jobs.specs.declared.job.Job.{Job}
@@ -30,14 +30,14 @@ use Rattle.mh_plan.specs.Results.{IsCallOf}
 
 -- ---- leaves that are found
 
-placed : (table : LeafTable) (o : Option ℕ) (leaf : LeafId) → IfSome o (λ at. at < length table.leaves) → leaf_if_found (leaf_at o) ≡ Some leaf →
+placed : (table : LeafTable) (o : Option ℕ) (leaf : LeafId) → IfSome o (λ at. at < length table.leaves) → leaf_if_found (leaf_numbered o) ≡ Some leaf →
     leaf.0 < length table.leaves
 placed table None leaf within is = cc
 placed table (Some at) leaf within is =
     let same : at ≡ leaf.0 = ap (λ o. option_map_or (λ (l : LeafId). l.0) o 0) is in omega (arith, within, same)
 
 found-within : (table : LeafTable) (owner : Option ClassId) (name descriptor : List ℕ) (how : How) (leaf : LeafId) →
-    leaf_if_found (leaf_of owner name descriptor how table.leaves) ≡ Some leaf → leaf.0 < length table.leaves
+    leaf_if_found (leaf_called owner name descriptor how table.leaves) ≡ Some leaf → leaf.0 < length table.leaves
 found-within table None name descriptor how leaf is = cc
 found-within table (Some owner) name descriptor how leaf is =
     placed table (position (is_called owner name descriptor how) table.leaves) leaf (position-within (is_called owner name descriptor how) table.leaves _ refl)
@@ -62,7 +62,7 @@ argument-typed classes t v (Some w) is =
     ]
 
 -- the first value and the others, where all are there
-first_and_others : (first : Option Value) (others : Option (List Value)) (values : List Value) →
+pub first_and_others : (first : Option Value) (others : Option (List Value)) (values : List Value) →
     option_and_then (λ v. option_map (λ vs. v ∷ vs) others) first ≡ Some values → (v : Value) × (vs : List Value) × (first ≡ Some v) × (others ≡ Some vs)
     × (v ∷ vs ≡ values)
 first_and_others None others values is = cc

@@ -7,7 +7,7 @@ use Rattle.std.proofs.lemmas.Bool.Decides.{nat_tests}
 use Rattle.mh_values.specs.declared.value.Value.{Value}
 use Rattle.mh_texts.specs.Number.{unsigned_of}
 use Rattle.mh_leaf.specs.LeafTable.{LeafTable}
-use Rattle.mh_leaves.specs.Provided.{provided_some}
+use Rattle.mh_base.specs.Provided.{provided_some}
 use Rattle.mh_jobs.specs.declared.job.Job.{Job}
 use Rattle.mh_jobs.specs.Jobs.{params_at}
 use Rattle.mh_plan.specs.declared.call.Call.{Call}

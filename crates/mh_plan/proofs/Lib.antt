@@ -10,6 +10,16 @@ pub mod Host
 pub mod Limits
 pub mod TableSerials
 mod CallTexts
+mod CallsAgain
+mod EachCall
+mod LinesAgain
+mod PlanAgain
+mod ReadWritten
 mod WorkedPlans
 mod WorkedReports
 mod WorkedRuns
+mod WorkedTypes
+mod WrittenArguments
+mod WrittenCalls
+mod WrittenLeaves
+mod WrittenRows

@@ -1,9 +1,9 @@
 -- A plan has no more threads and calls than were counted.
-use Rattle.std.proofs.Common.{◌≡◌, refl, sym, ◌∙◌, ap, subst, ⊎_elim, ℕ, ◌+◌, true, false, if◌then◌else◌, List, [], ◌∷◌, ◌++◌, codes, Result, Ok, Err, IfOk, arith}
+use Rattle.std.proofs.Common.{◌≡◌, sym, ◌∙◌, ap, subst, ⊎_elim, ℕ, ◌+◌, true, false, if◌then◌else◌, List, [], ◌∷◌, ◌++◌, codes, Result, Ok, Err, IfOk, arith}
 use Rattle.std.specs.List.{list_all}
 use Rattle.std.specs.Str.{bytes_eq}
-use Rattle.mh_base.specs.Lines.{tokens_of, is_passed, is_plain, after_line, built_from}
-use Rattle.mh_base.specs.declared.lines.LineFault.{LineFault}
+use Rattle.mh_base.specs.Lines.{is_full, tokens_of, is_passed, is_plain, built_from}
+use Rattle.mh_base.proofs.Conditions.{after_line-parts, provided-parts}
 use Rattle.mh_leaf.specs.LeafTable.{LeafTable}
 use Rattle.mh_jobs.specs.declared.job.Job.{Job}
 use Rattle.mh_plan.specs.declared.call.Call.{Call}
@@ -13,8 +13,8 @@ use Rattle.mh_plan.specs.declared.kinds.PlanKind.{PlanKind}
 use Rattle.mh_plan.specs.declared.kinds.PlanKind.TheVariants.{BadLine}
 use Rattle.mh_plan.specs.Fault.{TellsLines}
 use Rattle.mh_plan.specs.Limits.{IsWithinLimits}
-use Rattle.mh_plan.specs.Plan.{call_counted, call_meaning, call_put, is_full, is_thread, line_counted, line_meaning, none_counted, plan_of, thread_counted, tokens_counted, tokens_meaning, with_call}
-use Rattle.mh_plan.proofs.Counted.{IsCounted, call-counted, call-formed, chosen, provided-parts, thread-counted}
+use Rattle.mh_plan.specs.Plan.{call_counted, call_meaning, call_put, is_thread, line_counted, line_meaning, none_counted, plan_of, thread_counted, tokens_counted, tokens_meaning, with_call}
+use Rattle.mh_plan.proofs.Counted.{IsCounted, call-counted, call-formed, chosen, thread-counted}
 use Rattle.mh_plan.proofs.Fitting.{first_part}
 
 -- ---- lines
@@ -54,11 +54,6 @@ line-counted leaves jobs counts counts' threads next line so counted meant =
     (sym (ap (λ b. if b then Ok threads else tokens_meaning leaves jobs threads (tokens_of line)) read.0) ∙ meant))
     (chosen (is_passed line) (Ok counts) (tokens_counted counts (tokens_of line)) (Ok counts') plain.1)
 
-after_line-parts : {S : Type 0} (n : ℕ) (r : Result S PlanKind) (rest : S → Result S (LineFault PlanKind)) (s : S) → after_line n r rest ≡ Ok s →
-    (next : S) × (r ≡ Ok next) × (rest next ≡ Ok s)
-after_line-parts n (Ok next) rest s is = (next, refl, is)
-after_line-parts n (Err kind) rest s is = cc
-
 lines-counted : (leaves : LeafTable) (jobs : List Job) (n : ℕ) (counts counts' : Counts) (threads next : List (List Call)) (lines : List (List ℕ)) →
     IsCounted counts threads → built_from line_counted n counts lines ≡ Ok counts' → built_from (line_meaning leaves jobs) n threads lines ≡ Ok next →
     IsCounted counts' next
@@ -76,7 +71,7 @@ lines-counted leaves jobs n counts counts' threads next (line ∷ lines) so coun
 none : IsCounted none_counted []
 none = record { threads_counted = omega arith; calls_counted = omega arith; few_threads = omega arith; few_calls = omega arith }
 
-plan_of-limits : (leaves : LeafTable) (jobs : List Job) (lines : List (List ℕ)) (threads : List (List Call)) → plan_of leaves jobs lines ≡ Ok threads →
+pub plan_of-limits : (leaves : LeafTable) (jobs : List Job) (lines : List (List ℕ)) (threads : List (List Call)) → plan_of leaves jobs lines ≡ Ok threads →
     IsWithinLimits threads
 plan_of-limits leaves jobs lines threads is =
     let counted = first_part (built_from line_counted 1 none_counted lines) (λ counts. built_from (line_meaning leaves jobs) 1 [] lines) threads is in

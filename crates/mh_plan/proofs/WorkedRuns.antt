@@ -18,11 +18,11 @@ use Rattle.mh_plan.specs.Results.{result_of}
 use Rattle.mh_plan.proofs.Host.{add_leaf, adding_later, adding_ten, adds, given_with, int}
 
 -- two sites that add ten
-abbrev tens : Given
+abbrev pub tens : Given
 tens = given_with adding_ten (codes "(I)I" ∷ codes "(I)I" ∷ [])
 
 -- two sites that only attempts with even numbers link
-abbrev evens : Given
+abbrev pub evens : Given
 evens = given_with adding_later (codes "(II)I" ∷ codes "(II)I" ∷ [])
 
 -- a thread that calls the second site, the first one, and the second one again, and a thread that calls the second site
@@ -30,7 +30,7 @@ abbrev plan : List (List Call)
 plan = (Indy 1 (int 1 ∷ []) ∷ Indy 0 (int 2 ∷ []) ∷ Indy 1 (int 3 ∷ []) ∷ []) ∷ (Indy 1 (int 4 ∷ []) ∷ []) ∷ []
 
 -- an attempt of the first thread
-abbrev attempt : ℕ → ℕ → Attempt
+abbrev pub attempt : ℕ → ℕ → Attempt
 attempt site serial = record { thread = 0; site = site; serial = serial }
 
 -- ---- results

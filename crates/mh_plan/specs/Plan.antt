@@ -2,7 +2,8 @@
 use Rattle.std.specs.Prelude.{ℕ, ◌+◌, ◌==◌, Bool, false, not, ◌&&◌, ◌||◌, if◌then◌else◌, List, [], ◌∷◌, ◌++◌, codes, length, drop, nat_eq, nat_le, nat_lt, Option, None, Some, is_some, option_map, option_and_then, Result, Ok, Err}
 use Rattle.std.specs.List.{list_all, starts_with}
 use Rattle.std.specs.Str.{bytes_eq}
-use Rattle.mh_base.specs.Lines.{lines_of, tokens_of, is_passed, is_plain, built_from}
+use Rattle.mh_base.specs.Ascii.{digit_0, digit_9}
+use Rattle.mh_base.specs.Lines.{is_full, lines_of, tokens_of, is_passed, is_plain, built_from}
 use Rattle.mh_base.specs.declared.lines.LineFault.{LineFault}
 use Rattle.mh_values.specs.declared.class.Class.{Class}
 use Rattle.mh_values.specs.declared.types.Ty.{Ty}
@@ -17,7 +18,7 @@ use Rattle.mh_leaf.specs.LeafTable.{LeafTable}
 use Rattle.mh_leaves.specs.declared.naming.How.TheVariants.{Any}
 use Rattle.mh_leaves.specs.Find.{find_leaf}
 use Rattle.mh_leaves.specs.Manifest.{type_if_read}
-use Rattle.mh_leaves.specs.Provided.{provided, provided_some}
+use Rattle.mh_base.specs.Provided.{provided, provided_some}
 use Rattle.mh_leaves.specs.Reference.{Texts, reference_of}
 use Rattle.mh_jobs.specs.declared.job.Job.{Job}
 use Rattle.mh_jobs.specs.Jobs.{params_at}
@@ -47,18 +48,14 @@ kind_number BadArguments = 6
 
 -- ---- the form of a line
 
--- a token that is not empty
-abbrev pub is_full : List ℕ → Bool
-is_full token = not (length token == 0)
-
 -- a decimal digit
 abbrev pub is_digit : ℕ → Bool
-is_digit b = nat_le 48 b && nat_le b 57
+is_digit b = nat_le digit_0 b && nat_le b digit_9
 
 -- the number of a site: digits without a needless zero
 abbrev pub is_number : List ℕ → Bool
 is_number [] = false
-is_number (b ∷ bs) = list_all is_digit (b ∷ bs) && (length bs == 0 || not (b == 48))
+is_number (b ∷ bs) = list_all is_digit (b ∷ bs) && (length bs == 0 || not (b == digit_0))
 
 -- the texts of `leaf:OWNER.NAME:DESC`
 abbrev pub leaf_texts : List ℕ → Option Texts

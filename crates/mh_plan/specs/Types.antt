@@ -58,6 +58,10 @@ in_bucket bucket types = distinct_count is_same_method_type (filter (λ t. bucke
 abbrev pub FitBuckets : List MethodTy → Type 0
 FitBuckets types = (bucket : ℕ) → in_bucket bucket types ≤ bucket_slots
 
--- some bucket has fewer slots than there are types of it
+-- this bucket has fewer slots than there are types of it
+abbrev pub Overfill : ℕ → List MethodTy → Type 0
+Overfill bucket types = bucket_slots < in_bucket bucket types
+
+-- some bucket has fewer
 abbrev pub OverfillBucket : List MethodTy → Type 0
-OverfillBucket types = (bucket : ℕ) × (bucket_slots < in_bucket bucket types)
+OverfillBucket types = (bucket : ℕ) × Overfill bucket types

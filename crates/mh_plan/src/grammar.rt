@@ -1,7 +1,8 @@
 ghost use Rattle.std.specs.Prelude.{◌≡◌, map, option_map};
 ghost use Rattle.std.specs.List.{list_all};
+ghost use Rattle.mh_base.specs.Lines.{is_full};
 ghost use Rattle.mh_leaves.specs.Reference.{texts_of};
-ghost use Rattle.mh_plan.specs.Plan.{is_full, is_digit, is_number, leaf_texts, is_leaf_word, is_call_of, is_call, is_thread};
+ghost use Rattle.mh_plan.specs.Plan.{is_digit, is_number, leaf_texts, is_leaf_word, is_call_of, is_call, is_thread};
 
 use mh_leaves::{Reference, read_reference};
 

@@ -1,8 +1,9 @@
-ghost use Rattle.std.specs.Prelude.{◌≡◌, map, IfOk};
+ghost use Rattle.std.specs.Prelude.{◌≡◌, map, Ok, IfOk};
 ghost use Rattle.mh_plan.specs.Plan.{plan_of, plan};
 ghost use Rattle.mh_plan.specs.Fault.{TellsLines, TellsPlan};
 ghost use Rattle.mh_plan.specs.Limits.{IsWithinLimits};
 ghost use Rattle.mh_plan.specs.Results.{AreCallsOf};
+ghost use Rattle.mh_plan.specs.Written.{plan_text};
 
 use crate::calls::{Callees, read_lines};
 use crate::counting::check_lines;
@@ -33,6 +34,8 @@ pub fn read_plan(
     ensures meaning { TellsPlan result (plan bytes.now leaves.now jobs.now) }
     ensures calls { IfOk result (AreCallsOf leaves.now jobs.now) }
     ensures limits { IfOk result IsWithinLimits }
+    ensures again { IfOk result
+        (λ threads. plan (plan_text leaves.now threads) leaves.now jobs.now ≡ Ok threads) }
 {
     let lines = split_at_byte(alloc, bytes, b'\n')?;
     read_all(alloc, &Callees { leaves, jobs }, &lines)

@@ -1,14 +1,40 @@
-use crate::host::{host, two_jobs};
+use crate::host::HOST;
 use mh_base::NoMemory;
+use mh_classfile::read;
+use mh_jobs::{Jobs, push_jobs};
+use mh_jobs_tests::files::{LINKED, Site, class_file};
+use mh_leaves::{Leaves, read_manifest};
 use mh_plan::PlanKind::{BadArguments, BadLine, BadType, NoLeaf, NoSite, TooMany};
 use mh_plan::{Call, Plan, PlanError, PlanKind, read_plan};
+use mh_script::read_scripts;
 use mh_values::{Num, Value};
 use std::alloc::Global;
 use std::test::Fail;
 
+/// These jobs, and that of a call site of this type, which no script links.
+fn with_site(
+    alloc: Global,
+    jobs: Jobs,
+    leaves: &Leaves,
+    ty: &'static str,
+) -> Result<Jobs, NoMemory> {
+    let file = class_file(alloc, Site { ty, ..LINKED })?;
+    let scripts = read_scripts(alloc, b"".as_slice()).map_err(|_| NoMemory)?;
+    let Ok(view) = read(alloc, &file, 1) else {
+        return Err(NoMemory);
+    };
+    push_jobs(alloc, jobs, &view, &scripts, leaves)
+}
+
+/// The jobs of two call sites; the type of the second has an unknown class.
+fn two_jobs(alloc: Global, leaves: &Leaves) -> Result<Jobs, NoMemory> {
+    let first = with_site(alloc, Jobs::new(alloc), leaves, "(I)I")?;
+    with_site(alloc, first, leaves, "(Lno/Such;)V")
+}
+
 /// What a plan over the two sites is read as.
 fn read_over(alloc: Global, plan: &str) -> Result<Result<Plan, PlanError>, NoMemory> {
-    let leaves = host(alloc)?;
+    let leaves = read_manifest(alloc, HOST).map_err(|_| NoMemory)?;
     let jobs = two_jobs(alloc, &leaves)?;
     Ok(read_plan(alloc, plan.as_bytes(), &leaves, &jobs))
 }

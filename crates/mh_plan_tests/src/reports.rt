@@ -1,7 +1,7 @@
-use crate::host::host;
+use crate::host::HOST;
 use mh_base::{NoMemory, Seq};
 use mh_handle::Answer;
-use mh_leaves::{Leaves, type_of};
+use mh_leaves::{Leaves, read_manifest, type_of};
 use mh_plan::{Recorded, Shown, Summary, Table, ThreadAnswers, report};
 use mh_values::{ClassId, Exc};
 use std::alloc::Global;
@@ -52,7 +52,7 @@ const TEXT: &str = "\
 #[test]
 fn a_report_has_a_line_of_each_site(rt: HostRuntime) -> Result<(), Fail> {
     let alloc = rt.alloc();
-    let leaves = host(alloc)?;
+    let leaves = read_manifest(alloc, HOST).map_err(|_| NoMemory)?;
     let table = three_sites(alloc, &leaves)?;
     let threads = two_threads(alloc)?;
     let summary = Summary {

@@ -19,7 +19,7 @@ use Rattle.mh_intern.specs.Views.{SeatView}
 use Rattle.mh_intern.proofs.Entries.{bit}
 use Rattle.mh_intern.proofs.Measures.{count_cons}
 use Rattle.mh_attempt.specs.AskedTypes.{HasNoSlot}
-use Rattle.mh_plan.specs.Types.{OverfillBucket}
+use Rattle.mh_plan.specs.Types.{Overfill}
 use Rattle.mh_runtime.proofs.TypeLists.{any-counted, any-turned, count-distinct, is_one, same-equivalence, types-distinct}
 
 -- the types of entries
@@ -77,23 +77,21 @@ module _ (t : MethodTy) (f : FullBucket) (full_for : IsFullFor t f) where
       (or_cases (is_same_method_type u t) (is_one (types_in f.entries) u) there)
 
   -- where other types have all of these, the bucket has more of those than slots
-  overfills : (types : List MethodTy) → ((u : MethodTy) → is_one whole u ≡ true → is_one types u ≡ true) → OverfillBucket types
-  overfills types among = (
-    bucket_of t,
-    omega (
-      arith,
-      many,
-      count-distinct whole (filter (λ u. bucket_of u == bucket_of t) types) (types-distinct whole once) (λ u there.
-          is_member-filter same-equivalence (λ v. bucket_of v == bucket_of t) u
-          (λ v same. ap (λ w. bucket_of w == bucket_of t) (same_method_type-is u v same)) types
-          ∙ ap₂ (λ a b. a && b) (among u there) (eq-eqb (bucket_of u) (bucket_of t) (here u there))),
-    ),
+  overfills : (types : List MethodTy) → ((u : MethodTy) → is_one whole u ≡ true → is_one types u ≡ true) → Overfill (bucket_of t) types
+  overfills types among = omega (
+    arith,
+    many,
+    count-distinct whole (filter (λ u. bucket_of u == bucket_of t) types) (types-distinct whole once) (λ u there.
+        is_member-filter same-equivalence (λ v. bucket_of v == bucket_of t) u
+        (λ v same. ap (λ w. bucket_of w == bucket_of t) (same_method_type-is u v same)) types
+        ∙ ap₂ (λ a b. a && b) (among u there) (eq-eqb (bucket_of u) (bucket_of t) (here u there))),
   )
 
--- a seat that knows what it asked for has found no slot for a type: where all that it was asked for is among some types, one bucket has more of them than slots
+-- a seat that knows what it asked for has found no slot for a type: where all that it was asked for is among some types, the bucket has more of them than slots
 pub no-slot-overfills : (bucket : ℕ) (seat : SeatView) (types : List MethodTy) → seat.room + length seat.holds ≡ limit → Knows seat → HasNoSlot bucket seat →
-    ((t : MethodTy) → 0 < times_type t seat.asked → is_one types t ≡ true) → OverfillBucket types
-no-slot-overfills bucket seat types all knows none among = overfills t full none.1.full_for types (λ u there. among u (asked u there))
+    ((t : MethodTy) → 0 < times_type t seat.asked → is_one types t ≡ true) → Overfill bucket types
+no-slot-overfills bucket seat types all knows none among =
+    subst (λ b. Overfill b types) (sym none.1.bucket_is) (overfills t full none.1.full_for types (λ u there. among u (asked u there)))
   where
     t : MethodTy
     t = none.0

@@ -1,35 +1,28 @@
 -- The passes of lanes are joined one after the other.
-use Rattle.std.proofs.Common.{◌≡◌, sym, ◌∙◌, ap, ap₂, subst, ℕ, ◌+◌, List, [], ◌∷◌, ◌++◌, length, length-append, map, Option, None, Some, arith}
-use Rattle.std.specs.Prelude.{Contains}
-use Rattle.std.specs.Option.{option_or}
+use Rattle.std.proofs.Common.{◌≡◌, sym, ◌∙◌, ap, subst, ℕ, ◌+◌, List, [], ◌∷◌, ◌++◌, length, length-append, map, arith}
 use Rattle.std.specs.List.{All}
 use Rattle.std.proofs.lemmas.List.{length-map, map_push}
-use Rattle.std.proofs.lemmas.List.Elements.{All-push, All-weaker, Contains-append_left, Contains-append_right}
-use Rattle.mh_handle.specs.declared.answer.Answer.{Answer}
+use Rattle.std.proofs.lemmas.List.Elements.{All-push, All-weaker}
 use Rattle.mh_handle.specs.Seats as forms
 use Rattle.mh_intern.specs.Views as types
 use Rattle.mh_tickets.specs.Seats as serials
 use Rattle.mh_jobs.specs.Given.{Given}
-use Rattle.mh_attempt.specs.Asked.{HasAsked, IsOver}
 use Rattle.mh_plan.specs.declared.call.Call.{Call}
-use Rattle.mh_plan.specs.Results.{keys_said, results_of, results_said, thread_keys_said, thread_results, thread_said}
 use Rattle.mh_plan.specs.Types.{thread_types}
-use Rattle.mh_runtime.specs.declared.joining.Full.{Full}
 use Rattle.mh_runtime.specs.declared.joining.Full.TheVariants as full
 use Rattle.mh_runtime.specs.declared.joining.Joined.{Joined}
 use Rattle.mh_runtime.specs.declared.lane.Lane.{Lane}
 use Rattle.mh_runtime.specs.Asking.{WasAsked, run_types}
-use Rattle.mh_runtime.specs.Joined.{AreDone, AreUsed, IsDoneBy, IsUsedBy, ThreadPasses}
-use Rattle.mh_runtime.specs.Joining.{Adds, AreJoinedSoFar, EndedWith, EndsSoFar, calls_of, lanes_types}
-use Rattle.mh_runtime.specs.Keys.{plan_keys, thread_keys}
-use Rattle.mh_runtime.specs.Lanes.{DrawsFew, EndsAs, EndsWithoutSlot, HasAnswered, HasRun, Tables, passes_of}
+use Rattle.mh_runtime.specs.Joined.{AreUsed, IsUsedBy, ThreadPasses}
+use Rattle.mh_runtime.specs.Joining.{Adds, AreJoinedSoFar, EndsSoFar, calls_of, lanes_types}
+use Rattle.mh_runtime.specs.Lanes.{DrawsFew, HasRun, Tables, passes_of}
 use Rattle.mh_runtime.specs.Passes.{HasSerials, LinkerView, split_room}
-use Rattle.mh_runtime.proofs.JoinedForms.{asked-joined}
-use Rattle.mh_runtime.proofs.JoinedTypes.{no-slot-mine, no-slot-theirs, types-joined}
-use Rattle.mh_runtime.proofs.LaneLists.{edits-push, flat-push, types-push}
-use Rattle.mh_runtime.proofs.MoreThreads.{done-push, used-push}
-use Rattle.mh_runtime.proofs.SeatTypes.{just-joined}
+use Rattle.mh_runtime.proofs.JoinedTypes.{types-joined}
+use Rattle.mh_runtime.proofs.LaneLists.{flat-push, types-push}
+use Rattle.mh_runtime.proofs.MoreThreads.{used-push}
+use Rattle.mh_runtime.proofs.RecordedTypes.{just-joined}
 use Rattle.mh_runtime.proofs.ThreadSteps.{serials-both}
+use Rattle.mh_runtime.proofs.JoiningEnds.{few-drawn, ends-push}
 
 -- ---- one lane more
 
@@ -46,68 +39,10 @@ module _ {J : Type 0} (given : Given) (linker : LinkerView) (tables : Tables) (c
       drawn = (split_room, few);
     }
 
-    over-old : (drawn : ℕ) → Adds old lane new → IsOver drawn old.forms → IsOver drawn new.forms
-    over-old drawn adds over = (
-      over.0,
-      subst (λ s. Contains s drawn) (sym (ap (λ (s : forms.SeatView). s.numbers) adds.forms_seat_is))
-          (Contains-append_left old.forms.seat.numbers lane.forms.seat.numbers drawn over.1),
-    )
-
-    over-lane : (drawn : ℕ) → Adds old lane new → IsOver drawn lane.forms → IsOver drawn new.forms
-    over-lane drawn adds over = (
-      over.0,
-      subst (λ s. Contains s drawn) (sym (ap (λ (s : forms.SeatView). s.numbers) adds.forms_seat_is))
-          (Contains-append_right old.forms.seat.numbers lane.forms.seat.numbers drawn over.1),
-    )
-
-    -- what a lane whose calls were made to their end adds
-    ends-done : (answers : List Answer) → Adds old lane new → new.threads ≡ old.threads ++ answers ∷ [] →
-        length (calls_of lanes) ≡ length (map passes_of lanes) → EndsSoFar given lanes old None →
-        IsDoneBy given calls (passes_of lane) → HasAnswered given calls lane.links answers →
-        EndsSoFar given (lanes ++ lane ∷ []) new None
-    ends-done answers adds pushed same before done answered = (
-      subst (λ (ts : List (List Call)). AreDone given ts (map passes_of (lanes ++ lane ∷ []))) (sym (map_push (λ (l : Lane J). l.calls.now) lanes lane))
-          (subst (λ (ps : List ThreadPasses). AreDone given (calls_of lanes ++ calls ∷ []) ps) (sym (map_push passes_of lanes lane))
-          (done-push given (calls_of lanes) (map passes_of lanes) calls (passes_of lane) (sym same) before.0 done)),
-      subst (λ rs. HasAsked rs new.forms) (sym (edits-push given lanes lane)) (asked-joined _ _ old.forms lane.forms new.forms before.1 done.asked adds.forms),
-      λ table has. ap results_said pushed
-          ∙ (map_push thread_said old.threads answers
-          ∙ (ap₂ (λ rs r. rs ++ r ∷ []) (before.2 table (serials-both _ _ _ adds.links.mine has))
-          (answered.results table (serials-both _ _ _ adds.links.theirs has))
-          ∙ sym (ap (results_of given table) (map_push (λ (l : Lane J). l.calls.now) lanes lane)
-          ∙ map_push (thread_results given table) (calls_of lanes) calls))),
-      λ table has. ap keys_said pushed
-          ∙ (map_push thread_keys_said old.threads answers
-          ∙ (ap₂ (λ rs r. rs ++ r ∷ []) (before.3 table (serials-both _ _ _ adds.links.mine has))
-          (answered.keys table (serials-both _ _ _ adds.links.theirs has))
-          ∙ sym (ap (plan_keys given table) (map_push (λ (l : Lane J). l.calls.now) lanes lane) ∙ map_push (thread_keys given table) (calls_of lanes) calls))),
-    )
-
-    -- where a lane has ended with answers or without forms, it has drawn few numbers
-    pub few-drawn : (ended : Option Full) → EndedWith lane old.threads new.threads ended → EndsAs given calls (passes_of lane) lane.ran →
-        DrawsFew given calls (passes_of lane)
-    few-drawn None ended ends = (subst (EndsAs given calls (passes_of lane)) ended.1 ends).0
-    few-drawn (Some (full.Forms drawn)) ended ends = (subst (EndsAs given calls (passes_of lane)) ended.0 ends).0
-    few-drawn (Some (full.Types bucket)) ended ends = subst (EndsAs given calls (passes_of lane)) ended.0 ends
-
-    pub ends-push : (before ended : Option Full) → EndedWith lane old.threads new.threads ended → length (calls_of lanes) ≡ length (map passes_of lanes) →
-        Adds old lane new → EndsAs given calls (passes_of lane) lane.ran → EndsWithoutSlot lane.ran lane.types → EndsSoFar given lanes old before →
-        EndsSoFar given (lanes ++ lane ∷ []) new (option_or before ended)
-    ends-push (Some (full.Forms drawn)) ended how same adds ends no_slot before = over-old drawn adds before
-    ends-push (Some (full.Types bucket)) ended how same adds ends no_slot before =
-        (no-slot-mine old.types lane.types new.types adds.types bucket before.0, adds.types_known)
-    ends-push None (Some (full.Forms drawn)) how same adds ends no_slot before =
-        over-lane drawn adds (subst (EndsAs given calls (passes_of lane)) how.0 ends).1
-    ends-push None (Some (full.Types bucket)) how same adds ends no_slot before =
-        (no-slot-theirs old.types lane.types new.types adds.types bucket (subst (λ r. EndsWithoutSlot r lane.types) how.0 no_slot), adds.types_known)
-    ends-push None None how same adds ends no_slot before =
-        let told = subst (EndsAs given calls (passes_of lane)) how.1 ends in
-        ends-done how.0 adds how.2 same before told.1 told.2
-
     pub joined-push : AreJoinedSoFar given linker tables count lanes old → HasRun given linker tables (length lanes) calls lane → Adds old lane new →
         AreJoinedSoFar given linker tables count (lanes ++ lane ∷ []) new
     joined-push before ran adds =
-        let few = few-drawn adds.full adds.ended ran.ends in
+        let few = few-drawn given linker tables count lanes lane old new adds.full adds.ended ran.ends in
         let more : length (lanes ++ lane ∷ []) ≡ length lanes + 1 = length-append lanes (lane ∷ []) in
         let passes : map passes_of (lanes ++ lane ∷ []) ≡ map passes_of lanes ++ passes_of lane ∷ [] = map_push passes_of lanes lane in
         let links = adds.links_seat in
@@ -153,6 +88,7 @@ module _ {J : Type 0} (given : Given) (linker : LinkerView) (tables : Tables) (c
               (types-joined old.types lane.types new.types adds.types (lanes_types given lanes)
               (run_types given lane.links.attempts (thread_types given.leaves calls)) before.types_asked ran.types_asked);
           ends = subst (EndsSoFar given (lanes ++ lane ∷ []) new) (sym adds.full_is)
-              (ends-push old.full adds.full adds.ended (length-map lanes (λ (l : Lane J). l.calls.now) ∙ sym (length-map lanes passes_of)) adds ran.ends
+              (ends-push given linker tables count lanes lane old new old.full adds.full adds.ended
+              (length-map lanes (λ (l : Lane J). l.calls.now) ∙ sym (length-map lanes passes_of)) adds ran.ends
               ran.no_slot before.ends);
         }

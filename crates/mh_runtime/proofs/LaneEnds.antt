@@ -26,8 +26,8 @@ use Rattle.mh_runtime.specs.Linking.{HoldsRecorded}
 use Rattle.mh_values.specs.declared.types.MethodTy.{MethodTy}
 use Rattle.mh_intern.specs.Held.{times_type}
 use Rattle.mh_intern.specs.Views.{SeatView}
-use Rattle.mh_runtime.proofs.SeatAsked.{asked-on}
-use Rattle.mh_runtime.proofs.SeatTypes.{just-recorded}
+use Rattle.mh_runtime.proofs.AskedAnswers.{asked-on}
+use Rattle.mh_runtime.proofs.RecordedTypes.{just-recorded}
 use Rattle.mh_runtime.specs.Passes.{HasSerials, LinkPass, LinkerView, split_room}
 
 -- ---- passes that have learnt nothing

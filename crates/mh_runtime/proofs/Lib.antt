@@ -1,14 +1,17 @@
+pub mod UsedRecipes
 pub mod Calling
 pub mod Counted
 pub mod Crossing
 pub mod Distinct
 pub mod ForkedLanes
 pub mod FullBuckets
+pub mod SeatKinds
 pub mod HeldTypes
 pub mod Items
 pub mod JoinedForms
 pub mod JoinedTypes
 pub mod JoiningSites
+pub mod JoiningEnds
 pub mod JoiningSteps
 pub mod LaneEnds
 pub mod LaneLists
@@ -37,7 +40,9 @@ pub mod RunTypes
 pub mod RunningAttempts
 pub mod RunningCalls
 pub mod SeatAsked
+pub mod AskedAnswers
 pub mod SeatTypes
+pub mod RecordedTypes
 pub mod Serials
 pub mod SiteSerials
 pub mod Sites

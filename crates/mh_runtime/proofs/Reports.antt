@@ -10,7 +10,7 @@ use Rattle.mh_plan.specs.declared.call.Call.{Call}
 use Rattle.mh_plan.specs.Forms.{draws_needed}
 use Rattle.mh_plan.specs.Recorded.{recorded, serials_of, types}
 use Rattle.mh_plan.specs.Results.{Serials, keys_said, results_of, results_said, serial_at}
-use Rattle.mh_plan.specs.Types.{OverfillBucket, all_types}
+use Rattle.mh_plan.specs.Types.{Overfill, all_types}
 use Rattle.mh_runtime.specs.declared.joining.Full.TheVariants as full_table
 use Rattle.mh_runtime.specs.declared.joining.Joined.{Joined}
 use Rattle.mh_runtime.specs.declared.lane.Lane.{Lane}
@@ -58,9 +58,9 @@ module _ {J : Type 0} (given : Given) (linker : LinkerView) (tables : Tables) (p
   full-run drawn some = subst (λ threads. 16384 < draws_needed given threads) calls_are (joined-full given linker tables lanes joined drawn some so_far)
 
   -- a thread had no slot left
-  pub no-slot-run : (bucket : ℕ) → joined.full ≡ Some (full_table.Types bucket) → OverfillBucket (all_types given plan)
+  pub no-slot-run : (bucket : ℕ) → joined.full ≡ Some (full_table.Types bucket) → Overfill bucket (all_types given plan)
   no-slot-run bucket some =
-      subst (λ threads. OverfillBucket (all_types given threads)) calls_are (joined-no-slot given linker tables lanes joined bucket some so_far)
+      subst (λ threads. Overfill bucket (all_types given threads)) calls_are (joined-no-slot given linker tables lanes joined bucket some so_far)
 
   module _ (run : Linked) (none : joined.full ≡ None) (tells : TellsRun given joined run) where
     whole : IsJoinedRun given lanes joined

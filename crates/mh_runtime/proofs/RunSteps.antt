@@ -49,3 +49,10 @@ module _ (given : Given) where
       IsErrAnd r (λ x. x ≡ e) → RunStops given a b more old new e → RunsOn given a b more old new r
   stops-run a b more old new e (Ok x) is stopped = absurd is
   stops-run a b more old new e (Err x) is stopped = subst (RunStops given a b more old new) (sym is) stopped
+
+  -- the second step stopped, of steps that have more recipes in all, and its error is handed on
+  pub stops-within : {A : Type 0} (all first second rest : List (List Key)) (a b c : List Attempt) (old mid new : PassView) (e : WorkError)
+      (r : Result A WorkError) → (first ++ second) ++ rest ≡ all → IsErrAnd r (λ x. x ≡ e) → HasRunOn given a b first old mid →
+      RunStops given b c second mid new e → RunsOn given a c all old new r
+  stops-within all first second rest a b c old mid new e r is err x y =
+      stops-run a c all old new e r err (subst (λ rs. RunStops given a c rs old new e) is (stops-second first second a b c old mid new x rest e y))

@@ -56,3 +56,10 @@ linked-both old new a b goes_on first second =
 pub attempts-early : (named rest : List ℕ) (p q : LinkPass) → AttemptsMore named p q → AttemptsMore (named ++ rest) p q
 attempts-early named rest p q made sites linked run =
     subst (λ s. IsThreadRun s q) (append_assoc sites named rest) (more-named (sites ++ named) rest q (made sites linked run))
+
+-- a call and those before it, where all the calls name more sites
+pub attempts-within : (all before own rest : List ℕ) (p q r : LinkPass) → (before ++ own) ++ rest ≡ all → HasSerials p.linked q.linked →
+    AreLinked q.linked before → AttemptsMore before p q → AttemptsMore own q r → AttemptsMore all p r
+attempts-within all before own rest p q r is goes_on done first second =
+    subst (λ sites. AttemptsMore sites p r) is
+    (attempts-early (before ++ own) rest p r (attempts-both before own p q r goes_on done first second))

@@ -16,7 +16,7 @@ use Rattle.mh_attempt.specs.Asked.{HasAsked}
 use Rattle.mh_plan.specs.declared.call.Call.{Call}
 use Rattle.mh_plan.specs.Forms.{draws_needed}
 use Rattle.mh_plan.specs.Results.{keys_said, results_said}
-use Rattle.mh_plan.specs.Types.{OverfillBucket, all_types}
+use Rattle.mh_plan.specs.Types.{Overfill, all_types}
 use Rattle.mh_runtime.specs.declared.joining.Full.TheVariants as full_table
 use Rattle.mh_runtime.specs.declared.joining.Joined.{Joined}
 use Rattle.mh_runtime.specs.declared.lane.Lane.{Lane}
@@ -121,7 +121,7 @@ module _ {J : Type 0} (given : Given) (linker : LinkerView) (tables : Tables) wh
 
     -- a lane has stopped for want of a slot
     pub joined-no-slot : (bucket : ℕ) → joined.full ≡ Some (full_table.Types bucket) → AreJoinedSoFar given linker tables (length lanes) lanes joined →
-        OverfillBucket (all_types given (calls_of lanes))
+        Overfill bucket (all_types given (calls_of lanes))
     joined-no-slot bucket some all =
         let told = subst (EndsSoFar given lanes joined) some all.ends in
         no-slot-overfills bucket joined.types (all_types given (calls_of lanes)) (let room = all.types_room in omega (arith, room)) told.1 told.0

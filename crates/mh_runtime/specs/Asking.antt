@@ -91,9 +91,9 @@ RunsOnTypes given before after more old new (Err (TypesFull bucket)) = HasAskedO
 RunsOnTypes given before after more old new (Err (FormsFull drawn)) = HasAskedOn given before after more old new
 RunsOnTypes given before after more old new (Err NoMemory) = HasAskedOn given before after more old new
 
--- P holds where no slot was left for a type
-abbrev pub IfTypesFull : {A : Type 0} → Result A WorkError → Type 0 → Type 0
-IfTypesFull (Err (TypesFull bucket)) P = P
+-- P holds of the bucket in which no slot was left for a type
+abbrev pub IfTypesFull : {A : Type 0} → Result A WorkError → (ℕ → Type 0) → Type 0
+IfTypesFull (Err (TypesFull bucket)) P = P bucket
 IfTypesFull (Err (FormsFull drawn)) P = Unit {0}
 IfTypesFull (Err NoMemory) P = Unit {0}
 IfTypesFull (Ok a) P = Unit {0}

@@ -3,7 +3,7 @@ ghost use Rattle.mh_jobs.specs.Given.{AreJobs};
 ghost use Rattle.mh_plan.specs.Forms.{draws_needed, forms};
 ghost use Rattle.mh_plan.specs.Limits.{IsWithinLimits};
 ghost use Rattle.mh_plan.specs.Naming.{naming_of};
-ghost use Rattle.mh_plan.specs.Types.{OverfillBucket, all_types};
+ghost use Rattle.mh_plan.specs.Types.{Overfill, all_types};
 ghost use Rattle.mh_plan.specs.Recorded.{recorded, serials_of, types};
 ghost use Rattle.mh_plan.specs.Results.{AreCallsOf, keys_said, results_of, results_said};
 ghost use Rattle.mh_intern.specs.Views.{new_seat};
@@ -82,7 +82,7 @@ fn report<'s, 't, J: Run, R: Wait, G>(
         (λ run. IsLinkedRun J.given context.now.plan.now context.now.types.now run.0 run.1) }
     ensures full { IfFull result (16384 < draws_needed J.given context.now.plan.now) }
     ensures no_slot { IfTypesFull result
-        (OverfillBucket (all_types J.given context.now.plan.now)) }
+        (λ bucket. Overfill bucket (all_types J.given context.now.plan.now)) }
 {
     let Joined {
         links,
@@ -129,7 +129,7 @@ fn run_passes<'s, 't, J: Run + Send + Sync, R: Threads + Wait + Sync, G: Gate + 
         (λ run. IsLinkedRun J.given context.now.plan.now context.now.types.now run.0 run.1) }
     ensures full { IfFull result (16384 < draws_needed J.given context.now.plan.now) }
     ensures no_slot { IfTypesFull result
-        (OverfillBucket (all_types J.given context.now.plan.now)) }
+        (λ bucket. Overfill bucket (all_types J.given context.now.plan.now)) }
 {
     let mut joined = Joined {
         links,
@@ -160,7 +160,7 @@ fn run_linked<J: Run + Send + Sync, R: Threads + Wait + Sync, G: Gate + Sync>(
         (λ run. IsLinkedRun J.given input.now.plan.now types.now run.0 run.1) }
     ensures full { IfFull result (16384 < draws_needed J.given input.now.plan.now) }
     ensures no_slot { IfTypesFull result
-        (OverfillBucket (all_types J.given input.now.plan.now)) }
+        (λ bucket. Overfill bucket (all_types J.given input.now.plan.now)) }
 {
     let alloc = input.alloc;
     let (table, numbers) = FormTable::new(alloc)?;
@@ -193,7 +193,7 @@ fn run_named<J: Run + Send + Sync, R: Threads + Wait + Sync, G: Gate + Sync>(
     ensures run { IfOk result (IsReport J.given input.now.plan.now) }
     ensures full { IfFull result (16384 < draws_needed J.given input.now.plan.now) }
     ensures no_slot { IfTypesFull result
-        (OverfillBucket (all_types J.given input.now.plan.now)) }
+        (λ bucket. Overfill bucket (all_types J.given input.now.plan.now)) }
 {
     let (types, seat) = TypeTable::new(input.alloc)?;
     let (run, seat) = run_linked::<J, R, G>(rt, &types, seat, input)?;
@@ -247,7 +247,7 @@ pub fn run_plan<R: Threads + Wait + Sync, G: Gate + Sync>(
         (λ run. run.types ≡ types (given_by input.now) (serials_of run.table)) }
     ensures full { IfFull result (16384 < draws_needed (given_by input.now) plan.now) }
     ensures no_slot { IfTypesFull result
-        (OverfillBucket (all_types (given_by input.now) plan.now)) }
+        (λ bucket. Overfill bucket (all_types (given_by input.now) plan.now)) }
 {
     let input = Input {
         alloc,

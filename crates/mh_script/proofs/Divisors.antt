@@ -4,7 +4,9 @@ use Rattle.std.specs.Prelude.{◌==◌, if◌then◌else◌, option_and_then}
 use Rattle.std.specs.Str.{bytes_eq}
 use Rattle.std.proofs.lemmas.Bool.{and_parts, leb-true}
 use Rattle.mh_values.specs.declared.class.Class.{Class}
-use Rattle.mh_leaves.specs.Provided.{provided_some}
+use Rattle.mh_base.specs.Provided.{provided_some}
+use Rattle.mh_base.proofs.Conditions.{provided_some-parts}
+use Rattle.mh_texts.proofs.Inversion.{then_some}
 use Rattle.mh_script.specs.declared.kinds.ScriptKind.{ScriptKind}
 use Rattle.mh_script.specs.declared.kinds.ScriptKind.TheVariants.{BadLine, BadLiteral}
 use Rattle.mh_script.specs.declared.line.Line.{Line}
@@ -17,15 +19,6 @@ use Rattle.mh_script.specs.Limits.{CanDivide}
 use Rattle.mh_script.specs.Lines.{said_then, let_line, line_of, operation_of, pair_line}
 use Rattle.mh_script.specs.Numbers.{fail_of, if_fail, number_of}
 use Rattle.mh_script.specs.Tokens.{text_literal}
-
-some-then : {A B : Type 0} (o : Option A) (next : A → Option B) (b : B) → option_and_then next o ≡ Some b → (a : A) × (next a ≡ Some b)
-some-then (Some a) next b h = (a, h)
-some-then None next b h = absurd cc
-
-there-then : {A B : Type 0} (o : Option A) (kind : ScriptKind) (next : A → Result B ScriptKind) (b : B) → provided_some o kind next ≡ Ok b →
-    (a : A) × (o ≡ Some a) × (next a ≡ Ok b)
-there-then (Some a) kind next b h = (a, refl, h)
-there-then None kind next b h = absurd cc
 
 -- what goes on with what was said
 pub said-parts : {A B : Type 0} (r : Result A ScriptKind) (next : A → Result B ScriptKind) (b : B) → said_then r next ≡ Ok b →
@@ -60,12 +53,12 @@ pair-divides classes word first second s h = cases (bytes_eq word (codes "failmo
     cases : (b : Bool) → (if b then provided_some (fail_of first second) BadLine (λ t. Ok (line.Step t))
         else provided_some (text_literal classes second) BadLiteral (λ message. Ok (line.End (end.Raise first message)))) ≡ Ok (line.Step s) → CanDivide s
     cases true k =
-        let made = there-then (fail_of first second) BadLine (λ t. Ok (line.Step t)) (line.Step s) k in
-        let modulus = some-then (number_of first) (λ m. option_and_then (if_fail m) (number_of second)) made.0 made.1 in
-        let remainder = some-then (number_of second) (if_fail modulus.0) made.0 modulus.1 in
-        divides-by made.0 s (fail-divides modulus.0 remainder.0 made.0 remainder.1) made.2
+        let made = provided_some-parts (fail_of first second) BadLine (λ t. Ok (line.Step t)) (line.Step s) k in
+        let modulus = then_some (λ m. option_and_then (if_fail m) (number_of second)) (number_of first) made.0 made.1 in
+        let remainder = then_some (if_fail modulus.0) (number_of second) made.0 modulus.2 in
+        divides-by made.0 s (fail-divides modulus.0 remainder.0 made.0 remainder.2) made.2
     cases false k =
-        let made = there-then (text_literal classes second) BadLiteral (λ message. Ok (line.End (end.Raise first message))) (line.Step s) k in
+        let made = provided_some-parts (text_literal classes second) BadLiteral (λ message. Ok (line.End (end.Raise first message))) (line.Step s) k in
         absurd (no_step (end.Raise first made.0) s made.2)
 
 let-divides : (classes : List Class) (target word : List ℕ) (operands : List (List ℕ)) (s : Step) →

@@ -5,7 +5,7 @@ use Rattle.std.specs.Result.{is_ok}
 use Rattle.mh_values.specs.declared.class.Class.{Class}
 use Rattle.mh_values.specs.declared.value.Value.{Value}
 use Rattle.mh_values.specs.Grammar.{descriptor_fault}
-use Rattle.mh_leaves.specs.Provided.{provided_some}
+use Rattle.mh_base.specs.Provided.{provided_some}
 use Rattle.mh_leaves.specs.Reference.{Texts, reference_of}
 use Rattle.mh_script.specs.declared.form.One.{One}
 use Rattle.mh_script.specs.declared.form.One.TheVariants as one

@@ -1,32 +1,14 @@
 -- The places of scripts in a list, when one more is put at its end.
-use Rattle.std.proofs.Common.{◌≡◌, refl, sym, ap, ap₂, ◌∙◌, suc, ℕ, ◌+◌, ◌<◌, Bool, true, false, ◌||◌, cond, List, [], ◌∷◌, ◌++◌, length, Option, None, Some, position, option_map, IfSome, arith}
-use Rattle.std.proofs.lemmas.Iterator.Adapters.{position_from-zero}
-use Rattle.std.specs.List.{list_any, position_from}
+use Rattle.std.proofs.Common.{◌≡◌, refl, sym, ap, ap₂, ◌∙◌, ℕ, ◌<◌, Bool, true, false, ◌||◌, cond, List, [], ◌∷◌, ◌++◌, length, Option, None, Some, position, option_map, IfSome}
+use Rattle.std.specs.List.{list_any}
 use Rattle.std.specs.Option.{option_or}
 use Rattle.std.specs.Str.{bytes_eq}
+use Rattle.mh_base.proofs.Positions.{position-push}
 use Rattle.mh_leaves.proofs.Once.{position-within}
 use Rattle.mh_script.specs.declared.script.Script.{Script}
 use Rattle.mh_script.specs.declared.scripts.ScriptId.{ScriptId}
 use Rattle.mh_script.specs.Index.{ByOwner, FindsFirst, KnowsOneMore}
 use Rattle.mh_script.specs.Find.{has_texts, ArePlaces, script_named}
-
-position_from-push : {A : Type 0} (f : A → Bool) (n : ℕ) (xs : List A) (y : A) → position_from f n (xs ++ y ∷ []) ≡ option_or (position_from f n xs)
-    (cond (f y) (Some (n + length xs)) None)
-position_from-push f n [] y = ap (λ k. cond (f y) (Some k) None) (omega arith)
-position_from-push f n (x ∷ xs) y =
-    let later : position_from f (n + 1) (xs ++ y ∷ []) ≡ option_or (position_from f (n + 1) xs) (cond (f y) (Some (n + suc (length xs))) None) =
-    position_from-push f (n + 1) xs y ∙ ap (λ k. option_or (position_from f (n + 1) xs) (cond (f y) (Some k) None)) (omega arith) in
-    elim (f x) as (λ b. cond b (Some n) (position_from f (n + 1) (xs ++ y ∷ [])) ≡ option_or (cond b (Some n) (position_from f (n + 1) xs))
-    (cond (f y) (Some (n + suc (length xs))) None)) [
-      | true ↦ refl
-      | false ↦ later
-    ]
-
-position-push : {A : Type 0} (f : A → Bool) (xs : List A) (y : A) → position f (xs ++ y ∷ []) ≡ option_or (position f xs) (cond (f y) (Some (length xs)) None)
-position-push f xs y =
-    position_from-zero f (xs ++ y ∷ []) ∙ position_from-push f 0 xs y
-    ∙ ap (λ o. option_or o (cond (f y) (Some (0 + length xs)) None)) (sym (position_from-zero f xs))
-    ∙ ap (λ k. option_or (position f xs) (cond (f y) (Some k) None)) (omega arith)
 
 any-push : {A : Type 0} (f : A → Bool) (xs : List A) (y : A) → list_any f (xs ++ y ∷ []) ≡ (f y || list_any f xs)
 any-push f [] y = refl

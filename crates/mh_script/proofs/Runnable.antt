@@ -4,9 +4,10 @@ use Rattle.std.specs.Prelude.{◌==◌, if◌then◌else◌, is_some}
 use Rattle.std.specs.List.{list_all}
 use Rattle.std.specs.Str.{bytes_eq}
 use Rattle.std.proofs.lemmas.List.Elements.{All-append, All-cons, All-nil}
-use Rattle.mh_base.specs.Lines.{is_passed, is_plain, tokens_of}
+use Rattle.mh_base.proofs.Conditions.{provided-parts}
+use Rattle.mh_base.specs.Lines.{is_full, is_passed, is_plain, tokens_of}
 use Rattle.mh_values.specs.declared.class.Class.{Class}
-use Rattle.mh_leaves.specs.Provided.{provided}
+use Rattle.mh_base.specs.Provided.{provided}
 use Rattle.mh_values.specs.Grammar.{descriptor_fault}
 use Rattle.mh_leaves.specs.Reference.{Texts, is_class_name, is_method_name}
 use Rattle.mh_script.specs.declared.kinds.ScriptKind.{ScriptKind}
@@ -23,33 +24,26 @@ use Rattle.mh_script.specs.declared.script.Script.{Script}
 use Rattle.mh_script.specs.declared.script.Step.{Step}
 use Rattle.mh_script.specs.Faults.{bad_descriptor, body_fault}
 use Rattle.mh_script.specs.Find.{script_named}
-use Rattle.mh_script.specs.Kinds.{fault_unless, lower}
+use Rattle.mh_script.specs.Kinds.{lower}
 use Rattle.mh_script.specs.Limits.{AreBegun, AreRunnable, CanDivide, MayStand}
 use Rattle.mh_script.specs.Lines.{line_of}
-use Rattle.mh_script.specs.Scripts.{begun_by, body_line, counting_line, following, goes_on, header_line, is_end_line, is_ending, is_full, line_meaning, outside_line, staged_line, standing_fault, unless_fault, with_line, within_line}
+use Rattle.mh_script.specs.Scripts.{begun_by, body_line, counting_line, following, goes_on, header_line, is_end_line, is_ending, line_meaning, outside_line, staged_line, standing_fault, unless_fault, with_line, within_line}
 use Rattle.mh_script.proofs.Divisors.{said-parts, line-divides}
+use Rattle.mh_script.proofs.FaultlessOperations.{lower-none, unless-none}
 
 -- ---- how many lines there are
-
-both-none : (one other : Option ScriptKind) → lower one other ≡ None → (one ≡ None) × (other ≡ None)
-both-none None other h = (refl, h)
-both-none (Some one) None h = absurd cc
-both-none (Some one) (Some other) h = absurd cc
-
-holds : (b : Bool) (kind : ScriptKind) → fault_unless b kind ≡ None → b ≡ true
-holds true kind h = refl
-holds false kind h = absurd cc
 
 fewer : (count : ℕ) → not (count == 64) ≡ true → count ≤ 64 → count < 64
 fewer count other few =
     let apart : count ≢ 64 = λ is. let h : not (64 == 64) ≡ true = subst (λ n. not (n == 64) ≡ true) is other in cc in omega (arith, few, apart)
 
-standing-few : (count : ℕ) (ending : Bool) (next : Next) → count ≤ 64 → standing_fault count ending next ≡ None → count < 64
-standing-few count ending follows.Nothing few h = absurd cc
-standing-few count ending follows.End few h = fewer count (holds (not (count == 64)) TooLong (both-none _ _ h).0) few
-standing-few count ending follows.Line few h = fewer count (holds (not (count == 64)) TooLong (both-none _ _ h).0) few
+-- a line that may stand there does not follow 64 others
+pub has_room : (count : ℕ) (ending : Bool) (next : Next) → standing_fault count ending next ≡ None → not (count == 64) ≡ true
+has_room count ending follows.Nothing h = absurd cc
+has_room count ending follows.End h = unless-none (not (count == 64)) TooLong (lower-none _ _ h).0
+has_room count ending follows.Line h = unless-none (not (count == 64)) TooLong (lower-none _ _ h).0
 
-faultless : {A : Type 0} (o : Option ScriptKind) (next : Result A ScriptKind) (a : A) → unless_fault o next ≡ Ok a → (o ≡ None) × (next ≡ Ok a)
+pub faultless : {A : Type 0} (o : Option ScriptKind) (next : Result A ScriptKind) (a : A) → unless_fault o next ≡ Ok a → (o ≡ None) × (next ≡ Ok a)
 faultless None next a h = (refl, h)
 faultless (Some kind) next a h = absurd cc
 
@@ -58,7 +52,7 @@ pub body-runnable : (classes : List Class) (steps : List Step) (tokens : List (L
     body_line classes steps tokens next ≡ Ok said → AreRunnable steps
 body-runnable classes steps tokens next said begun h =
     let none = faultless (lower (body_fault classes steps tokens) (standing_fault (length steps) (is_ending tokens) next)) (line_of classes tokens) said h in
-    record { few = standing-few (length steps) (is_ending tokens) next begun.few (both-none _ _ none.0).1; divide = begun.divide }
+    record { few = fewer (length steps) (has_room (length steps) (is_ending tokens) next (lower-none _ _ none.0).1) begun.few; divide = begun.divide }
 
 -- ---- lines where they stand
 
@@ -72,7 +66,7 @@ with-stands scripts begun (line.Step s) runs divides =
     }
 with-stands scripts begun (line.End e) runs divides = tt
 
-same_reading : (a b : Reading) → ◌≡◌ {A = Result Reading ScriptKind} (Ok a) (Ok b) → a ≡ b
+pub same_reading : (a b : Reading) → ◌≡◌ {A = Result Reading ScriptKind} (Ok a) (Ok b) → a ≡ b
 same_reading a b h = cc
 
 stands-by : (a b : Reading) → MayStand a.stage → ◌≡◌ {A = Result Reading ScriptKind} (Ok a) (Ok b) → MayStand b.stage
@@ -88,10 +82,6 @@ within-stands classes scripts begun tokens next reading are h =
     (with-stands scripts begun said.0 (body-runnable classes begun.steps tokens next said.0 are said.1)
     (λ s is. line-divides classes tokens s (subst (λ (l : Line). line_of classes tokens ≡ Ok l) is found.1))) said.2
 
-provided-then : {A : Type 0} (b : Bool) (kind : ScriptKind) (next : Result A ScriptKind) (a : A) → provided b kind next ≡ Ok a → next ≡ Ok a
-provided-then true kind next a h = h
-provided-then false kind next a h = absurd cc
-
 header-stands : (scripts : List Script) (word : List ℕ) (texts : Texts) (next : Next) (reading : Reading) →
     header_line scripts word texts next ≡ Ok reading → MayStand reading.stage
 header-stands scripts word texts next reading h =
@@ -100,9 +90,9 @@ header-stands scripts word texts next reading h =
     let new = not (is_some (script_named scripts texts.owner texts.name texts.descriptor)) in
     let named = bytes_eq word (codes "script") && is_class_name texts.owner && is_method_name texts.name && goes_on next in
     stands-by begun reading (record { few = omega arith; divide = All-nil CanDivide })
-    (provided-then readable BadDescriptor (Ok begun) reading
-    (provided-then new Twice (provided readable BadDescriptor (Ok begun)) reading
-    (provided-then named BadLine (provided new Twice (provided readable BadDescriptor (Ok begun))) reading h)))
+    (provided-parts readable BadDescriptor (Ok begun) reading
+    (provided-parts new Twice (provided readable BadDescriptor (Ok begun)) reading
+    (provided-parts named BadLine (provided new Twice (provided readable BadDescriptor (Ok begun))) reading h).1).1).1
 
 outside-stands : (scripts : List Script) (tokens : List (List ℕ)) (next : Next) (reading : Reading) → outside_line scripts tokens next ≡ Ok reading →
     MayStand reading.stage
@@ -115,15 +105,15 @@ staged-stands : (classes : List Class) (scripts : List Script) (at : Stage) (tok
 staged-stands classes scripts stage.Outside tokens next reading may h = outside-stands scripts tokens next reading h
 staged-stands classes scripts (stage.Within begun) tokens next reading may h = within-stands classes scripts begun tokens next reading may h
 staged-stands classes scripts stage.Ended tokens next reading may h =
-    stands-by (record { scripts = scripts; stage = stage.Outside }) reading tt (provided-then (is_end_line tokens) BadLine _ reading h)
+    stands-by (record { scripts = scripts; stage = stage.Outside }) reading tt (provided-parts (is_end_line tokens) BadLine _ reading h).1
 
 -- after a line that was read a line may stand
 pub line-stands : (classes : List Class) (rest : List (List ℕ)) (reading next : Reading) (text : List ℕ) → MayStand reading.stage →
     line_meaning classes rest reading text ≡ Ok next → MayStand next.stage
-line-stands classes rest reading next text may h = cases (is_passed text) (provided-then (is_plain text) BadLine _ next h)
+line-stands classes rest reading next text may h = cases (is_passed text) (provided-parts (is_plain text) BadLine _ next h).1
   where
     cases : (b : Bool) → (if b then Ok reading else counting_line classes reading (tokens_of text) (following rest)) ≡ Ok next → MayStand next.stage
     cases true k = stands-by reading next may k
     cases false k =
         staged-stands classes reading.scripts reading.stage (tokens_of text) (following rest) next may
-        (provided-then (list_all is_full (tokens_of text)) BadLine _ next k)
+        (provided-parts (list_all is_full (tokens_of text)) BadLine _ next k).1

@@ -9,3 +9,4 @@ pub mod Numbers
 pub mod Scripts
 pub mod Told
 pub mod Tokens
+pub mod Written

@@ -2,7 +2,7 @@
 use Rattle.std.specs.Prelude.{ℕ, ◌==◌, if◌then◌else◌, List, [], ◌∷◌, codes, length, Result, Ok, Err}
 use Rattle.std.specs.Str.{bytes_eq}
 use Rattle.mh_values.specs.declared.class.Class.{Class}
-use Rattle.mh_leaves.specs.Provided.{provided_some}
+use Rattle.mh_base.specs.Provided.{provided_some}
 use Rattle.mh_leaves.specs.Reference.{Texts, reference_of}
 use Rattle.mh_script.specs.declared.form.One.{One}
 use Rattle.mh_script.specs.declared.form.One.TheVariants as one

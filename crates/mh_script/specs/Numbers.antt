@@ -4,6 +4,7 @@ use Rattle.std.specs.List.{slice_split}
 use Rattle.std.specs.Fmt.{decimal}
 use Rattle.std.specs.Str.{bytes_eq}
 use Rattle.std.specs.Str.Parse.{digits_value, without_leading_plus}
+use Rattle.mh_base.specs.Ascii.{comma}
 use Rattle.mh_script.specs.declared.script.Step.{Step}
 use Rattle.mh_script.specs.declared.script.Step.TheVariants as step
 
@@ -26,7 +27,7 @@ numbers_of (text ∷ texts) = option_and_then (λ n. option_map (λ ns. n ∷ ns
 
 -- numbers with commas between them, or `-` for none
 abbrev pub order_of : List ℕ → Option (List ℕ)
-order_of token = if bytes_eq token (codes "-") then Some [] else numbers_of (slice_split (λ b. b == 44) token)
+order_of token = if bytes_eq token (codes "-") then Some [] else numbers_of (slice_split (λ b. b == comma) token)
 
 -- `failmod` with numbers of its range: the modulus is from 1 to 1,000,000, and the remainder below it
 abbrev pub if_fail : ℕ → ℕ → Option Step

@@ -2,12 +2,12 @@
 use Rattle.std.specs.Prelude.{ℕ, ◌+◌, ◌==◌, Bool, true, false, not, ◌&&◌, ◌||◌, if◌then◌else◌, List, [], ◌∷◌, ◌++◌, codes, length, Option, None, Some, is_some, Result, Ok, Err}
 use Rattle.std.specs.List.{list_all}
 use Rattle.std.specs.Str.{bytes_eq}
-use Rattle.mh_base.specs.Lines.{lines_of, tokens_of, is_passed, is_plain, after_line}
+use Rattle.mh_base.specs.Lines.{is_full, lines_of, tokens_of, is_passed, is_plain, after_line}
 use Rattle.mh_base.specs.declared.lines.LineFault.{LineFault}
 use Rattle.mh_values.specs.declared.class.Class.{Class}
 use Rattle.mh_values.specs.Class.{builtin_classes}
 use Rattle.mh_values.specs.Grammar.{descriptor_fault}
-use Rattle.mh_leaves.specs.Provided.{provided}
+use Rattle.mh_base.specs.Provided.{provided}
 use Rattle.mh_leaves.specs.Reference.{Texts, is_class_name, is_method_name}
 use Rattle.mh_script.specs.declared.kinds.ScriptKind.{ScriptKind}
 use Rattle.mh_script.specs.declared.kinds.ScriptKind.TheVariants.{BadLine, Twice, TooLong, BadDescriptor, NoReturn}
@@ -27,10 +27,6 @@ use Rattle.mh_script.specs.Kinds.{fault_unless, lower}
 use Rattle.mh_script.specs.Lines.{said_then, method_name, line_of}
 
 -- ---- what stands around a line
-
--- a token that is not empty
-abbrev pub is_full : List ℕ → Bool
-is_full token = not (length token == 0)
 
 -- the next line that counts
 abbrev pub following : List (List ℕ) → Next

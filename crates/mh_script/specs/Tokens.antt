@@ -3,6 +3,7 @@ use Rattle.std.specs.Prelude.{ℕ, ◌==◌, nat_le, Bool, true, false, not, ◌
 use Rattle.std.specs.List.{list_all, list_any}
 use Rattle.std.specs.Option.{option_map_or}
 use Rattle.std.specs.Str.{bytes_eq}
+use Rattle.mh_base.specs.Ascii.{colon, digit_0, digit_9, low_line, small_a, small_z}
 use Rattle.mh_values.specs.declared.class.Class.{Class}
 use Rattle.mh_values.specs.declared.value.Value.{Value}
 use Rattle.mh_values.specs.declared.value.Value.TheVariants as value
@@ -19,17 +20,17 @@ use Rattle.mh_script.specs.Numbers.{number_of}
 
 -- a character after the first of a register: a letter, a digit or `_`
 abbrev pub is_of_register : ℕ → Bool
-is_of_register b = (nat_le 97 b && nat_le b 122) || (nat_le 48 b && nat_le b 57) || b == 95
+is_of_register b = (nat_le small_a b && nat_le b small_z) || (nat_le digit_0 b && nat_le b digit_9) || b == low_line
 
 -- a letter and at most 15 further characters; `null` is no register
 abbrev pub is_register : List ℕ → Bool
 is_register [] = false
-is_register (b ∷ bs) = (nat_le 97 b && nat_le b 122) && nat_le (length bs) 15 && list_all is_of_register bs && not (bytes_eq (b ∷ bs) (codes "null"))
+is_register (b ∷ bs) = (nat_le small_a b && nat_le b small_z) && nat_le (length bs) 15 && list_all is_of_register bs && not (bytes_eq (b ∷ bs) (codes "null"))
 
 -- the number of `a0`, `a1` and so on
 abbrev pub argument_number : List ℕ → Option ℕ
 argument_number [] = None
-argument_number (b ∷ digits) = if b == 97 then number_of digits else None
+argument_number (b ∷ digits) = if b == small_a then number_of digits else None
 
 -- the register of a token: `type`, `name`, a static argument, or one that is assigned
 abbrev pub register_of : List ℕ → Register
@@ -99,4 +100,4 @@ text_literal classes token = option_and_then if_text (literal_of classes token)
 
 -- a token with a colon
 abbrev pub has_colon : List ℕ → Bool
-has_colon token = list_any (λ b. b == 58) token
+has_colon token = list_any (λ b. b == colon) token

@@ -13,7 +13,7 @@ use crate::token::{
 use crate::{ScriptKind, Step};
 use mh_base::NoMemory;
 use mh_leaves::{is_class_name, read_reference};
-use mh_values::{Classes, descriptor_text, type_text, types_text};
+use mh_values::{Classes, descriptor_text, field_descriptor_text, types_text};
 use std::alloc::Global;
 
 /// What is wrong with a text that is to be a method descriptor.
@@ -30,7 +30,7 @@ pub(crate) fn bad_method(text: &[u8]) -> Option<ScriptKind>
 fn bad_type(text: &[u8]) -> Option<ScriptKind>
     ensures { result ≡ bad_descriptor (type_fault text.now) }
 {
-    match type_text(text) {
+    match field_descriptor_text(text) {
         Ok(()) => None,
         Err(_) => Some(ScriptKind::BadDescriptor),
     }
@@ -56,7 +56,7 @@ fn sort_fault(steps: &[Step], wanted: Sort, name: &[u8]) -> Option<ScriptKind>
     let Some(sort) = sort_in(steps, name) else {
         return Some(ScriptKind::Undefined);
     };
-    fault_unless(sort.is_same(wanted), ScriptKind::WrongSort)
+    fault_unless(sort == wanted, ScriptKind::WrongSort)
 }
 
 // What is wrong with H or F.

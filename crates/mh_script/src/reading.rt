@@ -1,10 +1,11 @@
-ghost use Rattle.std.specs.Prelude.{◌≡◌, ◌<◌, drop, length, map, IfOk};
+ghost use Rattle.std.specs.Prelude.{◌≡◌, ◌<◌, drop, length, map, Ok, IfOk};
 ghost use Rattle.std.specs.List.{list_all};
-ghost use Rattle.mh_base.specs.Lines.{TellsLine};
+ghost use Rattle.mh_base.specs.Lines.{TellsLine, is_full};
 ghost use Rattle.mh_leaves.specs.Reference.{texts_of};
 ghost use Rattle.mh_script.specs.Limits.{AreBegun, AreRunnable, MayStand};
-ghost use Rattle.mh_script.specs.Scripts.{is_full, following, is_ending, is_end_line, standing_fault, body_line, with_line, within_line, header_line, outside_line, ended_line, counting_line, line_meaning, scripts_from, scripts};
+ghost use Rattle.mh_script.specs.Scripts.{following, is_ending, is_end_line, standing_fault, body_line, with_line, within_line, header_line, outside_line, ended_line, counting_line, line_meaning, scripts_from, scripts};
 ghost use Rattle.mh_script.specs.Told.{TellsReading, TellsScripts};
+ghost use Rattle.mh_script.specs.Written.{scripts_text};
 
 use crate::fault::{bad_method, body_fault};
 use crate::kinds::{fault_unless, lower};
@@ -321,9 +322,8 @@ fn read_lines(
     Ok(reading)
 }
 
-/// Reads scripts, or gives the first faulty line. A line or a script that no `u32` can number is
-/// want of memory.
-pub fn read_scripts(alloc: Global, bytes: &[u8]) -> Result<Scripts, ScriptError>
+// Reads scripts.
+fn read_all(alloc: Global, bytes: &[u8]) -> Result<Scripts, ScriptError>
     ensures { TellsScripts result (scripts bytes.now) }
 {
     let lines = split_at_byte(alloc, bytes, b'\n')?;
@@ -334,4 +334,13 @@ pub fn read_scripts(alloc: Global, bytes: &[u8]) -> Result<Scripts, ScriptError>
     };
     let Reading { scripts, .. } = read_lines(alloc, &classes, start, &lines)?;
     Ok(scripts)
+}
+
+/// Reads scripts, or gives the first faulty line. A line or a script that no `u32` can number is
+/// want of memory.
+pub fn read_scripts(alloc: Global, bytes: &[u8]) -> Result<Scripts, ScriptError>
+    ensures meaning { TellsScripts result (scripts bytes.now) }
+    ensures again { IfOk result (λ all. scripts (scripts_text all) ≡ Ok all) }
+{
+    read_all(alloc, bytes)
 }

@@ -1,6 +1,6 @@
 ghost use Rattle.std.specs.Prelude.{◌≡◌, is_some, IfOk};
 ghost use Rattle.std.specs.List.{list_all, list_any};
-ghost use Rattle.mh_script.specs.Tokens.{is_of_register, is_register, argument_number, register_of, is_given, is_assignable, is_same_sort, sort_after, assigned_sort, sort_in, if_operand, operand_literal, if_text, text_literal, has_colon};
+ghost use Rattle.mh_script.specs.Tokens.{is_of_register, is_register, argument_number, register_of, is_given, is_assignable, sort_after, assigned_sort, sort_in, if_operand, operand_literal, if_text, text_literal, has_colon};
 
 use crate::number::read_number;
 use crate::{Register, Step};
@@ -13,26 +13,12 @@ use std::alloc::Global;
 const MOST_MORE: usize = 15;
 
 /// What a register holds.
-#[derive(Clone, Copy)]
+#[derive(Clone, Copy, PartialEq, Eq)]
 pub(crate) enum Sort {
     Handle,
     Value,
     MethodType,
     Class,
-}
-
-impl Sort {
-    /// Whether two sorts are one.
-    pub(crate) fn is_same(self, other: Sort) -> bool
-        ensures { result ≡ is_same_sort self other }
-    {
-        match self {
-            Sort::Handle => matches!(other, Sort::Handle),
-            Sort::Value => matches!(other, Sort::Value),
-            Sort::MethodType => matches!(other, Sort::MethodType),
-            Sort::Class => matches!(other, Sort::Class),
-        }
-    }
 }
 
 fn is_of_register(byte: u8) -> bool

@@ -4,7 +4,8 @@ use Rattle.std.specs.Result.{IsErrAnd}
 use Rattle.mh_values.specs.declared.types.MethodTy.{MethodTy}
 use Rattle.mh_intern.specs.Exchanges.{AreHeld, Exchanges}
 use Rattle.mh_intern.specs.Views.{HoldView, SeatView}
-use Rattle.mh_intern.proofs.Exchanging.{exchanges-both, exchanges-still, exchanges-then, held-came, held-first, held-none, held-still}
+use Rattle.mh_intern.proofs.Exchanging.{exchanges-both, exchanges-still, exchanges-then, held-came, held-still}
+use Rattle.mh_intern.proofs.HeldLists.{held-first, held-none}
 use Rattle.mh_handle.specs.declared.error.HandleError.{HandleError}
 use Rattle.mh_handle.specs.declared.error.HandleError.TheVariants.{NoMemory, FormsFull, TypesFull, Refused}
 use Rattle.mh_handle.specs.declared.handle.Handle.{Handle}
@@ -12,7 +13,8 @@ use Rattle.mh_handle.specs.declared.work.Work.{Work}
 use Rattle.mh_handle.specs.Stands.{HandleView, IsShaped}
 use Rattle.mh_handle.specs.Works.{TradesTypes}
 use Rattle.mh_handle.proofs.Going.{Seated, seated-came}
-use Rattle.mh_handle.proofs.Trading.{exchanges-back, exchanges-same, held-swapped, held-yet, same-swapped}
+use Rattle.mh_handle.proofs.HoldOrders.{exchanges-back, exchanges-same, same-swapped}
+use Rattle.mh_handle.proofs.SingleHolds.{held-swapped, held-yet}
 use Rattle.mh_steps.specs.Adds.{Adds, AddsTypes}
 
 -- ---- single calls

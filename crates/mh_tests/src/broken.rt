@@ -98,11 +98,6 @@ fn run<'a, R: Threads + Wait + Sync, S: Sink>(
     fail: Vec<u64>,
     sink: &mut S,
 ) -> u8 {
-    let mut inputs = MemoryInputs {
-        files,
-        fail,
-        calls: 0,
-        faults: 0,
-    };
+    let mut inputs = MemoryInputs::new(files, fail);
     top(rt, alloc, &WORDS, &mut inputs, sink, &OpenGate).status
 }

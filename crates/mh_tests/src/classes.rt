@@ -236,12 +236,7 @@ fn inputs(alloc: Global, row: &ClassRun) -> Result<MemoryInputs, Fail> {
     add_text(alloc, &mut files, "leaves.txt", row.leaves)?;
     add_text(alloc, &mut files, "scripts.txt", row.scripts)?;
     add_text(alloc, &mut files, "plan.txt", row.plan)?;
-    Ok(MemoryInputs {
-        files,
-        fail: Vec::new(alloc),
-        calls: 0,
-        faults: 0,
-    })
+    Ok(MemoryInputs::new(files, Vec::new(alloc)))
 }
 
 /// Whether a run has its status and its text.
@@ -450,12 +445,7 @@ fn usage<'a, R: Threads + Wait + Sync>(
     alloc: Global,
     words: &'a [&'a str],
 ) -> Result<bool, Fail> {
-    let mut inputs = MemoryInputs {
-        files: BTreeMap::new(alloc),
-        fail: Vec::new(alloc),
-        calls: 0,
-        faults: 0,
-    };
+    let mut inputs = MemoryInputs::new(BTreeMap::new(alloc), Vec::new(alloc));
     let mut sink = MemorySink {
         bytes: Vec::new(alloc),
         fail: Vec::new(alloc),

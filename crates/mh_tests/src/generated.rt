@@ -15,12 +15,7 @@ fn holds<R: Threads + Wait + Sync>(
     alloc: Global,
     row: &Generated,
 ) -> Result<bool, AllocError> {
-    let mut inputs = MemoryInputs {
-        files: BTreeMap::new(alloc),
-        fail: Vec::new(alloc),
-        calls: 0,
-        faults: 0,
-    };
+    let mut inputs = MemoryInputs::new(BTreeMap::new(alloc), Vec::new(alloc));
     let mut sink = sink(alloc, row.writes)?;
     let words = ["--mode=gen", "--number", row.number];
     let answer = top(rt, alloc, &words, &mut inputs, &mut sink, &OpenGate);

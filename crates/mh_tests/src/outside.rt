@@ -15,26 +15,22 @@ fn five_bytes(alloc: Global) -> Result<MemoryInputs, Fail> {
     let name = String::from_str(alloc, "five")?;
     let bytes = Vec::from_slice(alloc, b"bytes")?;
     files.insert(name, bytes)?;
-    Ok(MemoryInputs {
-        files,
-        fail: Vec::new(alloc),
-        calls: 0,
-        faults: 0,
-    })
+    Ok(MemoryInputs::new(files, Vec::new(alloc)))
 }
 
-/// How many bytes of the file are read with a limit.
-fn read_len(alloc: Global, limit: usize) -> Result<Result<usize, ReadWhole>, Fail> {
+/// How many bytes of the file are read with a limit, and up to which place they were asked for.
+fn read_len(alloc: Global, limit: usize) -> Result<(Result<usize, ReadWhole>, u64), Fail> {
     let mut inputs = five_bytes(alloc)?;
-    Ok(read_whole(alloc, &mut inputs, "five", limit).map(|v| v.len()))
+    let len = read_whole(alloc, &mut inputs, "five", limit).map(|v| v.len());
+    Ok((len, inputs.reached))
 }
 
 #[test]
 fn reads_up_to_the_limit(rt: HostRuntime) -> Result<(), Fail> {
     for (limit, want) in [
-        (5, Ok(5)),
-        (4, Err(ReadWhole::TooLong)),
-        (usize::MAX, Ok(5)),
+        (5, (Ok(5), 6)),
+        (4, (Err(ReadWhole::TooLong), 5)),
+        (usize::MAX, (Ok(5), 16_389)),
     ] {
         assert!(rt; read_len(rt.alloc(), limit)? == want, "limit {limit}");
     }
@@ -104,13 +100,13 @@ fn both_recorded_after<R: Threads>(rt: &R, gate: &TestGate) -> (u64, u64) {
 
 #[test]
 fn a_test_gate_lets_thread_1_record_before_thread_0(rt: HostRuntime) {
-    let gate = TestGate::new();
-    assert!(rt; both_recorded_after(&rt, &gate) == (1, 0) && !gate.gave_up());
+    let gate = TestGate::default();
+    assert!(rt; both_recorded_after(&rt, &gate) == (1, 0) && !gate.gave_up.load(Ordering::SeqCst));
 }
 
 #[test]
 fn a_test_gate_lets_other_threads_pass(rt: HostRuntime) {
-    let gate = TestGate::new();
+    let gate = TestGate::default();
     let count = AtomicU64::new(0);
-    assert!(rt; recorded_after(&gate, &count, 2) == 0 && !gate.gave_up());
+    assert!(rt; recorded_after(&gate, &count, 2) == 0 && !gate.gave_up.load(Ordering::SeqCst));
 }

@@ -10,6 +10,7 @@ use mh_outside::{Gate, MemoryInputs, MemorySink, OpenGate, TestGate};
 use std::alloc::{AllocError, Global};
 use std::collections::BTreeMap;
 use std::sync::Wait;
+use std::sync::atomic::Ordering;
 use std::test::Fail;
 use std::thread::Threads;
 
@@ -108,12 +109,7 @@ fn run<R: Threads + Wait + Sync, G: Gate + Sync>(
     input: &Input<'_>,
     gate: &G,
 ) -> Result<(TopAnswer, Vec<u8>), Fail> {
-    let mut inputs = MemoryInputs {
-        files: files(alloc, input)?,
-        fail: Vec::new(alloc),
-        calls: 0,
-        faults: 0,
-    };
+    let mut inputs = MemoryInputs::new(files(alloc, input)?, Vec::new(alloc));
     let mut sink = MemorySink {
         bytes: Vec::new(alloc),
         fail: Vec::new(alloc),
@@ -212,14 +208,14 @@ fn is_won_by_thread_1<R: Threads + Wait + Sync>(
     alloc: Global,
     race: &Race,
 ) -> Result<bool, Fail> {
-    let gate = TestGate::new();
+    let gate = TestGate::default();
     let input = Input {
         sites: 1,
         lines: race.lines,
         plan: "thread\nindy 0\nthread\nindy 0\n",
     };
     let (answer, bytes) = run(rt, alloc, &input, &gate)?;
-    let ended = answer.status == DONE && !gate.gave_up();
+    let ended = answer.status == DONE && !gate.gave_up.load(Ordering::SeqCst);
     Ok(ended && is_either(&answer, bytes.as_slice(), race))
 }
 

@@ -63,12 +63,7 @@ pub(crate) fn inputs(
     add_file(alloc, &mut files, "leaves.txt", leaves)?;
     add_file(alloc, &mut files, "scripts.txt", "")?;
     add_file(alloc, &mut files, "plan.txt", plan)?;
-    Ok(MemoryInputs {
-        files,
-        fail: Vec::from_slice(alloc, fail)?,
-        calls: 0,
-        faults: 0,
-    })
+    Ok(MemoryInputs::new(files, Vec::from_slice(alloc, fail)?))
 }
 
 /// An empty sink, of which the writes of these numbers fail.

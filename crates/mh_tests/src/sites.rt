@@ -74,12 +74,7 @@ fn list<'a, R: Threads + Wait + Sync>(
     alloc: Global,
     words: &'a [&'a str],
 ) -> Result<(u8, Vec<u8>), Fail> {
-    let mut inputs = MemoryInputs {
-        files: class_files(alloc)?,
-        fail: Vec::new(alloc),
-        calls: 0,
-        faults: 0,
-    };
+    let mut inputs = MemoryInputs::new(class_files(alloc)?, Vec::new(alloc));
     let mut sink = MemorySink {
         bytes: Vec::new(alloc),
         fail: Vec::new(alloc),

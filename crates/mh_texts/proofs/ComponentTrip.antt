@@ -17,19 +17,19 @@ use Rattle.mh_values.specs.Grammar.{type_fault}
 use Rattle.mh_values.proofs.NamedType as named
 use Rattle.mh_values.proofs.TypeSpelling.{is_name, is_name_byte}
 use Rattle.mh_texts.specs.Literal.{component_of}
-use Rattle.mh_texts.specs.Printed.{name_text, component_text}
-use Rattle.mh_texts.specs.Writable.{is_plain, IsPlainClass, IsWritableComponent}
+use Rattle.mh_texts.specs.Printed.{name_text, printed_component}
+use Rattle.mh_texts.specs.Writable.{is_unescaped, IsPlainClass, IsWritableComponent}
 use Rattle.mh_base.proofs.Cuts.{Lacks, Lacks-append, front_of}
 use Rattle.mh_texts.proofs.NameTrip.{plain_byte, plain_lacks, class_text_is}
 
-plain_is_name_byte : (name : List ℕ) → list_all is_plain name ≡ true → list_all is_name_byte name ≡ true
+plain_is_name_byte : (name : List ℕ) → list_all is_unescaped name ≡ true → list_all is_name_byte name ≡ true
 plain_is_name_byte [] plain = refl
 plain_is_name_byte (b ∷ bs) plain =
-    let parts = and_parts (is_plain b) (list_all is_plain bs) plain in
+    let parts = and_parts (is_unescaped b) (list_all is_unescaped bs) plain in
     let byte = plain_byte b parts.0 in
     and_from _ _ (and_from _ _ (ap not byte.no_end) (ap not (or_from _ _ byte.no_dot byte.no_bracket))) (plain_is_name_byte bs parts.1)
 
-plain_is_name : (name : List ℕ) → 0 < length name → list_all is_plain name ≡ true → is_name name ≡ true
+plain_is_name : (name : List ℕ) → 0 < length name → list_all is_unescaped name ≡ true → is_name name ≡ true
 plain_is_name [] some plain = absurd (omega (arith, some))
 plain_is_name (b ∷ bs) some plain = plain_is_name_byte (b ∷ bs) plain
 
@@ -46,14 +46,14 @@ named_type classes c sound is =
     (sound.ordered.distinct c is.listed)
 
 pub component_trip : (classes : List Class) (c : Comp) → AreClasses classes → IsWritableComponent classes c →
-    component_of (type_desc classes (component_text classes c)) ≡ Some c
+    component_of (type_desc classes (printed_component classes c)) ≡ Some c
 component_trip classes (comp.Prim primitive.Z) sound is = refl
 component_trip classes (comp.Prim primitive.I) sound is = refl
 component_trip classes (comp.Prim primitive.J) sound is = refl
 component_trip classes (comp.Class c) sound is =
     ap (λ name. component_of (type_desc classes (76 ∷ (name ++ 59 ∷ [])))) (class_text_is classes c is) ∙ ap component_of (named_type classes c sound is)
 
-pub no_bracket : (classes : List Class) (c : Comp) → IsWritableComponent classes c → Lacks 91 (component_text classes c)
+pub no_bracket : (classes : List Class) (c : Comp) → IsWritableComponent classes c → Lacks 91 (printed_component classes c)
 no_bracket classes (comp.Prim primitive.Z) is = (refl, tt)
 no_bracket classes (comp.Prim primitive.I) is = (refl, tt)
 no_bracket classes (comp.Prim primitive.J) is = (refl, tt)

@@ -14,7 +14,8 @@ use Rattle.mh_values.specs.Classes.{AreClasses, class_named}
 use Rattle.mh_values.specs.Exception.{bare}
 use Rattle.mh_texts.specs.Literal.{has_own_literal, if_object, object_of, if_exception, item_of}
 use Rattle.mh_texts.specs.Number.{is_long, unsigned_of}
-use Rattle.mh_texts.specs.Printed.{name_text, bool_text, item_text}
+use Rattle.mh_texts.specs.LiteralText.{bool_text}
+use Rattle.mh_texts.specs.Printed.{name_text, item_text}
 use Rattle.mh_texts.specs.Characters.{is_graphic}
 use Rattle.mh_texts.specs.Escapes.{hex_value}
 use Rattle.mh_texts.specs.Text.{escaped_char, escaped}

@@ -1,13 +1,16 @@
 mod ArrayTrip
 mod CommaCuts
 mod ComponentTrip
-mod Cuts
+pub mod Cuts
 mod HexTrip
-mod Inversion
+pub mod Inversion
 mod ItemTrip
 mod Literals
+pub mod LiteralAgain
+mod LiteralBytes
+pub mod LiteralGraphic
 mod NameTrip
-mod NumberTrip
+pub mod NumberTrip
 mod Numbers
 mod PrintedBack
 mod Printing
@@ -16,9 +19,10 @@ mod SpelledDigits
 mod SpelledArrays
 mod SpelledComponents
 mod SpelledItems
-mod SpelledNumbers
+pub mod SpelledNumbers
 mod SpelledObjects
 mod SpelledRead
 mod SpelledText
 pub mod SpelledValues
 mod TextTrip
+pub mod WithinLimits

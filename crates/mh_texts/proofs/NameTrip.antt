@@ -10,7 +10,7 @@ use Rattle.mh_values.specs.Classes.{AreClasses, class_named, name_of}
 use Rattle.mh_texts.specs.Printed.{name_text}
 use Rattle.mh_texts.specs.Characters.{is_graphic}
 use Rattle.mh_texts.specs.Text.{escaped_char, escaped}
-use Rattle.mh_texts.specs.Writable.{is_plain, IsPlainClass}
+use Rattle.mh_texts.specs.Writable.{is_unescaped, IsPlainClass}
 use Rattle.mh_texts.proofs.TextTrip.{printed_by}
 
 -- ---- plain names
@@ -23,7 +23,7 @@ pub record IsPlainByte (b : ℕ) : Type 0 where
   pub no_end : (b == 59) ≡ false
   pub no_dot : (b == 46) ≡ false
 
-pub plain_byte : (b : ℕ) → is_plain b ≡ true → IsPlainByte b
+pub plain_byte : (b : ℕ) → is_unescaped b ≡ true → IsPlainByte b
 plain_byte b plain =
     let parts = and_parts (is_graphic b) _ plain in
     let low : 33 ≤ b = leb-true 33 b (and_parts _ _ parts.0).0 in
@@ -47,10 +47,10 @@ plain_byte b plain =
       no_dot = dot.1;
     }
 
-pub plain_name : (name : List ℕ) → list_all is_plain name ≡ true → escaped name ≡ name
+pub plain_name : (name : List ℕ) → list_all is_unescaped name ≡ true → escaped name ≡ name
 plain_name [] plain = refl
 plain_name (b ∷ bs) plain =
-    let parts = and_parts (is_plain b) (list_all is_plain bs) plain in
+    let parts = and_parts (is_unescaped b) (list_all is_unescaped bs) plain in
     flat_map-cons escaped_char b bs ∙ ap (λ t. t ++ escaped bs) (plain_byte b parts.0).as_itself ∙ ap (λ t. b ∷ t) (plain_name bs parts.1)
 
 -- what a plain name lacks
@@ -59,10 +59,10 @@ pub record LacksAll (name : List ℕ) : Type 0 where
   pub numbers : Lacks 35 name
   pub brackets : Lacks 91 name
 
-pub plain_lacks : (name : List ℕ) → list_all is_plain name ≡ true → LacksAll name
+pub plain_lacks : (name : List ℕ) → list_all is_unescaped name ≡ true → LacksAll name
 plain_lacks [] plain = record { commas = tt; numbers = tt; brackets = tt }
 plain_lacks (b ∷ bs) plain =
-    let parts = and_parts (is_plain b) (list_all is_plain bs) plain in
+    let parts = and_parts (is_unescaped b) (list_all is_unescaped bs) plain in
     let byte = plain_byte b parts.0 in
     let more = plain_lacks bs parts.1 in
     record { commas = (byte.no_comma, more.commas); numbers = (byte.no_number, more.numbers); brackets = (byte.no_bracket, more.brackets) }

@@ -9,7 +9,7 @@ use Rattle.std.specs.Str.{bytes_eq}
 use Rattle.std.specs.Str.Parse.{AllDigits, digits_value, signed_digits_value, without_leading_plus}
 use Rattle.mh_texts.specs.Literal.{bool_of}
 use Rattle.mh_texts.specs.Number.{is_long, is_int, long_of, if_int, int_of, unsigned_of}
-use Rattle.mh_texts.specs.Printed.{bool_text}
+use Rattle.mh_texts.specs.LiteralText.{bool_text}
 
 -- digits begin neither with a plus nor with a minus
 no_sign : (ds : List ℕ) (sign : ℕ) → sign < 48 → 0 < length ds → AllDigits 10 ds → (get_or ds 0 0 == sign) ≡ false

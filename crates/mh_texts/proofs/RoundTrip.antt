@@ -14,7 +14,7 @@ use Rattle.mh_values.specs.Array.{value_of_item}
 use Rattle.mh_values.specs.Classes.{AreClasses}
 use Rattle.mh_values.specs.Descriptor.{type_desc}
 use Rattle.mh_texts.specs.Literal.{component_of, listed, if_few, unclosed, array_of_literal, literal_of}
-use Rattle.mh_texts.specs.Printed.{component_text, items_text, value_text, shown_value}
+use Rattle.mh_texts.specs.Printed.{printed_component, items_text, value_text, shown_value}
 use Rattle.mh_texts.specs.Writable.{IsWritableArray, IsWritable, bare_item, bare_value}
 use Rattle.mh_texts.proofs.ItemTrip.{item_trip}
 use Rattle.mh_base.proofs.Cuts.{cut_found, front_of, drop_front}
@@ -31,16 +31,17 @@ unclosed_trip inside =
     ap (λ t. if t then Some (take (length (inside ++ 93 ∷ []) - 1) (inside ++ 93 ∷ [])) else None) last
     ∙ ap (λ n. Some (take n (inside ++ 93 ∷ []))) long ∙ ap Some (front_of inside (93 ∷ []))
 
-array_parts : (front items : List ℕ) → ((front ++ codes "[") ++ items) ++ codes "]" ≡ front ++ 91 ∷ (items ++ 93 ∷ [])
+pub array_parts : (front items : List ℕ) → ((front ++ codes "[") ++ items) ++ codes "]" ≡ front ++ 91 ∷ (items ++ 93 ∷ [])
 array_parts front items = append_assoc (front ++ codes "[") items (codes "]") ∙ append_assoc front (codes "[") (items ++ codes "]")
 
 array_trip : (classes : List Class) (c : Comp) (items : List Cell) → AreClasses classes → IsWritableArray classes c items →
-    array_of_literal classes (((component_text classes c ++ codes "[") ++ items_text classes items) ++ codes "]") ≡ Some (value.Array c (map bare_item items))
+    array_of_literal classes (((printed_component classes c ++ codes "[") ++ items_text classes items) ++ codes "]") ≡ Some
+    (value.Array c (map bare_item items))
 array_trip classes c items sound is =
     let few : nat_le (length (map bare_item items)) 254 ≡ true = le-leb _ _ (subst (λ n. n ≤ 254) (sym (length-map items bare_item)) is.few) in
-    ap (array_of_literal classes) (array_parts (component_text classes c) (items_text classes items))
+    ap (array_of_literal classes) (array_parts (printed_component classes c) (items_text classes items))
     ∙ ap (option_and_then (λ parts. option_and_then (λ d. option_and_then (λ inside. option_and_then (if_few d) (listed classes d inside)) (unclosed parts.1))
-    (component_of (type_desc classes parts.0)))) (cut_found 91 (component_text classes c) (items_text classes items ++ 93 ∷ [])
+    (component_of (type_desc classes parts.0)))) (cut_found 91 (printed_component classes c) (items_text classes items ++ 93 ∷ [])
     (no_bracket classes c is.component))
     ∙ ap (option_and_then (λ d. option_and_then (λ inside. option_and_then (if_few d) (listed classes d inside))
     (unclosed (items_text classes items ++ 93 ∷ [])))) (component_trip classes c sound is.component)

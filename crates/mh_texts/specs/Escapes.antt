@@ -1,5 +1,7 @@
 -- How the reader of a text goes from byte to byte; what a text is read as is said in Characters, without a reader.
 use Rattle.std.specs.Prelude.{ℕ, ◌+◌, ◌-◌, ◌*◌, ◌==◌, nat_le, nat_lt, Bool, true, false, ◌&&◌, if◌then◌else◌, List, [], ◌∷◌, length, Option, None, Some, option_map, option_and_then}
+use Rattle.mh_base.specs.Ascii.{backslash, comma, digit_0, digit_9, left_brace, line_feed, right_brace, small_a, small_c, small_f, small_n, small_s, small_u, space}
+use Rattle.mh_values.specs.ValueLimits.{most_characters}
 use Rattle.mh_texts.specs.declared.escape.Escape.{Escape}
 use Rattle.mh_texts.specs.declared.escape.Escape.TheVariants as escape
 use Rattle.mh_texts.specs.Characters.{is_graphic, is_scalar}
@@ -7,8 +9,8 @@ use Rattle.mh_texts.specs.Characters.{is_graphic, is_scalar}
 -- the value of a lower-case hexadecimal digit
 abbrev pub hex_value : ℕ → Option ℕ
 hex_value b =
-    if nat_le 48 b && nat_le b 57 then Some (b - 48)
-    else (if nat_le 97 b && nat_le b 102 then Some (b - 87) else None)
+    if nat_le digit_0 b && nat_le b digit_9 then Some (b - digit_0)
+    else (if nat_le small_a b && nat_le b small_f then Some (b - 87) else None)
 
 -- a number, where it is a character
 abbrev pub scalar : ℕ → Option ℕ
@@ -25,11 +27,11 @@ goes_on e = Some (e, None)
 -- after a backslash: `\s` is a space, `\c` a comma, `\n` LF, `\\` a backslash, and `\u` begins a number
 abbrev pub after_backslash : ℕ → Option (Escape × Option ℕ)
 after_backslash b =
-    if b == 115 then whole 32
-    else (if b == 99 then whole 44
-    else (if b == 110 then whole 10
-    else (if b == 92 then whole 92
-    else (if b == 117 then goes_on escape.Code else None))))
+    if b == small_s then whole space
+    else (if b == small_c then whole comma
+    else (if b == small_n then whole line_feed
+    else (if b == backslash then whole backslash
+    else (if b == small_u then goes_on escape.Code else None))))
 
 -- a digit more in `\u{..}`: at most six, and no number above 10FFFF
 abbrev pub one_digit_more : ℕ → ℕ → ℕ → Option (Escape × Option ℕ)
@@ -39,14 +41,14 @@ one_digit_more count value digit =
 -- within the braces of `\u{..}`: the closing one comes after one digit or more
 abbrev pub within_braces : ℕ → ℕ → ℕ → Option (Escape × Option ℕ)
 within_braces count value b =
-    if b == 125 then (if nat_lt 0 count then option_and_then whole (scalar value) else None)
+    if b == right_brace then (if nat_lt 0 count then option_and_then whole (scalar value) else None)
     else option_and_then (one_digit_more count value) (hex_value b)
 
 -- one byte more of a text: what then goes on, and the character that it ends
 abbrev pub step : Escape → ℕ → Option (Escape × Option ℕ)
-step escape.Outside b = if b == 92 then goes_on escape.Backslash else (if is_graphic b then whole b else None)
+step escape.Outside b = if b == backslash then goes_on escape.Backslash else (if is_graphic b then whole b else None)
 step escape.Backslash b = after_backslash b
-step escape.Code b = if b == 123 then goes_on (escape.Digits 0 0) else None
+step escape.Code b = if b == left_brace then goes_on (escape.Digits 0 0) else None
 step (escape.Digits count value) b = within_braces count value b
 
 -- a character, if there is one, before others
@@ -64,9 +66,9 @@ abbrev pub characters_from : Escape → List ℕ → Option (List ℕ)
 characters_from e [] = if is_outside e then Some [] else None
 characters_from e (b ∷ bs) = option_and_then (λ s. option_map (in_front s.1) (characters_from s.0 bs)) (step e b)
 
--- a text of at most 4,096 characters
+-- a text, where it is not too long
 abbrev pub if_short : List ℕ → Option (List ℕ)
-if_short cs = if nat_le (length cs) 4096 then Some cs else None
+if_short cs = if nat_le (length cs) most_characters then Some cs else None
 
 -- the characters that are written so
 abbrev pub text_of : List ℕ → Option (List ℕ)

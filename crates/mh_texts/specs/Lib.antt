@@ -1,6 +1,7 @@
 pub mod Characters
 pub mod Escapes
 pub mod Literal
+pub mod LiteralText
 pub mod Number
 pub mod Printed
 pub mod ReadsBack

@@ -2,6 +2,7 @@
 use Rattle.std.specs.Prelude.{◌≡◌, ℕ, ◌+◌, ◌-◌, ◌==◌, nat_le, Bool, true, false, ◌&&◌, ◌||◌, if◌then◌else◌, List, [], ◌∷◌, codes, length, take, drop, Option, None, Some, Result, Ok, Err, option_map, option_and_then}
 use Rattle.std.specs.List.{slice_split}
 use Rattle.std.specs.Str.{bytes_eq}
+use Rattle.mh_base.specs.Ascii.{colon, comma, left_bracket, number_sign, small_a, small_i, small_j, small_o, small_s, small_x, small_z}
 use Rattle.mh_base.specs.Lines.{cut_at}
 use Rattle.mh_values.specs.declared.class.Class.{Class}
 use Rattle.mh_values.specs.declared.class.ClassId.{ClassId}
@@ -22,6 +23,7 @@ use Rattle.mh_values.specs.Classes.{class_named}
 use Rattle.mh_values.specs.Descriptor.{type_desc}
 use Rattle.mh_values.specs.Exception.{bare}
 use Rattle.mh_values.specs.HasType.{is_item_of}
+use Rattle.mh_values.specs.ValueLimits.{most_items}
 use Rattle.mh_texts.specs.declared.literal.LiteralError.{LiteralError}
 use Rattle.mh_texts.specs.declared.literal.LiteralError.TheVariants as literal_error
 use Rattle.mh_texts.specs.Number.{int_of, long_of, unsigned_of}
@@ -36,9 +38,9 @@ bool_of text = if bytes_eq text (codes "true") then Some true else (if bytes_eq 
 -- a number of the primitive type whose letter, in lower case, stands before it
 abbrev pub number_of : ℕ → List ℕ → Option Num
 number_of letter text =
-    if letter == 122 then option_map num.Z (bool_of text)
-    else (if letter == 105 then option_map num.I (int_of text)
-    else (if letter == 106 then option_map num.J (long_of text) else None))
+    if letter == small_z then option_map num.Z (bool_of text)
+    else (if letter == small_i then option_map num.I (int_of text)
+    else (if letter == small_j then option_map num.J (long_of text) else None))
 
 -- ---- objects and exceptions
 
@@ -54,7 +56,7 @@ if_object classes k c = if has_own_literal classes c then None else Some (cell.O
 abbrev pub object_of : List Class → List ℕ → Option Cell
 object_of classes text =
     option_and_then (λ parts.
-    option_and_then (λ c. option_and_then (λ k. if_object classes k c) (unsigned_of parts.1)) (class_named classes parts.0)) (cut_at 35 text)
+    option_and_then (λ c. option_and_then (λ k. if_object classes k c) (unsigned_of parts.1)) (class_named classes parts.0)) (cut_at number_sign text)
 
 -- an exception of a class, with an empty message
 abbrev pub if_exception : List Class → ClassId → Option Cell
@@ -69,10 +71,10 @@ exception_of classes text = option_and_then (if_exception classes) (class_named 
 -- what stands after a letter and a colon: `z i j` are numbers, `Z I J` boxed ones, `s` is a text, `o` an object, `x` an exception
 abbrev pub tagged : List Class → ℕ → List ℕ → Option Cell
 tagged classes letter text =
-    if letter == 115 then option_map cell.Text (text_of text)
-    else (if letter == 111 then object_of classes text
-    else (if letter == 120 then exception_of classes text
-    else (if nat_le 97 letter then option_map cell.Prim (number_of letter text)
+    if letter == small_s then option_map cell.Text (text_of text)
+    else (if letter == small_o then object_of classes text
+    else (if letter == small_x then exception_of classes text
+    else (if nat_le small_a letter then option_map cell.Prim (number_of letter text)
     else option_map cell.Boxed (number_of (letter + 32) text))))
 
 -- a literal that is no array
@@ -80,7 +82,7 @@ abbrev pub item_of : List Class → List ℕ → Option Cell
 item_of classes [] = None
 item_of classes (b ∷ []) = None
 item_of classes (letter ∷ b ∷ text) =
-    if b == 58 then tagged classes letter text
+    if b == colon then tagged classes letter text
     else (if bytes_eq (letter ∷ b ∷ text) (codes "null") then Some cell.Null else None)
 
 -- ---- arrays
@@ -105,11 +107,11 @@ items_of classes component (text ∷ texts) =
 -- the items between the brackets; commas separate them
 abbrev pub listed : List Class → Comp → List ℕ → Option (List Cell)
 listed classes component [] = Some []
-listed classes component (b ∷ bs) = items_of classes component (slice_split (λ c. c == 44) (b ∷ bs))
+listed classes component (b ∷ bs) = items_of classes component (slice_split (λ c. c == comma) (b ∷ bs))
 
 -- at most 254 items
 abbrev pub if_few : Comp → List Cell → Option Value
-if_few component items = if nat_le (length items) 254 then Some (value.Array component items) else None
+if_few component items = if nat_le (length items) most_items then Some (value.Array component items) else None
 
 -- a text that ends with `]`, without it
 abbrev pub unclosed : List ℕ → Option (List ℕ)
@@ -121,7 +123,7 @@ array_of_literal classes text =
     option_and_then (λ parts.
     option_and_then (λ component.
     option_and_then (λ inside. option_and_then (if_few component) (listed classes component inside)) (unclosed parts.1))
-    (component_of (type_desc classes parts.0))) (cut_at 91 text)
+    (component_of (type_desc classes parts.0))) (cut_at left_bracket text)
 
 -- ---- values
 

@@ -19,12 +19,13 @@ use Rattle.mh_values.specs.Exception.{bare}
 use Rattle.mh_values.specs.HasType.{is_item_of}
 use Rattle.mh_values.specs.Spelling.{is_name_byte}
 use Rattle.mh_values.specs.TypeText.{primitive_text}
+use Rattle.mh_values.specs.ValueLimits.{most_items}
 use Rattle.mh_texts.specs.declared.literal.LiteralError.{LiteralError}
 use Rattle.mh_texts.specs.declared.literal.LiteralError.TheVariants as literal_error
 use Rattle.mh_texts.specs.Characters.{SpellsText}
 use Rattle.mh_texts.specs.Literal.{has_own_literal}
 use Rattle.mh_texts.specs.Number.{is_int, is_long}
-use Rattle.mh_texts.specs.Printed.{bool_text}
+use Rattle.mh_texts.specs.LiteralText.{bool_text}
 
 -- a text without a byte
 abbrev pub Lacks : ℕ → List ℕ → Type 0
@@ -134,7 +135,7 @@ pub record SpellsArray (classes : List Class) (component : Comp) (items : List C
   pub is : text ≡ front ++ (codes "[" ++ (inside ++ codes "]"))
   pub type : SpellsComponent classes front component
   pub items_are : SpellsItems classes component inside items
-  pub few : length items ≤ 254
+  pub few : length items ≤ most_items
 
 -- ---- values
 

@@ -1,6 +1,7 @@
 -- Texts as they are printed, with escapes.
 use Rattle.std.specs.Prelude.{ℕ, ◌==◌, nat_le, false, if◌then◌else◌, List, [], ◌∷◌, ◌++◌, codes, length, take, flat_map}
 use Rattle.std.specs.Fmt.{digits}
+use Rattle.mh_base.specs.Ascii.{backslash, comma, line_feed, space}
 use Rattle.mh_texts.specs.Characters.{is_graphic}
 
 -- how a character is printed by its number
@@ -10,10 +11,10 @@ numbered_char c = codes "\\u{" ++ digits 16 false c ++ codes "}"
 -- how a character is printed: by its own escape, as itself, or by its number
 abbrev pub escaped_char : ℕ → List ℕ
 escaped_char c =
-    if c == 32 then codes "\\s"
-    else (if c == 44 then codes "\\c"
-    else (if c == 10 then codes "\\n"
-    else (if c == 92 then codes "\\\\"
+    if c == space then codes "\\s"
+    else (if c == comma then codes "\\c"
+    else (if c == line_feed then codes "\\n"
+    else (if c == backslash then codes "\\\\"
     else (if is_graphic c then c ∷ [] else numbered_char c))))
 
 -- how characters are printed

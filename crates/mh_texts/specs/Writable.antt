@@ -1,6 +1,7 @@
 -- Values that a literal can write, and what is left of them there.
 use Rattle.std.specs.Prelude.{◌≡◌, ℕ, ◌<◌, ◌≤◌, ◌^◌, ◌==◌, Bool, false, not, ◌&&◌, ◌||◌, List, [], ◌∷◌, length, map, Some, IsTrue}
 use Rattle.std.specs.List.{list_all}
+use Rattle.mh_base.specs.Ascii.{backslash, comma, full_stop, left_bracket, number_sign, semicolon}
 use Rattle.mh_values.specs.declared.class.Class.{Class}
 use Rattle.mh_values.specs.declared.class.ClassId.{ClassId}
 use Rattle.mh_values.specs.declared.types.Comp.{Comp}
@@ -15,20 +16,21 @@ use Rattle.mh_values.specs.Class.{is_subclass, throwable_class}
 use Rattle.mh_values.specs.Classes.{name_of}
 use Rattle.mh_values.specs.Exception.{bare}
 use Rattle.mh_values.specs.HasType.{are_items_of}
+use Rattle.mh_values.specs.ValueLimits.{most_characters, most_items}
 use Rattle.mh_texts.specs.Literal.{has_own_literal}
 use Rattle.mh_texts.specs.Number.{is_int, is_long}
 use Rattle.mh_texts.specs.Characters.{is_graphic}
 use Rattle.mh_texts.specs.Escapes.{scalar}
 
 -- a byte of a class name that needs no escape and ends no part of a literal: none of `\ , # [ ; .`
-abbrev pub is_plain : ℕ → Bool
-is_plain b = is_graphic b && not (b == 92 || b == 44 || b == 35 || b == 91 || b == 59 || b == 46)
+abbrev pub is_unescaped : ℕ → Bool
+is_unescaped b = is_graphic b && not (b == backslash || b == comma || b == number_sign || b == left_bracket || b == semicolon || b == full_stop)
 
 -- a class of the list whose name has only such bytes
 pub record IsPlainClass (classes : List Class) (c : ClassId) : Type 0 where
   pub listed : c.0 < length classes
   pub named : 0 < length (name_of classes c)
-  pub plain : IsTrue (list_all is_plain (name_of classes c))
+  pub plain : IsTrue (list_all is_unescaped (name_of classes c))
 
 -- a number within its type
 abbrev pub IsWithinType : Num → Type 0
@@ -45,7 +47,7 @@ AreScalars (c ∷ cs) = (scalar c ≡ Some c) × AreScalars cs
 abbrev pub IsWritableItem : List Class → Cell → Type 0
 IsWritableItem classes (cell.Prim n) = IsWithinType n
 IsWritableItem classes (cell.Boxed n) = IsWithinType n
-IsWritableItem classes (cell.Text s) = AreScalars s × (length s ≤ 4096)
+IsWritableItem classes (cell.Text s) = AreScalars s × (length s ≤ most_characters)
 IsWritableItem classes (cell.Object c k) = IsPlainClass classes c × (has_own_literal classes c ≡ false) × (k < 2 ^ 32)
 IsWritableItem classes (cell.Thrown e) = IsPlainClass classes e.class × IsTrue (is_subclass classes e.class throwable_class)
 IsWritableItem classes cell.Null = Unit {0}
@@ -64,7 +66,7 @@ IsWritableComponent classes (comp.Class c) = IsPlainClass classes c
 pub record IsWritableArray (classes : List Class) (c : Comp) (items : List Cell) : Type 0 where
   pub component : IsWritableComponent classes c
   pub typed : IsTrue (are_items_of classes c items)
-  pub few : length items ≤ 254
+  pub few : length items ≤ most_items
   pub each : AreWritable classes items
 
 -- a value that a literal can write

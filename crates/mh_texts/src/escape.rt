@@ -5,11 +5,8 @@ ghost use Rattle.mh_texts.specs.Escapes.{hex_value, after_backslash, one_digit_m
 
 use crate::LiteralError;
 use mh_base::{Frozen, Seq};
-use mh_values::Str;
+use mh_values::{MOST_CHARACTERS, Str};
 use std::alloc::Global;
-
-/// How many characters a text has at most.
-const MOST_CHARACTERS: usize = 4096;
 
 /// How far an escape was read in a text.
 #[derive(Clone, Copy)]

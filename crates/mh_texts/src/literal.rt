@@ -1,20 +1,21 @@
-ghost use Rattle.std.specs.Prelude.{◌≡◌, map};
+ghost use Rattle.std.specs.Prelude.{◌≡◌, map, Some, IfOk};
 ghost use Rattle.std.specs.Option.{option_copied};
 ghost use Rattle.mh_values.specs.Array.{value_of_item};
 ghost use Rattle.mh_values.specs.Descriptor.{type_desc};
+ghost use Rattle.mh_values.specs.ValueLimits.{IsValueWithinLimits};
 ghost use Rattle.mh_texts.specs.Literal.{bool_of, number_of, has_own_literal, object_of, exception_of, tagged, item_of, component_of, items_of, listed, unclosed, array_of_literal, literal_of, TellsLiteral};
+ghost use Rattle.mh_texts.specs.LiteralText.{literal_text};
 ghost use Rattle.mh_texts.specs.Spells.{IsSpelled};
 
 use crate::escape::read_text;
 use crate::number::{read_int, read_long, read_unsigned};
 use mh_base::{Frozen, NoMemory, Seq, split_at_byte, split_once};
-use mh_values::{Cell, Cells, ClassId, Classes, Comp, Exc, Num, Ty, Value, is_item_of, read_type};
+use mh_values::{
+    Cell, Cells, ClassId, Classes, Comp, Exc, MOST_ITEMS, Num, Ty, Value, is_item_of, read_type,
+};
 use std::alloc::{AllocError, Global};
 use std::error::Error;
 use std::fmt;
-
-/// How many items an array has at most.
-const MOST_ITEMS: usize = 254;
 
 /// Why a token was not read as a value.
 #[derive(Clone, Copy, Debug, PartialEq, Eq)]
@@ -253,6 +254,9 @@ fn read_value(alloc: Global, classes: &Classes, token: &[u8]) -> Result<Value, L
 pub fn read_literal(alloc: Global, token: &[u8], classes: &Classes) -> Result<Value, LiteralError>
     ensures spelled { IsSpelled classes.now token.now result }
     ensures tells { TellsLiteral result (literal_of classes.now token.now) }
+    ensures limits { IfOk result IsValueWithinLimits }
+    ensures again { IfOk result
+        (λ v. literal_of classes.now (literal_text classes.now v) ≡ Some v) }
 {
     read_value(alloc, classes, token)
 }

@@ -2,7 +2,8 @@ ghost use Rattle.std.specs.Prelude.{◌≡◌, ◌++◌, codes, flat_map, IfOk, 
 ghost use Rattle.std.specs.Fmt.{signed_decimal, decimal};
 ghost use Rattle.mh_values.specs.TypeText.{primitive_text};
 ghost use Rattle.mh_texts.specs.Text.{numbered_char, escaped_char, escaped, cut};
-ghost use Rattle.mh_texts.specs.Printed.{name_text, class_text, component_text, type_text, return_text, method_type_text, bool_text, prim_text, boxed_text, string_text, object_text, exception_text, item_text, items_text, array_text, value_text};
+ghost use Rattle.mh_texts.specs.LiteralText.{bool_text, prim_text, boxed_text, string_text};
+ghost use Rattle.mh_texts.specs.Printed.{name_text, printed_class, printed_component, printed_type, printed_return, printed_method_type, object_text, exception_text, item_text, items_text, array_text, value_text};
 
 use itoa::Buffer;
 use mh_base::NoMemory;
@@ -240,7 +241,7 @@ fn push_primitive(bytes: &mut Vec<u8>, primitive: Primitive) -> Result<(), NoMem
 
 /// Writes a class as a type.
 fn push_class(bytes: &mut Vec<u8>, classes: &Classes, class: ClassId) -> Result<(), NoMemory>
-    ensures { OnOk result (bytes.new.items ≡ bytes.old.items ++ class_text classes.now class) }
+    ensures { OnOk result (bytes.new.items ≡ bytes.old.items ++ printed_class classes.now class) }
 {
     push(bytes, b"L")?;
     push_name(bytes, classes.name(class))?;
@@ -250,7 +251,7 @@ fn push_class(bytes: &mut Vec<u8>, classes: &Classes, class: ClassId) -> Result<
 /// Writes the type of an array's items.
 fn push_component(bytes: &mut Vec<u8>, classes: &Classes, component: Comp) -> Result<(), NoMemory>
     ensures { OnOk result (bytes.new.items
-        ≡ bytes.old.items ++ component_text classes.now component) }
+        ≡ bytes.old.items ++ printed_component classes.now component) }
 {
     match component {
         Comp::Prim(primitive) => push_primitive(bytes, primitive),
@@ -260,7 +261,7 @@ fn push_component(bytes: &mut Vec<u8>, classes: &Classes, component: Comp) -> Re
 
 /// Writes a type.
 fn push_type(bytes: &mut Vec<u8>, classes: &Classes, ty: Ty) -> Result<(), NoMemory>
-    ensures { OnOk result (bytes.new.items ≡ bytes.old.items ++ type_text classes.now ty) }
+    ensures { OnOk result (bytes.new.items ≡ bytes.old.items ++ printed_type classes.now ty) }
 {
     match ty {
         Ty::Prim(primitive) => push_primitive(bytes, primitive),
@@ -275,7 +276,7 @@ fn push_type(bytes: &mut Vec<u8>, classes: &Classes, ty: Ty) -> Result<(), NoMem
 /// Writes types, one after the other.
 fn push_types(bytes: &mut Vec<u8>, classes: &Classes, types: &[Ty]) -> Result<(), NoMemory>
     ensures { OnOk result (bytes.new.items
-        ≡ bytes.old.items ++ flat_map (type_text classes.now) types.now) }
+        ≡ bytes.old.items ++ flat_map (printed_type classes.now) types.now) }
 {
     for ty in types {
         push_type(bytes, classes, *ty)?;
@@ -285,7 +286,7 @@ fn push_types(bytes: &mut Vec<u8>, classes: &Classes, types: &[Ty]) -> Result<()
 
 /// Writes a return type.
 fn push_return(bytes: &mut Vec<u8>, classes: &Classes, ret: Option<Ty>) -> Result<(), NoMemory>
-    ensures { OnOk result (bytes.new.items ≡ bytes.old.items ++ return_text classes.now ret) }
+    ensures { OnOk result (bytes.new.items ≡ bytes.old.items ++ printed_return classes.now ret) }
 {
     match ret {
         Some(ty) => push_type(bytes, classes, ty),
@@ -300,7 +301,7 @@ pub(crate) fn push_method_type(
     ty: &MethodTy,
 ) -> Result<(), NoMemory>
     ensures { OnOk result (bytes.new.items
-        ≡ bytes.old.items ++ method_type_text classes.now ty.now) }
+        ≡ bytes.old.items ++ printed_method_type classes.now ty.now) }
 {
     push(bytes, b"(")?;
     push_types(bytes, classes, ty.params.as_slice())?;

@@ -12,12 +12,9 @@ use std::test::Fail;
 use std::thread;
 use std::thread::Threads;
 
-const MANIFEST: &[u8] = b"class demo/Host java/lang/Object\nstatic demo/Host same (I)I same\n";
-
 /// A manifest of one leaf.
-pub(crate) fn one_leaf(alloc: Global) -> Result<Leaves, NoMemory> {
-    read_manifest(alloc, MANIFEST).map_err(|_| NoMemory)
-}
+pub(crate) const ONE_LEAF: &[u8] =
+    b"class demo/Host java/lang/Object\nstatic demo/Host same (I)I same\n";
 
 /// What threads share that make handles.
 #[derive(Drop, Clone, Copy)]
@@ -82,7 +79,7 @@ fn sent<R: Threads>(rt: &R, handle: Handle<'_>) -> (u64, u64) {
 #[test]
 fn handles_and_forms_go_to_other_threads(rt: HostRuntime) -> Result<(), Fail> {
     let alloc = rt.alloc();
-    let leaves = one_leaf(alloc)?;
+    let leaves = read_manifest(alloc, ONE_LEAF).map_err(|_| NoMemory)?;
     let (types, mut seat) = TypeTable::new(alloc)?;
     let (forms, form_seat) = FormTable::new(alloc)?;
     let mut pass = forms.first_pass(alloc, form_seat)?;
@@ -123,7 +120,7 @@ fn made_beside<'t, R: Threads + Wait + Sync>(
 #[test]
 fn threads_share_a_table_and_a_pass_goes_to_one(rt: HostRuntime) -> Result<(), Fail> {
     let alloc = rt.alloc();
-    let leaves = one_leaf(alloc)?;
+    let leaves = read_manifest(alloc, ONE_LEAF).map_err(|_| NoMemory)?;
     let (types, mut seat) = TypeTable::new(alloc)?;
     let (forms, form_seat) = FormTable::new(alloc)?;
     let pass = forms.first_pass(alloc, form_seat)?;

@@ -1,9 +1,10 @@
 ghost use Rattle.std.specs.Prelude.{◌≡◌, ◌≤◌};
 
-use crate::handles::{Shared, first_leaf, one_leaf};
+use crate::handles::{ONE_LEAF, Shared, first_leaf};
 use mh_base::NoMemory;
 use mh_handle::{FormTable, Handle};
 use mh_intern::TypeTable;
+use mh_leaves::read_manifest;
 use mh_setonce::{Chain, Keyed, Put};
 use std::alloc::Global;
 use std::marker::Model;
@@ -105,7 +106,7 @@ fn put_and_found<R: Threads + Wait>(
 #[test]
 fn linkages_lie_in_a_chain_that_threads_share(rt: HostRuntime) -> Result<(), Fail> {
     let alloc = rt.alloc();
-    let leaves = one_leaf(alloc)?;
+    let leaves = read_manifest(alloc, ONE_LEAF).map_err(|_| NoMemory)?;
     let (types, mut seat) = TypeTable::new(alloc)?;
     let (forms, form_seat) = FormTable::new(alloc)?;
     let mut pass = forms.first_pass(alloc, form_seat)?;

@@ -1,6 +1,11 @@
 pub mod Calls
 pub mod Host
 mod Lengths
+pub mod LimitedLists
+pub mod LimitedMeaning
+pub mod LimitedNodes
+pub mod LimitedRuns
+pub mod LimitedValues
 pub mod Orders
 pub mod OtherCalls
 pub mod Provided

@@ -1,12 +1,13 @@
 -- What conditions and limits tell where a type is given.
 use Rattle.std.proofs.Common.{◌≡◌, refl, Bool, true, false, ℕ, List, Option, Some, None, Result, Ok, Err, nat_le, codes}
+use Rattle.mh_base.specs.Provided.{provided, provided_some}
 use Rattle.mh_values.specs.declared.types.MethodTy.{MethodTy}
 use Rattle.mh_values.specs.declared.value.Exc.{Exc}
 use Rattle.mh_values.specs.declared.value.Value.{Value}
 use Rattle.mh_values.specs.Class.{internal_error_class}
 use Rattle.mh_values.specs.Exception.{saying}
 use Rattle.mh_values.specs.Slots.{slots_of_all}
-use Rattle.mh_tree.specs.Rows.{TypeOrRefusal, illegal, provided, provided_some, provided_fit, limited}
+use Rattle.mh_tree.specs.Rows.{TypeOrRefusal, illegal, provided_fit, limited}
 use Rattle.mh_tree.specs.Typing.{with_type}
 
 pub with_type-parts : (c : TypeOrRefusal) (next : MethodTy → TypeOrRefusal) (t : MethodTy) → with_type c next ≡ Ok t → (u : MethodTy) × (c ≡ Ok u)

@@ -1,7 +1,9 @@
 -- What a row tells that gives a type: its conditions hold, and the type is the one that it makes.
-use Rattle.std.proofs.Common.{◌≡◌, Bool, true, ◌&&◌, ℕ, ◌+◌, ◌-◌, List, [], ◌∷◌, length, replicate, Option, Some, is_some, Ok, nat_lt, codes}
+use Rattle.std.proofs.Common.{◌≡◌, Bool, true, ◌&&◌, ℕ, ◌+◌, ◌-◌, List, [], ◌∷◌, length, replicate, Option, Some, is_some, Ok, nat_lt, nat_le, ◌≤◌, codes, arith}
 use Rattle.std.specs.Prelude.{slice_get}
 use Rattle.std.proofs.lemmas.Bool.{and_parts}
+use Rattle.std.proofs.lemmas.Bool.Decides.{nat_tests}
+use Rattle.mh_base.specs.Provided.{provided}
 use Rattle.mh_values.specs.declared.class.Class.{Class}
 use Rattle.mh_values.specs.declared.class.ClassId.{ClassId}
 use Rattle.mh_values.specs.declared.types.Comp.{Comp}
@@ -13,10 +15,11 @@ use Rattle.mh_values.specs.Array.{item_type}
 use Rattle.mh_values.specs.Class.{is_subclass, throwable_class}
 use Rattle.mh_values.specs.Computation.{spliced}
 use Rattle.mh_values.specs.Same.{is_same_return, begins_with_types, is_same_method_type}
+use Rattle.mh_values.specs.ValueLimits.{most_items}
 use Rattle.mh_values.proofs.SameTypes.{method_type}
 use Rattle.mh_convert.specs.Conversion.{fit, ret_conversion_of}
 use Rattle.mh_leaf.specs.Outcome.{boolean_type}
-use Rattle.mh_tree.specs.Rows.{TypeOrRefusal, illegal, provided, provided_fit, limited, taking, component_of, takes_array, ends_with, can_all, can_be_used_as, mismatch, takes_exception, handles, constant_row, identity_row, throw_row, spread_row, gather_row, astype_row, guard_row, catch_row}
+use Rattle.mh_tree.specs.Rows.{TypeOrRefusal, illegal, provided_fit, limited, taking, component_of, takes_array, ends_with, can_all, can_be_used_as, mismatch, takes_exception, handles, constant_row, identity_row, throw_row, spread_row, gather_row, astype_row, guard_row, catch_row}
 pub use Rattle.mh_tree.proofs.Provided.{with_type-parts, provided-parts, provided_some-parts, provided_fit-parts, limited-is}
 pub use Rattle.mh_tree.proofs.RowPartsAdapters.{
   bind_row-parts,
@@ -68,12 +71,27 @@ gather_row-parts classes t weight array count u h =
     let within : Comp → TypeOrRefusal = λ c. limited (codes "gather") (1 + weight) (made c) in
     let some = nat_lt 0 (length t.params) in
     let takes : Comp → Bool = λ c. takes_array classes c (slice_get t.params (length t.params - 1)) in
-    let few = nat_lt count 255 in
+    let few = nat_le count most_items in
     let q = provided_some-parts (component_of array) (illegal (codes "gather")) (λ c. provided (some && takes c && few) (illegal (codes "gather")) (within c)) u
     h in
     let r = provided-parts (some && takes q.0 && few) (illegal (codes "gather")) (within q.0) u q.2 in
     let s = and_parts (some && takes q.0) few r.0 in
     (q.0, q.1, (and_parts some (takes q.0) s.0).1, limited-is (codes "gather") (1 + weight) (made q.0) u r.1)
+
+-- no more items are gathered than an array may have
+pub gather_row-few : (classes : List Class) (t : MethodTy) (weight : ℕ) (array : Option Ty) (count : ℕ) (u : MethodTy) →
+    gather_row classes t weight array count ≡ Ok u → count ≤ most_items
+gather_row-few classes t weight array count u h =
+    let made : Comp → MethodTy = λ c. taking (spliced (length t.params - 1) 1 (replicate count (item_type c)) t.params) t in
+    let within : Comp → TypeOrRefusal = λ c. limited (codes "gather") (1 + weight) (made c) in
+    let some = nat_lt 0 (length t.params) in
+    let takes : Comp → Bool = λ c. takes_array classes c (slice_get t.params (length t.params - 1)) in
+    let few = nat_le count most_items in
+    let q = provided_some-parts (component_of array) (illegal (codes "gather")) (λ c. provided (some && takes c && few) (illegal (codes "gather")) (within c)) u
+    h in
+    let r = provided-parts (some && takes q.0 && few) (illegal (codes "gather")) (within q.0) u q.2 in
+    let s : nat_le count most_items ≡ true = (and_parts (some && takes q.0) few r.0).1 in
+    grind (arith, nat_tests)
 
 pub astype_row-parts : (classes : List Class) (t : MethodTy) (weight : ℕ) (asked u : MethodTy) → astype_row classes t weight asked ≡ Ok u →
     (can_all classes asked.params t.params ≡ true) × (is_some (ret_conversion_of classes t.ret asked.ret) ≡ true) × (u ≡ asked)

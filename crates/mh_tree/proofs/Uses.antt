@@ -1,12 +1,13 @@
 -- A tree that is used as a type, and a spread of one, have the types and the weights that the rules of their uses say.
 use Rattle.std.proofs.Common.{◌≡◌, refl, sym, ap, ◌∙◌, Bool, true, false, cond, ℕ, ◌+◌, length, Option, Some, Ok, nat_le, codes}
 use Rattle.std.specs.Option.{option_map_or}
+use Rattle.mh_base.specs.Provided.{provided, provided_some}
 use Rattle.mh_values.specs.declared.types.Comp.{Comp}
 use Rattle.mh_values.specs.declared.types.Ty.{Ty}
 use Rattle.mh_values.specs.declared.types.MethodTy.{MethodTy}
 use Rattle.mh_values.specs.Same.{is_same_method_type}
 use Rattle.mh_leaf.specs.LeafTable.{LeafTable}
-use Rattle.mh_tree.specs.Rows.{TypeOrRefusal, component_of, illegal, provided, provided_some, astype_row, spread_row}
+use Rattle.mh_tree.specs.Rows.{TypeOrRefusal, component_of, illegal, astype_row, spread_row}
 use Rattle.mh_tree.specs.Tree.{Tree, weight}
 use Rattle.mh_tree.specs.Tree as tree
 use Rattle.mh_tree.specs.Typing.{type_of, with_type}

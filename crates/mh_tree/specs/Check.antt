@@ -6,7 +6,7 @@ use Rattle.mh_tree.specs.declared.error.CheckError.TheVariants as check
 use Rattle.mh_tree.specs.Rows.{TypeOrRefusal}
 
 -- the very type, or the very refusal; want of memory tells nothing
-abbrev pub Tells : Result MethodTy CheckError → TypeOrRefusal → Type 0
-Tells (Ok t) row = row ≡ Ok t
-Tells (Err (check.Refused e)) row = row ≡ Err e
-Tells (Err check.NoMemory) row = Unit {0}
+abbrev pub TellsRow : Result MethodTy CheckError → TypeOrRefusal → Type 0
+TellsRow (Ok t) row = row ≡ Ok t
+TellsRow (Err (check.Refused e)) row = row ≡ Err e
+TellsRow (Err check.NoMemory) row = Unit {0}

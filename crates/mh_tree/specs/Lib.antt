@@ -1,4 +1,5 @@
 pub mod Check
+pub mod Limited
 pub mod Meaning
 pub mod Rows
 pub mod Sound

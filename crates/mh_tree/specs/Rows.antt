@@ -1,6 +1,7 @@
 -- For each combinator, the type that it makes of the types of its parts, or the exception with which it is refused.
 use Rattle.std.specs.Prelude.{ℕ, ◌+◌, ◌-◌, ◌==◌, nat_lt, nat_le, Bool, true, false, ◌&&◌, List, [], ◌∷◌, ◌++◌, length, drop, replicate, codes, Option, Some, None, is_some, option_to_list, slice_get, Result, Ok, Err}
 use Rattle.std.specs.List.{list_all}
+use Rattle.mh_base.specs.Provided.{provided, provided_some}
 use Rattle.mh_values.specs.declared.class.Class.{Class}
 use Rattle.mh_values.specs.declared.class.ClassId.{ClassId}
 use Rattle.mh_values.specs.declared.types.Comp.{Comp}
@@ -17,6 +18,7 @@ use Rattle.mh_values.specs.HasType.{is_type_below}
 use Rattle.mh_values.specs.Same.{is_same_type, is_same_return, are_same_types, begins_with_types, is_same_method_type}
 use Rattle.mh_values.specs.Slots.{slots_of_all}
 use Rattle.mh_values.specs.TypeText.{method_type_text}
+use Rattle.mh_values.specs.ValueLimits.{most_items}
 use Rattle.mh_convert.specs.Conversion.{can, fit, ret_conversion_of}
 use Rattle.mh_leaf.specs.declared.leaf.Leaf.{Leaf}
 use Rattle.mh_leaf.specs.Outcome.{boolean_type}
@@ -28,16 +30,6 @@ TypeOrRefusal = Result MethodTy Exc
 -- an IllegalArgumentException with a word as its message
 abbrev pub illegal : List ℕ → Exc
 illegal word = saying illegal_argument_class word
-
--- goes on where the condition holds, and is refused where it does not
-abbrev pub provided : Bool → Exc → TypeOrRefusal → TypeOrRefusal
-provided true e next = next
-provided false e next = Err e
-
--- goes on with what is there, and is refused where nothing is
-abbrev pub provided_some : {A : Type 0} → Option A → Exc → (A → TypeOrRefusal) → TypeOrRefusal
-provided_some (Some a) e next = next a
-provided_some None e next = Err e
 
 -- goes on where the value fits, and is refused with the fit's exception under the combinator's word where it does not
 abbrev pub provided_fit : Result Value Exc → List ℕ → TypeOrRefusal → TypeOrRefusal
@@ -158,11 +150,11 @@ spread_row t weight array count =
     provided (ends_with t.params count (item_type c)) (illegal (codes "spread"))
     (limited (codes "spread") (1 + weight) (taking (spliced (length t.params - count) count (ty.Array c ∷ []) t.params) t)))
 
--- Gather takes up to 254 items in the place of the last parameter, to which their array is passed
+-- Gather takes items, no more than an array may have, in the place of the last parameter, to which their array is passed
 abbrev pub gather_row : List Class → MethodTy → ℕ → Option Ty → ℕ → TypeOrRefusal
 gather_row classes t weight array count =
     provided_some (component_of array) (illegal (codes "gather")) (λ c.
-    provided (nat_lt 0 (length t.params) && takes_array classes c (slice_get t.params (length t.params - 1)) && nat_lt count 255)
+    provided (nat_lt 0 (length t.params) && takes_array classes c (slice_get t.params (length t.params - 1)) && nat_le count most_items)
     (illegal (codes "gather"))
     (limited (codes "gather") (1 + weight) (taking (spliced (length t.params - 1) 1 (replicate count (item_type c)) t.params) t)))
 

@@ -1,13 +1,14 @@
 -- A tree that is used as another type (`MethodHandle.asType` and `MethodHandle.asSpreader`, SE 17).
 use Rattle.std.specs.Prelude.{ℕ, ◌+◌, ◌-◌, nat_le, List, ◌++◌, take, length, replicate, codes, if◌then◌else◌, Option, Ok}
 use Rattle.std.specs.Option.{option_map_or}
+use Rattle.mh_base.specs.Provided.{provided, provided_some}
 use Rattle.mh_values.specs.declared.class.Class.{Class}
 use Rattle.mh_values.specs.declared.types.Comp.{Comp}
 use Rattle.mh_values.specs.declared.types.Ty.{Ty}
 use Rattle.mh_values.specs.declared.types.MethodTy.{MethodTy}
 use Rattle.mh_values.specs.Array.{item_type}
 use Rattle.mh_values.specs.Same.{is_same_method_type}
-use Rattle.mh_tree.specs.Rows.{TypeOrRefusal, component_of, illegal, provided, provided_some, astype_row, spread_row}
+use Rattle.mh_tree.specs.Rows.{TypeOrRefusal, component_of, illegal, astype_row, spread_row}
 use Rattle.mh_tree.specs.Tree.{Tree, AsType}
 use Rattle.mh_tree.specs.Typing.{with_type}
 

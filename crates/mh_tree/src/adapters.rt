@@ -1,6 +1,6 @@
 ghost use Rattle.std.specs.Prelude.{◌≡◌, option_to_list};
 ghost use Rattle.mh_values.specs.Same.{are_same_types};
-ghost use Rattle.mh_tree.specs.Check.{Tells};
+ghost use Rattle.mh_tree.specs.Check.{TellsRow};
 ghost use Rattle.mh_tree.specs.Rows.{count_of, gives_at, bind_row, drop_row, filter_row, filterret_row, fold_row, collect_row};
 
 use crate::CheckError;
@@ -52,7 +52,7 @@ pub fn check_bind(
     v: &Value,
     classes: &Classes,
 ) -> Result<MethodTy, CheckError>
-    ensures { Tells result (bind_row classes.now t.now t_weight pos v.now) }
+    ensures { TellsRow result (bind_row classes.now t.now t_weight pos v.now) }
 {
     let place = usize::from(pos);
     let Some(parameter) = t.params.as_slice().get(place) else {
@@ -80,7 +80,7 @@ pub fn check_drop(
     tys: &Tys,
     _classes: &Classes,
 ) -> Result<MethodTy, CheckError>
-    ensures { Tells result (drop_row t.now t_weight pos tys.now) }
+    ensures { TellsRow result (drop_row t.now t_weight pos tys.now) }
 {
     let place = usize::from(pos);
     if place > t.params.len() {
@@ -107,7 +107,7 @@ pub fn check_filter(
     f_weight: u32,
     _classes: &Classes,
 ) -> Result<MethodTy, CheckError>
-    ensures { Tells result (filter_row t.now t_weight pos f.now f_weight) }
+    ensures { TellsRow result (filter_row t.now t_weight pos f.now f_weight) }
 {
     let place = usize::from(pos);
     if f.params.len() != 1 || f.ret.is_none() || !gives_at(f.ret, place, t.params.as_slice()) {
@@ -128,7 +128,7 @@ pub fn check_filterret(
     f_weight: u32,
     _classes: &Classes,
 ) -> Result<MethodTy, CheckError>
-    ensures { Tells result (filterret_row t.now t_weight f.now f_weight) }
+    ensures { TellsRow result (filterret_row t.now t_weight f.now f_weight) }
 {
     if !takes_result(f.params.as_slice(), t.ret) {
         return Err(refused(alloc, b"filterret"));
@@ -157,7 +157,7 @@ pub fn check_fold(
     c_weight: u32,
     _classes: &Classes,
 ) -> Result<MethodTy, CheckError>
-    ensures { Tells result (fold_row t.now t_weight pos c.now c_weight) }
+    ensures { TellsRow result (fold_row t.now t_weight pos c.now c_weight) }
 {
     let place = usize::from(pos);
     if !gives_at(c.ret, place, t.params.as_slice()) {
@@ -183,7 +183,7 @@ pub fn check_collect(
     f_weight: u32,
     _classes: &Classes,
 ) -> Result<MethodTy, CheckError>
-    ensures { Tells result (collect_row t.now t_weight pos f.now f_weight) }
+    ensures { TellsRow result (collect_row t.now t_weight pos f.now f_weight) }
 {
     let place = usize::from(pos);
     if !gives_at(f.ret, place, t.params.as_slice()) {

@@ -1,14 +1,14 @@
 ghost use Rattle.std.specs.Prelude.{◌≡◌, replicate, IfOk};
 ghost use Rattle.std.specs.List.{list_all};
 ghost use Rattle.mh_values.specs.Same.{is_same_type};
-ghost use Rattle.mh_tree.specs.Check.{Tells};
+ghost use Rattle.mh_tree.specs.Check.{TellsRow};
 ghost use Rattle.mh_tree.specs.Rows.{component_of, ends_with, takes_array, spread_row, gather_row};
 
 use crate::CheckError;
 use crate::error::refused;
 use crate::limits::{limited, spliced};
 use mh_base::{NoMemory, Seq};
-use mh_values::{Classes, Comp, MethodTy, Ty, Tys, is_same_type, is_type_below};
+use mh_values::{Classes, Comp, MOST_ITEMS, MethodTy, Ty, Tys, is_same_type, is_type_below};
 use std::alloc::Global;
 
 /// The component of an array type.
@@ -46,7 +46,7 @@ pub fn check_spread(
     n: u8,
     _classes: &Classes,
 ) -> Result<MethodTy, CheckError>
-    ensures { Tells result (spread_row t.now t_weight arr n) }
+    ensures { TellsRow result (spread_row t.now t_weight arr n) }
 {
     let count = usize::from(n);
     let Some(component) = component_of(arr) else {
@@ -90,7 +90,7 @@ fn repeated(alloc: Global, ty: Ty, count: usize) -> Result<Tys, NoMemory>
 
 /// The type of a tree whose last argument is an array of several (`MethodHandle.asCollector`, SE
 /// 17). Refused where the type is no array, where such an array cannot be passed to the last
-/// parameter, and for 255 items.
+/// parameter, and for more items than an array may have.
 pub fn check_gather(
     alloc: Global,
     t: &MethodTy,
@@ -99,16 +99,20 @@ pub fn check_gather(
     n: u8,
     classes: &Classes,
 ) -> Result<MethodTy, CheckError>
-    ensures { Tells result (gather_row classes.now t.now t_weight arr n) }
+    ensures { TellsRow result (gather_row classes.now t.now t_weight arr n) }
 {
+    let count = usize::from(n);
     let Some(component) = component_of(arr) else {
         return Err(refused(alloc, b"gather"));
     };
     let params = t.params.as_slice();
-    if params.is_empty() || n == 255 || !takes_array(component, params.last().copied(), classes) {
+    if params.is_empty()
+        || !takes_array(component, params.last().copied(), classes)
+        || count > MOST_ITEMS
+    {
         return Err(refused(alloc, b"gather"));
     }
-    let items = repeated(alloc, component.item_type(), usize::from(n))?;
+    let items = repeated(alloc, component.item_type(), count)?;
     let params = spliced(alloc, params, params.len() - 1, 1, items.as_slice())?;
     limited(
         alloc,

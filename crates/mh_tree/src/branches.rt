@@ -1,5 +1,5 @@
 ghost use Rattle.std.specs.Prelude.{◌≡◌, Some};
-ghost use Rattle.mh_tree.specs.Check.{Tells};
+ghost use Rattle.mh_tree.specs.Check.{TellsRow};
 ghost use Rattle.mh_tree.specs.Rows.{takes_exception, handles, guard_row, catch_row};
 
 use crate::CheckError;
@@ -25,7 +25,7 @@ pub fn check_guard(
     e_weight: u32,
     _classes: &Classes,
 ) -> Result<MethodTy, CheckError>
-    ensures { Tells result (guard_row c.now c_weight t.now t_weight e.now e_weight) }
+    ensures { TellsRow result (guard_row c.now c_weight t.now t_weight e.now e_weight) }
 {
     if !is_same_method_type(e, t)
         || !is_same_return(c.ret, Some(Ty::Prim(Primitive::Z)))
@@ -72,7 +72,7 @@ pub fn check_catch(
     h_weight: u32,
     classes: &Classes,
 ) -> Result<MethodTy, CheckError>
-    ensures { Tells result (catch_row classes.now t.now t_weight class h.now h_weight) }
+    ensures { TellsRow result (catch_row classes.now t.now t_weight class h.now h_weight) }
 {
     if !classes.subclass(class, ClassId::THROWABLE) || !handles(class, h, t, classes) {
         return Err(refused(alloc, b"catch"));

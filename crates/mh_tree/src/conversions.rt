@@ -1,5 +1,5 @@
 ghost use Rattle.std.specs.Prelude.{◌≡◌};
-ghost use Rattle.mh_tree.specs.Check.{Tells};
+ghost use Rattle.mh_tree.specs.Check.{TellsRow};
 ghost use Rattle.mh_tree.specs.Rows.{can_all, can_be_used_as, astype_row};
 
 use crate::CheckError;
@@ -44,7 +44,7 @@ pub fn check_astype(
     ty: &MethodTy,
     classes: &Classes,
 ) -> Result<MethodTy, CheckError>
-    ensures { Tells result (astype_row classes.now t.now t_weight ty.now) }
+    ensures { TellsRow result (astype_row classes.now t.now t_weight ty.now) }
 {
     if !can_be_used_as(t, ty, classes) {
         return Err(CheckError::Refused(mismatch(alloc, t, ty, classes)?));

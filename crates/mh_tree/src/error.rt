@@ -1,5 +1,5 @@
 ghost use Rattle.std.specs.Prelude.{◌≡◌, Err};
-ghost use Rattle.mh_tree.specs.Check.{Tells};
+ghost use Rattle.mh_tree.specs.Check.{TellsRow};
 ghost use Rattle.mh_tree.specs.Rows.{illegal};
 
 use mh_base::NoMemory;
@@ -26,7 +26,7 @@ impl From<NoMemory> for CheckError {
 
 /// The refusal of a combinator with its word as the message of an `IllegalArgumentException`.
 pub(crate) fn refused(alloc: Global, word: &[u8]) -> CheckError
-    ensures { Tells (Err result) (Err (illegal word.now)) }
+    ensures { TellsRow (Err result) (Err (illegal word.now)) }
 {
     match Exc::saying(alloc, ClassId::ILLEGAL_ARGUMENT, word) {
         Ok(exc) => CheckError::Refused(exc),

@@ -1,6 +1,6 @@
 ghost use Rattle.std.specs.Prelude.{◌≡◌, ◌+◌, ◌≤◌, nat_le, length, IfOk};
 ghost use Rattle.mh_values.specs.Computation.{spliced};
-ghost use Rattle.mh_tree.specs.Check.{Tells};
+ghost use Rattle.mh_tree.specs.Check.{TellsRow};
 ghost use Rattle.mh_tree.specs.Rows.{limited};
 
 use crate::CheckError;
@@ -20,7 +20,7 @@ pub(crate) fn limited(
     weight: u64,
     ty: MethodTy,
 ) -> Result<MethodTy, CheckError>
-    ensures { Tells result (limited word.now weight ty) }
+    ensures { TellsRow result (limited word.now weight ty) }
 {
     if all_slots(ty.params.as_slice()) > MOST_SLOTS {
         return Err(refused(alloc, word));

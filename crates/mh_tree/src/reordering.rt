@@ -1,6 +1,6 @@
 ghost use Rattle.std.specs.Prelude.{◌≡◌, Some, slice_get};
 ghost use Rattle.mh_values.specs.Same.{is_same_return};
-ghost use Rattle.mh_tree.specs.Check.{Tells};
+ghost use Rattle.mh_tree.specs.Check.{TellsRow};
 ghost use Rattle.mh_tree.specs.Rows.{names_types, permute_row};
 
 use crate::CheckError;
@@ -43,7 +43,7 @@ pub fn check_permute(
     reorder: &[u8],
     _classes: &Classes,
 ) -> Result<MethodTy, CheckError>
-    ensures { Tells result (permute_row t.now t_weight ty.now reorder.now) }
+    ensures { TellsRow result (permute_row t.now t_weight ty.now reorder.now) }
 {
     if !names_types(ty.params.as_slice(), reorder, t.params.as_slice())
         || !is_same_return(ty.ret, t.ret)

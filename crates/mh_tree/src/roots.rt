@@ -1,5 +1,5 @@
 ghost use Rattle.std.specs.Prelude.{◌<◌, length, slice_get};
-ghost use Rattle.mh_tree.specs.Check.{Tells};
+ghost use Rattle.mh_tree.specs.Check.{TellsRow};
 ghost use Rattle.mh_tree.specs.Rows.{leaf_row, constant_row, identity_row, throw_row};
 
 use crate::CheckError;
@@ -14,7 +14,7 @@ use std::alloc::Global;
 /// The type of a leaf: the one with which it is registered. Never refused.
 pub fn check_leaf(alloc: Global, l: LeafId, leaves: &Leaves) -> Result<MethodTy, CheckError>
     requires { l.0 < length leaves.now.leaves }
-    ensures { Tells result (leaf_row (slice_get leaves.now.leaves l.0)) }
+    ensures { TellsRow result (leaf_row (slice_get leaves.now.leaves l.0)) }
 {
     Ok(leaves.ty(l).copy(alloc)?)
 }
@@ -27,7 +27,7 @@ pub fn check_constant(
     v: &Value,
     classes: &Classes,
 ) -> Result<MethodTy, CheckError>
-    ensures { Tells result (constant_row classes.now ty v.now) }
+    ensures { TellsRow result (constant_row classes.now ty v.now) }
 {
     let Some(ret) = ty else {
         return Err(refused(alloc, b"constant"));
@@ -45,7 +45,7 @@ pub fn check_identity(
     ty: Option<Ty>,
     _classes: &Classes,
 ) -> Result<MethodTy, CheckError>
-    ensures { Tells result (identity_row ty) }
+    ensures { TellsRow result (identity_row ty) }
 {
     let Some(own) = ty else {
         return Err(refused(alloc, b"identity"));
@@ -63,7 +63,7 @@ pub fn check_throw(
     class: ClassId,
     classes: &Classes,
 ) -> Result<MethodTy, CheckError>
-    ensures { Tells result (throw_row classes.now ret class) }
+    ensures { TellsRow result (throw_row classes.now ret class) }
 {
     if !classes.subclass(class, ClassId::THROWABLE) {
         return Err(refused(alloc, b"throw"));

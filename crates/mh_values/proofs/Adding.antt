@@ -10,21 +10,21 @@ use Rattle.mh_base.proofs.TextMaps.{WritesText, at_text-other}
 use Rattle.mh_values.specs.declared.class.Class.{Class}
 use Rattle.mh_values.specs.declared.class.ClassId.{ClassId}
 use Rattle.mh_values.specs.Class.{class_at}
-use Rattle.mh_values.specs.ClassNumbers.{number_at, IsRegistry, IsWithin}
+use Rattle.mh_values.specs.ClassNumbers.{class_number, IsRegistry, IsWithin}
 use Rattle.mh_values.specs.Classes.{class_named, AreClasses, AreOrdered, most_classes}
 use Rattle.mh_values.proofs.Longer.{ascending-add, distinct-add, class_named-new, class_named-other}
 
 -- ---- the map
 
 found-add : (m n : BTreeMap (Vec ℕ) ClassId) (xs : List Class) (y : Class) (key : List ℕ) (v : ClassId) →
-    ((name : List ℕ) → number_at m name ≡ class_named xs name) → WritesText m n key (Some v) → class_named xs key ≡ None → y.name ≡ key →
+    ((name : List ℕ) → class_number m name ≡ class_named xs name) → WritesText m n key (Some v) → class_named xs key ≡ None → y.name ≡ key →
     v ≡ class_at (length xs) → (name : List ℕ) →
-    number_at n name ≡ class_named (xs ++ y ∷ []) name
+    class_number n name ≡ class_named (xs ++ y ∷ []) name
 found-add m n xs y key v old updates new same here name =
     elim (cases_Bool (bytes_eq key name)) [
       | inl e ↦
           let is : key ≡ name = (bytes_eq-Decides key name).0 e in
-          subst (λ l. number_at n l ≡ class_named (xs ++ y ∷ []) l) is (updates.1 ∙ ap Some here ∙ sym (class_named-new xs y key new same))
+          subst (λ l. class_number n l ≡ class_named (xs ++ y ∷ []) l) is (updates.1 ∙ ap Some here ∙ sym (class_named-new xs y key new same))
       | inr e ↦ at_text-other m n key name (Some v) updates e ∙ old name ∙ sym (class_named-other xs y name (ap (λ l. bytes_eq l name) same ∙ e))
     ]
 

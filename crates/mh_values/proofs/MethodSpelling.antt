@@ -80,13 +80,13 @@ return-read classes at (Some t) good =
     ∙ type-read classes at place.Last t [] good
 
 -- a method type whose classes have names that may stand in a descriptor
-pub record IsWritable (classes : List Class) (t : MethodTy) : Type 0 where
+pub record IsWritableType (classes : List Class) (t : MethodTy) : Type 0 where
   pub params : list_all (is_type_named classes) t.params ≡ true
   pub ret : is_return_named classes t.ret ≡ true
   pub few : slots_of_all t.params ≤ 255
 
 -- the text of a method type is a method descriptor
-pub method-read : (classes : List Class) (t : MethodTy) → IsWritable classes t → descriptor_fault (method_type_text classes t) ≡ None
+pub method-read : (classes : List Class) (t : MethodTy) → IsWritableType classes t → descriptor_fault (method_type_text classes t) ≡ None
 method-read classes t h =
     let params = flat_map (type_text classes) t.params in
     ap (first_bad 1 (standing.Parameters 0)) (append_assoc params (41 ∷ []) (return_text classes t.ret))

@@ -18,7 +18,7 @@ use Rattle.mh_values.specs.TypeText.{type_text, component_text, return_text, met
 use Rattle.mh_values.specs.Descriptor.{pieces, type_meant, class_meant, types_meant, return_meant, method_meant, method_of, last_of, desc, unless_bad}
 use Rattle.mh_values.proofs.LastTwo.{all_but_two, the_last}
 use Rattle.mh_values.proofs.TypeSpelling.{is_name, is_name_byte, is_type_named, is_component_named, class-joined}
-use Rattle.mh_values.proofs.MethodSpelling.{IsWritable, is_return_named, method-read}
+use Rattle.mh_values.proofs.MethodSpelling.{IsWritableType, is_return_named, method-read}
 
 -- a name and its `;` are one piece
 name-piece : (name rest : List ℕ) → list_all is_name_byte name ≡ true → pieces true (name ++ 59 ∷ rest) ≡ (name ++ 59 ∷ []) ∷ pieces false rest
@@ -129,7 +129,7 @@ return-means classes at None distinct of = refl
 return-means classes at (Some t) distinct of = rw (no_void classes t, type-means classes at t distinct of) refl
 
 -- the text of a method type is read back as that type
-pub desc-text : (classes : List Class) (t : MethodTy) → IsDistinct classes → IsWritable classes t → AreTypesOf classes t.params → IsReturnOf classes t.ret →
+pub desc-text : (classes : List Class) (t : MethodTy) → IsDistinct classes → IsWritableType classes t → AreTypesOf classes t.params → IsReturnOf classes t.ret →
     desc classes (method_type_text classes t) ≡ Ok t
 desc-text classes t distinct writable params ret =
     let texts = map (type_text classes) t.params in

@@ -1,6 +1,6 @@
 -- The tests of equal types, in both directions.
-use Rattle.std.proofs.Common.{◌≡◌, refl, ap, ap₂, ◌∙◌, suc, ◌<◌, length, arith, ◌==◌, true, false, ◌&&◌, List, [], ◌∷◌, ◌++◌, Option, Some, None}
-use Rattle.std.proofs.lemmas.Bool.{eqb-true, eq-eqb, and_parts, and_from, and_right}
+use Rattle.std.proofs.Common.{◌≡◌, refl, ap, ap₂, ◌==◌, true, List, [], ◌∷◌, ◌++◌, Option, Some, None}
+use Rattle.std.proofs.lemmas.Bool.{eqb-true, eq-eqb, and_parts, and_from}
 use Rattle.mh_values.specs.declared.class.ClassId.{ClassId}
 use Rattle.mh_values.specs.declared.types.Primitive.{Primitive}
 use Rattle.mh_values.specs.declared.types.Primitive.TheVariants as primitive
@@ -90,23 +90,3 @@ same_method_type-is s t h =
 
 pub same_method_type-itself : (t : MethodTy) → is_same_method_type t t ≡ true
 same_method_type-itself t = and_from _ _ (same_types-itself t.params) (same_return-itself t.ret)
-
--- ---- lengths
-
-pub too_short : (ts ss : List Ty) → length ts < length ss → begins_with_types ts ss ≡ false
-too_short ts [] h = absurd (omega arith)
-too_short [] (s ∷ ss) h = refl
-too_short (t ∷ ts) (s ∷ ss) h = ap (λ b. is_same_type t s && b) (too_short ts ss (omega (arith, h))) ∙ and_right (is_same_type t s) false refl
-
-pub of_one_length : (ts ss : List Ty) → length ts ≡ length ss → begins_with_types ts ss ≡ are_same_types ts ss
-of_one_length [] [] h = refl
-of_one_length (t ∷ ts) [] h = absurd (omega (arith, h))
-of_one_length [] (s ∷ ss) h = refl
-of_one_length (t ∷ ts) (s ∷ ss) h = ap (λ b. is_same_type t s && b) (of_one_length ts ss (omega (arith, h)))
-
-pub of_other_length : (ts ss : List Ty) → (length ts ≡ length ss → ⊥) → are_same_types ts ss ≡ false
-of_other_length [] [] h = absurd (h refl)
-of_other_length [] (s ∷ ss) h = refl
-of_other_length (t ∷ ts) [] h = refl
-of_other_length (t ∷ ts) (s ∷ ss) h =
-    ap (λ b. is_same_type t s && b) (of_other_length ts ss (λ e. h (ap suc e))) ∙ and_right (is_same_type t s) false refl

@@ -9,8 +9,8 @@ use Rattle.mh_values.specs.declared.class.ClassId.{ClassId}
 use Rattle.mh_values.specs.Classes.{class_named, AreOrdered}
 
 -- what the map has at a name
-abbrev pub number_at : BTreeMap (Vec ℕ) ClassId → List ℕ → Option ClassId
-number_at numbers name = get_by (λ k. slice_cmp nat_cmp name k.items) numbers
+abbrev pub class_number : BTreeMap (Vec ℕ) ClassId → List ℕ → Option ClassId
+class_number numbers name = get_by (λ k. slice_cmp nat_cmp name k.items) numbers
 
 -- a superclass, where there is one, has a number below this one
 abbrev pub IsWithin : ℕ → Option ClassId → Type 0
@@ -19,4 +19,4 @@ IsWithin n superclass = (b : ClassId) → superclass ≡ Some b → b.0 < n
 -- classes in order, and a map that finds each of them by its name
 pub record IsRegistry (numbers : BTreeMap (Vec ℕ) ClassId) (classes : List Class) : Type 0 where
   pub ordered : AreOrdered classes
-  pub found : (name : List ℕ) → number_at numbers name ≡ class_named classes name
+  pub found : (name : List ℕ) → class_number numbers name ≡ class_named classes name

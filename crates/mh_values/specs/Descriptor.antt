@@ -1,6 +1,7 @@
 -- What descriptors mean among classes: their types, or the first place that has none.
 use Rattle.std.specs.Prelude.{◌≡◌, ℕ, ◌+◌, ◌-◌, ◌==◌, Bool, false, not, ◌||◌, if◌then◌else◌, List, [], ◌∷◌, length, take, drop, Option, None, Some, slice_get, sum_by, unwrap_or, Result, Ok, Err}
 use Rattle.std.specs.Option.{option_map_or}
+use Rattle.mh_base.specs.Ascii.{capital_I, capital_J, capital_L, capital_V, capital_Z, left_bracket, semicolon}
 use Rattle.mh_values.specs.declared.class.Class.{Class}
 use Rattle.mh_values.specs.declared.descriptor.DescriptorError.{DescriptorError}
 use Rattle.mh_values.specs.declared.descriptor.DescriptorError.TheVariants as descriptor
@@ -18,7 +19,7 @@ use Rattle.mh_values.specs.Grammar.{descriptor_fault, type_fault, types_fault}
 
 -- a type ends with the `;` of its name, or with a letter that begins neither an array nor a name
 abbrev pub ends_type : Bool → ℕ → Bool
-ends_type in_name b = if in_name then b == 59 else not (b == 91 || b == 76)
+ends_type in_name b = if in_name then b == semicolon else not (b == left_bracket || b == capital_L)
 
 -- a byte before the first piece
 abbrev pub longer : ℕ → List (List ℕ) → List (List ℕ)
@@ -28,7 +29,7 @@ longer b (piece ∷ pieces) = (b ∷ piece) ∷ pieces
 -- a text cut after each of its types, from within a name or not; a parenthesis is a piece too
 abbrev pub pieces : Bool → List ℕ → List (List ℕ)
 pieces in_name [] = []
-pieces in_name (b ∷ bs) = if ends_type in_name b then (b ∷ []) ∷ pieces false bs else longer b (pieces (in_name || b == 76) bs)
+pieces in_name (b ∷ bs) = if ends_type in_name b then (b ∷ []) ∷ pieces false bs else longer b (pieces (in_name || b == capital_L) bs)
 
 -- ---- what one type means
 
@@ -40,9 +41,9 @@ found_then (Err error) next = Err error
 -- the primitive type of a letter; the others are left out, at the place of the whole type
 abbrev pub primitive_meant : ℕ → ℕ → Result Comp DescriptorError
 primitive_meant whole b =
-    if b == 90 then Ok (comp.Prim primitive.Z)
-    else (if b == 73 then Ok (comp.Prim primitive.I)
-    else (if b == 74 then Ok (comp.Prim primitive.J) else Err (descriptor.Unsupported whole)))
+    if b == capital_Z then Ok (comp.Prim primitive.Z)
+    else (if b == capital_I then Ok (comp.Prim primitive.I)
+    else (if b == capital_J then Ok (comp.Prim primitive.J) else Err (descriptor.Unsupported whole)))
 
 -- the class of a name, or the place of a name that no class has
 abbrev pub class_meant : List Class → ℕ → List ℕ → Result Comp DescriptorError
@@ -51,13 +52,13 @@ class_meant classes at name = option_map_or (λ c. Ok (comp.Class c)) (class_nam
 -- a type that is no array, at a place within the whole type
 abbrev pub element_meant : List Class → ℕ → ℕ → List ℕ → Result Comp DescriptorError
 element_meant classes whole at [] = Err (descriptor.Unsupported whole)
-element_meant classes whole at (b ∷ bs) = if b == 76 then class_meant classes (at + 1) (take (length bs - 1) bs) else primitive_meant whole b
+element_meant classes whole at (b ∷ bs) = if b == capital_L then class_meant classes (at + 1) (take (length bs - 1) bs) else primitive_meant whole b
 
 -- the type of a type's text at a place; arrays have one dimension
 abbrev pub type_meant : List Class → ℕ → List ℕ → Result Ty DescriptorError
 type_meant classes at [] = Err (descriptor.Unsupported at)
 type_meant classes at (b ∷ bs) =
-    if b == 91 then found_then (element_meant classes at (at + 1) bs) (λ c. Ok (ty.Array c))
+    if b == left_bracket then found_then (element_meant classes at (at + 1) bs) (λ c. Ok (ty.Array c))
     else found_then (element_meant classes at at (b ∷ bs)) (λ c. Ok (item_type c))
 
 -- ---- what types mean, written one after the other
@@ -70,7 +71,7 @@ types_meant classes at (text ∷ texts) =
 
 -- the return type of its text at a place; `V` is void
 abbrev pub return_meant : List Class → ℕ → List ℕ → Result (Option Ty) DescriptorError
-return_meant classes at text = if option_map_or (λ b. b == 86) (slice_get text 0) false then Ok None else found_then (type_meant classes at text)
+return_meant classes at text = if option_map_or (λ b. b == capital_V) (slice_get text 0) false then Ok None else found_then (type_meant classes at text)
     (λ t. Ok (Some t))
 
 -- the last piece

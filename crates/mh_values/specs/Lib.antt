@@ -15,3 +15,4 @@ pub mod Same
 pub mod Slots
 pub mod Spelling
 pub mod TypeText
+pub mod ValueLimits

@@ -1,6 +1,7 @@
 -- Method descriptors and other texts of types by their grammar: what is written of types (JVMS SE 17, 4.3.2 and 4.3.3).
 use Rattle.std.specs.Prelude.{◌≡◌, ℕ, ◌+◌, ◌<◌, ◌≤◌, ◌==◌, Bool, not, ◌||◌, if◌then◌else◌, List, [], ◌∷◌, ◌++◌, length, take, replicate, Option, None, Some, IsTrue}
 use Rattle.std.specs.List.{list_all}
+use Rattle.mh_base.specs.Ascii.{capital_D, capital_J, full_stop, left_bracket, semicolon}
 use Rattle.mh_values.specs.Grammar.{is_base}
 
 -- a type that is no array: a primitive type by its letter, or a class by its name
@@ -24,7 +25,7 @@ spelled_text t = replicate t.dimensions 91 ++ element_text t.element
 
 -- a byte of a class name: none of `;`, `.` and `[`
 abbrev pub is_name_byte : ℕ → Bool
-is_name_byte b = not (b == 59 || (b == 46 || b == 91))
+is_name_byte b = not (b == semicolon || (b == full_stop || b == left_bracket))
 
 -- an element of the grammar
 abbrev pub IsElement : Element → Type 0
@@ -42,7 +43,7 @@ AreSpelled (t ∷ ts) = IsSpelled t × AreSpelled ts
 
 -- the slots of a parameter that is no array: J and D take two
 abbrev pub element_slots : Element → ℕ
-element_slots (letter b) = if b == 74 || b == 68 then 2 else 1
+element_slots (letter b) = if b == capital_J || b == capital_D then 2 else 1
 element_slots (named name) = 1
 
 -- the slots of a parameter

@@ -238,7 +238,7 @@ pub fn descriptor_text(bytes: &[u8]) -> Result<(), BadAt>
 }
 
 /// Whether a text is one type, likewise any that the JVMS knows (JVMS SE 17, 4.3.2).
-pub fn type_text(bytes: &[u8]) -> Result<(), BadAt>
+pub fn field_descriptor_text(bytes: &[u8]) -> Result<(), BadAt>
     ensures accepted { OnOk result (IsTypeText bytes.now) }
     ensures refused { IfErr result (λ bad. IsFirstBad IsTypeText bytes.now bad.at) }
 
@@ -442,6 +442,6 @@ pub fn read_type(bytes: &[u8], classes: &Classes) -> Result<Ty, DescriptorError>
     ensures read { IsTypeRead classes.now bytes.now result }
     ensures is { result ≡ type_desc classes.now bytes.now }
 {
-    type_text(bytes)?;
+    field_descriptor_text(bytes)?;
     type_of(classes, 0, bytes)
 }

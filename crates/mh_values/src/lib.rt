@@ -19,8 +19,8 @@ pub use calls::{Calls, LeafCall};
 pub use class::{Class, ClassId};
 pub use classes::{Classes, DeclareError, MOST_CLASSES};
 pub use descriptor::{
-    BadAt, DescriptorError, descriptor_text, read_descriptor, read_type, read_types, type_text,
-    types_text,
+    BadAt, DescriptorError, descriptor_text, field_descriptor_text, read_descriptor, read_type,
+    read_types, types_text,
 };
 pub use same::{
     are_same_types, begins_with_types, is_same_method_type, is_same_return, is_same_type,
@@ -30,4 +30,7 @@ pub use typing::{
     MOST_SLOTS, all_slots, are_items_of, has_type, is_component_below, is_item_of, is_type_below,
     slots,
 };
-pub use value::{Cause, Cell, Cells, Exc, ExcParts, Items, LeafId, Num, Outcome, Str, Value};
+pub use value::{
+    Cause, Cell, Cells, Exc, ExcParts, Items, LeafId, MOST_CHARACTERS, MOST_ITEMS, Num, Outcome,
+    Str, Value,
+};

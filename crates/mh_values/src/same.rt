@@ -14,33 +14,21 @@ pub fn is_same_type(a: Ty, b: Ty) -> bool
 pub fn is_same_return(a: Option<Ty>, b: Option<Ty>) -> bool
     ensures { result ≡ is_same_return a b }
 {
-    match (a, b) {
-        (None, None) => true,
-        (Some(a), Some(b)) => is_same_type(a, b),
-        _ => false,
-    }
+    a == b
 }
 
 /// Whether the first types of a list are these.
 pub fn begins_with_types(types: &[Ty], front: &[Ty]) -> bool
     ensures { result ≡ begins_with_types types.now front.now }
 {
-    if types.len() < front.len() {
-        return false;
-    }
-    for i in 0..front.len() {
-        if !is_same_type(types[i], front[i]) {
-            return false;
-        }
-    }
-    true
+    types.starts_with(front)
 }
 
 /// Whether two lists of types are one.
 pub fn are_same_types(a: &[Ty], b: &[Ty]) -> bool
     ensures { result ≡ are_same_types a.now b.now }
 {
-    a.len() == b.len() && begins_with_types(a, b)
+    a == b
 }
 
 /// Whether two method types are one.

@@ -10,7 +10,13 @@ pub enum Num {
     J(i64),
 }
 
-/// A text, as its characters; at most 4,096 of them in a value.
+/// How many characters a text in a value may have.
+pub const MOST_CHARACTERS: usize = 4096;
+
+/// How many items an array may have.
+pub const MOST_ITEMS: usize = 254;
+
+/// A text, as its characters; at most [`MOST_CHARACTERS`] of them in a value.
 pub type Str = Frozen<char>;
 
 /// The cause of an exception.
@@ -62,7 +68,7 @@ pub enum Cell {
     Null,
 }
 
-/// The items of an array, at most 254.
+/// The items of an array, at most [`MOST_ITEMS`].
 pub type Cells = Frozen<Cell>;
 
 /// A value that a leaf takes or gives: a number, a boxed number, a text, an object of a class with

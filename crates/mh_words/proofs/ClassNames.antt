@@ -11,7 +11,7 @@ use Rattle.clap.specs.declared.builder.value_parser.Reading.TheVariants as readi
 use Rattle.clap.specs.declared.parser.matches.ValueSource.TheVariants.{CommandLine}
 use Rattle.clap.proofs.OnLiterals.{clap_on_literals}
 use Rattle.mh_words.specs.Options.{app, found, given_by}
-use Rattle.mh_words.specs.Words.{Command, asked, command_of, most_classes, sites}
+use Rattle.mh_words.specs.Words.{Command, asked, command_of, most_class_files, sites}
 
 -- what is found for one argument
 abbrev row : Text → List Text → Row
@@ -103,7 +103,7 @@ finished_rows (first ∷ names) name = refl
 
 -- a listing of names that are not too many
 abbrev listing : List Text → Option Command
-listing names = if nat_le (length names) most_classes then Some (sites names) else None
+listing names = if nat_le (length names) most_class_files then Some (sites names) else None
 
 -- the same by what is found
 asked_by_rows : (name : Text) (more : List Text) → asked (given_by (rows (name ∷ more))) ≡ listing (name ∷ more)

@@ -5,20 +5,20 @@ use Rattle.std.specs.Str.{bytes_eq}
 use Rattle.clap.specs.Words.{Text}
 use Rattle.mh_words.specs.Number.{is_written, number_of}
 use Rattle.mh_words.specs.Options.{Given}
-use Rattle.mh_words.specs.Words.{Command, IsWithinLimits, asked, generate, generated_with, most_classes, of_mode}
+use Rattle.mh_words.specs.Words.{Command, IsCommandWithinLimits, asked, generate, generated_with, most_class_files, of_mode}
 use Rattle.mh_words.specs.Words.{run_with, sites_with}
 use Rattle.mh_words.proofs.Digits.{written_is_small}
 
 -- a command, if there is one, is within the limits
 abbrev IsWithin : Option Command → Type 0
-IsWithin command = IfSome command IsWithinLimits
+IsWithin command = IfSome command IsCommandWithinLimits
 
 -- one of two commands
 either : (b : Bool) (one other : Option Command) → IsWithin one → IsWithin other → IsWithin (cond b one other)
 either true one other holds _ = holds
 either false one other _ holds = holds
 
-run_within : (leaves scripts plan number : Option Text) (classes : List Text) → length classes ≤ most_classes
+run_within : (leaves scripts plan number : Option Text) (classes : List Text) → length classes ≤ most_class_files
     → IsWithin (run_with leaves scripts plan number classes)
 run_within None _ _ _ classes few = tt
 run_within (Some _) None _ _ classes few = tt
@@ -26,7 +26,7 @@ run_within (Some _) (Some _) None _ classes few = tt
 run_within (Some _) (Some _) (Some _) None classes few = few
 run_within (Some _) (Some _) (Some _) (Some _) classes few = tt
 
-sites_within : (leaves scripts plan number : Option Text) (classes : List Text) → length classes ≤ most_classes
+sites_within : (leaves scripts plan number : Option Text) (classes : List Text) → length classes ≤ most_class_files
     → IsWithin (sites_with leaves scripts plan number classes)
 sites_within (Some _) _ _ _ classes few = tt
 sites_within None (Some _) _ _ classes few = tt
@@ -47,21 +47,21 @@ generated_within None None None None classes = tt
 generated_within None None None (Some number) [] = number_within number (is_written number) refl
 generated_within None None None (Some number) (class ∷ classes) = tt
 
-mode_within : (mode : Text) (given : Given) → length given.classes ≤ most_classes → IsWithin (of_mode mode given)
+mode_within : (mode : Text) (given : Given) → length given.classes ≤ most_class_files → IsWithin (of_mode mode given)
 mode_within mode given few =
     either (bytes_eq mode (codes "run")) _ _ (run_within given.leaves given.scripts given.plan given.number given.classes few)
     (either (bytes_eq mode (codes "sites")) _ _ (sites_within given.leaves given.scripts given.plan given.number given.classes few)
     (either (bytes_eq mode (codes "gen")) _ _ (generated_within given.leaves given.scripts given.plan given.number given.classes) tt))
 
-any_mode_within : (mode : Option Text) (given : Given) → length given.classes ≤ most_classes
+any_mode_within : (mode : Option Text) (given : Given) → length given.classes ≤ most_class_files
     → IsWithin (option_and_then (λ name. of_mode name given) mode)
 any_mode_within None given few = tt
 any_mode_within (Some mode) given few = mode_within mode given few
 
-asked_within : (given : Given) (b : Bool) → nat_le (length given.classes) most_classes ≡ b → IsWithin (asked given)
+asked_within : (given : Given) (b : Bool) → nat_le (length given.classes) most_class_files ≡ b → IsWithin (asked given)
 asked_within given true few = rw few (any_mode_within given.mode given (grind arith))
 asked_within given false few = rw few tt
 
 -- what options and names of class files ask for
-pub within : (given : Given) (command : Option Command) → command ≡ asked given → IfSome command IsWithinLimits
+pub within : (given : Given) (command : Option Command) → command ≡ asked given → IfSome command IsCommandWithinLimits
 within given command is = rw is (asked_within given _ refl)

@@ -22,8 +22,8 @@ pub data Command : Type 0 where
   generate : ℕ → Command
 
 -- how many class files may be named
-abbrev pub most_classes : ℕ
-most_classes = 64
+abbrev pub most_class_files : ℕ
+most_class_files = 64
 
 -- a run has its three inputs and no number
 abbrev pub run_with : Option Text → Option Text → Option Text → Option Text → List Text → Option Command
@@ -63,17 +63,17 @@ of_mode mode given =
 -- the command that options and names of class files ask for, if there is one: a mode with just its options, and not too many class files
 abbrev pub asked : Given → Option Command
 asked given =
-    if nat_le (length given.classes) most_classes then option_and_then (λ mode. of_mode mode given) given.mode else None
+    if nat_le (length given.classes) most_class_files then option_and_then (λ mode. of_mode mode given) given.mode else None
 
 -- what the words ask for, or nothing where they are refused: by `clap`, or by what the program itself asks of them
 abbrev pub command_of : List Text → Option Command
 command_of words = option_and_then (λ rows. asked (given_by rows)) (found words)
 
 -- at most so many class files, or a number of at most so many digits
-abbrev pub IsWithinLimits : Command → Type 0
-IsWithinLimits (run names) = length names.classes ≤ most_classes
-IsWithinLimits (sites names) = length names ≤ most_classes
-IsWithinLimits (generate number) = number < 10 ^ most_digits
+abbrev pub IsCommandWithinLimits : Command → Type 0
+IsCommandWithinLimits (run names) = length names.classes ≤ most_class_files
+IsCommandWithinLimits (sites names) = length names ≤ most_class_files
+IsCommandWithinLimits (generate number) = number < 10 ^ most_digits
 
 -- the names that a value of the program holds
 abbrev pub held_names : Names → Named

@@ -1,6 +1,6 @@
 ghost use Rattle.std.specs.Prelude.{◌≡◌, IfOk, IfSome};
 ghost use Rattle.mh_words.specs.Options.{said, values};
-ghost use Rattle.mh_words.specs.Words.{IsWithinLimits, asked, command_of, commanded, generated_of, of_mode, run_of, sites_of};
+ghost use Rattle.mh_words.specs.Words.{IsCommandWithinLimits, asked, command_of, commanded, generated_of, of_mode, run_of, sites_of};
 
 use crate::number::read_number;
 use crate::options::{Given, parse};
@@ -74,7 +74,7 @@ fn asked<'a>(given: Given<'a>) -> Option<Command<'a>>
 #[tactic(auto, using(crate::proofs::Limits::within))]
 pub fn read_words<'a>(alloc: Global, words: &'a [&'a str]) -> Result<Option<Command<'a>>, NoMemory>
     ensures command { IfOk result (λ command. commanded command ≡ command_of (said words.now)) }
-    ensures within { IfOk result (λ command. IfSome (commanded command) IsWithinLimits) }
+    ensures within { IfOk result (λ command. IfSome (commanded command) IsCommandWithinLimits) }
 {
     match parse(alloc, words)? {
         Some(matches) => Ok(asked(Given::of(alloc, &matches)?)),

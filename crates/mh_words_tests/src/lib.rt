@@ -2,10 +2,6 @@
 #![tactic(auto)]
 
 #[cfg(test)]
-mod accepted;
-#[cfg(test)]
 mod limits;
 #[cfg(test)]
-mod refused;
-#[cfg(test)]
-mod shown;
+mod words;

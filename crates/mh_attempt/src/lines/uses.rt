@@ -1,7 +1,7 @@
 //! Lines that use a handle as another type: `astype`.
 
 ghost use Rattle.std.specs.Prelude.{◌≡◌, [], ◌∷◌, Ok};
-ghost use Rattle.mh_tree.specs.Check.{Tells};
+ghost use Rattle.mh_tree.specs.Check.{TellsRow};
 ghost use Rattle.mh_tree.specs.Tree.{Tree};
 ghost use Rattle.mh_tree.specs.Use.{use_row};
 ghost use Rattle.mh_script.specs.declared.script.Operation.TheVariants as operation;
@@ -36,7 +36,7 @@ fn check_use(
     asked: &MethodTy,
     classes: &Classes,
 ) -> Result<MethodTy, CheckError>
-    ensures { Tells result (use_row classes.now own.now weight asked.now) }
+    ensures { TellsRow result (use_row classes.now own.now weight asked.now) }
 {
     if is_same_method_type(own, asked) {
         return Ok(own.copy(alloc)?);

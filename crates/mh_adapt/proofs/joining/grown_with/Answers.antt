@@ -1,7 +1,7 @@
 use Rattle.std.proofs.Common.{◌∷◌, ◌++◌, []}
-use Rattle.mh_intern.proofs.Exchanging.{held-second}
+use Rattle.mh_intern.proofs.HeldLists.{held-second}
 use Rattle.mh_handle.proofs.Going.{goes_on-after, makes-after, seated-still}
-use Rattle.mh_handle.proofs.Trading.{exchanges-few}
+use Rattle.mh_handle.proofs.HoldOrders.{exchanges-few}
 use Rattle.mh_adapt.proofs.Added.{part-grows}
 use Rattle.mh_adapt.proofs.Trading.{first-yet, second-back}
 use Rattle.mh_adapt.proofs.joining.grown_with.Goals as goal

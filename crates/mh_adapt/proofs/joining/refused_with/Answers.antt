@@ -1,6 +1,7 @@
 use Rattle.std.proofs.Common.{[]}
-use Rattle.mh_intern.proofs.Exchanging.{held-first, held-still}
-use Rattle.mh_handle.proofs.Trading.{exchanges-back}
+use Rattle.mh_intern.proofs.HeldLists.{held-first}
+use Rattle.mh_intern.proofs.Exchanging.{held-still}
+use Rattle.mh_handle.proofs.HoldOrders.{exchanges-back}
 use Rattle.mh_adapt.proofs.joining.refused_with.Goals as goal
 
 pub give_back-requires-clause-held : goal.give_back-requires-clause-held

@@ -1,6 +1,6 @@
 use Rattle.std.proofs.Common.{◌≡◌, sym, subst, ◌∙◌, false, Err, inl}
 use Rattle.mh_values.specs.Same.{is_same_method_type}
-use Rattle.mh_tree.specs.Check.{Tells}
+use Rattle.mh_tree.specs.Check.{TellsRow}
 use Rattle.mh_handle.proofs.Going.{unchanged-still}
 use Rattle.mh_handle.proofs.Refusals.{check-obeys}
 use Rattle.mh_handle.proofs.Trading.{trades-checked}
@@ -33,7 +33,7 @@ returns-in-Err-clause-obeys g c =
     c.ty.ensures.ty
     in
     check-obeys c.args.w.now c.refused.new.w c.in-Err.error c.refused.result c.refused.ensures.error _
-    (subst (λ row. Tells (Err c.in-Err.error) row)
+    (subst (λ row. TellsRow (Err c.in-Err.error) row)
     (row-of-other c.args.w.now.leaves.now.classes c.args.target.ty c.args.target.weight c.args.ty.now other) c.in-Err.ensures.tells)
 
 pub returns-in-Err-clause-makes : goal.returns-in-Err-clause-makes

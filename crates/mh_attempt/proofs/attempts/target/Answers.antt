@@ -1,6 +1,6 @@
 use Rattle.mh_handle.specs.declared.error.HandleError.TheVariants.{NoMemory}
 use Rattle.mh_handle.specs.declared.handle.Handle.{Handle}
-use Rattle.mh_attempt.specs.AskedTypes.{attempt_types, target_types}
+use Rattle.mh_attempt.specs.AskedTypes.{job_types, target_types}
 use Rattle.mh_attempt.specs.Linkage.{target_recipes}
 use Rattle.mh_attempt.specs.Recipes.{attempt_recipes}
 use Rattle.mh_attempt.proofs.Adding.{adds-none, adds-unmade}
@@ -34,16 +34,16 @@ returns-in_err-copy-in-Err-clause-types g c =
 pub returns-in-Ok-clause-asked : goal.returns-in-Ok-clause-asked
 returns-in-Ok-clause-asked g c =
     let leaves = c.args.w.now.leaves.now in
-    same-types (attempt_types leaves c.args.scripts.now c.args.job.now c.args.serial) (target_types leaves c.args.scripts.now c.args.serial c.in-Ok.call)
+    same-types (job_types leaves c.args.scripts.now c.args.job.now c.args.serial) (target_types leaves c.args.scripts.now c.args.serial c.in-Ok.call)
     c.args.w.now c.called.new.w c.called.result (job-types leaves c.args.scripts.now c.args.job.now c.args.serial c.in-Ok.call c.in-Ok.is)
     c.called.ensures.asked
 
 pub returns-in_err-copy-in-Err-clause-asked : goal.returns-in_err-copy-in-Err-clause-asked
 returns-in_err-copy-in-Err-clause-asked g c =
-    let types = attempt_types c.args.w.now.leaves.now c.args.scripts.now c.args.job.now c.args.serial in
+    let types = job_types c.args.w.now.leaves.now c.args.scripts.now c.args.job.now c.args.serial in
     types-handed Handle types c.args.w.now c.args.w.now NoMemory c.from_residual.result c.from_residual.ensures.1
     (no_other-still types c.args.w.now.seat.now)
 
 pub returns-in_ok-copy-in-Err-clause-asked : goal.returns-in_ok-copy-in-Err-clause-asked
 returns-in_ok-copy-in-Err-clause-asked g c =
-    no_other-still (attempt_types c.args.w.now.leaves.now c.args.scripts.now c.args.job.now c.args.serial) c.args.w.now.seat.now
+    no_other-still (job_types c.args.w.now.leaves.now c.args.scripts.now c.args.job.now c.args.serial) c.args.w.now.seat.now

@@ -1,8 +1,10 @@
 use Rattle.std.proofs.Common.{◌<◌, ◌≤◌, ◌+◌, refl, sym, subst, drop, length, arith, rules}
 use Rattle.mh_script.specs.Limits.{CanDivide}
 use Rattle.mh_attempt.proofs.RegisterContents.{drop_all, rest-from}
-use Rattle.mh_attempt.proofs.RunEnds.{run-ends, run-fails}
-use Rattle.mh_attempt.proofs.RunLines.{HasRun, next-kept, next-ready, next-serial, next-some, run-next, run-none}
+use Rattle.mh_attempt.proofs.RunEnds.{run-ends}
+use Rattle.mh_attempt.proofs.RunFails.{run-fails}
+use Rattle.mh_attempt.proofs.RunLines.{HasRun, run-next, run-none}
+use Rattle.mh_attempt.proofs.NextLine.{next-kept, next-ready, next-serial, next-some}
 use Rattle.mh_attempt.proofs.script.ran.Goals as goal
 
 pub loop-step-init : goal.loop-step-init

@@ -1,7 +1,9 @@
 use Rattle.std.proofs.Common.{sym, subst, Ok}
 use Rattle.mh_attempt.specs.Runs.{RunsStep}
 use Rattle.mh_attempt.proofs.Adding.{of-types}
-use Rattle.mh_attempt.proofs.RunSteps.{let-runs, made-kept, node-fails, number-kept, pass-fails, pass-runs, reserve-fails, roomy-kept, roomy-some, serial-runs}
+use Rattle.mh_attempt.proofs.RunSteps.{let-runs, pass-runs, serial-runs}
+use Rattle.mh_attempt.proofs.RoomyRegisters.{made-kept, number-kept, roomy-kept, roomy-some}
+use Rattle.mh_attempt.proofs.FailedSteps.{node-fails, pass-fails, reserve-fails}
 use Rattle.mh_attempt.proofs.script.stepped.Goals as goal
 
 -- ---- `let`
@@ -25,7 +27,7 @@ returns-in_err-handle-in-Let g c =
     subst (λ s. RunsStep s c.args.registers.now c.reserve.new.self c.args.w.now c.node.new.w c.from_residual-in_err-handle-in-Let.result) (sym c.in-Let.is)
     (node-fails c.in-Let.name c.in-Let.operation c.args.registers.now c.reserve.new.self c.args.w.now c.node.new.w c.in_err-handle-in-Let.field-0.0
     c.from_residual-in_err-handle-in-Let.result c.from_residual-in_err-handle-in-Let.ensures.1 c.in_ok-reserve-in-Let.ensures.same c.requires.kept
-    (record { goes_on = made.goes_on; types = made.types; node = made.node; asks = made.asks; asked = made.asked }))
+    (record { goes_on = made.goes_on; types = made.types; line = made.line }))
 
 pub assign-requires-clause-of_types : goal.assign-requires-clause-of_types
 assign-requires-clause-of_types g c = of-types 4 4 c.args.w.now c.node.new.w c.in_ok-handle-in-Let.ensures.goes_on c.requires.ready
@@ -42,7 +44,7 @@ returns-in_ok-handle-in-Let g c =
     subst (λ s. RunsStep s c.args.registers.now c.assign.new.self c.args.w.now c.assign.new.w (Ok tt)) (sym c.in-Let.is)
     (let-runs c.in-Let.name c.in-Let.operation c.as_slice.result c.in_ok-handle-in-Let.handle c.args.registers.now c.reserve.new.self c.assign.new.self
     c.args.w.now c.node.new.w c.assign.new.w c.as_slice.ensures c.in_ok-reserve-in-Let.ensures.same c.requires.kept
-    (record { goes_on = made.goes_on; types = made.types; node = made.node; asks = made.asks; asked = made.asked })
+    (record { goes_on = made.goes_on; types = made.types; line = made.line })
     (record { call = given.call; serial = given.serial; assigned = given.assigned; unchanged = given.unchanged; types = given.types }))
 
 -- ---- `serial`

@@ -2,9 +2,10 @@ use Rattle.std.proofs.Common.{refl, ◌++◌}
 use Rattle.mh_tree.specs.Rows.{guard_row}
 use Rattle.mh_tree.specs.Tree as tree
 use Rattle.mh_handle.specs.Recipe.{recipe}
-use Rattle.mh_intern.proofs.Exchanging.{held-first}
+use Rattle.mh_intern.proofs.HeldLists.{held-first}
 use Rattle.mh_handle.specs.Works.{types_in}
-use Rattle.mh_handle.proofs.Trading.{exchanges-back, trades-checked}
+use Rattle.mh_handle.proofs.HoldOrders.{exchanges-back}
+use Rattle.mh_handle.proofs.Trading.{trades-checked}
 use Rattle.mh_handle.proofs.Going.{goes_on-after, makes-after, seated-still}
 use Rattle.mh_branch.proofs.GuardAnswers.{guard-answers, guard-fits-by, guard-gains, guard-held, guard-light, guard-makes}
 use Rattle.mh_branch.proofs.Trading.{held-same, ready-still, second-yet, trades-parts, trades-short}

@@ -1,6 +1,6 @@
 use Rattle.std.proofs.Common.{◌++◌}
-use Rattle.mh_intern.proofs.Exchanging.{held-first}
-use Rattle.mh_handle.proofs.Trading.{exchanges-back}
+use Rattle.mh_intern.proofs.HeldLists.{held-first}
+use Rattle.mh_handle.proofs.HoldOrders.{exchanges-back}
 use Rattle.mh_branch.proofs.Trading.{second-yet}
 use Rattle.mh_branch.proofs.growths.with_two.Goals as goal
 

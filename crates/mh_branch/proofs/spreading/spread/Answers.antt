@@ -12,7 +12,8 @@ use Rattle.mh_handle.proofs.Trading.{trades-checked}
 use Rattle.mh_astype.specs.Use.{MakesFrom, used_types}
 use Rattle.mh_branch.specs.Spreading.{spread_types}
 use Rattle.mh_branch.proofs.SpreadCall.{call-fits, call-light, call-makes, call-obeys, call-shaped, call-sides, call-stands}
-use Rattle.mh_branch.proofs.SpreadRules.{items-are, makes-first, makes-none, ready-left, spreading-refused, spreading-row, types-are, used-error}
+use Rattle.mh_branch.proofs.SpreadRules.{items-are, ready-left, spreading-refused, spreading-row, types-are, used-error}
+use Rattle.mh_branch.proofs.SpreadEdits.{makes-first, makes-none}
 use Rattle.mh_branch.proofs.Trading.{trades-first, trades-then}
 use Rattle.mh_branch.proofs.spreading.spread.Goals as goal
 

@@ -1,6 +1,6 @@
 use Rattle.std.proofs.Common.{◌≡◌, ◌∙◌, sym, ap, ◌++◌, arith}
 use Rattle.mh_generated.specs.Counts.{thread_count}
-use Rattle.mh_generated.specs.Plan.{plan_text, thread_text, threads_text}
+use Rattle.mh_generated.specs.Plan.{generated_plan, thread_text, threads_text}
 use Rattle.mh_generated.proofs.Counting.{threads_text_more, threads_text_none}
 use Rattle.mh_generated.proofs.plan.plan_file.Goals as goal
 
@@ -14,7 +14,7 @@ loop-thread-preserved c =
     c.in_ok-push_thread.ensures ∙ ap (λ t. t ++ thread_text sites thread) c.loop-thread.invariant ∙ sym (threads_text_more sites thread)
 
 pub returns : goal.returns
-unfolding plan_text
+unfolding generated_plan
 returns c =
     let last : c.loop-thread.thread ≡ thread_count c.args.number = omega arith in
     c.loop-thread.invariant ∙ ap (λ n. threads_text c.site_count-sites.result n) last

@@ -3,12 +3,14 @@ use Rattle.mh_edit.specs.Applied.{applied}
 use Rattle.mh_edit.specs.Fit.{is_nothing}
 use Rattle.mh_edit.proofs.Made.{made-applied}
 use Rattle.mh_intern.specs.Exchanges.{AreHeld, Exchanges}
-use Rattle.mh_intern.proofs.Exchanging.{held-first, held-still}
+use Rattle.mh_intern.proofs.HeldLists.{held-first}
+use Rattle.mh_intern.proofs.Exchanging.{held-still}
 use Rattle.mh_handle.specs.Form.{body_of}
 use Rattle.mh_handle.specs.Parts.{PartsView}
 use Rattle.mh_handle.specs.Stands.{HasShape}
 use Rattle.mh_handle.proofs.Recipes.{body_of-snoc}
-use Rattle.mh_handle.proofs.Trading.{exchanges-back, exchanges-few, exchanges-kept, trades-unformed, unformed-yet}
+use Rattle.mh_handle.proofs.HoldOrders.{exchanges-back, exchanges-few, exchanges-kept}
+use Rattle.mh_handle.proofs.UnformedHandles.{trades-unformed, unformed-yet}
 use Rattle.mh_handle.proofs.growth.made_from.Goals as goal
 
 pub of-requires-clause-made : goal.of-requires-clause-made

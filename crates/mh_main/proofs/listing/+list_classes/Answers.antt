@@ -1,5 +1,5 @@
 use Rattle.std.proofs.Common.{◌-◌, length}
-use Rattle.mh_main.specs.Input.{most_sites}
+use Rattle.mh_runtime.specs.Passes.{most_sites}
 use Rattle.mh_words.specs.Options.{said}
 use Rattle.mh_main.proofs.ClassListing.{listed-all, sites-left}
 use Rattle.mh_main.proofs.Reaching.{others-among, others-stop}

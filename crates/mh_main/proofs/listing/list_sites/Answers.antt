@@ -1,4 +1,5 @@
-use Rattle.mh_main.specs.Input.{listing_input, most_sites, to_list}
+use Rattle.mh_runtime.specs.Passes.{most_sites}
+use Rattle.mh_main.specs.Input.{listing_input, to_list}
 use Rattle.mh_main.specs.Stops.{Refuses}
 use Rattle.mh_words.specs.Options.{said}
 use Rattle.mh_main.proofs.ClassListing.{all-listed}

@@ -112,16 +112,14 @@ returns-in-Ok-list_sites-clause-headline g c = λ done.
       listed-of (said c.args.words.now) (g.I.Inputs.told c.args.inputs.now) (said c.in-Sites.names.items)
           (λ (classes : List Class). c.in-Ok-list_sites.text.items ≡ listing classes)
           (λ a. IsOutputOf a c.answer_listing.result c.in-Ok-list_sites.text.items) (λ classes same. (c.answer_listing.ensures.idle, same))
-          (sites-asked c.in-Ok.command c.in-Some.command c.in-Sites.names (command_of (said c.args.words.now)) c.in-Ok.ensures.command c.in-Some.is
-          c.in-Sites.is)
+          (sites-asked c.in-Ok.command c.in-Some.command c.in-Sites.names _ c.in-Ok.ensures.command c.in-Some.is c.in-Sites.is)
           (rw c.deref.ensures.value at c.in-Ok-list_sites.ensures.ok),
       rw c.deref-in-Ok-list_sites.ensures.value at c.answer_listing.ensures.written spoken,
     )
 
 pub returns-in-Ok-list_sites-clause-answers : goal.returns-in-Ok-list_sites-clause-answers
 returns-in-Ok-list_sites-clause-answers g c = λ done.
-    listed-of (said c.args.words.now) (g.I.Inputs.told c.args.inputs.now) (said c.in-Sites.names.items)
-    (λ (classes : List Class). c.in-Ok-list_sites.text.items ≡ listing classes)
+    listed-of (said c.args.words.now) (g.I.Inputs.told c.args.inputs.now) (said c.in-Sites.names.items) (λ cs. c.in-Ok-list_sites.text.items ≡ listing cs)
     (λ a. AreAnswers a c.answer_listing.result) (λ classes same. c.answer_listing.ensures.idle.2)
     (sites-asked c.in-Ok.command c.in-Some.command c.in-Sites.names (command_of (said c.args.words.now)) c.in-Ok.ensures.command c.in-Some.is c.in-Sites.is)
     (rw c.deref.ensures.value at c.in-Ok-list_sites.ensures.ok)

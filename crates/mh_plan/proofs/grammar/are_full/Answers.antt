@@ -1,6 +1,6 @@
 use Rattle.std.proofs.Common.{◌∙◌, sym, ℕ, List, Bor}
 use Rattle.std.proofs.lemmas.List.Folds.{list_all-map}
-use Rattle.mh_plan.specs.Plan.{is_full}
+use Rattle.mh_base.specs.Lines.{is_full}
 use Rattle.mh_plan.proofs.grammar.are_full.Goals as goal
 
 pub returns : goal.returns

@@ -1,4 +1,4 @@
-use Rattle.std.proofs.Common.{◌≡◌, ◌++◌, ap, sym, ◌∙◌, arith, append_assoc, codes, take}
+use Rattle.std.proofs.Common.{◌++◌, ap, sym, ◌∙◌, arith, append_assoc, codes, take}
 use Rattle.std.specs.Fmt.{decimal}
 use Rattle.mh_plan.specs.Text.{calls_text}
 use Rattle.mh_plan.proofs.CallTexts.{text-next}

@@ -8,5 +8,6 @@ pub returns-clause-read : goal.returns-clause-read
 returns-clause-read c =
     let classes = c.args.classes.now in
     let text = c.args.bytes.now in
-    subst (IsTypeRead classes text) (ap (λ fault. unless_bad fault (type_meant classes 0 text)) c.in_ok-type_text.ensures.ok ∙ sym c.type_of.ensures)
+    subst (IsTypeRead classes text)
+    (ap (λ fault. unless_bad fault (type_meant classes 0 text)) c.in_ok-field_descriptor_text.ensures.ok ∙ sym c.type_of.ensures)
     (type_read classes text)

@@ -4,7 +4,7 @@ use Rattle.mh_attempt.proofs.Adding.{adds-made}
 use Rattle.mh_attempt.proofs.AskedOperands.{asks-leaf}
 use Rattle.mh_attempt.specs.AskedTypes.{types_made}
 use Rattle.mh_attempt.proofs.AskingTypes.{types-copied, types-uncopied}
-use Rattle.mh_attempt.proofs.NodeTypes.{types-leaf}
+use Rattle.mh_attempt.proofs.OperandTypes.{types-leaf}
 use Rattle.mh_attempt.proofs.handle.HandleOperand.made.Goals as goal
 
 pub copy-requires-clause-held : goal.copy-requires-clause-held

@@ -17,7 +17,8 @@ use Rattle.mh_attempt.proofs.Adding.{adds-none, adds-then, adds-unmade, holds-ca
 use Rattle.mh_attempt.specs.AskedTypes.{node_types}
 use Rattle.mh_attempt.specs.Uses.{typed_spread}
 use Rattle.mh_attempt.proofs.AskingTypes.{types-refused}
-use Rattle.mh_attempt.proofs.NodeTypes.{types-spread, types-unmade_node}
+use Rattle.mh_attempt.proofs.UseTypes.{types-spread}
+use Rattle.mh_attempt.proofs.OperandTypes.{types-unmade_node}
 use Rattle.mh_attempt.proofs.lines.arrays.spread_out.Goals as goal
 
 pub returns-in_err-check_spread_use-clause-node : goal.returns-in_err-check_spread_use-clause-node

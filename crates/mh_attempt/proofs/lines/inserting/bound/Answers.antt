@@ -12,7 +12,8 @@ use Rattle.mh_attempt.proofs.Adding.{adds-none, adds-then, adds-unmade, holds-ca
 use Rattle.mh_attempt.specs.AskedTypes.{node_types}
 use Rattle.mh_attempt.specs.Lines.{typed}
 use Rattle.mh_attempt.proofs.AskingTypes.{types-refused}
-use Rattle.mh_attempt.proofs.NodeTypes.{types-one, types-unmade}
+use Rattle.mh_attempt.proofs.NodeTypes.{types-one}
+use Rattle.mh_attempt.proofs.OperandTypes.{types-unmade}
 use Rattle.mh_attempt.proofs.lines.inserting.bound.Goals as goal
 
 pub returns-in_err-target-clause-node : goal.returns-in_err-target-clause-node

@@ -10,7 +10,7 @@ use Rattle.mh_attempt.proofs.AskedOperations.{line-makes, line-thrown, one-use}
 use Rattle.mh_attempt.proofs.Adding.{adds-none, adds-unmade}
 use Rattle.mh_attempt.specs.AskedTypes.{line_types}
 use Rattle.mh_attempt.proofs.AskingTypes.{types-refused}
-use Rattle.mh_attempt.proofs.NodeTypes.{line-types}
+use Rattle.mh_attempt.proofs.LineTypes.{line-types}
 use Rattle.mh_attempt.proofs.lines.inserting.permute_line.Goals as goal
 
 pub returns-in_err-target-clause-node : goal.returns-in_err-target-clause-node

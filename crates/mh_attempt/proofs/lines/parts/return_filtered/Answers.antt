@@ -13,7 +13,8 @@ use Rattle.mh_attempt.proofs.Adding.{adds-none, adds-then, adds-unmade, holds-ca
 use Rattle.mh_attempt.specs.AskedTypes.{node_types}
 use Rattle.mh_attempt.specs.Lines.{typed}
 use Rattle.mh_attempt.proofs.AskingTypes.{types-refused}
-use Rattle.mh_attempt.proofs.NodeTypes.{types-two, types-unmade}
+use Rattle.mh_attempt.proofs.NodeTypes.{types-two}
+use Rattle.mh_attempt.proofs.OperandTypes.{types-unmade}
 use Rattle.mh_attempt.proofs.lines.parts.return_filtered.Goals as goal
 
 pub returns-in_err-made-clause-goes_on : goal.returns-in_err-made-clause-goes_on

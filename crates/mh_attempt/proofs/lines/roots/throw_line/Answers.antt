@@ -14,7 +14,8 @@ use Rattle.mh_attempt.proofs.AskedOperations.{line-makes, line-thrown}
 use Rattle.mh_attempt.proofs.Adding.{adds-made, adds-none, adds-unmade}
 use Rattle.mh_attempt.specs.AskedTypes.{line_types}
 use Rattle.mh_attempt.proofs.AskingTypes.{types-refused}
-use Rattle.mh_attempt.proofs.NodeTypes.{line-types, types-root}
+use Rattle.mh_attempt.proofs.LineTypes.{line-types}
+use Rattle.mh_attempt.proofs.NodeTypes.{types-root}
 use Rattle.mh_attempt.proofs.lines.roots.throw_line.Goals as goal
 
 pub returns-in_err-ret-clause-node : goal.returns-in_err-ret-clause-node

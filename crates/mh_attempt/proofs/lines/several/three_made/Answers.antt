@@ -8,7 +8,7 @@ use Rattle.mh_attempt.proofs.AskedOperands.{asks-more, asks-unmade-both}
 use Rattle.mh_attempt.proofs.Rooms.{goes_on-sum}
 use Rattle.mh_attempt.proofs.Adding.{adds-back-both, adds-three, holds-after, holds-first, holds-second, of-types, operand-yet}
 use Rattle.mh_attempt.proofs.AskingTypes.{types-back}
-use Rattle.mh_attempt.proofs.NodeTypes.{types-others, types-unmade_both}
+use Rattle.mh_attempt.proofs.OperandTypes.{types-others, types-unmade_both}
 use Rattle.mh_attempt.proofs.lines.several.three_made.Goals as goal
 
 pub returns-in-Ok-clause-goes_on : goal.returns-in-Ok-clause-goes_on

@@ -10,7 +10,7 @@ use Rattle.mh_attempt.proofs.AskedOperations.{line-asks, line-thrown, one-use, u
 use Rattle.mh_attempt.proofs.Adding.{adds-none, adds-unmade}
 use Rattle.mh_attempt.specs.AskedTypes.{line_types}
 use Rattle.mh_attempt.proofs.AskingTypes.{types-refused}
-use Rattle.mh_attempt.proofs.NodeTypes.{line-types}
+use Rattle.mh_attempt.proofs.LineTypes.{line-types}
 use Rattle.mh_attempt.proofs.lines.uses.astype_line.Goals as goal
 
 pub returns-in_err-target-clause-node : goal.returns-in_err-target-clause-node

@@ -14,7 +14,8 @@ use Rattle.mh_attempt.proofs.Adding.{adds-none, adds-then, adds-unmade, holds-ca
 use Rattle.mh_attempt.specs.AskedTypes.{node_types}
 use Rattle.mh_attempt.specs.Uses.{typed_use}
 use Rattle.mh_attempt.proofs.AskingTypes.{types-refused}
-use Rattle.mh_attempt.proofs.NodeTypes.{types-unmade_node, types-use}
+use Rattle.mh_attempt.proofs.OperandTypes.{types-unmade_node}
+use Rattle.mh_attempt.proofs.UseTypes.{types-use}
 use Rattle.mh_attempt.proofs.lines.uses.used.Goals as goal
 
 pub returns-in_err-check_use-clause-node : goal.returns-in_err-check_use-clause-node

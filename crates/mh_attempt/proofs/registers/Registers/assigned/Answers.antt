@@ -4,7 +4,7 @@ use Rattle.mh_link.specs.Operands.{last_assigned}
 use Rattle.mh_attempt.specs.declared.registers.Assignment.{Assignment}
 use Rattle.mh_attempt.specs.Registers.{HoldsLast, held_under}
 use Rattle.mh_attempt.proofs.RegisterContents.{last-content}
-use Rattle.mh_attempt.proofs.RegisterTypes.{found-kept}
+use Rattle.mh_attempt.proofs.AssignedHolds.{found-kept}
 use Rattle.mh_attempt.proofs.registers.Registers.assigned.Goals as goal
 
 pub returns-in-Some-clause-holds : goal.returns-in-Some-clause-holds

@@ -1,10 +1,13 @@
 use Rattle.std.proofs.Common.{[], ◌∷◌, ◌++◌, ap, sym, subst}
 use Rattle.mh_intern.specs.Exchanges.{AreHeld}
-use Rattle.mh_intern.proofs.Exchanging.{held-second, held-still}
+use Rattle.mh_intern.proofs.HeldLists.{held-second}
+use Rattle.mh_intern.proofs.Exchanging.{held-still}
 use Rattle.mh_handle.specs.Stands.{HandleView}
 use Rattle.mh_handle.specs.Works.{TradesTypes}
 use Rattle.mh_handle.proofs.Going.{goes_on-before, seated-back}
-use Rattle.mh_handle.proofs.Trading.{held-swapped, held_in, same-swapped, traded-any, trades-after, trades-same}
+use Rattle.mh_handle.proofs.SingleHolds.{held-swapped}
+use Rattle.mh_handle.proofs.Trading.{held_in, traded-any, trades-after, trades-same}
+use Rattle.mh_handle.proofs.HoldOrders.{same-swapped}
 use Rattle.mh_handle.proofs.handle.Handle.grown.Goals as goal
 
 pub made_from-made-requires-clause-held : goal.made_from-made-requires-clause-held

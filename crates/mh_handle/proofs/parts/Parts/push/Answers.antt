@@ -3,9 +3,10 @@ use Rattle.std.proofs.lemmas.List.{map-append}
 use Rattle.mh_form.specs.declared.field.Field.TheVariants as field
 use Rattle.mh_intern.specs.Exchanges.{AreHeld, Exchanges, types_of}
 use Rattle.mh_intern.specs.Views.{HoldView}
-use Rattle.mh_intern.proofs.Exchanging.{held-first, held-still}
+use Rattle.mh_intern.proofs.HeldLists.{held-first}
+use Rattle.mh_intern.proofs.Exchanging.{held-still}
 use Rattle.mh_handle.specs.Stands.{HandleView}
-use Rattle.mh_handle.proofs.Trading.{exchanges-back}
+use Rattle.mh_handle.proofs.HoldOrders.{exchanges-back}
 use Rattle.mh_handle.proofs.parts.Parts.push.Goals as goal
 
 pub let_go-requires-clause-held : goal.let_go-requires-clause-held

@@ -1,7 +1,9 @@
 use Rattle.std.proofs.Common.{sym, subst, ◌<◌, ◌≤◌, List, [], length, rules}
 use Rattle.mh_intern.specs.Exchanges.{AreHeld, Exchanges}
 use Rattle.mh_intern.specs.Seats.{Holds}
-use Rattle.mh_intern.proofs.Exchanging.{copied-next, held-came, held-none, item-held, released-again, taken-more}
+use Rattle.mh_intern.proofs.HoldLists.{copied-next, item-held, released-again, taken-more}
+use Rattle.mh_intern.proofs.Exchanging.{held-came}
+use Rattle.mh_intern.proofs.HeldLists.{held-none}
 use Rattle.mh_intern.proofs.table.TypeTable.dup_all.Goals as goal
 
 pub dup-requires-clause-held : goal.dup-requires-clause-held

@@ -2,7 +2,9 @@ use Rattle.std.proofs.Common.{◌≡◌, sym, ◌∙◌, subst, List, [], ◌∷
 use Rattle.std.proofs.lemmas.Iterator.Adapters.{YieldsList-from_vec}
 use Rattle.std.proofs.lemmas.Iterator.Consumers.{YieldsList-so_far, YieldsList-turn}
 use Rattle.mh_intern.specs.Exchanges.{Exchanges}
-use Rattle.mh_intern.proofs.Exchanging.{exchanges-still, exchanges-released, exchanges-then, next-held}
+use Rattle.mh_intern.proofs.Exchanging.{exchanges-still, exchanges-then}
+use Rattle.mh_intern.proofs.SingleExchanges.{exchanges-released}
+use Rattle.mh_intern.proofs.HoldLists.{next-held}
 use Rattle.mh_intern.proofs.table.TypeTable.release_all.Goals as goal
 
 pub release-requires-clause-held : goal.release-requires-clause-held

@@ -11,7 +11,7 @@ use Rattle.mh_plan.specs.Forms.{call_edits, used_edits}
 use Rattle.mh_plan.specs.Types.{call_types}
 use Rattle.mh_runtime.specs.Asking.{RunsOn, RunsOnTypes}
 use Rattle.mh_runtime.proofs.RunningCalls.{call-runs}
-use Rattle.mh_runtime.proofs.SeatAsked.{call-asks}
+use Rattle.mh_runtime.proofs.AskedAnswers.{call-asks}
 use Rattle.mh_runtime.proofs.context.Context.call.Goals as goal
 
 pub returns-in-Exact-clause-runs : goal.returns-in-Exact-clause-runs

@@ -1,62 +1,52 @@
-use Rattle.std.proofs.Common.{sym, ◌∙◌, ap, subst, ◌+◌, ◌++◌, refl, take, drop, rules}
+use Rattle.std.proofs.Common.{sym, ◌∙◌, ap, subst, ◌+◌, refl, take, drop, rules}
 use Rattle.std.specs.Prelude.{IsSome}
 use Rattle.std.specs.List.{flat_map}
 use Rattle.std.proofs.lemmas.List.Elements.{All-nil}
 use Rattle.mh_handle.specs.Answers.{AnswerView, IsAnswer}
 use Rattle.mh_handle.specs.declared.answer.Answer.{Answer}
-use Rattle.mh_plan.specs.Forms.{call_edits, thread_edits}
+use Rattle.mh_plan.specs.Forms.{call_edits}
 use Rattle.mh_plan.specs.Naming.{sites_named}
 use Rattle.mh_plan.specs.Results.{Serials, result_of, result_said, serial_at}
-use Rattle.mh_plan.specs.Types.{call_types, thread_types}
-use Rattle.mh_runtime.specs.Asking.{HasAskedOn, HasRunOn, RunStops, RunsOnTypes, call_draws, thread_draws}
+use Rattle.mh_plan.specs.Types.{call_types}
+use Rattle.mh_runtime.specs.Asking.{HasAskedOn, HasRunOn, call_draws, thread_draws}
 use Rattle.mh_runtime.specs.Attempts.{AreLinked, AttemptsMore}
 use Rattle.mh_runtime.specs.Keys.{keys_of}
 use Rattle.mh_runtime.specs.Passes.{HasSerials}
 use Rattle.mh_runtime.proofs.Repeating.{told-next}
 use Rattle.mh_runtime.proofs.Room.{calls-draw, goes-next}
-use Rattle.mh_runtime.proofs.RunSteps.{runs-both, runs-none, stops-run, stops-second}
+use Rattle.mh_runtime.proofs.RunSteps.{runs-both, runs-none, stops-within}
 use Rattle.mh_runtime.proofs.Items.{flat-all, flat-next, flat-whole}
-use Rattle.mh_runtime.proofs.ThreadSteps.{attempts-both, attempts-early, attempts-none, linked-both, links-both, links-none, serials-both}
-use Rattle.mh_runtime.proofs.SeatAsked.{memory-on, on-both, on-early, on-none, second-stops}
+use Rattle.mh_runtime.proofs.ThreadSteps.{attempts-both, attempts-none, attempts-within, linked-both, links-both, links-none, serials-both}
+use Rattle.mh_runtime.proofs.SeatAsked.{on-both, on-none}
+use Rattle.mh_runtime.proofs.AskedAnswers.{memory-within, second-within}
 use Rattle.mh_runtime.proofs.SeatTypes.{keeps-both, keeps-recorded, keeps-still}
 use Rattle.mh_runtime.proofs.context.Context.run_thread.Goals as goal
 
 pub returns-in_err-call-clause-runs : goal.returns-in_err-call-clause-runs
 returns-in_err-call-clause-runs g c =
-    let given = g.J.Run.given in
-    let edits = call_edits given.leaves in
-    let items = c.as_slice-next-items.result.now in
-    let i = c.loop-next.next-index in
-    let e = c.in_err-call.field-0.0 in
-    stops-run given c.args.pass.now.attempts c.call.new.pass.attempts (thread_edits given.leaves c.args.calls.now) c.args.w.now.pass.now c.call.new.w.pass.now e
-    c.from_residual.result c.from_residual.ensures.1
-    (subst (λ rs. RunStops given c.args.pass.now.attempts c.call.new.pass.attempts rs c.args.w.now.pass.now c.call.new.w.pass.now e)
+    let edits = call_edits g.J.Run.given.leaves in
+    let items = c.as_slice-next-items.result.now in let i = c.loop-next.next-index in
+    stops-within g.J.Run.given _ (flat_map edits (take i items)) (edits c.next-item.result) (flat_map edits (drop (i + 1) items))
+    c.args.pass.now.attempts c.loop-next.pass.attempts c.call.new.pass.attempts c.args.w.now.pass.now c.loop-next.w.pass.now c.call.new.w.pass.now
+    c.in_err-call.field-0.0 c.from_residual.result
     (sym (flat-whole edits items i c.next-item.result c.loop-next-test.true c.next-item.is) ∙ ap (flat_map edits) c.as_slice-next-items.ensures)
-    (stops-second given (flat_map edits (take i items)) (edits c.next-item.result) c.args.pass.now.attempts c.loop-next.pass.attempts c.call.new.pass.attempts
-    c.args.w.now.pass.now c.loop-next.w.pass.now c.call.new.w.pass.now c.loop-next.invariant.runs (flat_map edits (drop (i + 1) items)) e
-    c.in_err-call.ensures.runs))
+    c.from_residual.ensures.1 c.loop-next.invariant.runs c.in_err-call.ensures.runs
 
 pub returns-in_err-call-clause-attempts : goal.returns-in_err-call-clause-attempts
 returns-in_err-call-clause-attempts g c =
-    let items = c.as_slice-next-items.result.now in
-    let i = c.loop-next.next-index in
-    subst (λ sites. AttemptsMore sites c.args.pass.now c.call.new.pass)
+    let items = c.as_slice-next-items.result.now in let i = c.loop-next.next-index in
+    attempts-within _ (flat_map sites_named (take i items)) (sites_named c.next-item.result) (flat_map sites_named (drop (i + 1) items)) c.args.pass.now
+    c.loop-next.pass c.call.new.pass
     (sym (flat-whole sites_named items i c.next-item.result c.loop-next-test.true c.next-item.is) ∙ ap (flat_map sites_named) c.as_slice-next-items.ensures)
-    (attempts-early (flat_map sites_named (take i items) ++ sites_named c.next-item.result) (flat_map sites_named (drop (i + 1) items)) c.args.pass.now
-    c.call.new.pass
-    (attempts-both (flat_map sites_named (take i items)) (sites_named c.next-item.result) c.args.pass.now c.loop-next.pass c.call.new.pass
-    c.loop-next.invariant.pass.linked c.loop-next.invariant.linked c.loop-next.invariant.attempts c.call.ensures.attempts))
+    c.loop-next.invariant.pass.linked c.loop-next.invariant.linked c.loop-next.invariant.attempts c.call.ensures.attempts
 
 pub returns-in_err-push-clause-attempts : goal.returns-in_err-push-clause-attempts
 returns-in_err-push-clause-attempts g c =
-    let items = c.as_slice-next-items.result.now in
-    let i = c.loop-next.next-index in
-    subst (λ sites. AttemptsMore sites c.args.pass.now c.call.new.pass)
+    let items = c.as_slice-next-items.result.now in let i = c.loop-next.next-index in
+    attempts-within _ (flat_map sites_named (take i items)) (sites_named c.next-item.result) (flat_map sites_named (drop (i + 1) items)) c.args.pass.now
+    c.loop-next.pass c.call.new.pass
     (sym (flat-whole sites_named items i c.next-item.result c.loop-next-test.true c.next-item.is) ∙ ap (flat_map sites_named) c.as_slice-next-items.ensures)
-    (attempts-early (flat_map sites_named (take i items) ++ sites_named c.next-item.result) (flat_map sites_named (drop (i + 1) items)) c.args.pass.now
-    c.call.new.pass
-    (attempts-both (flat_map sites_named (take i items)) (sites_named c.next-item.result) c.args.pass.now c.loop-next.pass c.call.new.pass
-    c.loop-next.invariant.pass.linked c.loop-next.invariant.linked c.loop-next.invariant.attempts c.call.ensures.attempts))
+    c.loop-next.invariant.pass.linked c.loop-next.invariant.linked c.loop-next.invariant.attempts c.call.ensures.attempts
 
 -- no call was made yet
 pub loop-next-init : goal.loop-next-init
@@ -79,14 +69,9 @@ loop-next-init g c =
 pub loop-next-preserved : goal.loop-next-preserved
 loop-next-preserved g c =
     let given = g.J.Run.given in
-    let items = c.as_slice-next-items.result.now in
-    let i = c.loop-next.next-index in
-    let call = c.next-item.result in
-    let within = c.loop-next-test.true in
-    let is = c.next-item.is in
-    let start = c.args.pass.now in
-    let mid = c.loop-next.pass in
-    let end = c.call.new.pass in
+    let items = c.as_slice-next-items.result.now in let i = c.loop-next.next-index in
+    let call = c.next-item.result in let within = c.loop-next-test.true in let is = c.next-item.is in
+    let start = c.args.pass.now in let mid = c.loop-next.pass in let end = c.call.new.pass in
     let before : (table : Serials) → HasSerials end.linked table → HasSerials mid.linked table =
     λ table has. serials-both mid.linked end.linked table c.call.ensures.pass.linked has in
     let answer : (table : Serials) → HasSerials end.linked table → IsAnswer (result_of given table call) (keys_of given table call) c.in_ok-call.field-0 =
@@ -138,30 +123,23 @@ returns-in_err-push-clause-types g c =
 
 pub returns-in_err-call-clause-asked : goal.returns-in_err-call-clause-asked
 returns-in_err-call-clause-asked g c =
-    let given = g.J.Run.given in
-    let types = call_types given.leaves in
-    let items = c.as_slice-next-items.result.now in
-    let i = c.loop-next.next-index in
-    subst (λ ts. RunsOnTypes given c.args.pass.now.attempts c.call.new.pass.attempts ts c.args.w.now.seat.now c.call.new.w.seat.now c.from_residual.result)
+    let types = call_types g.J.Run.given.leaves in
+    let items = c.as_slice-next-items.result.now in let i = c.loop-next.next-index in
+    second-within g.J.Run.given Answer _ (flat_map types (take i items)) (types c.next-item.result) (flat_map types (drop (i + 1) items))
+    c.args.pass.now.attempts c.loop-next.pass.attempts c.call.new.pass.attempts c.args.w.now.seat.now c.loop-next.w.seat.now c.call.new.w.seat.now
+    c.in_err-call.field-0.0 c.from_residual.result
     (sym (flat-whole types items i c.next-item.result c.loop-next-test.true c.next-item.is) ∙ ap (flat_map types) c.as_slice-next-items.ensures)
-    (second-stops given (flat_map types (take i items)) (types c.next-item.result) (flat_map types (drop (i + 1) items)) c.args.pass.now.attempts
-    c.loop-next.pass.attempts c.call.new.pass.attempts c.args.w.now.seat.now c.loop-next.w.seat.now c.call.new.w.seat.now Answer
-    c.in_err-call.field-0.0 c.from_residual.result c.from_residual.ensures.1 c.loop-next.invariant.asked c.in_err-call.ensures.asked)
+    c.from_residual.ensures.1 c.loop-next.invariant.asked c.in_err-call.ensures.asked
 
 pub returns-in_err-push-clause-asked : goal.returns-in_err-push-clause-asked
 returns-in_err-push-clause-asked g c =
-    let given = g.J.Run.given in
-    let types = call_types given.leaves in
-    let items = c.as_slice-next-items.result.now in
-    let i = c.loop-next.next-index in
-    memory-on given c.args.pass.now.attempts c.call.new.pass.attempts (thread_types given.leaves c.args.calls.now) c.args.w.now.seat.now
-    c.call.new.w.seat.now c.from_residual-in_err-push.result c.from_residual-in_err-push.ensures.1
-    (subst (λ ts. HasAskedOn given c.args.pass.now.attempts c.call.new.pass.attempts ts c.args.w.now.seat.now c.call.new.w.seat.now)
+    let types = call_types g.J.Run.given.leaves in
+    let items = c.as_slice-next-items.result.now in let i = c.loop-next.next-index in
+    memory-within g.J.Run.given _ (flat_map types (take i items)) (types c.next-item.result) (flat_map types (drop (i + 1) items))
+    c.args.pass.now.attempts c.loop-next.pass.attempts c.call.new.pass.attempts c.args.w.now.seat.now c.loop-next.w.seat.now c.call.new.w.seat.now
+    c.from_residual-in_err-push.result
     (sym (flat-whole types items i c.next-item.result c.loop-next-test.true c.next-item.is) ∙ ap (flat_map types) c.as_slice-next-items.ensures)
-    (on-early given (flat_map types (take i items) ++ types c.next-item.result) (flat_map types (drop (i + 1) items)) c.args.pass.now.attempts
-    c.call.new.pass.attempts c.args.w.now.seat.now c.call.new.w.seat.now
-    (on-both given (flat_map types (take i items)) (types c.next-item.result) c.args.pass.now.attempts c.loop-next.pass.attempts c.call.new.pass.attempts
-    c.args.w.now.seat.now c.loop-next.w.seat.now c.call.new.w.seat.now c.loop-next.invariant.asked c.in_ok-call.ensures.asked)))
+    c.from_residual-in_err-push.ensures.1 c.loop-next.invariant.asked c.in_ok-call.ensures.asked
 
 pub returns-clause-asked : goal.returns-clause-asked
 returns-clause-asked g c =

@@ -8,9 +8,11 @@ use Rattle.mh_runtime.specs.Passes.{LearnsSites, LinkPass}
 use Rattle.mh_runtime.proofs.LinkSteps.{attempts-begun, attempts-learn, begun-attempts, begun-made, begun_by, goes-begun, learns-none}
 use Rattle.mh_attempt.proofs.Adding.{holds-came}
 use Rattle.mh_runtime.proofs.RunSteps.{stops-run}
-use Rattle.mh_runtime.proofs.SeatTypes.{attempt-keeps, keeps-adds, keeps-recorded}
+use Rattle.mh_runtime.proofs.RecordedTypes.{attempt-keeps}
+use Rattle.mh_runtime.proofs.SeatTypes.{keeps-adds, keeps-recorded}
 use Rattle.mh_runtime.proofs.RunningAttempts.{attempt-runs, attempt-stops}
 use Rattle.mh_runtime.proofs.SeatAsked as seat
+use Rattle.mh_runtime.proofs.AskedAnswers as answer
 use Rattle.mh_runtime.proofs.linker.Linker.attempt.Goals as goal
 
 pub returns-in_err-serial-clause-attempts : goal.returns-in_err-serial-clause-attempts
@@ -104,13 +106,13 @@ returns-clause-types g c =
 
 pub returns-in_err-serial-clause-asked : goal.returns-in_err-serial-clause-asked
 returns-in_err-serial-clause-asked g c =
-    seat.memory-on g.J.Run.given c.args.pass.now.attempts c.begin.new.self.attempts [] c.args.w.now.seat.now c.args.w.now.seat.now c.from_residual.result
+    answer.memory-on g.J.Run.given c.args.pass.now.attempts c.begin.new.self.attempts [] c.args.w.now.seat.now c.args.w.now.seat.now c.from_residual.result
     c.from_residual.ensures.1
     (rw c.in_err-serial.ensures.err (seat.on-none g.J.Run.given c.args.pass.now.attempts c.args.w.now.seat.now))
 
 pub returns-in_err-linkage-clause-asked : goal.returns-in_err-linkage-clause-asked
 returns-in_err-linkage-clause-asked g c =
-    seat.attempt-stops g.J.Run.given c.args.pass.now.attempts (begun_by c.args.pass.now c.args.site c.in_ok-serial.serial) c.get.result.now.site
+    answer.attempt-stops g.J.Run.given c.args.pass.now.attempts (begun_by c.args.pass.now c.args.site c.in_ok-serial.serial) c.get.result.now.site
     c.get.ensures.site c.args.w.now c.attempt.new.w LinkageView c.begin.new.self.attempts c.in_err-linkage.field-0.0 c.from_residual-in_err-linkage.result
     (begun-attempts c.args.site c.in_ok-serial.serial c.args.pass.now c.begin.new.self c.in_ok-serial.ensures.begins)
     c.from_residual-in_err-linkage.ensures.1 c.in_err-linkage.ensures.asked
@@ -120,9 +122,9 @@ returns-in_err-linkage-2-clause-asked g c =
     let more = c.in_err-linkage-2.ensures.learns.attempts
     ∙ begun-attempts c.args.site c.in_ok-serial.serial c.args.pass.now c.begin.new.self c.in_ok-serial.ensures.begins in
     let begun = begun_by c.args.pass.now c.args.site c.in_ok-serial.serial in
-    seat.memory-on g.J.Run.given c.args.pass.now.attempts c.record.new.self.attempts [] c.args.w.now.seat.now c.record.new.w.seat.now
+    answer.memory-on g.J.Run.given c.args.pass.now.attempts c.record.new.self.attempts [] c.args.w.now.seat.now c.record.new.w.seat.now
     c.from_residual-in_err-linkage-2.result c.from_residual-in_err-linkage-2.ensures.1
-    (rw more (seat.attempt-asks g.J.Run.given c.args.pass.now.attempts begun c.get.result.now.site c.get.ensures.site c.args.w.now c.record.new.w
+    (rw more (answer.attempt-asks g.J.Run.given c.args.pass.now.attempts begun c.get.result.now.site c.get.ensures.site c.args.w.now c.record.new.w
     (seat.asks-still (types_at g.J.Run.given c.get.result.now.site begun.serial) c.args.w.now.seat.now c.attempt.new.w.seat.now c.record.new.w.seat.now
     c.in_ok-linkage.ensures.asked c.in_err-linkage-2.ensures.asked)))
 
@@ -131,6 +133,6 @@ returns-clause-asked g c =
     let more = c.in_ok-linkage-2.ensures.learns.attempts
     ∙ begun-attempts c.args.site c.in_ok-serial.serial c.args.pass.now c.begin.new.self c.in_ok-serial.ensures.begins in
     let begun = begun_by c.args.pass.now c.args.site c.in_ok-serial.serial in
-    rw more (seat.attempt-asks g.J.Run.given c.args.pass.now.attempts begun c.get.result.now.site c.get.ensures.site c.args.w.now c.record.new.w
+    rw more (answer.attempt-asks g.J.Run.given c.args.pass.now.attempts begun c.get.result.now.site c.get.ensures.site c.args.w.now c.record.new.w
     (seat.asks-still (types_at g.J.Run.given c.get.result.now.site begun.serial) c.args.w.now.seat.now c.attempt.new.w.seat.now c.record.new.w.seat.now
     c.in_ok-linkage.ensures.asked c.in_ok-linkage-2.ensures.asked))

@@ -1,7 +1,8 @@
 use Rattle.std.proofs.Common.{sym, subst, [], ◌∷◌}
 use Rattle.mh_runtime.specs.Asking.{HasAskedOn}
 use Rattle.mh_runtime.proofs.LinkSteps.{attempts-learn, attempts-learnt}
-use Rattle.mh_runtime.proofs.SeatAsked.{memory-on, on-none}
+use Rattle.mh_runtime.proofs.SeatAsked.{on-none}
+use Rattle.mh_runtime.proofs.AskedAnswers.{memory-on}
 use Rattle.mh_runtime.proofs.linker.Linker.resolve.Goals as goal
 
 pub returns-in_err-found-clause-attempts : goal.returns-in_err-found-clause-attempts

@@ -3,7 +3,8 @@ use Rattle.mh_plan.specs.declared.attempt.Attempt.{Attempt}
 use Rattle.mh_runtime.specs.Passes.{attempt_of}
 use Rattle.mh_runtime.proofs.LinkPasses.{pass-learns, pass-puts}
 use Rattle.mh_runtime.proofs.SeatAsked.{asks-same}
-use Rattle.mh_runtime.proofs.SeatTypes.{handed-back, records-one}
+use Rattle.mh_runtime.proofs.RecordedTypes.{handed-back}
+use Rattle.mh_runtime.proofs.RecordedTypes.{records-one}
 use Rattle.mh_runtime.proofs.pass.Pass.record.Given as given
 use Rattle.mh_runtime.proofs.pass.Pass.record.Goals as goal
 

@@ -1,0 +1,6 @@
+-- Bytes of class files.
+use Rattle.std.specs.Prelude.{◌≡◌, ℕ, List, ◌++◌}
+
+-- bytes stand after those that there were
+abbrev pub IsLonger : List ℕ → List ℕ → Type 0
+IsLonger old new = (more : List ℕ) × (new ≡ old ++ more)

@@ -1,0 +1,142 @@
+-- A leaf on arguments within their limits gives a result within its limits.
+use Rattle.std.proofs.Common.{◌≡◌, refl, subst, ℕ, zero, suc, ◌≤◌, ℤ, pos, negsuc, Bool, true, false, not, cond, List, [], ◌∷◌, ◌++◌, length, Option, Some, None, nat_lt, codes, arith}
+use Rattle.std.specs.Int.{w32, w64, int_wrap}
+use Rattle.std.specs.Prelude.{◌+ℤ◌, ◌-ℤ◌, ◌*ℤ◌, int_lt, option_map, slice_get}
+use Rattle.std.proofs.lemmas.Bool.Decides.{nat_tests}
+use Rattle.mh_values.specs.declared.value.Num.TheVariants as num
+use Rattle.mh_values.specs.declared.value.Value.{Value}
+use Rattle.mh_values.specs.declared.value.Value.TheVariants as value
+use Rattle.mh_values.specs.declared.value.Outcome.{Outcome}
+use Rattle.mh_values.specs.declared.value.Outcome.TheVariants.{Return, Throw}
+use Rattle.mh_values.specs.declared.value.LeafId.{LeafId}
+use Rattle.mh_values.specs.declared.calls.LeafCall.{LeafCall}
+use Rattle.mh_values.specs.Class.{internal_error_class, null_pointer_class}
+use Rattle.mh_values.specs.Exception.{bare, saying}
+use Rattle.mh_values.specs.ValueLimits.{AreValuesWithinLimits, most_characters}
+use Rattle.mh_leaf.specs.declared.leaf.Kind.{Kind}
+use Rattle.mh_leaf.specs.declared.leaf.Kind.TheVariants as kind
+use Rattle.mh_leaf.specs.declared.leaf.Leaf.{Leaf}
+use Rattle.mh_leaf.specs.LeafTable.{LeafTable}
+use Rattle.mh_leaf.specs.Limits.{IsOutcomeWithinLimits, AreCallsWithinLimits, IsRunWithinLimits}
+use Rattle.mh_leaf.specs.Outcome.{returned, int, long, boolean, divided, is_same_int, characters_of, joined, measured, two_ints, two_longs, one_boolean, one_value, two_values, first_value, picked_value, kind_on, lacks_receiver, leaf_outcome, calls_of, ran_of_some, leaf_run, leaf_mean}
+
+-- the outcome, if there is one, is within the limits
+abbrev IsWithin : Option Outcome → Type 0
+IsWithin (Some outcome) = IsOutcomeWithinLimits outcome
+IsWithin None = Unit {0}
+
+mapped-within : {A : Type 0} (f : A → Outcome) (o : Option A) → ((a : A) → IsOutcomeWithinLimits (f a)) → IsWithin (option_map f o)
+mapped-within f (Some a) h = h a
+mapped-within f None h = tt
+
+-- of two numbers
+pair-within : (f : ℤ × ℤ → Outcome) (o : Option (ℤ × ℤ)) → ((p : ℤ × ℤ) → IsOutcomeWithinLimits (f p)) → IsWithin (option_map f o)
+pair-within f o h = mapped-within f o h
+
+divided-within : (a b : ℤ) → IsOutcomeWithinLimits (divided a b)
+divided-within a (pos zero) = tt
+divided-within a (pos (suc b)) = tt
+divided-within a (negsuc b) = tt
+
+-- ---- texts
+
+short : (b : Bool) (s : List ℕ) (refused : Outcome) → IsOutcomeWithinLimits refused → (b ≡ false → length s ≤ most_characters) →
+    IsOutcomeWithinLimits (cond b refused (returned (value.Text s)))
+short true s refused h k = h
+short false s refused h k = k refl
+
+not_long : (s : List ℕ) → nat_lt most_characters (length s) ≡ false → length s ≤ most_characters
+not_long s h = grind (arith, nat_tests)
+
+joined-within : (s t : Option (List ℕ)) → IsOutcomeWithinLimits (joined s t)
+joined-within (Some s) (Some t) =
+    short (nat_lt most_characters (length (s ++ t))) (s ++ t) (Throw (saying internal_error_class (codes "string too long"))) tt (not_long (s ++ t))
+joined-within (Some s) None = tt
+joined-within None t = tt
+
+measured-within : (v : Value) → IsOutcomeWithinLimits (measured v)
+measured-within (value.Text s) = tt
+measured-within value.Null = tt
+measured-within v = tt
+
+-- ---- arguments
+
+one-within : (args : List Value) → AreValuesWithinLimits args → IsWithin (option_map returned (one_value args))
+one-within [] have = tt
+one-within (v ∷ []) have = have.0
+one-within (v ∷ w ∷ vs) have = tt
+
+first-within : (args : List Value) → AreValuesWithinLimits args → IsWithin (option_map returned (first_value args))
+first-within [] have = tt
+first-within (v ∷ []) have = tt
+first-within (v ∷ w ∷ vs) have = have.0
+
+picked-within : (args : List Value) → AreValuesWithinLimits args → IsWithin (option_map returned (picked_value args))
+picked-within (value.Prim (num.Z true) ∷ v ∷ w ∷ []) have = have.1.0
+picked-within (value.Prim (num.Z false) ∷ v ∷ w ∷ []) have = have.1.1.0
+picked-within args have = tt
+
+-- ---- kinds
+
+kind-within : (k : Kind) (args : List Value) (n : ℕ) → AreValuesWithinLimits args → IsWithin (kind_on k args n)
+kind-within kind.Iadd args n have = pair-within (λ p. int (int_wrap w32 (p.0 +ℤ p.1))) (two_ints args) (λ p. tt)
+kind-within kind.Isub args n have = pair-within (λ p. int (int_wrap w32 (p.0 -ℤ p.1))) (two_ints args) (λ p. tt)
+kind-within kind.Imul args n have = pair-within (λ p. int (int_wrap w32 (p.0 *ℤ p.1))) (two_ints args) (λ p. tt)
+kind-within kind.Idiv args n have = pair-within (λ p. divided p.0 p.1) (two_ints args) (λ p. divided-within p.0 p.1)
+kind-within kind.Ladd args n have = pair-within (λ p. long (int_wrap w64 (p.0 +ℤ p.1))) (two_longs args) (λ p. tt)
+kind-within kind.Ieq args n have = pair-within (λ p. boolean (is_same_int p.0 p.1)) (two_ints args) (λ p. tt)
+kind-within kind.Ilt args n have = pair-within (λ p. boolean (int_lt p.0 p.1)) (two_ints args) (λ p. tt)
+kind-within kind.Not args n have = mapped-within (λ (b : Bool). boolean (not b)) (one_boolean args) (λ b. tt)
+kind-within kind.Concat args n have =
+    mapped-within (λ (p : Value × Value). joined (characters_of p.0) (characters_of p.1)) (two_values args)
+    (λ p. joined-within (characters_of p.0) (characters_of p.1))
+kind-within kind.Length args n have = mapped-within measured (one_value args) measured-within
+kind-within kind.Same args n have = one-within args have
+kind-within kind.First args n have = first-within args have
+kind-within kind.Pick args n have = picked-within args have
+kind-within kind.Tick args n have = tt
+kind-within kind.Note args n have = tt
+kind-within (kind.Throw class) args n have = tt
+
+-- ---- leaves
+
+chosen-within : (b : Bool) (x y : Option Outcome) → IsWithin x → IsWithin y → IsWithin (cond b x y)
+chosen-within true x y h k = h
+chosen-within false x y h k = k
+
+leaf-within : (leaf : Leaf) (args : List Value) (n : ℕ) → AreValuesWithinLimits args → IsWithin (leaf_outcome leaf args n)
+leaf-within leaf args n have =
+    chosen-within (lacks_receiver leaf args) (Some (Throw (bare null_pointer_class))) (kind_on leaf.kind args n) tt (kind-within leaf.kind args n have)
+
+there : (o : Option Outcome) (outcome : Outcome) → o ≡ Some outcome → IsWithin o → IsOutcomeWithinLimits outcome
+there None outcome is h = absurd cc
+there (Some own) outcome is h = let e : own ≡ outcome = cc in subst IsOutcomeWithinLimits e h
+
+-- on arguments within their limits a leaf of a kind gives an outcome within its limits
+pub kind_on-limits : (k : Kind) (args : List Value) (n : ℕ) (outcome : Outcome) → AreValuesWithinLimits args → kind_on k args n ≡ Some outcome →
+    IsOutcomeWithinLimits outcome
+kind_on-limits k args n outcome have is = there (kind_on k args n) outcome is (kind-within k args n have)
+
+-- and so does a leaf
+pub leaf_outcome-limits : (leaf : Leaf) (args : List Value) (n : ℕ) (outcome : Outcome) → AreValuesWithinLimits args → leaf_outcome leaf args n ≡ Some outcome →
+    IsOutcomeWithinLimits outcome
+leaf_outcome-limits leaf args n outcome have is = there (leaf_outcome leaf args n) outcome is (leaf-within leaf args n have)
+
+calls-within : (b : Bool) (l : LeafId) (args : List Value) → AreValuesWithinLimits args →
+    AreCallsWithinLimits (cond b [] (record { leaf = l; args = args } ∷ []))
+calls-within true l args have = tt
+calls-within false l args have = (have, tt)
+
+ran-within : (o : Option Outcome) (calls : List LeafCall) → IsWithin o → AreCallsWithinLimits calls → IsRunWithinLimits (ran_of_some o calls)
+ran-within (Some (Return v)) calls h k = (h, k)
+ran-within (Some (Throw e)) calls h k = k
+ran-within None calls h k = tt
+
+run-within : (l : LeafId) (o : Option Leaf) (args : List Value) (n : ℕ) → AreValuesWithinLimits args → IsRunWithinLimits (leaf_run l o args n)
+run-within l (Some leaf) args n have =
+    ran-within (leaf_outcome leaf args n) (calls_of l leaf args) (leaf-within leaf args n have) (calls-within (lacks_receiver leaf args) l args have)
+run-within l None args n have = tt
+
+-- the run of a leaf of the table, on arguments within their limits
+pub leaf_mean-limits : (table : LeafTable) (l : LeafId) (args : List Value) (n : ℕ) → AreValuesWithinLimits args → IsRunWithinLimits (leaf_mean table l args n)
+leaf_mean-limits table l args n have = run-within l (slice_get table.leaves l.0) args n have
