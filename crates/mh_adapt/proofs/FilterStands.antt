@@ -1,6 +1,5 @@
 -- A handle with a filtered argument stands for the FilterArg of the trees.
-use Rattle.std.proofs.Common.{◌≡◌, refl, sym, subst, ap, ◌∙◌, ℕ, ◌+◌, true, List, ◌∷◌, [], length, Some, None, is_some, Option, Ok}
-use Rattle.mh_values.specs.declared.types.Ty.{Ty}
+use Rattle.std.proofs.Common.{◌≡◌, refl, sym, subst, ap, ◌∙◌, ℕ, ◌+◌, List, ◌∷◌, [], length, Ok}
 use Rattle.mh_values.specs.declared.types.MethodTy.{MethodTy}
 use Rattle.mh_values.specs.declared.value.Value.{Value}
 use Rattle.mh_values.specs.Computation.{spliced}
@@ -11,7 +10,7 @@ use Rattle.mh_tree.specs.Rows.{count_of, filter_row, taking}
 use Rattle.mh_tree.specs.Meaning.{mean}
 use Rattle.mh_tree.specs.Sound.{IsSound}
 use Rattle.mh_tree.proofs.RowParts.{filter_row-parts}
-use Rattle.mh_tree.proofs.SoundAdapters.{filter-sound}
+use Rattle.mh_tree.proofs.SoundAdapters.{filter-sound, result-counts}
 use Rattle.mh_form.specs.declared.field.Field.{Field}
 use Rattle.mh_handle.specs.Grows.{Grows}
 use Rattle.mh_handle.specs.Parts.{IsPartOf}
@@ -19,11 +18,6 @@ use Rattle.mh_handle.specs.Stands.{HandleView, Stands}
 use Rattle.mh_adapt.specs.Parts.{collect_key}
 use Rattle.mh_adapt.proofs.CollectStands.{collected, collect-does}
 use Rattle.mh_adapt.proofs.Parted.{stands-parted}
-
--- a result that is there takes the place of one parameter
-pub some-count : (ret : Option Ty) → is_some ret ≡ true → count_of ret ≡ 1
-some-count None h = absurd cc
-some-count (Some r) h = refl
 
 pub filter-stands :
     (table : LeafTable) (h h' g : HandleView) (a b : Tree) (place : ℕ) (f : Field) (u : MethodTy) →
@@ -37,7 +31,7 @@ filter-stands table h h' g a b place f u row part grows st sp =
     let q = filter_row-parts h.ty h.weight place g.ty g.weight u row in
     let t = tree.FilterArg a place b in
     let made : u ≡ taking (spliced place (count_of g.ty.ret) g.ty.params h.ty.params) h.ty =
-    q.3 ∙ ap (λ c. taking (spliced place c g.ty.params h.ty.params) h.ty) (sym (some-count g.ty.ret q.1)) in
+    q.3 ∙ ap (λ c. taking (spliced place c g.ty.params h.ty.params) h.ty) (sym (result-counts g.ty.ret q.1)) in
     let means : (args : List Value) (n : ℕ) → mean table t args n ≡ collected table a b place (length g.ty.params) args n =
     λ args n. ap (λ c. collected table a b place c args n) (sym q.0) in
     let sound : IsSound table.classes (collected table a b place (length g.ty.params)) u =

@@ -14,4 +14,3 @@ mod PartRuns
 mod PartSuits
 mod Parted
 mod PermuteStands
-mod Trading

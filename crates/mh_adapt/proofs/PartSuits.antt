@@ -6,13 +6,13 @@ use Rattle.mh_values.specs.Same.{begins_with_types}
 use Rattle.mh_tree.specs.Rows.{collect_row, count_of, filter_row, fold_row, folded, gives_at, illegal, limited, taking}
 use Rattle.mh_tree.proofs.Provided.{provided-parts}
 use Rattle.mh_tree.proofs.RowParts.{collect_row-parts, filter_row-parts, fold_row-parts}
+use Rattle.mh_tree.proofs.SoundAdapters.{result-counts}
 use Rattle.mh_form.specs.Erasure.{basic_of}
 use Rattle.mh_edit.specs.Fit.{is_nothing}
 use Rattle.mh_edit.proofs.Places.{length-spliced}
 use Rattle.mh_handle.specs.Stands.{HandleView, IsShaped, handle_body}
 use Rattle.mh_handle.proofs.Limits.{limited-low}
 use Rattle.mh_adapt.specs.Parts.{collect_key, fold_key}
-use Rattle.mh_adapt.proofs.FilterStands.{some-count}
 use Rattle.mh_adapt.proofs.PartAnswers.{IsSuited}
 use Rattle.mh_adapt.proofs.PartFits.{collect-fits, fold-fits, fold-room, gives-room, parted-shape}
 
@@ -36,7 +36,7 @@ module _ (t f : HandleView) (shaped : IsShaped t) where
         fit = collect-fits t.ty.params place (map basic_of f.ty.params) f.ty.ret (handle_body t) q.2 made shaped.params;
         shaped =
             parted-shape t.ty.params f.ty.params place f.ty.ret (handle_body t).params shaped.params
-            ∙ (ap (λ c. map basic_of (spliced place c f.ty.params t.ty.params)) (some-count f.ty.ret q.1) ∙ ap (λ (m : MethodTy). map basic_of m.params)
+            ∙ (ap (λ c. map basic_of (spliced place c f.ty.params t.ty.params)) (result-counts f.ty.ret q.1) ∙ ap (λ (m : MethodTy). map basic_of m.params)
             (sym q.3));
       }
 

@@ -1,6 +1,7 @@
 -- What calls leave of a pass that make handles of nodes, by the recipes of those.
-use Rattle.std.proofs.Common.{◌≡◌, ◌≢◌, refl, sym, subst, Bool, true, false, List, [], ◌∷◌, ◌++◌, Result, Ok, Err, ⊎_elim}
+use Rattle.std.proofs.Common.{◌≡◌, ◌≢◌, sym, subst, List, [], ◌∷◌, ◌++◌, Result, Ok, Err, ⊎_elim}
 use Rattle.std.specs.Prelude.{IsErrAnd, if◌then◌else◌}
+use Rattle.std.proofs.lemmas.Bool.{false_from_ne_true}
 use Rattle.mh_edit.specs.declared.key.Key.{Key}
 use Rattle.mh_tree.specs.declared.error.CheckError.{CheckError}
 use Rattle.mh_tree.specs.declared.error.CheckError.TheVariants as check
@@ -83,10 +84,6 @@ asks-nothing old new (Err (TypesFull bucket)) same = stopped-still [] old.pass.n
 asks-nothing old new (Err NoMemory) same = tt
 asks-nothing old new (Err (Refused e)) same = tt
 
-is-false : (b : Bool) → (b ≡ true → ⊥) → b ≡ false
-is-false true h = absurd (h refl)
-is-false false h = refl
-
 -- of a recipe made of another one
 pub asks-from : (before after : List Key) (old new : Work) (made : Result Handle HandleError) → MakesFrom before after old new made →
     AsksIfMade (unless_same before after) old new made
@@ -96,7 +93,7 @@ asks-from before after old new made makes =
     subst (λ b. AsksIfMade (if b then [] else after ∷ []) old new made) (sym ((same_recipe-decides after before).1 same.0)) (asks-nothing old new made same.1))
     (λ (other : (after ≢ before) × Makes after old new made).
     subst (λ b. AsksIfMade (if b then [] else after ∷ []) old new made)
-    (sym (is-false (same_recipe after before) (λ one. other.0 ((same_recipe-decides after before).0 one)))) (asks-made after old new made other.1))
+    (sym (false_from_ne_true (same_recipe after before) (λ one. other.0 ((same_recipe-decides after before).0 one)))) (asks-made after old new made other.1))
     makes
 
 -- of two recipes, one after the other

@@ -1,6 +1,7 @@
 -- What the lines of operations leave of a pass, by the nodes whose forms they ask for.
 use Rattle.std.proofs.Common.{◌≡◌, sym, ◌∙◌, ap, ap₂, subst, ℕ, List, [], ◌∷◌, ◌++◌, append-nil, map, flat_map, Result, Ok, Err}
 use Rattle.std.specs.Prelude.{IsErrAnd}
+use Rattle.mh_base.proofs.Inversion.{ok_is}
 use Rattle.mh_leaf.specs.LeafTable.{LeafTable}
 use Rattle.mh_tree.specs.declared.error.CheckError.{CheckError}
 use Rattle.mh_tree.specs.Tree.{Tree}
@@ -54,8 +55,6 @@ asks-thrown leaves node asked old new error r is makes =
 
 module _ (leaves : LeafTable) (frame : Frame) (op : Operation) (old new : Work) (r : Result Handle HandleError)
     (makes : MakesNode (node_of leaves frame op) old new r) where
-  same_tree : (t u : Tree) → ◌≡◌ {A = OrThrown Tree} (Ok t) (Ok u) → t ≡ u
-  same_tree t u h = cc
 
   -- an operand throws
   pub line-thrown : (error : CheckError) → IsErrAnd r (λ x. x ≡ of_check error) → AsksOrThrows (line_recipes leaves frame op) old new r
@@ -73,7 +72,7 @@ module _ (leaves : LeafTable) (frame : Frame) (op : Operation) (old new : Work) 
       let found = bound-parts m (typed leaves) n (sym is ∙ given) in
       let own = bound-parts (type_of leaves found.0) (λ _. Ok found.0) n found.2 in
       subst (λ uses. AsksIfMade (map (recipe leaves) (uses ++ asked_itself leaves frame op n)) old new r) same
-      (asks n (subst (λ t. m ≡ Ok t) (same_tree found.0 n own.2) found.1)))
+      (asks n (subst (λ t. m ≡ Ok t) (ok_is found.0 n own.2) found.1)))
 
   -- of which a tree is made
   pub line-makes : (operands : List HandleOperand) (t : Tree) → flat_map node_made operands ≡ nodes_of_uses frame (handles_of op) →
@@ -81,7 +80,7 @@ module _ (leaves : LeafTable) (frame : Frame) (op : Operation) (old new : Work) 
       AsksOrThrows (line_recipes leaves frame op) old new r
   line-makes operands t same is asks =
       line-asks operands (Ok t) same is
-      (λ u h. subst (λ n. AsksIfMade (recipes_made leaves operands (asked_itself leaves frame op n)) old new r) (same_tree t u h) asks)
+      (λ u h. subst (λ n. AsksIfMade (recipes_made leaves operands (asked_itself leaves frame op n)) old new r) (ok_is t u h) asks)
 
 -- ---- nodes that an operation makes itself
 

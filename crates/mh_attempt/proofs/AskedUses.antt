@@ -2,10 +2,11 @@
 use Rattle.std.proofs.Common.{◌≡◌, refl, sym, ◌∙◌, ap, subst, Bool, true, false, ◌&&◌, ℕ, List, [], ◌∷◌, ◌++◌, map, length, Option, Result, Ok, codes, nat_le}
 use Rattle.std.specs.Prelude.{if◌then◌else◌, is_some}
 use Rattle.std.proofs.lemmas.List.{map-append}
+use Rattle.mh_base.proofs.Inversion.{ok_is}
 use Rattle.mh_values.specs.declared.types.Ty.{Ty}
 use Rattle.mh_values.specs.declared.types.MethodTy.{MethodTy}
 use Rattle.mh_leaf.specs.LeafTable.{LeafTable}
-use Rattle.mh_tree.specs.Rows.{TypeOrRefusal, component_of, illegal}
+use Rattle.mh_tree.specs.Rows.{component_of, illegal}
 use Rattle.mh_tree.specs.Tree.{Tree}
 use Rattle.mh_tree.specs.Tree as tree
 use Rattle.mh_tree.specs.Typing.{type_of}
@@ -18,7 +19,7 @@ use Rattle.mh_handle.specs.SameRecipes.{same_recipe}
 use Rattle.mh_handle.specs.Stands.{Stands}
 use Rattle.mh_astype.specs.Use.{MakesFrom}
 use Rattle.mh_branch.specs.Spreading.{MakesSpread}
-use Rattle.mh_jobs.specs.Thrown.{OrThrown, ◌>>◌, require}
+use Rattle.mh_jobs.specs.Thrown.{◌>>◌, require}
 use Rattle.mh_jobs.proofs.Parts.{bound-parts, require-parts}
 use Rattle.mh_link.specs.Operations.{spread_of, use_of}
 use Rattle.mh_attempt.specs.declared.handle.HandleOperand.{HandleOperand}
@@ -27,18 +28,12 @@ use Rattle.mh_attempt.specs.Recipes.{recipes_made, spread_asked, use_asked}
 use Rattle.mh_attempt.proofs.AskedOperands.{asks-nodes}
 use Rattle.mh_attempt.proofs.AskedNodes.{asks-both, asks-from, unless_same}
 
-same_tree : (t u : Tree) → ◌≡◌ {A = OrThrown Tree} (Ok t) (Ok u) → u ≡ t
-same_tree t u h = cc
-
-same_type : (a b : MethodTy) → ◌≡◌ {A = TypeOrRefusal} (Ok a) (Ok b) → a ≡ b
-same_type a b h = cc
-
 -- ---- trees
 
 use-made : (leaves : LeafTable) (t u : Tree) (own asked : MethodTy) → type_of leaves t ≡ Ok own → use_of leaves t asked ≡ Ok u → u ≡ used_as own asked t
 use-made leaves t u own asked typed is =
     let found = bound-parts (type_of leaves t) (λ o. Ok (used_as o asked t)) u is in
-    same_tree (used_as found.0 asked t) u found.2 ∙ ap (λ o. used_as o asked t) (same_type found.0 own (sym found.1 ∙ typed))
+    sym (ok_is (used_as found.0 asked t) u found.2) ∙ ap (λ o. used_as o asked t) (ok_is found.0 own (sym found.1 ∙ typed))
 
 spread-made : (leaves : LeafTable) (t s : Tree) (own : MethodTy) (array : Option Ty) (count : ℕ) → type_of leaves t ≡ Ok own →
     spread_of leaves t array count ≡ Ok s → s ≡ tree.Spread (items_used_as own array count t) array count
@@ -47,7 +42,7 @@ spread-made leaves t s own array count typed is =
     let made : MethodTy → Tree = λ o. tree.Spread (items_used_as o array count t) array count in
     let found = bound-parts (type_of leaves t) (λ o. require (holds o) (illegal (codes "spread")) >> Ok (made o)) s is in
     let given = require-parts (holds found.0) (illegal (codes "spread")) (Ok (made found.0)) s found.2 in
-    same_tree (made found.0) s given.1 ∙ ap made (same_type found.0 own (sym found.1 ∙ typed))
+    sym (ok_is (made found.0) s given.1) ∙ ap made (ok_is found.0 own (sym found.1 ∙ typed))
 
 -- ---- recipes
 

@@ -7,6 +7,7 @@ use Rattle.mh_intern.specs.Views.{HoldView, SeatView}
 use Rattle.mh_intern.proofs.SingleExchanges.{no-slot-still}
 use Rattle.mh_tree.specs.declared.error.CheckError.{CheckError}
 use Rattle.mh_tree.specs.declared.error.CheckError.TheVariants as check
+use Rattle.mh_intern.proofs.Measures.{times_type-append}
 use Rattle.mh_handle.specs.declared.error.HandleError.{HandleError}
 use Rattle.mh_handle.specs.declared.error.HandleError.TheVariants.{NoMemory, FormsFull, TypesFull, Refused}
 use Rattle.mh_handle.specs.declared.handle.Handle.{Handle}
@@ -14,7 +15,7 @@ use Rattle.mh_handle.specs.declared.work.Work.{Work}
 use Rattle.mh_handle.specs.Errors.{of_check}
 use Rattle.mh_handle.specs.Works.{TradesTypes}
 use Rattle.mh_attempt.specs.AskedTypes.{AsksNoOther, AsksTypesOrThrows, HasNoSlot}
-use Rattle.mh_attempt.proofs.TypeLists.{IsWithin, times-both, within-none}
+use Rattle.mh_attempt.proofs.TypeLists.{IsWithin, within-none}
 
 -- ---- seats
 
@@ -29,7 +30,7 @@ no_other-more asks types old new within asked t none = let few = within t in ask
 -- these are asked for, and then those
 pub no_other-then : (first second : List MethodTy) (a b c : SeatView) → AsksNoOther first a b → AsksNoOther second b c → AsksNoOther (first ++ second) a c
 no_other-then first second a b c x y t none =
-    let n = times-both t first second in
+    let n = times_type-append t first second in
     let early = x t (omega (arith, n, none)) in
     y t (omega (arith, n, none, early))
 

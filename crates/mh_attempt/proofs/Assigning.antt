@@ -8,15 +8,13 @@ use Rattle.std.proofs.Math.ListN.{set}
 use Rattle.std.proofs.lemmas.Iterator.Adapters.{position_from-zero}
 use Rattle.std.proofs.lemmas.List.Quantifiers.{position-Some}
 use Rattle.std.proofs.lemmas.Slice.Eq.{bytes_eq-Decides}
+use Rattle.mh_base.proofs.Tests.{same_text}
 use Rattle.mh_attempt.specs.declared.registers.Assignment.{Assignment}
 use Rattle.mh_attempt.specs.declared.registers.Held.{Held}
 use Rattle.mh_attempt.specs.Registers.{assigned_to, held_under, is_named}
 
 both : (b : Bool) → b ≡ true → b ≡ false → ⊥
 both b is other = absurd cc
-
-same_name : (a b : List ℕ) → bytes_eq a b ≡ true → a ≡ b
-same_name a b h = (bytes_eq-Decides a b).0 h
 
 -- the assignment of a name
 abbrev pub assignment : Bor (List ℕ) → Held → Assignment
@@ -47,12 +45,12 @@ held-assigned name h other (a ∷ assigned) = cases (is_named name.now a) refl (
     cases true is rest =
         subst (λ n. (if bytes_eq n other then Some h else held_under other assigned)
         ≡ (if bytes_eq name.now other then Some h else (if bytes_eq n other then Some a.held else held_under other assigned)))
-        (sym (same_name a.name.now name.now is)) (once (bytes_eq name.now other) (Some h) (Some a.held) (held_under other assigned))
+        (sym (same_text a.name.now name.now is)) (once (bytes_eq name.now other) (Some h) (Some a.held) (held_under other assigned))
     cases false is rest =
         ap (λ o. if bytes_eq a.name.now other then Some a.held else o) rest
         ∙ apart (bytes_eq name.now other) (bytes_eq a.name.now other) (Some h) (Some a.held) (held_under other assigned)
         (λ one two. both (is_named name.now a)
-        ((bytes_eq-Decides a.name.now name.now).1 (same_name a.name.now other two ∙ sym (same_name name.now other one))) is)
+        ((bytes_eq-Decides a.name.now name.now).1 (same_text a.name.now other two ∙ sym (same_text name.now other one))) is)
 
 -- ---- where a name stands
 

@@ -2,6 +2,7 @@
 use Rattle.std.proofs.Common.{◌≡◌, refl, sym, ap, subst, ◌∙◌, ℕ, List, [], ◌∷◌, ◌++◌, append_assoc, Option, Some, None, Ok, Err}
 use Rattle.std.specs.Prelude.{All, option_map, slice_get}
 use Rattle.std.proofs.lemmas.List.{map-append}
+use Rattle.mh_base.proofs.Inversion.{some_is}
 use Rattle.mh_leaf.specs.LeafTable.{LeafTable}
 use Rattle.mh_classfile.specs.Class as class_file
 use Rattle.mh_classfile.specs.declared.constant.SiteView.{SiteView}
@@ -74,14 +75,11 @@ module _ (leaves : LeafTable) where
       called (Ok call) = began call (called_script scripts call)
       called (Err e) = none-among []
 
-same_job : (a b : Job) → ◌≡◌ {A = Option Job} (Some a) (Some b) → a ≡ b
-same_job a b h = cc
-
 -- the nodes of the attempt for a job of a run have types
 job-typed : (leaves : LeafTable) (scripts : List Script) (class : class_file.Class) (job : Job) (serial : ℕ) (o : Option SiteView) →
     option_map (site_job leaves scripts class job.site) o ≡ Some job → All (IsTyped leaves) (nodes leaves scripts job serial)
 job-typed leaves scripts class job serial (Some site) h =
-    subst (λ j. All (IsTyped leaves) (nodes leaves scripts j serial)) (same_job (site_job leaves scripts class job.site site) job h)
+    subst (λ j. All (IsTyped leaves) (nodes leaves scripts j serial)) (some_is (site_job leaves scripts class job.site site) job h)
     (made-typed leaves scripts class job.site site serial)
 job-typed leaves scripts class job serial None h = absurd cc
 

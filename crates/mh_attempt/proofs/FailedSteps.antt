@@ -10,6 +10,7 @@ use Rattle.mh_handle.specs.declared.handle.Handle.{Handle}
 use Rattle.mh_handle.specs.declared.work.Work.{Work}
 use Rattle.mh_handle.specs.Errors.{of_check}
 use Rattle.mh_handle.specs.Works.{GoesOn}
+use Rattle.mh_handle.proofs.Rooms.{goes_on-none}
 use Rattle.mh_script.specs.declared.script.Operation.{Operation}
 use Rattle.mh_script.specs.declared.script.Step.{Step}
 use Rattle.mh_script.specs.declared.script.Step.TheVariants as step
@@ -30,7 +31,6 @@ use Rattle.mh_attempt.proofs.AskedAfter.{asked_more-none}
 use Rattle.mh_attempt.proofs.AskedLines.{asks-error}
 use Rattle.mh_attempt.proofs.AskingTypes.{no_other-still, types-handed}
 use Rattle.mh_attempt.proofs.Replacing.{replaces-still}
-use Rattle.mh_attempt.proofs.Rooms.{goes_on-none}
 use Rattle.mh_attempt.proofs.RunRegisters.{same-hold}
 use Rattle.mh_attempt.proofs.Running.{let-thrown, pass-thrown}
 use Rattle.mh_attempt.proofs.RoomyRegisters.{MakesLine, roomy-replaces}

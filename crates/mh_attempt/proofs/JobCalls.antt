@@ -2,6 +2,7 @@
 use Rattle.std.proofs.Common.{◌≡◌, sym, ◌∙◌, ap, subst, ℕ, zero, suc, ◌<◌, List, [], ◌∷◌, length, Option, Some, None, Ok, arith}
 use Rattle.std.specs.Prelude.{option_map, ok_or, slice_get}
 use Rattle.std.specs.Result.{result_ok}
+use Rattle.mh_base.proofs.Inversion.{ok_is}
 use Rattle.mh_values.specs.declared.types.MethodTy.{MethodTy}
 use Rattle.mh_values.specs.declared.value.Exc.{Exc}
 use Rattle.mh_leaf.specs.declared.leaf.Leaf.{Leaf}
@@ -15,7 +16,6 @@ use Rattle.mh_jobs.specs.declared.job.BootstrapCall.{BootstrapCall}
 use Rattle.mh_jobs.specs.declared.job.Job.{Job}
 use Rattle.mh_jobs.specs.Given.{IsJob}
 use Rattle.mh_jobs.specs.Job.{arguments_of, bootstrap_at, bootstrap_call, bootstrap_script, call_of, site_job, site_type, text_of}
-use Rattle.mh_jobs.specs.Thrown.{OrThrown}
 use Rattle.mh_jobs.proofs.Parts.{bound-parts}
 use Rattle.mh_link.proofs.Attempts.{script-there}
 use Rattle.mh_link.proofs.Leaves.{call-typed}
@@ -70,9 +70,6 @@ job-leaves leaves scripts job call is called n a at = tt
 
 -- ---- the type
 
-same_call : (a b : BootstrapCall) → ◌≡◌ {A = OrThrown BootstrapCall} (Ok a) (Ok b) → a ≡ b
-same_call a b h = cc
-
 typed-call : (leaves : LeafTable) (scripts : List Script) (class : class_file.Class) (site : SiteView) (call : BootstrapCall) →
     bootstrap_call leaves scripts class site ≡ Ok call → site_type leaves.classes site ≡ Ok call.ty
 typed-call leaves scripts class site call h =
@@ -81,7 +78,7 @@ typed-call leaves scripts class site call h =
     let ty = bound-parts (site_type leaves.classes site) _ call script.2 in
     let name = bound-parts (text_of site.name) _ call ty.2 in
     let given = bound-parts (arguments_of leaves bootstrap.0.arguments) _ call name.2 in
-    subst (λ (c : BootstrapCall). site_type leaves.classes site ≡ Ok c.ty) (same_call _ call given.2) ty.1
+    subst (λ (c : BootstrapCall). site_type leaves.classes site ≡ Ok c.ty) (ok_is _ call given.2) ty.1
 
 -- the call has the type of the job's site
 pub job-type : (leaves : LeafTable) (scripts : List Script) (job : Job) (call : BootstrapCall) → IsJob leaves scripts job → job.call ≡ Ok call →

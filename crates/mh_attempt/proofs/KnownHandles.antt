@@ -4,6 +4,7 @@ use Rattle.std.specs.Prelude.{if◌then◌else◌, slice_get, option_map, ok_or}
 use Rattle.std.specs.Str.{bytes_eq}
 use Rattle.std.proofs.lemmas.List.{map-append}
 use Rattle.std.proofs.lemmas.List.Concat.{flat_map-append}
+use Rattle.mh_base.proofs.Inversion.{some_is}
 use Rattle.mh_values.specs.declared.value.Exc.{Exc}
 use Rattle.mh_values.specs.declared.value.LeafId.{LeafId}
 use Rattle.mh_leaf.specs.LeafTable.{LeafTable}
@@ -84,9 +85,6 @@ uses-among leaves frame (r ∷ rs) =
 
 -- ---- method handles that registers hold
 
-same_content : (a b : Content) → ◌≡◌ {A = Option Content} (Some a) (Some b) → a ≡ b
-same_content a b h = cc
-
 none_there : (c : Content) → ◌≡◌ {A = Option Content} None (Some c) → ⊥
 none_there c h = absurd cc
 
@@ -96,7 +94,7 @@ same_handle t u h = cc
 -- the latest assignment, or one before it
 latest : (leaves : LeafTable) (known : List (List Key)) (first : Content) (before : Option Content) (b : Bool) (c : Content) → IsKnown leaves known first →
     ((d : Content) → before ≡ Some d → IsKnown leaves known d) → (if b then Some first else before) ≡ Some c → IsKnown leaves known c
-latest leaves known first before true c is others h = subst (IsKnown leaves known) (same_content first c h) is
+latest leaves known first before true c is others h = subst (IsKnown leaves known) (some_is first c h) is
 latest leaves known first before false c is others h = others c h
 
 last-known : (leaves : LeafTable) (known : List (List Key)) (name : List ℕ) (assigned : List (List ℕ × Content)) (c : Content) →
@@ -108,7 +106,7 @@ last-known leaves known name (a ∷ assigned) c are h =
 argument-known : (leaves : LeafTable) (known : List (List Key)) (o : Option Argument) (t : Tree) → option_map content_of o ≡ Some (handle t) →
     AreAmong (beginnings (recipe leaves t)) (known ++ recipes_of leaves (leaf_among o))
 argument-known leaves known (Some (argument.Leaf l)) t h =
-    let is = same_handle (tree.Leaf l) t (same_content (handle (tree.Leaf l)) (handle t) h) in
+    let is = same_handle (tree.Leaf l) t (some_is (handle (tree.Leaf l)) (handle t) h) in
     subst (λ u. AreAmong (beginnings (recipe leaves u)) (known ++ recipe leaves (tree.Leaf l) ∷ [])) is
     (among-among (beginnings (recipe leaves (tree.Leaf l))) (recipe leaves (tree.Leaf l) ∷ []) (known ++ recipe leaves (tree.Leaf l) ∷ [])
     (leaf-among leaves l) (among-last known (recipe leaves (tree.Leaf l) ∷ [])))

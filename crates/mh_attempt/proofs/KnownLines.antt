@@ -1,6 +1,7 @@
 -- Every beginning of the recipe of the node of an operation was asked for before, or is by the operation.
 use Rattle.std.proofs.Common.{◌≡◌, refl, sym, subst, Bool, ◌&&◌, ℕ, List, [], ◌∷◌, ◌++◌, length, Option, Ok, codes, nat_le}
 use Rattle.std.specs.Prelude.{is_some}
+use Rattle.mh_base.proofs.Inversion.{ok_is}
 use Rattle.mh_values.specs.declared.types.MethodTy.{MethodTy}
 use Rattle.mh_values.specs.declared.types.Ty.{Ty}
 use Rattle.mh_leaf.specs.LeafTable.{LeafTable}
@@ -30,15 +31,12 @@ use Rattle.mh_attempt.proofs.RecipeBeginnings.{IsShort}
 use Rattle.mh_attempt.proofs.RecipeKeys.{HasOneMore, at_some-short, at_type-short, has-one, has-some, has-typed, items-more, short-one, use-more}
 use Rattle.mh_attempt.proofs.RecipeSets.{AreAmong}
 
-same_tree : (t u : Tree) → ◌≡◌ {A = OrThrown Tree} (Ok t) (Ok u) → t ≡ u
-same_tree t u h = cc
-
 -- a node is what is asked for
 node-asked : (leaves : LeafTable) (frame : Frame) (op : Operation) (n : Tree) → node_of leaves frame op ≡ Ok n → asked_by leaves frame op ≡ Ok n
 node-asked leaves frame op n h =
     let asked = bound-parts (asked_by leaves frame op) (λ u. type_of leaves u >>= (λ own. Ok u)) n h in
     let typed = bound-parts (type_of leaves asked.0) (λ own. Ok asked.0) n asked.2 in
-    subst (λ u. asked_by leaves frame op ≡ Ok u) (same_tree asked.0 n typed.2) asked.1
+    subst (λ u. asked_by leaves frame op ≡ Ok u) (ok_is asked.0 n typed.2) asked.1
 
 -- the beginnings of the recipe of a node are among those that were asked for, those of leaves that are used, and those that the operation asks for itself
 abbrev IsKnownOf : LeafTable → List (List Key) → Frame → Operation → Tree → Type 0
@@ -66,7 +64,7 @@ module _ (leaves : LeafTable) (known : List (List Key)) (frame : Frame) (are : A
       let given = require-parts (holds typed.0) (illegal (codes "spread")) (Ok (made typed.0)) n typed.2 in
       let all = known ++ recipes_of leaves (nodes_of_uses frame (h ∷ [])) in
       subst (λ m. AreAmong (beginnings (recipe leaves n)) (all ++ recipes_of leaves (unless_thrown m (λ t. spread_asked leaves t n)))) (sym held.1)
-      (subst (λ s. AreAmong (beginnings (recipe leaves s)) (all ++ recipes_of leaves (spread_asked leaves held.0 s))) (same_tree (made typed.0) n given.1)
+      (subst (λ s. AreAmong (beginnings (recipe leaves s)) (all ++ recipes_of leaves (spread_asked leaves held.0 s))) (ok_is (made typed.0) n given.1)
       (spread-known leaves all held.0 (items_used_as typed.0 array.0 count held.0) array.0 count (items-more leaves typed.0 array.0 count held.0)
       (first-known leaves known frame h [] held.0 are held.1)))
 
@@ -79,7 +77,7 @@ module _ (leaves : LeafTable) (known : List (List Key)) (frame : Frame) (are : A
       let all = known ++ recipes_of leaves (nodes_of_uses frame (h ∷ [])) in
       subst (λ m. AreAmong (beginnings (recipe leaves n)) (all ++ recipes_of leaves (unless_thrown m (λ t. use_asked leaves t n)))) (sym held.1)
       (use-known leaves all held.0 n
-      (subst (HasOneMore leaves held.0) (same_tree (used_as typed.0 asked.0 held.0) n typed.2) (use-more leaves typed.0 asked.0 held.0))
+      (subst (HasOneMore leaves held.0) (ok_is (used_as typed.0 asked.0 held.0) n typed.2) (use-more leaves typed.0 asked.0 held.0))
       (first-known leaves known frame h [] held.0 are held.1))
 
   asked-known : (op : Operation) (n : Tree) → asked_by leaves frame op ≡ Ok n → IsKnownOf leaves known frame op n

@@ -2,6 +2,7 @@
 use Rattle.std.proofs.Common.{◌≡◌, refl, sym, ◌∙◌, ap, subst, ℕ, Option, Bool, true, false, List, [], ◌∷◌, ◌++◌, append_assoc, Ok}
 use Rattle.std.specs.Prelude.{if◌then◌else◌}
 use Rattle.std.proofs.lemmas.List.{map-append}
+use Rattle.mh_base.proofs.Inversion.{ok_is}
 use Rattle.mh_values.specs.declared.types.Ty.{Ty}
 use Rattle.mh_values.specs.Array.{item_type}
 use Rattle.mh_leaf.specs.LeafTable.{LeafTable}
@@ -28,10 +29,7 @@ use Rattle.mh_attempt.proofs.RecipeSets.{AreAmong, among-among, among-first, amo
 -- ---- what a line makes of its operands
 
 pub one-part : {A : Type 0} (m : OrThrown A) (make : A → Tree) (n : Tree) → (m >>= (λ a. Ok (make a))) ≡ Ok n → (a : A) × (m ≡ Ok a) × (make a ≡ n)
-one-part m make n h = let found = bound-parts m (λ a. Ok (make a)) n h in (found.0, found.1, same_tree (make found.0) n found.2)
-  where
-    same_tree : (t u : Tree) → ◌≡◌ {A = OrThrown Tree} (Ok t) (Ok u) → t ≡ u
-    same_tree t u e = cc
+one-part m make n h = let found = bound-parts m (λ a. Ok (make a)) n h in (found.0, found.1, ok_is (make found.0) n found.2)
 
 pub two-parts : {A B : Type 0} (m : OrThrown A) (k : OrThrown B) (make : A → B → Tree) (n : Tree) → (m >>= (λ a. k >>= (λ b. Ok (make a b)))) ≡ Ok n →
     (a : A) × (m ≡ Ok a) × (b : B) × (make a b ≡ n)

@@ -2,6 +2,7 @@
 use Rattle.std.proofs.Common.{◌≡◌, refl, sym, ap, subst, ◌∙◌, ◌%◌, ◌==◌, not, List, [], ◌∷◌, ◌++◌, append-nil, append_assoc, Ok, Err, codes}
 use Rattle.std.proofs.lemmas.List.{map-append}
 use Rattle.std.proofs.lemmas.List.Concat.{flat_map-append}
+use Rattle.mh_base.proofs.Inversion.{ok_is}
 use Rattle.mh_values.specs.Exception.{saying}
 use Rattle.mh_leaf.specs.LeafTable.{LeafTable}
 use Rattle.mh_tree.specs.Tree.{Tree}
@@ -27,9 +28,6 @@ use Rattle.mh_attempt.proofs.KnownHandles.{AreKnown, edits_of, known-more, recip
 use Rattle.mh_attempt.proofs.KnownLines.{line-known}
 use Rattle.mh_attempt.proofs.RecipeKeys.{has-some, part-among}
 use Rattle.mh_attempt.proofs.RecipeSets.{AreAmong, among-among, among-first, among-last, both-among, none-among, same-among}
-
-same_frame : (a b : Frame) → ◌≡◌ {A = OrThrown Frame} (Ok a) (Ok b) → a ≡ b
-same_frame a b h = cc
 
 module _ (leaves : LeafTable) where
   pub all-edits : (ts us : List Tree) → edits_of leaves (ts ++ us) ≡ edits_of leaves ts ++ edits_of leaves us
@@ -102,13 +100,13 @@ module _ (leaves : LeafTable) (known : List (List Key)) (frame : Frame) (are : A
       let made = bound-parts (node_of leaves frame op) (λ t. Ok (assigning name (handle t) frame)) next h in
       let all : OrThrown Tree → List (List Key) = λ m.
       known ++ recipes_of leaves (unless_thrown m (λ t. nodes_of_uses frame (handles_of op) ++ asked_itself leaves frame op t)) in
-      subst (λ (f : Frame). AreKnown leaves (all (node_of leaves frame op)) f.assigned) (same_frame _ next made.2)
+      subst (λ (f : Frame). AreKnown leaves (all (node_of leaves frame op)) f.assigned) (ok_is _ next made.2)
       (subst (λ m. AreKnown leaves (all m) ((name, handle made.0) ∷ frame.assigned)) (sym made.1)
       (node-known op made.0 made.1, known-more leaves known (all (Ok made.0)) frame.assigned (among-first known _) are))
   next-known (step.Serial name) next h =
-      subst (λ (f : Frame). AreKnown leaves (known ++ []) f.assigned) (same_frame _ next h)
+      subst (λ (f : Frame). AreKnown leaves (known ++ []) f.assigned) (ok_is _ next h)
       (tt, known-more leaves known (known ++ []) frame.assigned (among-first known []) are)
   next-known (step.FailMod modulus remainder) next h =
       let other = require-parts (not (frame.serial % modulus == remainder)) (saying runtime_class (codes "failmod")) (Ok frame) next h in
-      subst (λ (f : Frame). AreKnown leaves (known ++ []) f.assigned) (same_frame frame next other.1)
+      subst (λ (f : Frame). AreKnown leaves (known ++ []) f.assigned) (ok_is frame next other.1)
       (known-more leaves known (known ++ []) frame.assigned (among-first known []) are)

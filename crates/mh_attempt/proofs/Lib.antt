@@ -35,7 +35,6 @@ pub mod RegisterContents
 pub mod AssignedHolds
 pub mod RegisterTypes
 pub mod Replacing
-pub mod Rooms
 pub mod Rules
 pub mod RunCalls
 pub mod RunFails

@@ -4,13 +4,13 @@ use Rattle.std.proofs.Common.{sym, subst, ℕ, ◌+◌, ◌*◌, ◌^◌, ◌<�
 use Rattle.mh_leaf.specs.LeafTable.{LeafTable}
 use Rattle.mh_handle.specs.declared.work.Work.{Work}
 use Rattle.mh_handle.specs.Works.{IsReady}
+use Rattle.mh_handle.proofs.Rooms.{ready-after}
 use Rattle.mh_script.specs.declared.script.End.{End}
 use Rattle.mh_script.specs.declared.script.Step.{Step}
 use Rattle.mh_attempt.specs.declared.registers.Registers.{Registers}
 use Rattle.mh_attempt.specs.Registers.{AreKept, Hold, HoldSome, holds_in}
 use Rattle.mh_attempt.specs.Runs.{MayRun, draws}
 use Rattle.mh_attempt.proofs.Replacing.{replaces-held}
-use Rattle.mh_attempt.proofs.Rooms.{ready-after}
 use Rattle.mh_attempt.proofs.RunLines.{HasRun}
 
 -- ---- what the next line needs

@@ -10,6 +10,7 @@ use Rattle.mh_leaf.specs.LeafTable.{LeafTable}
 use Rattle.mh_handle.specs.declared.work.Work.{Work}
 use Rattle.mh_handle.specs.Recipe.{recipe}
 use Rattle.mh_handle.specs.Works.{IsReady}
+use Rattle.mh_handle.proofs.Rooms.{ready-less}
 use Rattle.mh_script.specs.declared.script.Script.{Script}
 use Rattle.mh_script.specs.declared.script.Step.{Step}
 use Rattle.mh_script.specs.Limits.{CanRun}
@@ -24,7 +25,6 @@ use Rattle.mh_attempt.specs.Linkage.{target_of, target_recipes}
 use Rattle.mh_attempt.specs.Recipes.{attempt_recipes, script_asked, script_recipes}
 use Rattle.mh_attempt.specs.Registers.{AreKept, HasLeaves, Hold, HoldsLast, held_under, holds_in}
 use Rattle.mh_attempt.specs.Runs.{MayRun, draws}
-use Rattle.mh_attempt.proofs.Rooms.{ready-less}
 
 -- ---- a call of a bootstrap method
 

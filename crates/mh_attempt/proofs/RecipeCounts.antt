@@ -4,6 +4,7 @@ use Rattle.std.specs.List.{list_any, IsDistinct, AllByRecursion}
 use Rattle.std.specs.Set.{distinct_count, unique_keys}
 use Rattle.std.proofs.lemmas.List.Folds.{list_any-append}
 use Rattle.std.proofs.lemmas.Map.Made.{length-le_from_is_member}
+use Rattle.mh_base.proofs.Tests.{or_false, or_true}
 use Rattle.mh_edit.specs.declared.key.Key.{Key}
 use Rattle.mh_handle.specs.Passes.{PassView}
 use Rattle.mh_handle.specs.SameRecipes.{same_recipe}
@@ -18,24 +19,16 @@ is_one recipes r = list_any (same_recipe r) recipes
 pub alike : (recipes : List (List Key)) (a b : List Key) → same_recipe a b ≡ true → is_one recipes a ≡ is_one recipes b
 alike recipes a b same = ap (is_one recipes) ((same_recipe-decides a b).0 same)
 
-or-false : (b : Bool) → (b || false) ≡ b
-or-false true = refl
-or-false false = refl
-
-pub or-true : (b : Bool) → (b || true) ≡ true
-or-true true = refl
-or-true false = refl
-
 pub one-more : (recipes : List (List Key)) (r q : List Key) → is_one (recipes ++ r ∷ []) q ≡ (is_one recipes q || same_recipe q r)
-one-more recipes r q = list_any-append (same_recipe q) recipes (r ∷ []) ∙ ap (λ b. is_one recipes q || b) (or-false (same_recipe q r))
+one-more recipes r q = list_any-append (same_recipe q) recipes (r ∷ []) ∙ ap (λ b. is_one recipes q || b) (or_false (same_recipe q r))
 
 -- a recipe that is there changes nothing where it is put last
 pub again : (recipes : List (List Key)) (r q : List Key) → is_one recipes r ≡ true → is_one (recipes ++ r ∷ []) q ≡ is_one recipes q
 again recipes r q there = one-more recipes r q ∙ cases (same_recipe q r) refl
   where
     cases : (b : Bool) → same_recipe q r ≡ b → (is_one recipes q || b) ≡ is_one recipes q
-    cases true same = or-true (is_one recipes q) ∙ sym (alike recipes q r same ∙ there)
-    cases false other = or-false (is_one recipes q)
+    cases true same = or_true (is_one recipes q) ∙ sym (alike recipes q r same ∙ there)
+    cases false other = or_false (is_one recipes q)
 
 -- ---- each recipe once
 

@@ -1,24 +1,16 @@
 -- Lists of recipes as sets.
-use Rattle.std.proofs.Common.{◌≡◌, refl, sym, ◌∙◌, ap, Bool, true, false, ◌||◌, List, [], ◌∷◌, ◌++◌, ◌⊎◌, inl, inr, ⊎_elim}
+use Rattle.std.proofs.Common.{◌≡◌, sym, ◌∙◌, ap, true, false, ◌||◌, List, [], ◌∷◌, ◌++◌, ◌⊎◌, ⊎_elim}
 use Rattle.std.proofs.lemmas.List.Folds.{list_any-append}
+use Rattle.std.proofs.lemmas.Bool.{or_left, or_right, or_cases}
+use Rattle.mh_base.proofs.Tests.{same_tests}
 use Rattle.mh_edit.specs.declared.key.Key.{Key}
 use Rattle.mh_handle.specs.SameRecipes.{same_recipe}
 use Rattle.mh_handle.proofs.SameRecipes.{same_recipe-decides, same_recipe-equivalence}
-use Rattle.mh_attempt.proofs.RecipeCounts.{is_one, or-true}
+use Rattle.mh_attempt.proofs.RecipeCounts.{is_one}
 
 -- each recipe of the first list is one of the second
 abbrev pub AreAmong : List (List Key) → List (List Key) → Type 0
 AreAmong xs ys = (q : List Key) → is_one xs q ≡ true → is_one ys q ≡ true
-
-or-left : (a b : Bool) → a ≡ true → (a || b) ≡ true
-or-left a b h = ap (λ c. c || b) h
-
-or-right : (a b : Bool) → b ≡ true → (a || b) ≡ true
-or-right a b h = ap (λ c. a || c) h ∙ or-true a
-
-one-of : (a b : Bool) → (a || b) ≡ true → (a ≡ true) ⊎ (b ≡ true)
-one-of true b h = inl refl
-one-of false b h = inr h
 
 pub none-among : (ys : List (List Key)) → AreAmong [] ys
 none-among ys q h = absurd cc
@@ -30,14 +22,14 @@ pub among-among : (xs ys zs : List (List Key)) → AreAmong xs ys → AreAmong y
 among-among xs ys zs h k q there = k q (h q there)
 
 pub among-first : (xs ys : List (List Key)) → AreAmong xs (xs ++ ys)
-among-first xs ys q h = list_any-append (same_recipe q) xs ys ∙ or-left (is_one xs q) (is_one ys q) h
+among-first xs ys q h = list_any-append (same_recipe q) xs ys ∙ or_left (is_one xs q) (is_one ys q) h
 
 pub among-last : (xs ys : List (List Key)) → AreAmong ys (xs ++ ys)
-among-last xs ys q h = list_any-append (same_recipe q) xs ys ∙ or-right (is_one xs q) (is_one ys q) h
+among-last xs ys q h = list_any-append (same_recipe q) xs ys ∙ or_right (is_one xs q) (is_one ys q) h
 
 pub both-among : (xs ys zs : List (List Key)) → AreAmong xs zs → AreAmong ys zs → AreAmong (xs ++ ys) zs
 both-among xs ys zs h k q there =
-    ⊎_elim (h q) (k q) (one-of (is_one xs q) (is_one ys q) (sym (list_any-append (same_recipe q) xs ys) ∙ there))
+    ⊎_elim (h q) (k q) (or_cases (is_one xs q) (is_one ys q) (sym (list_any-append (same_recipe q) xs ys) ∙ there))
 
 pub each-among : (xs ys us vs : List (List Key)) → AreAmong xs us → AreAmong ys vs → AreAmong (xs ++ ys) (us ++ vs)
 each-among xs ys us vs h k =
@@ -49,16 +41,11 @@ one-among r ys there q h =
     ⊎_elim
     (λ (same : same_recipe q r ≡ true). ap (is_one ys) ((same_recipe-decides q r).0 same) ∙ there)
     (λ (other : false ≡ true). absurd cc)
-    (one-of (same_recipe q r) false h)
+    (or_cases (same_recipe q r) false h)
 
 pub is-one : (r : List Key) (rs : List (List Key)) → is_one (r ∷ rs) r ≡ true
-is-one r rs = or-left (same_recipe r r) (is_one rs r) (same_recipe-equivalence.refl r)
-
-same_bool : (a b : Bool) → (a ≡ true → b ≡ true) → (b ≡ true → a ≡ true) → a ≡ b
-same_bool true b h k = sym (h refl)
-same_bool false true h k = k refl
-same_bool false false h k = refl
+is-one r rs = or_left (same_recipe r r) (is_one rs r) (same_recipe-equivalence.refl r)
 
 -- lists of which each has the recipes of the other
 pub among-same : (xs ys : List (List Key)) → AreAmong xs ys → AreAmong ys xs → (q : List Key) → is_one xs q ≡ is_one ys q
-among-same xs ys h k q = same_bool (is_one xs q) (is_one ys q) (h q) (k q)
+among-same xs ys h k q = same_tests (is_one xs q) (is_one ys q) (h q) (k q)

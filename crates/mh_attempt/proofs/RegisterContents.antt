@@ -1,7 +1,9 @@
 -- What the registers of a run hold is what those of the frame hold for which they stand.
-use Rattle.std.proofs.Common.{◌≡◌, arith, zero, suc, ◌+◌, ◌<◌, ◌≤◌, add-one, length, get_or, drop, drop-cons, length-drop, refl, sym, ◌∙◌, ap, ℕ, List, [], ◌∷◌, true, false, Option, Some, None, Ok, Err}
+use Rattle.std.proofs.Common.{◌≡◌, arith, zero, suc, ◌+◌, ◌<◌, ◌≤◌, length, get_or, drop, length-drop, refl, sym, ◌∙◌, ap, ℕ, List, [], ◌∷◌, true, false, Option, Some, None, Ok, Err}
 use Rattle.std.specs.Prelude.{if◌then◌else◌, slice_get, option_map, ok_or}
 use Rattle.std.proofs.lemmas.List.{nil_from_length}
+use Rattle.std.proofs.lemmas.Option.{slice_get_past}
+use Rattle.mh_base.proofs.Lists.{drop_item}
 use Rattle.mh_leaf.specs.LeafTable.{LeafTable}
 use Rattle.mh_jobs.specs.declared.job.Argument.{Argument}
 use Rattle.mh_jobs.specs.declared.job.BootstrapCall.{BootstrapCall}
@@ -18,15 +20,6 @@ get-some : {A : Type 0} (xs : List A) (n : ℕ) (a : A) → n < length xs → ((
 get-some [] n a h k = absurd (omega arith)
 get-some (x ∷ xs) zero a h k = ap Some (sym (k a))
 get-some (x ∷ xs) (suc n) a h k = get-some xs n a (omega arith) k
-
-get-none : {A : Type 0} (xs : List A) (n : ℕ) → length xs ≤ n → slice_get xs n ≡ None
-get-none [] n h = refl
-get-none (x ∷ xs) zero h = absurd (omega arith)
-get-none (x ∷ xs) (suc n) h = get-none xs n (omega arith)
-
--- the elements from a place on
-pub rest-from : {A : Type 0} (xs : List A) (i : ℕ) (x : A) → i < length xs → x ≡ get_or xs i x → drop i xs ≡ x ∷ drop (i + 1) xs
-rest-from xs i x within is = rw add-one (drop-cons xs i x within ∙ ap (λ y. y ∷ drop (suc i) xs) (sym is))
 
 pub drop_all : {A : Type 0} (xs : List A) (i : ℕ) → length xs ≤ i → drop i xs ≡ []
 drop_all xs i past = nil_from_length (drop i xs) (length-drop i xs ∙ omega (arith, past))
@@ -49,7 +42,7 @@ pub argument-none : (leaves : LeafTable) (registers : Registers) (frame : Frame)
     length registers.call.now.arguments ≤ n → content frame (register.Argument n) ≡ Err no_argument
 argument-none leaves registers frame hold n at =
     ap (λ (call : BootstrapCall). ok_or (option_map content_of (slice_get call.arguments n)) no_argument) hold.call
-    ∙ ap (λ o. ok_or (option_map content_of o) no_argument) (get-none registers.call.now.arguments n at)
+    ∙ ap (λ o. ok_or (option_map content_of o) no_argument) (slice_get_past registers.call.now.arguments n at)
 
 -- what was assigned last
 pub last-content : (leaves : LeafTable) (h : Held) (c : Found) (o : Option Content) → HoldsLast leaves (Some h) o →
@@ -67,13 +60,13 @@ last-none leaves None holds = refl
 pub found-past : (name : List ℕ) (assigned : List Assignment) (i : ℕ) (a : Assignment) → i < length assigned → a ≡ get_or assigned i a →
     is_named name a ≡ false → held_under name (drop i assigned) ≡ held_under name (drop (i + 1) assigned)
 found-past name assigned i a within is other =
-    ap (held_under name) (rest-from assigned i a within is) ∙ ap (λ b. if b then Some a.held else held_under name (drop (i + 1) assigned)) other
+    ap (held_under name) (drop_item assigned i a within is) ∙ ap (λ b. if b then Some a.held else held_under name (drop (i + 1) assigned)) other
 
 -- and where the name stands there
 pub found-here : (name : List ℕ) (assigned : List Assignment) (i : ℕ) (a : Assignment) → i < length assigned → a ≡ get_or assigned i a →
     is_named name a ≡ true → held_under name (drop i assigned) ≡ Some a.held
 found-here name assigned i a within is named =
-    ap (held_under name) (rest-from assigned i a within is) ∙ ap (λ b. if b then Some a.held else held_under name (drop (i + 1) assigned)) named
+    ap (held_under name) (drop_item assigned i a within is) ∙ ap (λ b. if b then Some a.held else held_under name (drop (i + 1) assigned)) named
 
 -- nothing stands after the last
 pub found-end : (name : List ℕ) (assigned : List Assignment) (i : ℕ) → length assigned ≤ i → held_under name (drop i assigned) ≡ None

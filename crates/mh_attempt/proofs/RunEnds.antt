@@ -6,6 +6,7 @@ use Rattle.mh_handle.specs.declared.error.HandleError.{HandleError}
 use Rattle.mh_handle.specs.declared.handle.Handle.{Handle}
 use Rattle.mh_handle.specs.declared.work.Work.{Work}
 use Rattle.mh_handle.specs.Works.{GoesOn}
+use Rattle.mh_handle.proofs.Rooms.{goes_on-sum}
 use Rattle.mh_script.specs.declared.script.End.{End}
 use Rattle.mh_script.specs.declared.script.Step.{Step}
 use Rattle.mh_attempt.specs.declared.registers.Registers.{Registers}
@@ -19,7 +20,6 @@ use Rattle.mh_attempt.specs.Registers.{Hold, holds_in}
 use Rattle.mh_attempt.specs.Runs.{KeepsTypes, Replaces, Runs, draws}
 use Rattle.mh_attempt.specs.Several.{AddsTypes}
 use Rattle.mh_attempt.proofs.Replacing.{replaces-more, replaces-still}
-use Rattle.mh_attempt.proofs.Rooms.{goes_on-sum}
 use Rattle.mh_attempt.proofs.RunLines.{HasRun}
 use Rattle.mh_attempt.proofs.Running.{told-node}
 use Rattle.mh_attempt.proofs.RunFails.{Says, all-says}

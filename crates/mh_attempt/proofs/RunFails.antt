@@ -9,6 +9,7 @@ use Rattle.mh_handle.specs.declared.error.HandleError.TheVariants.{NoMemory, For
 use Rattle.mh_handle.specs.declared.handle.Handle.{Handle}
 use Rattle.mh_handle.specs.declared.work.Work.{Work}
 use Rattle.mh_handle.specs.Recipe.{recipe}
+use Rattle.mh_handle.proofs.Rooms.{goes_on-sum}
 use Rattle.mh_script.specs.declared.script.End.{End}
 use Rattle.mh_script.specs.declared.script.Step.{Step}
 use Rattle.mh_attempt.specs.declared.registers.Registers.{Registers}
@@ -28,7 +29,6 @@ use Rattle.mh_attempt.proofs.AskingRuns.{same-types}
 use Rattle.mh_attempt.proofs.AskingTypes.{types-handed, types-more, types-then}
 use Rattle.mh_attempt.proofs.TypeLists.{within-first}
 use Rattle.mh_attempt.proofs.Replacing.{replaces-then}
-use Rattle.mh_attempt.proofs.Rooms.{goes_on-sum}
 use Rattle.mh_attempt.proofs.RunLines.{HasRun, Reaches, Steps, recipes-after, steps-over, types-after}
 use Rattle.mh_attempt.proofs.Running.{same-target, tells-over}
 

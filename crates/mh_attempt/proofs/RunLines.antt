@@ -13,6 +13,7 @@ use Rattle.mh_handle.specs.declared.work.Work.{Work}
 use Rattle.mh_handle.specs.Recipe.{recipe}
 use Rattle.mh_handle.specs.Works.{GoesOn}
 use Rattle.mh_handle.proofs.Going.{goes_on-still}
+use Rattle.mh_handle.proofs.Rooms.{goes_on-sum}
 use Rattle.mh_script.specs.declared.script.End.{End}
 use Rattle.mh_script.specs.declared.script.Step.{Step}
 use Rattle.mh_attempt.specs.declared.registers.Registers.{Registers}
@@ -28,7 +29,6 @@ use Rattle.mh_attempt.specs.Runs.{Replaces, RunsStep, TellsStep, step_recipes, s
 use Rattle.mh_attempt.proofs.AskedAfter.{asked_more-both, asked_more-none}
 use Rattle.mh_attempt.proofs.AskingTypes.{no_other-still, no_other-then}
 use Rattle.mh_attempt.proofs.Replacing.{replaces-none, replaces-then}
-use Rattle.mh_attempt.proofs.Rooms.{goes_on-sum}
 
 -- registers stand for the frame that a script has reached, from which the rest of the lines gives what all lines give, and has only the rest to ask for
 pub record Reaches (steps rest : List Step) (e : End) (frame : Frame) (registers : Registers) (old new : Work) : Type 0 where

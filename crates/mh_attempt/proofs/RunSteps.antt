@@ -4,6 +4,7 @@ use Rattle.std.proofs.Common.{◌≡◌, refl, ◌∙◌, subst, ℕ, ◌<◌, �
 use Rattle.mh_handle.specs.declared.handle.Handle.{Handle}
 use Rattle.mh_handle.specs.declared.work.Work.{Work}
 use Rattle.mh_handle.proofs.Going.{goes_on-before}
+use Rattle.mh_handle.proofs.Rooms.{goes_on-none}
 use Rattle.mh_script.specs.declared.script.Operation.{Operation}
 use Rattle.mh_script.specs.declared.script.Step.TheVariants as step
 use Rattle.mh_attempt.specs.declared.registers.Held.TheVariants as held
@@ -22,7 +23,6 @@ use Rattle.mh_attempt.proofs.AskingRuns.{no_other-back}
 use Rattle.mh_attempt.proofs.AskingTypes.{no_other-still}
 use Rattle.mh_attempt.proofs.RegisterTypes.{assigned-seated}
 use Rattle.mh_attempt.proofs.Replacing.{replaces-more, replaces-none, replaces-then}
-use Rattle.mh_attempt.proofs.Rooms.{goes_on-none}
 use Rattle.mh_attempt.proofs.RunRegisters.{assigned-hold, number-held, numbered, same-hold}
 use Rattle.mh_attempt.proofs.Running.{let-made, pass-stepped}
 use Rattle.mh_attempt.proofs.RoomyRegisters.{MakesLine, Assigns, roomy-replaces}

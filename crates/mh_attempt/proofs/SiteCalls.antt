@@ -1,7 +1,8 @@
 -- Calls of sites that are linked.
-use Rattle.std.proofs.Common.{◌≡◌, ◌≢◌, refl, sym, ◌∙◌, ap, subst, ℕ, List, Some, Ok, map, arith}
+use Rattle.std.proofs.Common.{◌≡◌, ◌≢◌, refl, sym, ◌∙◌, ap, subst, ℕ, List, Some, map, arith}
 use Rattle.std.specs.Prelude.{[], option_and_then, slice_get}
 use Rattle.std.specs.Option.{option_map_or}
+use Rattle.mh_base.proofs.Inversion.{ok_is}
 use Rattle.mh_values.specs.declared.types.MethodTy.{MethodTy}
 use Rattle.mh_values.specs.declared.value.Value.{Value}
 use Rattle.mh_values.specs.Class.{illegal_argument_class}
@@ -9,7 +10,6 @@ use Rattle.mh_values.specs.Computation.{Stuck}
 use Rattle.mh_values.specs.Exception.{bare}
 use Rattle.mh_values.specs.HasType.{HaveTypes}
 use Rattle.mh_leaf.specs.LeafTable.{LeafTable}
-use Rattle.mh_tree.specs.Rows.{TypeOrRefusal}
 use Rattle.mh_tree.specs.Tree.{Tree}
 use Rattle.mh_form.specs.Erasure.{erased}
 use Rattle.mh_handle.specs.declared.handle.Handle.{Handle}
@@ -20,7 +20,7 @@ use Rattle.mh_jobs.specs.declared.job.Job.{Job}
 use Rattle.mh_jobs.specs.Given.{Given}
 use Rattle.mh_jobs.specs.Jobs.{params_at}
 use Rattle.mh_link.specs.Linked as meant
-use Rattle.mh_link.specs.Linked.{Target, Error, linked, site_call}
+use Rattle.mh_link.specs.Linked.{Target, Error, linked}
 use Rattle.mh_link.specs.Sites.{linked_at}
 use Rattle.mh_link.proofs.Targets.{linked-typed}
 use Rattle.mh_attempt.specs.declared.linkage.Linked.TheVariants as held
@@ -39,9 +39,6 @@ stands-for : (leaves : LeafTable) (h : Handle) (m : meant.Linked) → IsLinkedBy
 stands-for leaves h (Target t) is = (t, refl, is)
 stands-for leaves h (Error e) is = absurd is
 
-same_type : (s t : MethodTy) → ◌≡◌ {A = TypeOrRefusal} (Ok s) (Ok t) → s ≡ t
-same_type s t h = cc
-
 -- a call of the site takes what the target takes
 pub target-params : (given : Given) (job : Job) (serial : ℕ) (h : Handle) → IsLinkage given job serial (held.Target h) →
     params_at given.jobs job.site ≡ h.ty.params
@@ -49,7 +46,7 @@ target-params given job serial h is =
     let stands = stands-for given.leaves h (linked given.leaves given.scripts job serial) is.right in
     let typed = linked-typed given.leaves given.scripts job serial stands.0 stands.1 in
     let own : job.ty ≡ Some h.ty =
-    job-type given.leaves given.scripts job typed.0 is.is_job typed.1 ∙ ap Some (same_type typed.0.ty h.ty (sym typed.2 ∙ stands.2.typed)) in
+    job-type given.leaves given.scripts job typed.0 is.is_job typed.1 ∙ ap Some (ok_is typed.0.ty h.ty (sym typed.2 ∙ stands.2.typed)) in
     ap (λ o. option_map_or (λ (t : MethodTy). t.params) (option_and_then (λ (j : Job). j.ty) o) []) is.named
     ∙ ap (λ o. option_map_or (λ (t : MethodTy). t.params) o []) own
 

@@ -1,6 +1,7 @@
 -- The node of a handle whose last arguments come in an array.
 use Rattle.std.proofs.Common.{◌≡◌, sym, ap, subst, ◌∙◌, ℕ, Bool, ◌&&◌, List, length, Option, Result, Ok, Err, IfOk, codes, nat_le}
 use Rattle.std.specs.Prelude.{is_some}
+use Rattle.mh_base.proofs.Inversion.{ok_is, err_is}
 use Rattle.mh_values.specs.declared.class.Class.{Class}
 use Rattle.mh_values.specs.declared.types.Ty.{Ty}
 use Rattle.mh_values.specs.declared.types.MethodTy.{MethodTy}
@@ -29,16 +30,10 @@ use Rattle.mh_attempt.specs.Uses.{typed_spread}
 use Rattle.mh_attempt.proofs.LineNodes.{made-node, same-node}
 use Rattle.mh_link.proofs.Uses.{spread_of-type}
 
-same_tree : (t u : Tree) → ◌≡◌ {A = OrThrown Tree} (Ok t) (Ok u) → t ≡ u
-same_tree t u h = cc
-
-same_thrown : (e x : Exc) → ◌≡◌ {A = TypeOrRefusal} (Err e) (Err x) → e ≡ x
-same_thrown e x h = cc
-
 -- what is thrown in the place of the type is thrown in the place of the tree
 thrown-typed : (leaves : LeafTable) (m : OrThrown Tree) (e : Exc) → (m >>= type_of leaves) ≡ Err e → (m >>= typed leaves) ≡ Err e
 thrown-typed leaves (Ok u) e h = ap (λ m. m >>= (λ (o : MethodTy). Ok u)) h
-thrown-typed leaves (Err x) e h = ap (λ y. Err y) (same_thrown x e h)
+thrown-typed leaves (Err x) e h = ap (λ y. Err y) (err_is x e h)
 
 module _ (leaves : LeafTable) (t : Tree) (own : MethodTy) (array : Option Ty) (count : ℕ) (typed-as : type_of leaves t ≡ Ok own) where
   -- what the rule says of types and weights
@@ -59,7 +54,7 @@ module _ (leaves : LeafTable) (t : Tree) (own : MethodTy) (array : Option Ty) (c
       let found = bound-parts (spread_of leaves t array count) (type_of leaves) ty h in
       let given = sym (ap (λ (m : TypeOrRefusal). m >>= asked) typed-as) ∙ found.1 in
       let is = require-parts (holds own) (illegal (codes "spread")) (Ok spread) found.0 given in
-      let same = same_tree spread found.0 is.1 in
+      let same = ok_is spread found.0 is.1 in
       (subst (λ u. spread_of leaves t array count ≡ Ok u) (sym same) found.1, subst (λ u. type_of leaves u ≡ Ok ty) (sym same) found.2)
 
 -- a spread that the rule refuses

@@ -2,6 +2,7 @@
 use Rattle.std.proofs.Common.{◌≡◌, refl, sym, ◌∙◌, ap, subst, ℕ, Bool, true, false, List, [], ◌∷◌, ◌++◌, Option, None, Some, Result, Ok}
 use Rattle.std.specs.Prelude.{if◌then◌else◌}
 use Rattle.std.specs.Option.{option_map_or}
+use Rattle.mh_base.proofs.Inversion.{ok_is}
 use Rattle.mh_values.specs.declared.class.Class.{Class}
 use Rattle.mh_values.specs.declared.types.Comp.{Comp}
 use Rattle.mh_values.specs.declared.types.Ty.{Ty}
@@ -9,7 +10,7 @@ use Rattle.mh_values.specs.declared.types.MethodTy.{MethodTy}
 use Rattle.mh_values.specs.Same.{is_same_method_type}
 use Rattle.mh_intern.specs.Views.{HoldView}
 use Rattle.mh_leaf.specs.LeafTable.{LeafTable}
-use Rattle.mh_tree.specs.Rows.{TypeOrRefusal, astype_row, component_of}
+use Rattle.mh_tree.specs.Rows.{astype_row, component_of}
 use Rattle.mh_tree.specs.Tree.{Tree, weight}
 use Rattle.mh_tree.specs.Tree as tree
 use Rattle.mh_tree.specs.Typing.{type_of, with_type}
@@ -35,10 +36,6 @@ use Rattle.mh_attempt.proofs.UsedNodes.{use-is}
 use Rattle.mh_attempt.proofs.OperandTypes.{tree-types, types-both, types-nodes}
 
 -- ---- uses and spreads
-
--- a tree has one type
-same_type : (a b : MethodTy) → ◌≡◌ {A = TypeOrRefusal} (Ok a) (Ok b) → a ≡ b
-same_type a b h = cc
 
 module _ (leaves : LeafTable) (t : Tree) (own : MethodTy) (classes : List Class) (n : ℕ) (same : classes ≡ leaves.classes)
     (typed-as : type_of leaves t ≡ Ok own) (weighed : n ≡ weight t) where
@@ -90,7 +87,7 @@ module _ (operands : List HandleOperand) (old mid new : Work) (t : Tree) (h : Ha
   types-use own asked used typed-as is x =
       let leaves = old.leaves.now in
       let u = used_as h.ty asked t in
-      let same-type = same_type own h.ty (sym typed-as ∙ stands.typed) in
+      let same-type = ok_is own h.ty (sym typed-as ∙ stands.typed) in
       types-nodes operands (typed_use leaves t asked) u (used_types mid.leaves.now.classes h.ty h.weight asked) gone old mid new r
       (use-is leaves t h.ty asked stands.typed ∙ typed-is leaves u used (subst (λ o. type_of leaves (used_as o asked t) ≡ Ok used) same-type is))
       (within-use leaves t h.ty mid.leaves.now.classes h.weight (ap (λ l. l.now.classes) same) stands.typed stands.weighed nodes_of (λ a. refl) asked) first x

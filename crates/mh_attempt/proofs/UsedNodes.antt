@@ -1,5 +1,6 @@
 -- The node of a handle that is used as a type.
 use Rattle.std.proofs.Common.{◌≡◌, sym, ap, subst, ◌∙◌, ℕ, List, Result, Ok, IfOk}
+use Rattle.mh_base.proofs.Inversion.{ok_is}
 use Rattle.mh_values.specs.declared.class.Class.{Class}
 use Rattle.mh_values.specs.declared.types.MethodTy.{MethodTy}
 use Rattle.mh_leaf.specs.LeafTable.{LeafTable}
@@ -28,9 +29,6 @@ pub use-rule : (leaves : LeafTable) (classes : List Class) (t : Tree) (own asked
     n ≡ weight t → type_of leaves (used_as own asked t) ≡ use_row classes own n asked
 use-rule leaves classes t own asked n same typed weighed = use-type leaves t own typed asked ∙ (λ i. use_row (sym same i) own (sym weighed i) asked)
 
-same_type : (a b : MethodTy) → ◌≡◌ {A = TypeOrRefusal} (Ok a) (Ok b) → a ≡ b
-same_type a b h = cc
-
 -- the handle that a use makes
 pub node-of-use : (old mid new : Work) (t : Tree) (h : Handle) (own asked used : MethodTy) (r : Result Handle HandleError) → mid.leaves ≡ old.leaves →
     Stands old.leaves.now h t → type_of old.leaves.now t ≡ Ok own → type_of old.leaves.now (used_as own asked t) ≡ Ok used →
@@ -38,7 +36,7 @@ pub node-of-use : (old mid new : Work) (t : Tree) (h : Handle) (own asked used :
     (Stands mid.leaves.now h t → IfOk r (λ x. Stands mid.leaves.now x (used_as h.ty asked t))) →
     MakesNode (use_of old.leaves.now t asked >>= typed old.leaves.now) old new r
 node-of-use old mid new t h own asked used r same stands typed is obeys made =
-    let own-is : own ≡ h.ty = same_type own h.ty (sym typed ∙ stands.typed) in
+    let own-is : own ≡ h.ty = ok_is own h.ty (sym typed ∙ stands.typed) in
     same-node _ _ old new r (use-is old.leaves.now t h.ty asked stands.typed)
     (made-node old mid new (used_as h.ty asked t) used (use_row mid.leaves.now.classes h.ty h.weight asked) r same
     (subst (λ m. type_of old.leaves.now (used_as m asked t) ≡ Ok used) own-is is)

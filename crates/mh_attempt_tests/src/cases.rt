@@ -6,7 +6,7 @@ ghost use Rattle.mh_intern.specs.Views.{new_seat};
 ghost use Rattle.mh_handle.specs.Passes.{seat_at};
 ghost use Rattle.mh_handle.specs.Works.{GoesOn, IsReady, leaves_of};
 ghost use Rattle.mh_jobs.specs.Given.{IsJob};
-ghost use Rattle.mh_steps.specs.Adds.{Adds};
+ghost use Rattle.mh_steps.specs.AnyTypes.{ExchangesAny};
 
 use mh_attempt::{Linkage, Linked, WorkError, attempt};
 use mh_base::NoMemory;
@@ -169,7 +169,7 @@ fn attempt_text<'t, J: Run, R: Wait>(
     requires job { IsJob J.given.leaves J.given.scripts job.now }
     requires ready { IsReady w.old 256 }
     ensures goes_on { GoesOn 256 w.old w.new }
-    ensures types { Adds [] [] w.old.seat.now w.new.seat.now }
+    ensures types { ExchangesAny [] [] w.old.seat.now w.new.seat.now }
 {
     if !is_serial(turn.serial) {
         return Err(WorkError::NoMemory);
@@ -196,7 +196,7 @@ fn named_text<'t, J: Run, R: Wait>(
     requires job { IsJob J.given.leaves J.given.scripts job.now }
     requires first { start.seat ≡ seat_at start.table.now 0 }
     requires held { held.old ≡ new_seat start.types.now limit }
-    ensures types { Adds [] [] held.old held.new }
+    ensures types { ExchangesAny [] [] held.old held.new }
 {
     let Start {
         alloc,
@@ -239,7 +239,7 @@ fn job_text<'t, R: Wait>(
     requires site { job.now.site ≡ 0 }
     requires first { start.seat ≡ seat_at start.table.now 0 }
     requires held { held.old ≡ new_seat start.types.now limit }
-    ensures types { Adds [] [] held.old held.new }
+    ensures types { ExchangesAny [] [] held.old held.new }
 {
     named_text::<Brand, R>(rt, start, held, scripts, job, turn)
 }

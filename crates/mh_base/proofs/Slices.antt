@@ -21,6 +21,12 @@ slice_get-push [] y (suc i) z h = cc
 slice_get-push (x ∷ xs) y zero z h = inl h
 slice_get-push (x ∷ xs) y (suc i) z h = elim (slice_get-push xs y i z h) [ inl w ↦ inl w | inr w ↦ inr (ap suc w.0, w.1) ]
 
+-- there is an item at each place within a list
+pub slice_get-within : {A : Type 0} (xs : List A) (i : ℕ) → i < length xs → (x : A) × (slice_get xs i ≡ Some x)
+slice_get-within [] i within = absurd (omega (arith, within))
+slice_get-within (x ∷ xs) zero within = (x, refl)
+slice_get-within (x ∷ xs) (suc i) within = slice_get-within xs i (omega (arith, within))
+
 -- where there is no second answer, the first counts
 pub option_or-none : {A : Type 0} (o : Option A) → option_or o None ≡ o
 option_or-none None = refl

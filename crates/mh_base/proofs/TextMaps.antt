@@ -8,6 +8,7 @@ use Rattle.std.specs.Global.{Vec}
 use Rattle.std.specs.Map.{lookup, IsKeyTest, AreApart, KeepsOthers}
 use Rattle.std.specs.Ordering.{nat_cmp}
 use Rattle.std.specs.Str.{bytes_eq}
+use Rattle.mh_base.specs.TextMaps.{WritesText, at_text}
 
 other_entries : {K X : Type 0} (eq : K → K → Bool) (test : K → Bool) (old new : List (K × X)) → KeepsOthers eq test old new → (other : K → Bool) →
     IsKeyTest eq other → AreApart test other → lookup other new ≡ lookup other old
@@ -17,14 +18,6 @@ other_entries eq test old new h = h
 -- a key that is one text is not another one
 apart : (bs cs ks : List ℕ) → bytes_eq bs cs ≡ false → is_at (λ k. slice_cmp nat_cmp bs k) ks ≡ true → is_at (λ k. slice_cmp nat_cmp cs k) ks ≡ false
 apart bs cs ks n y = is_eq-slice_cmp cs ks ∙ (nat_list_eq_equiv.symm cs ks ∙ sym (nat_list_eq_equiv.congr bs ks cs (sym (is_eq-slice_cmp bs ks) ∙ y)) ∙ n)
-
--- what a map has at a text
-abbrev pub at_text : {X : Type 0} → BTreeMap (Vec ℕ) X → List ℕ → Option X
-at_text entries text = get_by (λ k. slice_cmp nat_cmp text k.items) entries
-
--- the call of `insert` or `remove` at a text, with what is then there
-abbrev pub WritesText : {X : Type 0} → BTreeMap (Vec ℕ) X → BTreeMap (Vec ℕ) X → List ℕ → Option X → Type 0
-WritesText old new key there = UpdatesBy (λ (x y : Vec ℕ). slice_cmp nat_cmp x.items y.items) (λ k. slice_cmp nat_cmp key k.items) old new there
 
 -- at another text than the one that is written, the map has what it had
 pub at_text-other : {X : Type 0} (old new : BTreeMap (Vec ℕ) X) (key text : List ℕ) (there : Option X) → WritesText old new key there →

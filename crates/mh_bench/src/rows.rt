@@ -6,7 +6,7 @@ ghost use Rattle.mh_seats.specs.Room.{limit};
 ghost use Rattle.mh_intern.specs.Views.{new_seat};
 ghost use Rattle.mh_handle.specs.Passes.{seat_at};
 ghost use Rattle.mh_handle.specs.Works.{HoldsTypes, IsReady};
-ghost use Rattle.mh_steps.specs.Adds.{Adds};
+ghost use Rattle.mh_steps.specs.AnyTypes.{ExchangesAny};
 ghost use Rattle.mh_handle.specs.Stands.{StandsForSome};
 
 use crate::forms::{forms, splits};
@@ -219,7 +219,7 @@ fn bind_each<'t, R: Wait>(
     requires ready { IsReady w.old (1 + turns) }
     requires held { HoldsTypes w.old handle.now.held }
     ensures of_types { w.new.seat.now.table ≡ w.new.types.now }
-    ensures types { Adds [] [] w.old.seat.now w.new.seat.now }
+    ensures types { ExchangesAny [] [] w.old.seat.now w.new.seat.now }
 {
     let mut sum: u64 = 0;
     for turn in 0..turns {

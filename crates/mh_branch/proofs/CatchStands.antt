@@ -14,7 +14,7 @@ use Rattle.mh_values.specs.declared.value.Exc.{Exc}
 use Rattle.mh_values.specs.declared.value.Value.{Value}
 use Rattle.mh_values.specs.declared.value.Value.TheVariants as value
 use Rattle.mh_values.specs.Classes.{AreClasses}
-use Rattle.mh_values.specs.Computation.{Ran, Refines, guarded}
+use Rattle.mh_values.specs.Computation.{Ran, Refines, guarded, is_caught}
 use Rattle.mh_values.specs.HasType.{HaveTypes, is_type_below}
 use Rattle.mh_values.specs.Same.{begins_with_types}
 use Rattle.mh_leaf.specs.LeafTable.{LeafTable}
@@ -22,7 +22,7 @@ use Rattle.mh_tree.specs.Rows.{catch_row, takes_exception}
 use Rattle.mh_tree.specs.Tree.{Tree, weight}
 use Rattle.mh_tree.specs.Tree as tree
 use Rattle.mh_tree.specs.Typing.{type_of, arity_of, with_type, held_before, sides}
-use Rattle.mh_tree.specs.Meaning.{Done, is_caught, mean}
+use Rattle.mh_tree.specs.Meaning.{Done, mean}
 use Rattle.mh_tree.proofs.RowParts.{catch_row-parts}
 use Rattle.mh_tree.proofs.SoundBranches.{catch-sound, handler-typed}
 use Rattle.mh_tree.specs.Sound.{IsSound}

@@ -2,39 +2,23 @@
 use Rattle.std.proofs.Common.{◌≡◌, sym, subst, ◌∙◌, ℕ, ◌+◌, ◌≤◌, List, [], ◌∷◌, ◌++◌, append-nil, Result, Ok, Err, arith}
 use Rattle.std.specs.Prelude.{IsErrAnd}
 use Rattle.mh_values.specs.declared.types.MethodTy.{MethodTy}
-use Rattle.mh_values.specs.Same.{is_same_method_type}
 use Rattle.mh_tree.specs.Rows.{TypeOrRefusal}
 use Rattle.mh_intern.specs.Exchanges.{AreHeld, Exchanges}
 use Rattle.mh_intern.specs.Held.{times_type}
 use Rattle.mh_intern.specs.Views.{HoldView, SeatView}
-use Rattle.mh_intern.proofs.Exchanging.{exchanges-more, exchanges-then, held-still}
-use Rattle.mh_intern.proofs.Measures.{count_append}
+use Rattle.mh_intern.proofs.Exchanging.{exchanges-more, exchanges-then}
+use Rattle.mh_intern.proofs.Measures.{times_type-append}
 use Rattle.mh_handle.specs.declared.error.HandleError.{HandleError}
 use Rattle.mh_handle.specs.declared.error.HandleError.TheVariants.{NoMemory, FormsFull, TypesFull, Refused}
 use Rattle.mh_handle.specs.declared.handle.Handle.{Handle}
 use Rattle.mh_handle.specs.declared.work.Work.{Work}
 use Rattle.mh_handle.specs.Works.{IsAccepted, IsReady, IsUnchanged, TradesTypes, types_in}
 use Rattle.mh_handle.proofs.Going.{seated-still, unchanged-ready}
-use Rattle.mh_handle.proofs.HoldOrders.{exchanges-back, exchanges-few, exchanges-same, same-swapped}
-use Rattle.mh_handle.proofs.SingleHolds.{held-swapped}
+use Rattle.mh_handle.proofs.HoldOrders.{exchanges-few}
 use Rattle.mh_handle.proofs.Trading.{trades-row}
 use Rattle.mh_branch.specs.Growths.{TradesParts}
 
 -- ---- holds that are handed back
-
--- the second holds are handed back before the first
-pub exchanges-backwards : (first second : List HoldView) (a b c : SeatView) → Exchanges [] second [] a b → Exchanges [] first [] b c →
-    Exchanges [] (first ++ second) [] a c
-exchanges-backwards first second a b c x y =
-    exchanges-same [] (second ++ first) (first ++ second) [] a c (same-swapped second first) (exchanges-back second first a b c x y)
-
--- the first holds are there still
-pub first-yet : (first second : List HoldView) (a b : SeatView) → AreHeld a (first ++ second) → Exchanges [] second [] a b → AreHeld b first
-first-yet first second a b had x = held-still [] second [] first a b x (held-swapped a first second had)
-
--- the second holds are there still
-pub second-yet : (first second : List HoldView) (a b : SeatView) → AreHeld a (first ++ second) → Exchanges [] first [] a b → AreHeld b second
-second-yet first second a b had x = held-still [] first [] second a b x had
 
 -- ---- parts
 
@@ -79,9 +63,6 @@ trades-short asks gone a b (Err e) is x =
 
 -- ---- more types that may be asked for
 
-times-append : (t : MethodTy) (asks more : List MethodTy) → times_type t (asks ++ more) ≡ times_type t asks + times_type t more
-times-append t asks more = count_append (λ (u : MethodTy). is_same_method_type u t) asks more
-
 -- other types may be asked for too
 pub trades-more : (asks more : List MethodTy) (gone : List HoldView) (a b : Work) (r : Result Handle HandleError) →
     ((t : MethodTy) → times_type t asks ≤ times_type t more) → TradesTypes asks gone a b r → TradesTypes more gone a b r
@@ -100,7 +81,7 @@ pub trades-first : (asks more : List MethodTy) (gone : List HoldView) (a b : Wor
 trades-first asks more gone a b e (Ok h) t is = absurd is
 trades-first asks more gone a b e (Err x) t is =
     subst (λ v. TradesTypes (asks ++ more) gone a b (Err v)) (sym is)
-    (trades-more asks (asks ++ more) gone a b (Err e) (λ u. let both = times-append u asks more in omega (arith, both)) t)
+    (trades-more asks (asks ++ more) gone a b (Err e) (λ u. let both = times_type-append u asks more in omega (arith, both)) t)
 
 -- the second call is handed the handle that the first one has made
 pub trades-then : (asks more : List MethodTy) (gone through : List HoldView) (a b c : Work) (r : Result Handle HandleError) → IsAccepted r →
@@ -119,6 +100,6 @@ trades-then asks more gone through a b c r accepted x y = cases r accepted y
     cases (Err (FormsFull drawn)) accepted t = whole [] t
     cases (Err (TypesFull bucket)) accepted t = (
       whole [] t.0,
-      (t.1.0, (let both = times-append t.1.0 asks more in omega (arith, both, t.1.1)), t.1.2),
+      (t.1.0, (let both = times_type-append t.1.0 asks more in omega (arith, both, t.1.1)), t.1.2),
     )
     cases (Err (Refused e)) accepted t = absurd accepted

@@ -1,6 +1,6 @@
 -- The next entry of the pool, and what stands at the places that are kept.
-use Rattle.std.proofs.Common.{◌≡◌, ℕ, ◌+◌, ◌≤◌, ◌<◌, Bool, true, false, cond, not, ◌&&◌, eqb, leb, inl, inr, List, [], ◌∷◌, ◌++◌, length, get_or, Some, Ok, Err, refl, sym, subst, arith, is_ok}
-use Rattle.std.proofs.lemmas.Bool.{cases_lt}
+use Rattle.std.proofs.Common.{◌≡◌, ℕ, ◌+◌, ◌≤◌, ◌<◌, Bool, true, false, cond, not, ◌&&◌, eqb, inl, inr, List, [], ◌∷◌, ◌++◌, length, get_or, Some, Ok, Err, refl, sym, subst, arith, is_ok}
+use Rattle.std.proofs.lemmas.Bool.{cases_lt, lt-leb, le-leb}
 use Rattle.std.proofs.lemmas.Bool.Decides.{nat_tests}
 use Rattle.std.proofs.lemmas.List.{length-append, get_or_append_left, get_or_push}
 use Rattle.mh_class_bytes.specs.Bytes.{number_at}
@@ -34,22 +34,16 @@ any_index true p q e h = go (or_fault Truncated (number_at 1 p)) h
         again true m h = absurd cc
         again false m h = h
 
-left : (count n : ℕ) → n < count → leb count n ≡ false
-left count n h = grind (arith, nat_tests)
-
-full : (count n : ℕ) → count ≤ n → leb count n ≡ true
-full count n h = grind (arith, nat_tests)
-
 pub step : (count : ℕ) (slots : List Slot) (p q : Position) (e : Entry) → length slots < count → reads (entry (eqb (length slots + 1) count)) p ≡ Ok (e, q) →
     reads (next_slots count slots) p ≡ Ok (slots ++ indexes_of p.at e, q)
-step count slots p q e lt h = rw (left count (length slots) lt, h) refl
+step count slots p q e lt h = rw (lt-leb count (length slots) lt, h) refl
 
 pub step-err : (count : ℕ) (slots : List Slot) (p : Position) (f : Fault ClassKind) → length slots < count →
     reads (entry (eqb (length slots + 1) count)) p ≡ Err f → reads (next_slots count slots) p ≡ Err f
-step-err count slots p f lt h = rw (left count (length slots) lt, h) refl
+step-err count slots p f lt h = rw (lt-leb count (length slots) lt, h) refl
 
 pub idle : (count : ℕ) (slots : List Slot) (p : Position) → count ≤ length slots → reads (next_slots count slots) p ≡ Ok (slots, p)
-idle count slots p le = rw (full count (length slots) le) refl
+idle count slots p le = rw (le-leb count (length slots) le) refl
 
 here : (bytes : List ℕ) (p q : Position) (e : Entry) → p.bytes ≡ bytes → reads (entry false) p ≡ Ok (e, q) →
     reads (entry false) (record { bytes = bytes; at = p.at }) ≡ Ok (e, q)

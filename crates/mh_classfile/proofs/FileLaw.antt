@@ -3,6 +3,7 @@ use Rattle.std.proofs.Common.{◌≡◌, ℕ, ◌+◌, List, [], ◌++◌, lengt
 use Rattle.std.proofs.lemmas.List.{append-nil, length-append, nil_from_length}
 use Rattle.std.proofs.lemmas.Bool.{eqb-true}
 use Rattle.std.specs.Prelude.{IfOk}
+use Rattle.mh_base.proofs.Inversion.{ok_is}
 use Rattle.mh_class_bytes.specs.Position.{Position}
 use Rattle.mh_class_bytes.specs.declared.fault.Fault.{Fault}
 use Rattle.mh_class_bytes.specs.Format.{Spells, reads, Checked, Reading, and_then}
@@ -51,12 +52,6 @@ file_len room total text c s =
     let ended = eqb-true _ _ s7.4.1 in
     omega (arith, l0, l1, l2, l3, l4, l5, l6, l7, l8, n6, n7, n8, n9, at, ended)
 
-abbrev okc : Class → Checked ClassKind Class
-okc d = Ok d
-
-ok_is : (d d' : Class) → okc d ≡ okc d' → d ≡ d'
-ok_is d d' h = cc
-
 pub file_sound : (room : ℕ) (bytes : List ℕ) (c : Class) → class_or_fault room bytes ≡ Ok c → IsClassFile room bytes c
 file_sound room bytes c e =
     let f = class_file room (length bytes) in
@@ -82,5 +77,5 @@ either room bytes = go (class_or_fault room bytes) refl
     go (Ok c) e = inl (c, file_sound room bytes c e, λ d s. ok_is d c (sym (file_complete room bytes d s) ∙ e))
     go (Err f) e = inr (f, e, λ c s. differs c f (sym (file_complete room bytes c s) ∙ e))
       where
-        differs : (c : Class) (f : Fault ClassKind) → okc c ≡ Err f → ⊥
+        differs : (c : Class) (f : Fault ClassKind) → ◌≡◌ {A = Checked ClassKind Class} (Ok c) (Err f) → ⊥
         differs c f h = absurd cc

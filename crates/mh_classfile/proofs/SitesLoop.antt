@@ -1,6 +1,6 @@
 -- Finding the call sites one instruction after the other, as a loop does.
-use Rattle.std.proofs.Common.{◌≡◌, ℕ, suc, ◌-◌, ◌+◌, ◌≤◌, ◌<◌, true, false, ltb, leb, List, ◌++◌, length, Ok, Err, refl, sym, subst, ◌∙◌, arith}
-use Rattle.std.proofs.lemmas.Bool.Decides.{nat_tests}
+use Rattle.std.proofs.Common.{◌≡◌, ℕ, suc, ◌-◌, ◌+◌, ◌≤◌, ◌<◌, ltb, List, ◌++◌, length, Ok, Err, refl, sym, subst, ◌∙◌, arith}
+use Rattle.std.proofs.lemmas.Bool.{lt-leb, le-leb}
 use Rattle.mh_class_bytes.specs.Position.{Position}
 use Rattle.mh_class_bytes.specs.Bytes.{Moves}
 use Rattle.mh_class_bytes.specs.declared.fault.Fault.{Fault}
@@ -12,12 +12,6 @@ use Rattle.mh_classfile.specs.declared.site.Site.{Site}
 use Rattle.mh_class_pool.specs.declared.fault.ClassKind.{ClassKind}
 use Rattle.mh_class_pool.specs.Entries.{Slot}
 use Rattle.mh_classfile.specs.Code.{instruction, next_site, code_sites}
-
-not_yet : (end at : ℕ) → at < end → leb end at ≡ false
-not_yet end at h = grind (arith, nat_tests)
-
-over : (end at : ℕ) → end ≤ at → leb end at ≡ true
-over end at h = grind (arith, nat_tests)
 
 -- the loop's state: what is still found after what was found is all
 pub record IsFinding (pool : List Slot) (method : Method) (room start end : ℕ) (from p : Position) (before found : List Site) : Type 0 where
@@ -40,15 +34,15 @@ finding-starts pool method room start end p before le = record {
 step : (pool : List Slot) (method : Method) (room start end : ℕ) (p q : Position) (found here : List Site) → p.at < end →
     reads (instruction pool method (ltb (length found) room) start) p ≡ Ok (here, q) →
     reads (next_site pool method room start end found) p ≡ Ok (found ++ here, q)
-step pool method room start end p q found here lt h = rw (not_yet end p.at lt, h) refl
+step pool method room start end p q found here lt h = rw (lt-leb end p.at lt, h) refl
 
 step-err : (pool : List Slot) (method : Method) (room start end : ℕ) (p : Position) (found : List Site) (f : Fault ClassKind) → p.at < end →
     reads (instruction pool method (ltb (length found) room) start) p ≡ Err f → reads (next_site pool method room start end found) p ≡ Err f
-step-err pool method room start end p found f lt h = rw (not_yet end p.at lt, h) refl
+step-err pool method room start end p found f lt h = rw (lt-leb end p.at lt, h) refl
 
 idle : (pool : List Slot) (method : Method) (room start end : ℕ) (p : Position) (found : List Site) → end ≤ p.at →
     reads (next_site pool method room start end found) p ≡ Ok (found, p)
-idle pool method room start end p found le = rw (over end p.at le) refl
+idle pool method room start end p found le = rw (le-leb end p.at le) refl
 
 -- one step less
 one_left : (pool : List Slot) (method : Method) (room start end : ℕ) (from p : Position) (before found : List Site) →

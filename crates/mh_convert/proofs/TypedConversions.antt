@@ -1,5 +1,6 @@
 -- Casts, unboxing and conversions give values of the type that is asked for, or throw exceptions.
 use Rattle.std.proofs.Common.{◌≡◌, refl, sym, subst, Bool, true, false, cond, List, Result, Ok, Err}
+use Rattle.mh_base.proofs.Inversion.{ok_is, err_is}
 use Rattle.mh_values.specs.declared.class.Class.{Class}
 use Rattle.mh_values.specs.declared.class.ClassId.{ClassId}
 use Rattle.mh_values.specs.declared.types.Primitive.{Primitive}
@@ -19,13 +20,6 @@ use Rattle.mh_values.proofs.SameTypes.{same_primitive-is}
 use Rattle.mh_values.proofs.BelowTypes.{class_cast-below, null_pointer-below}
 use Rattle.mh_convert.specs.Conversion.{serves_as, can, widened, widened_value, boxed, cast, unboxed, conv, fit}
 
--- the value of a result
-same_value : (v w : Value) → ◌≡◌ {A = Result Value Exc} (Ok v) (Ok w) → v ≡ w
-same_value v w h = cc
-
-same_exc : (d e : Exc) → ◌≡◌ {A = Result Value Exc} (Err d) (Err e) → d ≡ e
-same_exc d e h = cc
-
 -- the two cases of a choice
 chosen : (b : Bool) (r s : Result Value Exc) (P : Result Value Exc → Type 0) → (b ≡ true → P r) → (b ≡ false → P s) → P (cond b r s)
 chosen true r s P f g = f refl
@@ -42,12 +36,12 @@ widened-typed classes n q h = absurd cc
 
 -- what a choice with an exception gives
 pub if_ok : (b : Bool) (v w : Value) (e : Exc) → ◌≡◌ {A = Result Value Exc} (cond b (Ok v) (Err e)) (Ok w) → (b ≡ true) × (v ≡ w)
-if_ok true v w e h = (refl, same_value v w h)
+if_ok true v w e h = (refl, ok_is v w h)
 if_ok false v w e h = absurd cc
 
 pub if_err : (b : Bool) (v : Value) (d e : Exc) → ◌≡◌ {A = Result Value Exc} (cond b (Ok v) (Err d)) (Err e) → d ≡ e
 if_err true v d e h = absurd cc
-if_err false v d e h = same_exc d e h
+if_err false v d e h = err_is d e h
 
 -- ---- casts
 
@@ -71,7 +65,7 @@ unboxed-typed classes v w q h = absurd cc
 
 thrown_is : (classes : List Class) (d e : Exc) → is_subclass classes d.class throwable_class ≡ true → ◌≡◌ {A = Result Value Exc} (Err d) (Err e) →
     is_subclass classes e.class throwable_class ≡ true
-thrown_is classes d e below h = subst (λ (x : Exc). is_subclass classes x.class throwable_class ≡ true) (same_exc d e h) below
+thrown_is classes d e below h = subst (λ (x : Exc). is_subclass classes x.class throwable_class ≡ true) (err_is d e h) below
 
 pub unboxed-throws : (classes : List Class) → AreClasses classes → (v : Value) (q : Primitive) (e : Exc) → unboxed v q ≡ Err e →
     is_subclass classes e.class throwable_class ≡ true
@@ -93,7 +87,7 @@ prim-typed : (classes : List Class) (v w : Value) (p q : Primitive) → serves_a
     ◌≡◌ {A = Result Value Exc} (Ok (widened_value v q)) (Ok w) → has_type classes w (ty.Prim q) ≡ true
 prim-typed classes (value.Prim n) w p q allowed typed h =
     let P : Primitive → Type 0 = λ r. serves_as r q ≡ true in
-    subst (λ x. has_type classes x (ty.Prim q) ≡ true) (same_value (value.Prim (widened n q)) w h)
+    subst (λ x. has_type classes x (ty.Prim q) ≡ true) (ok_is (value.Prim (widened n q)) w h)
     (widened-typed classes n q (subst P (sym (same_primitive-is (primitive_of n) p typed)) allowed))
 prim-typed classes v w p q allowed typed h = absurd cc
 
@@ -101,7 +95,7 @@ boxed-typed : (classes : List Class) (v w : Value) (p : Primitive) (c : ClassId)
     has_type classes v (ty.Prim p) ≡ true → ◌≡◌ {A = Result Value Exc} (Ok (boxed v)) (Ok w) → has_type classes w (ty.Class c) ≡ true
 boxed-typed classes (value.Prim n) w p c allowed typed h =
     let P : Primitive → Type 0 = λ r. is_subclass classes (wrapper_of r) c ≡ true in
-    subst (λ x. has_type classes x (ty.Class c) ≡ true) (same_value (value.Boxed n) w h)
+    subst (λ x. has_type classes x (ty.Class c) ≡ true) (ok_is (value.Boxed n) w h)
     (subst P (sym (same_primitive-is (primitive_of n) p typed)) allowed)
 boxed-typed classes v w p c allowed typed h = absurd cc
 

@@ -8,7 +8,7 @@ use Rattle.std.specs.declared.alloc.Global.{Global}
 use Rattle.mh_base.proofs.Slices.{slice_get-end}
 use Rattle.mh_values.specs.declared.class.ClassId.{ClassId}
 use Rattle.mh_values.specs.declared.value.Value.TheVariants as value
-use Rattle.mh_values.specs.Computation.{Ran, Refines, and_then, found, guarded}
+use Rattle.mh_values.specs.Computation.{Ran, Refines, and_then, found, guarded, is_caught}
 use Rattle.mh_leaf.specs.LeafTable.{LeafTable}
 use Rattle.mh_form.specs.declared.basic.Basic.{Basic}
 use Rattle.mh_form.specs.declared.basic.BasicRet.{BasicRet}
@@ -20,7 +20,7 @@ use Rattle.mh_form.specs.declared.slot.Slot.{Slot}
 use Rattle.mh_form.specs.declared.slot.Slot.TheVariants as slot
 use Rattle.mh_form.specs.declared.field.Bound.{Bound}
 use Rattle.mh_form.specs.declared.field.Field.TheVariants as field
-use Rattle.mh_form.specs.Slots.{called, filled, holds_one, is_caught}
+use Rattle.mh_form.specs.Slots.{called, filled, holds_one}
 use Rattle.mh_form.specs.Run.{Sense, ended, guarded_field, picked, run_bound, run_field, run_names, sense, step, with_field, class_of}
 use Rattle.mh_form.proofs.Refines.{refines-refl, refines-is, refines-and_then}
 use Rattle.mh_edit.specs.Applied.{applied, out_of}

@@ -6,7 +6,7 @@ use Rattle.mh_values.specs.declared.class.ClassId.{ClassId}
 use Rattle.mh_values.specs.declared.types.Comp.{Comp}
 use Rattle.mh_values.specs.declared.value.LeafId.{LeafId}
 use Rattle.mh_values.specs.declared.value.Value.TheVariants as value
-use Rattle.mh_values.specs.Computation.{Ran, Gave, Stuck, Refines, and_then, found, mapped, guarded, spliced}
+use Rattle.mh_values.specs.Computation.{Ran, Gave, Stuck, Refines, and_then, found, mapped, guarded, spliced, is_caught}
 use Rattle.mh_convert.specs.declared.conv.Conv.{Conv}
 use Rattle.mh_convert.specs.declared.conv.RetConv.{RetConv}
 use Rattle.mh_leaf.specs.LeafTable.{LeafTable}
@@ -19,7 +19,7 @@ use Rattle.mh_form.specs.declared.slot.Slot.TheVariants as slot
 use Rattle.mh_form.specs.declared.field.Bound.{Bound}
 use Rattle.mh_form.specs.declared.field.Field.{Field}
 use Rattle.mh_form.specs.declared.field.Field.TheVariants as field
-use Rattle.mh_form.specs.Slots.{called, converted, filled, holds_one, is_caught, made_array, none_as_zero, raised_slot, ret_converted, spread_slots}
+use Rattle.mh_form.specs.Slots.{called, converted, filled, holds_one, made_array, none_as_zero, raised_slot, ret_converted, spread_slots}
 use Rattle.mh_form.specs.Run.{picked, run_on, run_bound}
 use Rattle.mh_edit.specs.declared.key.Key.{Key}
 use Rattle.mh_edit.specs.declared.key.Key.TheVariants as key

@@ -1,23 +1,18 @@
 -- Erasing the type of a value and typing the slot again gives the value, and the other way round.
-use Rattle.std.proofs.Common.{◌≡◌, refl, sym, ap, ap₂, subst, ◌∙◌, ℕ, zero, suc, Bool, true, false, if◌then◌else◌, Option, Some, None, List, [], ◌∷◌, ℤ, pos, negsuc, map}
-use Rattle.std.specs.Prelude.{IsTrue}
+use Rattle.std.proofs.Common.{◌≡◌, refl, sym, ap, ap₂, subst, ◌∙◌, zero, suc, true, false, if◌then◌else◌, Option, Some, None, List, [], ◌∷◌, ℤ, pos, negsuc, map}
+use Rattle.mh_base.proofs.Inversion.{if_some}
 use Rattle.mh_values.specs.declared.class.Class.{Class}
 use Rattle.mh_values.specs.declared.types.Primitive.{Primitive}
 use Rattle.mh_values.specs.declared.types.Primitive.TheVariants as primitive
 use Rattle.mh_values.specs.declared.types.Ty.{Ty}
 use Rattle.mh_values.specs.declared.types.Ty.TheVariants as ty
-use Rattle.mh_values.specs.declared.value.Num.{Num}
 use Rattle.mh_values.specs.declared.value.Num.TheVariants as num
 use Rattle.mh_values.specs.declared.value.Value.{Value}
 use Rattle.mh_values.specs.declared.value.Value.TheVariants as value
-use Rattle.mh_values.specs.HasType.{has_type, has_class, has_component, HaveTypes}
+use Rattle.mh_values.specs.HasType.{has_type, HaveTypes}
 use Rattle.mh_form.specs.declared.slot.Slot.{Slot}
 use Rattle.mh_form.specs.declared.slot.Slot.TheVariants as slot
 use Rattle.mh_form.specs.Erasure.{all_typed, boolean_of, erased, typed, value_and_more, where_typed}
-
-where-some : {A : Type 0} (b : Bool) (a v : A) → (if b then Some a else None) ≡ Some v → (b ≡ true) × (a ≡ v)
-where-some true a v h = (refl, cc)
-where-some false a v h = absurd cc
 
 -- a value that a slot has is of the type
 boolean-typed : (n : ℤ) (v : Value) (classes : List Class) → boolean_of n ≡ Some v → (has_type classes v (ty.Prim primitive.Z) ≡ true) × (erased v ≡ slot.I n)
@@ -55,7 +50,7 @@ class-erased classes value.Null t h other = refl
 reference-typed : (classes : List Class) (t : Ty) (u v : Value) → ((p : Primitive) → t ≡ ty.Prim p → ⊥) → where_typed classes t u ≡ Some v →
     (has_type classes v t ≡ true) × (erased v ≡ slot.L u)
 reference-typed classes t u v other h =
-    let q = where-some (has_type classes u t) u v h in
+    let q = if_some (has_type classes u t) u v h in
     subst (λ w. (has_type classes w t ≡ true) × (erased w ≡ slot.L u)) q.1 (q.0, class-erased classes u t q.0 other)
 
 typed-both : (classes : List Class) (t : Ty) (s : Slot) (v : Value) → typed classes t s ≡ Some v → (has_type classes v t ≡ true) × (erased v ≡ s)

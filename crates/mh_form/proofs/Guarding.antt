@@ -6,7 +6,7 @@ use Rattle.mh_base.proofs.Slices.{slice_get-end}
 use Rattle.mh_values.specs.declared.calls.LeafCall.{LeafCall}
 use Rattle.mh_values.specs.declared.value.Exc.{Exc}
 use Rattle.mh_values.specs.declared.value.Value.TheVariants as value
-use Rattle.mh_values.specs.Computation.{Ran, Gave, Threw, Stuck, after, guarded, mapped, raised}
+use Rattle.mh_values.specs.Computation.{Ran, Gave, Threw, Stuck, after, guarded, mapped, raised, is_caught}
 use Rattle.mh_leaf.specs.LeafTable.{LeafTable}
 use Rattle.mh_form.specs.declared.field.Bound.{Bound}
 use Rattle.mh_form.specs.declared.interpreter.Guard.{Guard}
@@ -14,7 +14,7 @@ use Rattle.mh_form.specs.declared.slot.Slot.{Slot}
 use Rattle.mh_form.specs.declared.slot.Slot.TheVariants as slot
 use Rattle.mh_form.specs.Guards.{caught_on, guarded_on}
 use Rattle.mh_form.specs.Run.{SlotRun, run_field, senses_in}
-use Rattle.mh_form.specs.Slots.{filled, is_caught, none_as_zero}
+use Rattle.mh_form.specs.Slots.{filled, none_as_zero}
 use Rattle.mh_form.specs.Stack.{StackView, left, on_stack}
 use Rattle.mh_form.proofs.Computations.{after-append, mapped-after, raised-append}
 use Rattle.mh_form.proofs.Frames.{left-below, left-frame}

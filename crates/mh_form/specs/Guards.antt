@@ -1,14 +1,13 @@
 -- A guarded part on a stack, and the handler of its exception.
 use Rattle.std.specs.Prelude.{ℕ, ◌∷◌, take, if◌then◌else◌, Option, []}
 use Rattle.mh_values.specs.declared.value.Value.TheVariants as value
-use Rattle.mh_values.specs.Computation.{Ran, Threw, raised}
+use Rattle.mh_values.specs.Computation.{Ran, Threw, raised, is_caught}
 use Rattle.mh_leaf.specs.LeafTable.{LeafTable}
 use Rattle.mh_form.specs.declared.field.Bound.{Bound}
 use Rattle.mh_form.specs.declared.interpreter.Guard.{Guard}
 use Rattle.mh_form.specs.declared.slot.Slot.{Slot}
 use Rattle.mh_form.specs.declared.slot.Slot.TheVariants as slot
 use Rattle.mh_form.specs.Run.{guarded_field, run_field, senses_in}
-use Rattle.mh_form.specs.Slots.{is_caught}
 use Rattle.mh_form.specs.Stack.{StackView}
 
 -- the guarded part, and its handler, on the slots of the run under way

@@ -4,7 +4,7 @@ use Rattle.std.specs.Option.{option_map}
 use Rattle.mh_values.specs.declared.value.Exc.{Exc}
 use Rattle.mh_values.specs.declared.calls.LeafCall.{LeafCall}
 use Rattle.mh_values.specs.declared.value.Value.TheVariants as value
-use Rattle.mh_values.specs.Computation.{Ran, Gave, Threw, Stuck, and_then, found, guarded}
+use Rattle.mh_values.specs.Computation.{Ran, Gave, Threw, Stuck, and_then, found, guarded, is_caught}
 use Rattle.mh_leaf.specs.LeafTable.{LeafTable}
 use Rattle.mh_form.specs.declared.body.FormBody.{FormBody}
 use Rattle.mh_form.specs.declared.name.Name.{Name}
@@ -18,7 +18,7 @@ use Rattle.mh_form.specs.declared.field.Bound.{Bound, Row_of-Field, end_of-Field
 use Rattle.mh_form.specs.declared.field.Field.{Field}
 use Rattle.mh_form.specs.declared.field.Field.TheVariants.{Part'}
 use Rattle.mh_form.specs.declared.field.Field.TheVariants as field
-use Rattle.mh_form.specs.Slots.{called, filled, holds_one, is_caught, converted, ret_converted, made_array, checked_array, item_in, raised_slot}
+use Rattle.mh_form.specs.Slots.{called, filled, holds_one, converted, ret_converted, made_array, checked_array, item_in, raised_slot}
 
 -- what runs on a list of slots, where n leaf calls were made before
 abbrev pub SlotRun : Type 0

@@ -1,14 +1,13 @@
 -- What is done on slots: conversions, arrays and exceptions.
 use Rattle.std.specs.Prelude.{ℕ, ℤ, pos, ◌==◌, Bool, false, List, [], Option, None, Some, Result, Ok, Err, map, slice_get, if◌then◌else◌}
 use Rattle.mh_values.specs.declared.class.Class.{Class}
-use Rattle.mh_values.specs.declared.class.ClassId.{ClassId}
 use Rattle.mh_values.specs.declared.types.Comp.{Comp}
 use Rattle.mh_values.specs.declared.value.Exc.{Exc}
 use Rattle.mh_values.specs.declared.value.LeafId.{LeafId}
 use Rattle.mh_values.specs.declared.value.Value.{Value}
 use Rattle.mh_values.specs.declared.value.Value.TheVariants as value
 use Rattle.mh_values.specs.Array.{array_of, item_type, spread_values, values_of_array}
-use Rattle.mh_values.specs.Class.{is_subclass, null_pointer_class, class_cast_class}
+use Rattle.mh_values.specs.Class.{null_pointer_class, class_cast_class}
 use Rattle.mh_values.specs.Computation.{Ran, Gave, Threw, Stuck, found, mapped}
 use Rattle.mh_values.specs.Exception.{bare}
 use Rattle.mh_convert.specs.declared.conv.Conv.{Conv}
@@ -69,10 +68,6 @@ ret_converted classes ret.Discard r = Gave None []
 ret_converted classes (ret.Default t) r = Gave (Some (erased (default_of t))) []
 ret_converted classes (ret.Value c) (Some s) = mapped Some (converted classes c s)
 ret_converted classes (ret.Value c) None = Stuck
-
--- the exceptions of a class or a class below it
-abbrev pub is_caught : List Class → ClassId → Exc → Bool
-is_caught classes c e = is_subclass classes e.class c
 
 -- the array of these slots, each the erasure of an item
 abbrev pub made_array : List Class → Comp → List Slot → Ran Slot

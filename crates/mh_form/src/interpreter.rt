@@ -1,8 +1,8 @@
 ghost use Rattle.std.specs.Prelude.{◌≡◌, ◌≢◌, ◌≤◌, [], if◌then◌else◌, IfOk, None, length, map};
-ghost use Rattle.mh_values.specs.Computation.{Stuck, after, found, raised};
+ghost use Rattle.mh_values.specs.Computation.{Stuck, after, found, raised, is_caught};
 ghost use Rattle.mh_form.specs.declared.name.Name.TheVariants.{Link};
 ghost use Rattle.mh_form.specs.Run.{guarded_field, picked, ran_of_outcome, ran_of_run, run_bound, run_field, senses_in};
-ghost use Rattle.mh_form.specs.Slots.{filled, holds_one, is_caught};
+ghost use Rattle.mh_form.specs.Slots.{filled, holds_one};
 ghost use Rattle.mh_form.specs.Erasure.{erased};
 ghost use Rattle.mh_form.specs.Guards.{caught_on, guarded_on};
 ghost use Rattle.mh_form.specs.Stack.{done, left, on_stack, slots_on, step_on};

@@ -2,7 +2,8 @@
 
 ghost use Rattle.std.specs.Prelude.{◌≡◌, slice_get};
 ghost use Rattle.std.specs.Option.{option_copied, option_map};
-ghost use Rattle.mh_form.specs.Slots.{called, converted, is_caught, made_array, ret_converted};
+ghost use Rattle.mh_values.specs.Computation.{is_caught};
+ghost use Rattle.mh_form.specs.Slots.{called, converted, made_array, ret_converted};
 ghost use Rattle.mh_form.specs.Run.{class_of, comp_of, conv_of, field_of, leaf_of, ret_of, senses_in, slot_of};
 
 use crate::{Bound, Field, Slot};

@@ -1,25 +1,16 @@
 -- Lists that are made up to a number: one item more.
-use Rattle.std.proofs.Common.{◌≡◌, ◌∙◌, ap, refl, ℕ, zero, suc, ◌+◌, List, [], ◌∷◌, ◌++◌, arith}
+use Rattle.std.proofs.Common.{◌≡◌, ◌∙◌, ap, refl, ℕ, ◌+◌, List, [], ◌∷◌, ◌++◌, arith}
 use Rattle.std.specs.List.{flat_map, range_with_len}
 use Rattle.std.proofs.lemmas.List.{append-nil}
 use Rattle.std.proofs.lemmas.List.Concat.{flat_map-append}
+use Rattle.mh_base.proofs.Lists.{range_more}
 use Rattle.mh_generated.specs.Plan.{call_text, calls_text, thread_text, threads_text}
-
--- numbers from one on: the last of one more
-range-more : (first count : ℕ) → range_with_len first (suc count) ≡ range_with_len first count ++ (first + count) ∷ []
-range-more first zero =
-    let e : first ≡ first + 0 = omega arith in ap (λ n. n ∷ []) e
-range-more first (suc count) =
-    let e : first + 1 + count ≡ first + suc count = omega arith in
-    ap (λ ns. first ∷ ns) (range-more (first + 1) count ∙ ap (λ n. range_with_len (first + 1) count ++ n ∷ []) e)
 
 -- the texts of numbers from 0 on: that of one more
 texts-more : (f : ℕ → List ℕ) (count : ℕ) → flat_map f (range_with_len 0 (count + 1)) ≡ flat_map f (range_with_len 0 count) ++ f count
 texts-more f count =
-    let more : count + 1 ≡ suc count = omega arith in
     let last : 0 + count ≡ count = omega arith in
-    ap (λ n. flat_map f (range_with_len 0 n)) more
-    ∙ ap (flat_map f) (range-more 0 count ∙ ap (λ n. range_with_len 0 count ++ n ∷ []) last)
+    ap (flat_map f) (range_more 0 count ∙ ap (λ n. range_with_len 0 count ++ n ∷ []) last)
     ∙ flat_map-append f (range_with_len 0 count) (count ∷ [])
     ∙ ap (λ t. flat_map f (range_with_len 0 count) ++ t) (append-nil (f count))
 

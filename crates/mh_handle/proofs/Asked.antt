@@ -7,7 +7,7 @@ use Rattle.std.proofs.lemmas.Option.{slice_get-map, get_or_from_slice_get, slice
 use Rattle.std.specs.Option.{option_map}
 use Rattle.mh_setonce.specs.Places.{IsLatest}
 use Rattle.mh_setonce.specs.Walks.{Distinct, Lacks}
-use Rattle.mh_base.proofs.Slices.{slice_get-push}
+use Rattle.mh_setonce.proofs.Nodes.{distinct-push}
 use Rattle.mh_edit.specs.declared.key.Key.{Key}
 use Rattle.mh_handle.specs.Form.{FormView}
 use Rattle.mh_handle.specs.Hashes.{hash_of}
@@ -15,19 +15,6 @@ use Rattle.mh_handle.specs.Index.{AreSeen, hashes_of, recipe_of}
 
 pub mapped-push : {A B : Type 0} (f : A → B) (xs ys zs : List A) (x : A) → zs ≡ ys ++ x ∷ [] → ys ≡ xs → map f zs ≡ map f xs ++ f x ∷ []
 mapped-push f xs ys zs x e d = ap (map f) e ∙ (map-append f ys (x ∷ []) ∙ ap (λ v. map f v ++ f x ∷ []) d)
-
-pub distinct-snoc : {V K : Type 0} (key : V → K) (vs : List V) (v : V) → Distinct key vs → Lacks key vs (key v) → Distinct key (vs ++ v ∷ [])
-distinct-snoc {V} key vs v d new i j x y at_i at_j same =
-    ⊎_elim
-    (λ (p : slice_get vs i ≡ Some x). ⊎_elim
-    (λ (q : slice_get vs j ≡ Some y). d i j x y p q same)
-    (λ (q : (j ≡ length vs) × (v ≡ y)). absurd (new i x p (same ∙ ap key (sym q.1))))
-    (slice_get-push vs v j y at_j))
-    (λ (p : (i ≡ length vs) × (v ≡ x)). ⊎_elim
-    (λ (q : slice_get vs j ≡ Some y). absurd (new j y q (sym same ∙ ap key (sym p.1))))
-    (λ (q : (j ≡ length vs) × (v ≡ y)). p.0 ∙ sym q.0)
-    (slice_get-push vs v j y at_j))
-    (slice_get-push vs v i x at_i)
 
 none : Distinct {V = FormView} {K = List Key} recipe_of []
 none i j x y p q e = cc
@@ -42,7 +29,7 @@ seen-more forms forms' hashes hashes' form hash old new f h is =
     subst (λ v. AreSeen v hashes') (sym f) (record {
       hashes_is = h ∙ (ap (λ v. v ++ hash ∷ []) old.hashes_is ∙ (ap (λ n. hashes_of forms ++ n ∷ []) is
           ∙ sym (map-append (λ g. hash_of g.recipe) forms (form ∷ []))));
-      once = distinct-snoc recipe_of forms form old.once new;
+      once = distinct-push recipe_of forms form old.once new;
     })
 
 -- the hash of a form at its place

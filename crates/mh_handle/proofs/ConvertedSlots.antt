@@ -17,7 +17,8 @@ use Rattle.mh_convert.specs.Conversion.{can, conv, is_trivial, ret_conv, ret_con
 use Rattle.mh_convert.proofs.Typed.{trivial-keeps}
 use Rattle.mh_leaf.specs.LeafTable.{LeafTable}
 use Rattle.mh_tree.specs.Rows.{can_all}
-use Rattle.mh_tree.specs.Meaning.{Done, or_throw, value_and_more, then_others, conv_all, conv_result}
+use Rattle.mh_tree.specs.Meaning.{or_throw, value_and_more, then_others, conv_all, conv_result}
+use Rattle.mh_tree.proofs.SoundConversions.{shown}
 use Rattle.mh_form.specs.declared.basic.Basic.{Basic}
 use Rattle.mh_form.specs.declared.basic.BasicRet.TheVariants.{V, Is}
 use Rattle.mh_form.specs.declared.slot.Slot.{Slot}
@@ -94,10 +95,6 @@ arguments-converted classes are (s ∷ ss) (t ∷ ts) (v ∷ vs) n next allowed 
     refl q.0 have.0 (λ more. arguments-converted classes are ss ts vs n more q.1 have.1)
 
 -- ---- results
-
--- how the end of a conversion of a result is shown
-abbrev shown : Result (Option Value) Exc → Done
-shown r = or_throw r (λ v. Gave v [])
 
 -- an allowed conversion of a result that is a value
 value-conversion-is : (b : Bool) (p : Conv) (c : RetConv) → value_conversion (cond b (Some p) None) ≡ Some c → (b ≡ true) × (c ≡ ret.Value p)

@@ -2,7 +2,8 @@
 use Rattle.std.proofs.Common.{◌≡◌, sym, ap, ◌∙◌, subst, List, ◌++◌, ⊎_elim}
 use Rattle.std.specs.Prelude.{not}
 use Rattle.mh_setonce.specs.Views.{WalkView}
-use Rattle.mh_handle.specs.Chains.{chains_of, learnt_by}
+use Rattle.mh_setonce.specs.ManyWalks.{chains_of}
+use Rattle.mh_handle.specs.Chains.{learnt_by}
 use Rattle.mh_handle.specs.Form.{FormView}
 use Rattle.mh_handle.specs.Joins.{unasked}
 use Rattle.mh_handle.specs.Passes.{AreLearnt, AreNumbered, AreOneEach, IsPass}

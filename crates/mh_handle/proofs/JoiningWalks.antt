@@ -7,9 +7,10 @@ use Rattle.std.proofs.lemmas.List.{length-set}
 use Rattle.std.proofs.lemmas.Option.{slice_get-get_or, slice_get-map, slice_get_within}
 use Rattle.mh_setonce.specs.Views.{WalkView}
 use Rattle.mh_setonce.specs.Walks.{Distinct}
+use Rattle.mh_setonce.specs.ManyWalks.{DoMeet, IsLonger, chains_of}
 use Rattle.mh_handle.specs.Form.{FormView}
 use Rattle.mh_handle.specs.Index.{recipe_of}
-use Rattle.mh_handle.specs.Chains.{AreWalks, DoMeet, IsLonger, chain_count, chains_of, learnt_by}
+use Rattle.mh_handle.specs.Chains.{AreWalks, chain_count, learnt_by}
 use Rattle.mh_handle.specs.Passes.{AreLearnt}
 use Rattle.mh_handle.proofs.ManyWalks.{at-learnt, learnt-at, set-chains, set-walks}
 use Rattle.mh_handle.proofs.Members.{set-here, set-there}

@@ -4,6 +4,7 @@ pub mod AsTypeForms
 pub mod AsTypeResults
 pub mod AsTypeRuns
 pub mod AsTypeStands
+pub mod BackwardHolds
 pub mod Basics
 pub mod ConvertedParameters
 pub mod ConvertedSlots
@@ -30,6 +31,7 @@ pub mod Obeying
 pub mod Passing
 pub mod Recipes
 pub mod Refusals
+pub mod Rooms
 pub mod SameRecipes
 pub mod Standing
 pub mod HoldOrders

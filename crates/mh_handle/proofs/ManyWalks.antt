@@ -3,6 +3,7 @@ use Rattle.std.proofs.Common.{◌≡◌, refl, sym, ap, ◌∙◌, subst, ℕ, z
 use Rattle.std.specs.Prelude.{slice_get}
 use Rattle.mh_setonce.specs.Views.{WalkView}
 use Rattle.mh_setonce.specs.Walks.{Distinct, FindsNode, Has, Lacks, StartsWith}
+use Rattle.mh_setonce.specs.ManyWalks.{chains_of}
 use Rattle.mh_edit.specs.declared.key.Key.{Key}
 use Rattle.mh_handle.specs.Form.{FormView}
 use Rattle.mh_handle.specs.Index.{recipe_of}
@@ -14,7 +15,7 @@ use Rattle.std.proofs.lemmas.Bool.{eq-eqb, eqb-true}
 use Rattle.std.proofs.lemmas.List.{length-set}
 use Rattle.std.proofs.lemmas.Option.{get_or_from_slice_get}
 use Rattle.std.proofs.Math.Seq.{map-set_same}
-use Rattle.mh_handle.specs.Chains.{AreWalks, chain_of, chains_of, forms_of, learnt_by, learnt_from}
+use Rattle.mh_handle.specs.Chains.{AreWalks, chain_of, forms_of, learnt_by, learnt_from}
 use Rattle.mh_handle.specs.Passes.{AreLearnt, AreOneEach, IsPut}
 use Rattle.mh_handle.proofs.Members.{IsIn, in-either, in-left, in-passing, in-right, passing-in, set-either, set-here, set-there}
 

@@ -4,10 +4,11 @@ use Rattle.std.specs.Prelude.{slice_get}
 use native.Mathlib.Decide.{dec_lt}
 use Rattle.mh_setonce.specs.Views.{WalkView}
 use Rattle.mh_setonce.specs.Walks.{Distinct, Meet}
+use Rattle.mh_setonce.specs.ManyWalks.{DoMeet, IsLonger}
 use Rattle.mh_handle.specs.Form.{FormView}
 use Rattle.mh_handle.specs.Index.{recipe_of}
 use Rattle.std.proofs.lemmas.List.{take-append-drop, take_all}
-use Rattle.mh_handle.specs.Chains.{AreWalks, DoMeet, IsLonger, chain_of, learnt_by}
+use Rattle.mh_handle.specs.Chains.{AreWalks, chain_of, learnt_by}
 use Rattle.mh_handle.specs.Passes.{DoMatch}
 use Rattle.mh_handle.proofs.Members.{IsIn, in-left}
 use Rattle.mh_handle.proofs.ManyWalks.{learnt-at}

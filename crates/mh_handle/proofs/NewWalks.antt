@@ -4,8 +4,9 @@ use Rattle.std.specs.Prelude.{slice_get}
 use Rattle.std.proofs.lemmas.List.{length-map, map-append}
 use Rattle.mh_base.proofs.Slices.{slice_get-push}
 use Rattle.mh_setonce.specs.Views.{ChainView, WalkView}
+use Rattle.mh_setonce.specs.ManyWalks.{chains_of}
 use Rattle.mh_handle.specs.Form.{FormView}
-use Rattle.mh_handle.specs.Chains.{AreWalks, chain_count, chains_of, forms_of, learnt_by, learnt_from}
+use Rattle.mh_handle.specs.Chains.{AreWalks, chain_count, forms_of, learnt_by, learnt_from}
 
 -- walks of these chains, which have learnt nothing
 pub record AreNew (chains : List ChainView) (walks : List (WalkView FormView)) : Type 0 where

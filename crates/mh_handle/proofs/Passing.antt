@@ -8,13 +8,14 @@ use Rattle.mh_setonce.specs.declared.put.Put.TheVariants.{Mine, Theirs}
 use Rattle.mh_setonce.specs.Puts.{PutIn}
 use Rattle.mh_setonce.specs.Views.{WalkView}
 use Rattle.mh_setonce.specs.Walks.{StartsWith, Lacks, FindsNode}
+use Rattle.mh_setonce.specs.ManyWalks.{chains_of}
 use Rattle.mh_edit.specs.declared.key.Key.{Key}
 use Rattle.mh_base.proofs.Slices.{slice_get-push, slice_get-end}
 use Rattle.mh_handle.proofs.Learning.{has-found}
 use Rattle.mh_handle.specs.Form.{FormView}
 use Rattle.mh_handle.specs.Index.{recipe_of}
 use Rattle.mh_handle.specs.SameRecipes.{same_recipe}
-use Rattle.mh_handle.specs.Chains.{chains_of, learnt_by}
+use Rattle.mh_handle.specs.Chains.{learnt_by}
 use Rattle.mh_handle.specs.Passes.{AreLearnt, AreOneEach, IsKept, IsPass, IsPut}
 use Rattle.mh_handle.specs.Seats.{Draws, SeatView, TableView}
 use Rattle.mh_handle.proofs.Numbers.{numbered-drawn, numbered-kept}

@@ -1,8 +1,8 @@
 -- The chains of a table of forms: which one has the form of a recipe, and what walks of all of them have learnt.
-use Rattle.std.specs.Prelude.{◌≡◌, ℕ, suc, ◌+◌, ◌*◌, ◌%◌, ◌<◌, ◌≤◌, ◌⊎◌, ◌==◌, List, [], ◌∷◌, ◌++◌, length, map, slice_get, Some}
+use Rattle.std.specs.Prelude.{◌≡◌, ℕ, suc, ◌+◌, ◌*◌, ◌%◌, ◌<◌, ◌≤◌, ◌⊎◌, ◌==◌, List, [], ◌∷◌, ◌++◌, length, slice_get, Some}
 use Rattle.std.specs.List.{filter}
-use Rattle.mh_setonce.specs.Views.{ChainView, WalkView}
-use Rattle.mh_setonce.specs.Walks.{Distinct, Meet}
+use Rattle.mh_setonce.specs.Views.{WalkView}
+use Rattle.mh_setonce.specs.Walks.{Distinct}
 use Rattle.mh_edit.specs.declared.key.Key.{Key}
 use Rattle.mh_edit.specs.declared.key.Key.TheVariants as key
 use Rattle.mh_handle.specs.Form.{FormView}
@@ -56,19 +56,7 @@ learnt_from chain (w ∷ walks) = forms_of chain w.nodes ++ learnt_from (suc cha
 abbrev pub learnt_by : List (WalkView FormView) → List FormView
 learnt_by walks = learnt_from 0 walks
 
--- the chains of walks
-abbrev pub chains_of : List (WalkView FormView) → List ChainView
-chains_of walks = map (λ w. w.chain) walks
-
 -- a walk of each chain, of which no two nodes have one recipe
 pub record AreWalks (walks : List (WalkView FormView)) : Type 0 where
   pub count : length walks ≡ chain_count
   pub once : (c : ℕ) (w : WalkView FormView) → slice_get walks c ≡ Some w → Distinct recipe_of w.nodes
-
--- of two walks of one chain, one begins with the other
-abbrev pub DoMeet : List (WalkView FormView) → List (WalkView FormView) → Type 0
-DoMeet walks others = (c : ℕ) (a b : WalkView FormView) → slice_get walks c ≡ Some a → slice_get others c ≡ Some b → (n : ℕ) × Meet a.nodes b.nodes n
-
--- the longer of two walks
-abbrev pub IsLonger : WalkView FormView → WalkView FormView → WalkView FormView → Type 0
-IsLonger walk other kept = ((kept ≡ walk) × (length other.nodes ≤ length walk.nodes)) ⊎ ((kept ≡ other) × (length walk.nodes < length other.nodes))

@@ -4,12 +4,13 @@ use Rattle.std.specs.List.{find}
 use denote.Ref.{Bor}
 use Rattle.mh_setonce.specs.Views.{WalkView}
 use Rattle.mh_setonce.specs.Walks.{Lacks, Has}
+use Rattle.mh_setonce.specs.ManyWalks.{chains_of}
 use Rattle.mh_edit.specs.declared.key.Key.{Key}
 use Rattle.mh_setonce.specs.declared.put.Put.{Put}
 use Rattle.mh_setonce.specs.declared.put.Put.TheVariants.{Mine, Theirs}
 use Rattle.mh_handle.specs.declared.error.EditError.{EditError}
 use Rattle.mh_handle.specs.declared.error.EditError.TheVariants.{NoMemory, FormsFull}
-use Rattle.mh_handle.specs.Chains.{chains_of, learnt_by}
+use Rattle.mh_handle.specs.Chains.{learnt_by}
 use Rattle.mh_handle.specs.Form.{FormView}
 use Rattle.mh_handle.specs.Index.{recipe_of}
 use Rattle.mh_handle.specs.SameRecipes.{same_recipe}

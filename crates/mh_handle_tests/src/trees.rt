@@ -6,7 +6,7 @@ ghost use Rattle.mh_intern.specs.Views.{new_seat};
 ghost use Rattle.mh_handle.specs.Passes.{seat_at};
 ghost use Rattle.mh_handle.specs.Stands.{StandsForSome};
 ghost use Rattle.mh_handle.specs.Works.{IsReady, GoesOn};
-ghost use Rattle.mh_steps.specs.Adds.{Adds};
+ghost use Rattle.mh_steps.specs.AnyTypes.{ExchangesAny};
 
 use mh_base::NoMemory;
 use mh_handle::{Answer, FormTable, Handle, HandleError, Work};
@@ -50,7 +50,7 @@ fn answer_on<'t, R: Wait>(
     requires ready { IsReady w.old 204 }
     requires few { length making.now.steps.now ≤ 100 }
     ensures goes_on { GoesOn 204 w.old w.new }
-    ensures types { Adds [] [] w.old.seat.now w.new.seat.now }
+    ensures types { ExchangesAny [] [] w.old.seat.now w.new.seat.now }
 {
     let leaves = w.leaves;
     let handle = made(w, rt, making.root, making.steps)?;
@@ -63,7 +63,7 @@ fn number_on<'t, R: Wait>(w: &mut Work<'_, 't>, rt: &R, making: &Making) -> Resu
     requires ready { IsReady w.old 204 }
     requires few { length making.now.steps.now ≤ 100 }
     ensures goes_on { GoesOn 204 w.old w.new }
-    ensures types { Adds [] [] w.old.seat.now w.new.seat.now }
+    ensures types { ExchangesAny [] [] w.old.seat.now w.new.seat.now }
 {
     let handle = made(w, rt, making.root, making.steps)?;
     let number = handle.form().number();
@@ -80,7 +80,7 @@ fn numbers_on<'t, R: Wait>(
     requires ready { IsReady w.old 408 }
     requires first { length first.now.steps.now ≤ 100 }
     requires second { length second.now.steps.now ≤ 100 }
-    ensures types { Adds [] [] w.old.seat.now w.new.seat.now }
+    ensures types { ExchangesAny [] [] w.old.seat.now w.new.seat.now }
 {
     let one = number_on(w, rt, first)?;
     let other = number_on(w, rt, second)?;
@@ -97,7 +97,7 @@ fn answer_at<R: Wait>(
     requires first { start.seat ≡ seat_at start.table.now 0 }
     requires held { held.old ≡ new_seat start.types.now limit }
     requires few { length making.now.steps.now ≤ 100 }
-    ensures types { Adds [] [] held.old held.new }
+    ensures types { ExchangesAny [] [] held.old held.new }
 {
     let Start {
         alloc,

@@ -20,10 +20,6 @@ entry-itself e = and_from _ _ (eq-eqb e.slot e.slot refl) (same_method_type-itse
 abbrev pub bit : Bool → ℕ
 bit b = cond b 1 0
 
-either : (b : Bool) → (b ≡ true) ⊎ (b ≡ false)
-either true = inl refl
-either false = inr refl
-
 -- where e is in the list and (k, t) is not, they are two
 pub not_hit : (e : Entry) (k : ℕ) (t : MethodTy) (es : List Entry) → 0 < has e.slot e.ty es → has k t es ≡ 0 → bit (is_entry e (entry k t)) ≡ 0
 not_hit e k t es mine none = at (is_entry e (entry k t)) refl

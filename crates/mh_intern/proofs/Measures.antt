@@ -6,7 +6,7 @@ use Rattle.mh_values.specs.Same.{is_same_method_type}
 use Rattle.mh_intern.specs.declared.holding.Entry.{Entry}
 use Rattle.mh_intern.specs.declared.holding.FullBucket.{FullBucket}
 use Rattle.mh_intern.specs.declared.holding.Holding.{Holding}
-use Rattle.mh_intern.specs.Held.{on_slot, on_type, has, weight, asks, uses}
+use Rattle.mh_intern.specs.Held.{times_type, on_slot, on_type, has, weight, asks, uses}
 use Rattle.mh_seats.specs.Room.{times}
 use Rattle.mh_intern.specs.Kinds.{joined}
 
@@ -16,6 +16,10 @@ module _ {A : Type 0} (p : A → Bool) where
 
   pub count_cons : (x : A) (xs : List A) → count_by p (x ∷ xs) ≡ cond (p x) 1 0 + count_by p xs
   count_cons x xs = sum_by-cons (λ x. cond (p x) 1 0) x xs
+
+-- how often a type stands in two lists, one after the other
+pub times_type-append : (t : MethodTy) (ts us : List MethodTy) → times_type t (ts ++ us) ≡ times_type t ts + times_type t us
+times_type-append t ts us = count_append (λ (u : MethodTy). is_same_method_type u t) ts us
 
 -- what is counted of two views that are joined
 module _ (v w : Holding) where

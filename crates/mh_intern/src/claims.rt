@@ -3,10 +3,11 @@
 ghost use Rattle.std.specs.Prelude.{◌≡◌, ℕ, ◌<◌, [], ◌∷◌, length, MatchOption, Some, None, IfOk};
 ghost use lib.ListN.{get_elem?};
 ghost use mathlib.Core.Option.{some};
+ghost use Rattle.mh_seats.specs.Steps.{Moves, Begins};
 ghost use Rattle.mh_intern.specs.Buckets.{buckets};
 ghost use Rattle.mh_intern.specs.Keep.{IsKeeper};
 ghost use Rattle.mh_intern.specs.Claims.{Slot, Claimed, HasKeeper, named, IsIdle, HasClaimed, Names, takes_bucket, gives_bucket, unclaimed, claims_joined, spent_claimer, CMe};
-ghost use Rattle.mh_intern.specs.Steps.{IsOfClaims, IsTableOfClaims, Moves, Begins};
+ghost use Rattle.mh_intern.specs.Steps.{IsOfClaims, IsTableOfClaims};
 
 use crate::bucket::BUCKETS;
 use crate::keeper::{Claimer, Keeper};

@@ -3,13 +3,14 @@ ghost use Rattle.std.specs.Prelude.{◌≡◌, ◌+◌, ◌<◌, ◌≤◌, [], 
 ghost use Rattle.std.specs.Mem.Slots.{slots_items, slots_len};
 ghost use Rattle.std.specs.Mem.Slots as mem;
 ghost use Rattle.mh_values.specs.declared.types.MethodTy.{MethodTy};
+ghost use Rattle.mh_seats.specs.Steps.{Moves, Begins};
 ghost use Rattle.mh_intern.specs.Buckets.{bucket_of, bucket_at, slots};
 ghost use Rattle.mh_intern.specs.Held.{on_type, has, weight, asks, uses, IsFull};
 ghost use Rattle.mh_seats.specs.Room.{limit, times};
 ghost use Rattle.mh_intern.specs.Lists.{Places, Agrees};
 ghost use Rattle.mh_intern.specs.Kinds.{caller, joined, first, without_first, first_keeper, less_room, after_request, request, after_reply, reply, full_bucket, refusal, held_more, held_less, after_raise};
 ghost use Rattle.mh_intern.specs.Plays.{Found};
-ghost use Rattle.mh_intern.specs.Steps.{IsOfHolders, Moves, Begins, MayAsk, IsTableOfHolders};
+ghost use Rattle.mh_intern.specs.Steps.{IsOfHolders, MayAsk, IsTableOfHolders};
 
 use crate::bucket::SLOTS;
 use crate::holding::Entry;

@@ -1,5 +1,6 @@
 // What a keeper does for a request.
 ghost use Rattle.std.specs.Prelude.{◌≡◌, ◌+◌, ◌*◌, ◌<◌, ◌≤◌, [], ◌∷◌, length, vec_len, vec_capacity, MatchOption, IfOk};
+ghost use Rattle.mh_seats.specs.Steps.{Moves};
 ghost use Rattle.mh_intern.specs.Buckets.{bucket_of, bucket_at, buckets, slots};
 ghost use Rattle.mh_intern.specs.Held.{on_type, has, IsFull};
 ghost use Rattle.mh_seats.specs.Room.{times};
@@ -7,7 +8,7 @@ ghost use Rattle.mh_intern.specs.Lists.{Listed};
 ghost use Rattle.mh_intern.specs.Kinds.{with_notes, full_bucket, joined, after_request, request, after_reply, reply, refusal};
 ghost use Rattle.mh_intern.specs.Keep.{IsKeeper};
 ghost use Rattle.mh_intern.specs.Interning.{granted, Interned};
-ghost use Rattle.mh_intern.specs.Steps.{IsOfHolders, Moves, MayAsk};
+ghost use Rattle.mh_intern.specs.Steps.{IsOfHolders, MayAsk};
 
 use crate::bucket::{BUCKET_SLOTS, bucket_of};
 use crate::error::InternError;

@@ -1,12 +1,11 @@
 -- Call sites of the worked examples: the leaf `add` of `demo/Host`, and one site of a class, with one script.
-use Rattle.std.specs.Prelude.{ℕ, ℤ, false, List, [], ◌∷◌, ◌++◌, codes, Option, Some}
+use Rattle.std.specs.Prelude.{ℕ, ℤ, false, List, [], ◌∷◌, ◌++◌, codes, Some}
 use Rattle.mh_values.specs.declared.class.ClassId.{ClassId}
-use Rattle.mh_values.specs.declared.types.Ty.{Ty}
-use Rattle.mh_values.specs.declared.types.MethodTy.{MethodTy}
 use Rattle.mh_values.specs.declared.value.Num.TheVariants as num
 use Rattle.mh_values.specs.declared.value.Value.{Value}
 use Rattle.mh_values.specs.declared.value.Value.TheVariants as value
 use Rattle.mh_values.specs.Class.{builtin_classes, class_at, class_below}
+pub use Rattle.mh_values.proofs.SameTypes.{method_type as of}
 use Rattle.mh_leaf.specs.declared.leaf.Kind.TheVariants as kind
 use Rattle.mh_leaf.specs.LeafTable.{LeafTable}
 use Rattle.mh_leaf.specs.Outcome.{int_type}
@@ -27,10 +26,6 @@ use Rattle.mh_jobs.specs.Thrown.{OrThrown}
 -- `demo/Host`
 abbrev pub host_class : ClassId
 host_class = class_at 28
-
--- a method type
-abbrev pub of : List Ty → Option Ty → MethodTy
-of params ret = record { params = params; ret = ret }
 
 -- `static demo/Host add (II)I iadd`
 abbrev pub host : LeafTable

@@ -1,15 +1,11 @@
 -- What is recorded of an exception is an Error.
-use Rattle.std.proofs.Common.{◌≡◌, refl, sym, subst, ap, ◌∙◌, Bool, true, false, cond, List, ◌++◌}
-use Rattle.std.specs.Prelude.{drop}
-use Rattle.std.proofs.lemmas.List.{take-append-drop}
+use Rattle.std.proofs.Common.{◌≡◌, refl, sym, subst, ◌∙◌, Bool, true, false, cond, List, ◌++◌}
 use Rattle.mh_values.specs.declared.class.Class.{Class}
 use Rattle.mh_values.specs.declared.value.Exc.{Exc}
-use Rattle.mh_values.specs.Class.{is_subclass, builtin_classes}
+use Rattle.mh_values.specs.Class.{is_subclass}
 use Rattle.mh_values.specs.Classes.{AreClasses}
+use Rattle.mh_values.proofs.BelowTypes.{in_front}
 use Rattle.mh_jobs.specs.Thrown.{recorded, caused, error_class, bootstrap_method_error_class}
-
-in_front : (classes : List Class) → AreClasses classes → classes ≡ builtin_classes ++ drop 28 classes
-in_front classes are = sym (take-append-drop 28 classes) ∙ ap (λ front. front ++ drop 28 classes) are.builtin
 
 chosen : (classes : List Class) (b : Bool) (e f : Exc) → (b ≡ true → is_subclass classes e.class error_class ≡ true) →
     is_subclass classes f.class error_class ≡ true → is_subclass classes (cond b e f).class error_class ≡ true

@@ -2,9 +2,9 @@
 use Rattle.std.specs.Prelude.{◌≡◌, ℕ, List, Some}
 use Rattle.std.specs.BTreeMap.{BTreeMap}
 use Rattle.std.specs.Global.{Vec}
+use Rattle.mh_base.specs.TextMaps.{at_text}
 use Rattle.mh_values.specs.declared.class.Class.{Class}
 use Rattle.mh_values.specs.declared.types.MethodTy.{MethodTy}
-use Rattle.mh_script.specs.Index.{at_text}
 use Rattle.mh_jobs.specs.Names.{method_type_of_text}
 use Rattle.mh_jobs.specs.Thrown.{OrThrown, as_shown}
 

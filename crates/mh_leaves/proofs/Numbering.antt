@@ -8,7 +8,8 @@ use Rattle.std.specs.Global.{Vec}
 use Rattle.std.specs.Map.{lookup}
 use Rattle.std.specs.Ordering.{nat_cmp}
 use Rattle.std.specs.Str.{bytes_eq}
-use Rattle.mh_base.proofs.TextMaps.{WritesText, at_text-other}
+use Rattle.mh_base.specs.TextMaps.{WritesText}
+use Rattle.mh_base.proofs.TextMaps.{at_text-other}
 use Rattle.mh_leaves.specs.Numbers.{text_number, AreBelow, AreNumbered, IsNumberedAnew, AreGrown}
 
 -- the maps from texts to numbers

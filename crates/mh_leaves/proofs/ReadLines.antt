@@ -1,6 +1,7 @@
 -- What a manifest registers are classes and leaves of its lines.
 use Rattle.std.proofs.Common.{◌≡◌, subst, ℕ, ◌+◌, true, false, List, [], ◌∷◌, Ok, if◌then◌else◌}
 use Rattle.mh_base.specs.Lines.{is_passed, tokens_of, built_from}
+use Rattle.mh_base.proofs.Inversion.{ok_is}
 use Rattle.mh_leaf.specs.LeafTable.{LeafTable}
 use Rattle.mh_leaves.specs.declared.manifest.ManifestKind.TheVariants.{BadLine}
 use Rattle.mh_leaves.specs.Manifest.{leaf_line, is_virtual_word, tokens_meaning, line_meaning}
@@ -9,7 +10,7 @@ use Rattle.mh_leaves.specs.Registered.{nothing_registered}
 use Rattle.mh_base.proofs.Conditions.{after_line-parts, passes_some}
 use Rattle.mh_leaves.proofs.LineParts.{line_plain}
 use Rattle.mh_base.proofs.LineTokens.{AreTokens, tokens_are}
-use Rattle.mh_leaves.proofs.TakenLines.{IsRead, nothing-read, taken_is, three-read, leaf_line-read}
+use Rattle.mh_leaves.proofs.TakenLines.{IsRead, nothing-read, three-read, leaf_line-read}
 
 tokens-read : (table next : LeafTable) (tokens : List (List ℕ)) → AreTokens tokens → IsRead table → tokens_meaning table tokens ≡ Ok next → IsRead next
 tokens-read table next [] are old h = absurd cc
@@ -27,7 +28,7 @@ line-read : (table next : LeafTable) (line : List ℕ) → IsRead table → line
 line-read table next line old h =
     let plain = line_plain table line (Ok next) (λ e. cc) h in
     elim (is_passed line) as (λ b. (if b then Ok table else tokens_meaning table (tokens_of line)) ≡ Ok next → IsRead next) [
-      | true ↦ λ k. subst IsRead (taken_is table next k) old
+      | true ↦ λ k. subst IsRead (ok_is table next k) old
       | false ↦ λ k. tokens-read table next (tokens_of line) (tokens_are line plain.0) old k
     ] plain.1
 

@@ -1,5 +1,5 @@
 -- What a leaf's line needs of the classes stays so when classes are put after the others.
-use Rattle.std.proofs.Common.{◌≡◌, refl, ap, ◌∙◌, zero, suc, inl, inr, ℕ, ◌≤◌, ◌==◌, Bool, true, false, List, [], ◌∷◌, ◌++◌, length, length-append, is_some, Option, None, Some, arith}
+use Rattle.std.proofs.Common.{◌≡◌, refl, ap, ◌∙◌, zero, suc, inl, inr, ℕ, ◌≤◌, ◌==◌, true, List, [], ◌∷◌, ◌++◌, length, length-append, is_some, Option, None, Some, arith}
 use Rattle.std.proofs.lemmas.Bool.{and_parts, and_from, or_cases, or_left, or_right}
 use Rattle.std.specs.List.{list_all, slice_split}
 use Rattle.std.specs.Option.{option_map, option_map_or, option_and_then, option_or}
@@ -9,6 +9,7 @@ use Rattle.mh_values.specs.declared.class.ClassId.{ClassId}
 use Rattle.mh_values.specs.Class.{superclass_of, reaches_within, throwable_class}
 use Rattle.mh_values.specs.Classes.{class_named}
 use Rattle.mh_values.specs.Grammar.{descriptor_fault}
+use Rattle.mh_values.proofs.Subclasses.{through}
 use Rattle.mh_leaf.specs.declared.leaf.Kind.{Kind}
 use Rattle.mh_leaf.specs.declared.leaf.Kind.TheVariants as kind
 use Rattle.mh_leaf.specs.declared.leaf.Leaf.{Leaf}
@@ -71,10 +72,6 @@ kind-steady classes more word found h =
     or-steady (word_kind word) (throw_kind classes word) (throw_kind (classes ++ more) word) found (throw-steady classes more (thrown_name word) found) h
 
 -- ---- exceptions
-
--- a way up through a superclass
-abbrev through : ℕ → List Class → ClassId → Option ClassId → Bool
-through steps classes b superclass = option_map_or (λ c. reaches_within steps classes c b) superclass false
 
 through-steady : (classes more : List Class) (b : ClassId) (steps longer : ℕ) (o p : Option ClassId) → ((c : ClassId) → o ≡ Some c → p ≡ Some c) →
     ((c : ClassId) → reaches_within steps classes c b ≡ true → reaches_within longer (classes ++ more) c b ≡ true) → through steps classes b o ≡ true →

@@ -3,6 +3,7 @@ use Rattle.std.proofs.Common.{◌≡◌, refl, sym, ap, subst, ◌∙◌, ℕ, �
 use Rattle.std.proofs.lemmas.Bool.{not-true}
 use Rattle.std.specs.List.{list_any}
 use Rattle.std.specs.Option.{option_map_or}
+use Rattle.mh_base.proofs.Inversion.{ok_is}
 use Rattle.mh_values.specs.declared.class.Class.{Class}
 use Rattle.mh_values.specs.declared.class.ClassId.{ClassId}
 use Rattle.mh_values.specs.declared.descriptor.DescriptorError.{DescriptorError}
@@ -33,9 +34,6 @@ pub record IsRead (table : LeafTable) : Type 0 where
 pub nothing-read : IsRead nothing_registered
 nothing-read = record { declared = []; classes = sym (append-nil builtin_classes); are_declared = tt; are_made = tt }
 
-pub taken_is : (next table : LeafTable) → ◌≡◌ {A = Answer} (Ok next) (Ok table) → next ≡ table
-taken_is next table h = cc
-
 -- ---- a class more
 
 class-read : (table : LeafTable) (name : List ℕ) (superclass : ClassId) → IsRead table → IsDeclared table.classes (class_of name (Some superclass)) →
@@ -51,7 +49,7 @@ class-read table name superclass old is =
 
 class-taken : (table next : LeafTable) (name : List ℕ) (superclass : ClassId) → IsRead (with_class table name superclass) →
     ◌≡◌ {A = Answer} (Ok (with_class table name superclass)) (Ok next) → IsRead next
-class-taken table next name superclass new is = subst IsRead (taken_is (with_class table name superclass) next is) new
+class-taken table next name superclass new is = subst IsRead (ok_is (with_class table name superclass) next is) new
 
 pub three-read : (table next : LeafTable) (word name superclass : List ℕ) → AreTokens (name ∷ superclass ∷ []) → IsRead table →
     three_tokens table word name superclass ≡ Ok next → IsRead next
@@ -98,7 +96,7 @@ record IsTaken (table : LeafTable) (texts : Texts) (word : List ℕ) (owner : Cl
   tokens : AreTokens (texts.owner ∷ texts.name ∷ texts.descriptor ∷ word ∷ [])
 
 leaf-taken : (table next : LeafTable) (leaf : Leaf) → IsRead (with_leaf table leaf) → ◌≡◌ {A = Answer} (Ok (with_leaf table leaf)) (Ok next) → IsRead next
-leaf-taken table next leaf new is = subst IsRead (taken_is (with_leaf table leaf) next is) new
+leaf-taken table next leaf new is = subst IsRead (ok_is (with_leaf table leaf) next is) new
 
 typed-read : (table next : LeafTable) (is_virtual : Bool) (texts : Texts) (word : List ℕ) (owner : ClassId) (kind : Kind) (t : MethodTy) → IsRead table →
     IsTaken table texts word owner kind → has_known_classes table.classes texts.descriptor ≡ true → desc table.classes texts.descriptor ≡ Ok t →

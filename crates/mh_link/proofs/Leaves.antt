@@ -1,6 +1,8 @@
 -- The static arguments of a job that are leaves are leaves of the table.
 use Rattle.std.proofs.Common.{◌≡◌, refl, sym, subst, arith, ℕ, zero, suc, ◌<◌, List, [], ◌∷◌, length, Option, Some, None, Result, Ok, Err, codes}
 use Rattle.std.specs.Prelude.{position, slice_get, IfSome, ok_or}
+use Rattle.mh_base.proofs.Inversion.{ok_is, some_is}
+use Rattle.mh_base.proofs.Slices.{slice_get-within}
 use Rattle.mh_values.specs.declared.class.ClassId.{ClassId}
 use Rattle.mh_values.specs.declared.types.MethodTy.{MethodTy}
 use Rattle.mh_values.specs.declared.value.LeafId.{LeafId}
@@ -31,16 +33,8 @@ use Rattle.mh_jobs.specs.Thrown.{Says, OrThrown, ◌>>=◌, as_shown, unsupporte
 use Rattle.mh_link.proofs.Nodes.{IsTyped, AreTyped}
 use Rattle.mh_jobs.proofs.Parts.{bound-parts}
 
-get-within : {A : Type 0} (xs : List A) (i : ℕ) → i < length xs → (x : A) × (slice_get xs i ≡ Some x)
-get-within [] i h = absurd (omega arith)
-get-within (x ∷ xs) zero h = (x, refl)
-get-within (x ∷ xs) (suc i) h = get-within xs i (omega arith)
-
-same_id : (a b : LeafId) → ◌≡◌ {A = Result LeafId Missing} (Ok a) (Ok b) → a ≡ b
-same_id a b h = cc
-
 at-within : (n : ℕ) (o : Option ℕ) (l : LeafId) → IfSome o (λ i. i < n) → leaf_numbered o ≡ Ok l → l.0 < n
-at-within n (Some i) l h k = subst (λ (x : LeafId). x.0 < n) (same_id (record { 0 = i }) l k) h
+at-within n (Some i) l h k = subst (λ (x : LeafId). x.0 < n) (ok_is {A = LeafId} (record { 0 = i }) l k) h
 at-within n None l h k = absurd cc
 
 of-within : (owner : Option ClassId) (name descriptor : List ℕ) (how : How) (leaves : List Leaf) (l : LeafId) →
@@ -76,37 +70,28 @@ argument-within leaves (constant.Class text) l h =
     let q = bound-parts (class_argument leaves.classes text) (λ t. Ok (argument.Class t)) (argument.Leaf l) h in let e = q.2 in absurd cc
 argument-within leaves c l h = absurd cc
 
-same_arguments : (a b : List Argument) → ◌≡◌ {A = OrThrown (List Argument)} (Ok a) (Ok b) → a ≡ b
-same_arguments a b h = cc
-
 none_there : (a : Argument) → ◌≡◌ {A = Option Argument} None (Some a) → ⊥
 none_there a h = absurd cc
-
-same_argument : (a b : Argument) → ◌≡◌ {A = Option Argument} (Some a) (Some b) → a ≡ b
-same_argument a b h = cc
 
 next-within : (leaves : LeafTable) (c : Constant) (a : Argument) (others : List Argument) → argument_of leaves c ≡ Ok a →
     ((n : ℕ) (l : LeafId) → slice_get others n ≡ Some (argument.Leaf l) → l.0 < length leaves.leaves) → (n : ℕ) (l : LeafId) → slice_get
     (a ∷ others) n ≡ Some (argument.Leaf l) → l.0 < length leaves.leaves
-next-within leaves c a others h more zero l k = argument-within leaves c l (subst (λ b. argument_of leaves c ≡ Ok b) (same_argument a (argument.Leaf l) k) h)
+next-within leaves c a others h more zero l k = argument-within leaves c l (subst (λ b. argument_of leaves c ≡ Ok b) (some_is a (argument.Leaf l) k) h)
 next-within leaves c a others h more (suc n) l k = more n l k
 
 arguments-within : (leaves : LeafTable) (cs : List Constant) (given : List Argument) → arguments_of leaves cs ≡ Ok given → (n : ℕ) (l : LeafId) →
     slice_get given n ≡ Some (argument.Leaf l) → l.0 < length leaves.leaves
 arguments-within leaves [] given h n l k =
-    absurd (none_there (argument.Leaf l) (subst (λ (xs : List Argument). slice_get xs n ≡ Some (argument.Leaf l)) (sym (same_arguments [] given h)) k))
+    absurd (none_there (argument.Leaf l) (subst (λ (xs : List Argument). slice_get xs n ≡ Some (argument.Leaf l)) (sym (ok_is [] given h)) k))
 arguments-within leaves (c ∷ cs) given h n l k =
     let first = bound-parts (argument_of leaves c) (λ a. arguments_of leaves cs >>= (λ others. Ok (a ∷ others))) given h in
     let rest = bound-parts (arguments_of leaves cs) (λ others. Ok (first.0 ∷ others)) given first.2 in
     next-within leaves c first.0 rest.0 first.1 (arguments-within leaves cs rest.0 rest.1) n l
-    (subst (λ (xs : List Argument). slice_get xs n ≡ Some (argument.Leaf l)) (sym (same_arguments (first.0 ∷ rest.0) given rest.2)) k)
+    (subst (λ (xs : List Argument). slice_get xs n ≡ Some (argument.Leaf l)) (sym (ok_is (first.0 ∷ rest.0) given rest.2)) k)
 
 -- a leaf of the table has a type
 pub leaf-typed : (leaves : LeafTable) (l : LeafId) → l.0 < length leaves.leaves → IsTyped leaves (tree.Leaf l)
-leaf-typed leaves l h = let there = get-within leaves.leaves l.0 h in (there.0.ty, subst (λ o. leaf_row o ≡ Ok there.0.ty) (sym there.1) refl)
-
-same_call : (a b : BootstrapCall) → ◌≡◌ {A = OrThrown BootstrapCall} (Ok a) (Ok b) → a ≡ b
-same_call a b h = cc
+leaf-typed leaves l h = let there = slice_get-within leaves.leaves l.0 h in (there.0.ty, subst (λ o. leaf_row o ≡ Ok there.0.ty) (sym there.1) refl)
 
 -- the static arguments of a call that are leaves have types
 called-typed : (leaves : LeafTable) (scripts : List Script) (site : SiteView) (handle : HandleRef) (constants : List Constant) (call : BootstrapCall) →
@@ -121,7 +106,7 @@ called-typed leaves scripts site handle constants call h n l k =
     (λ t. text_of site.name >>= (λ name. arguments >>= (λ given. Ok (Made script.0 t name given)))) call script.2 in
     let name = bound-parts (text_of site.name) (λ name. arguments >>= (λ given. Ok (Made script.0 ty.0 name given))) call ty.2 in
     let given = bound-parts arguments (λ given. Ok (Made script.0 ty.0 name.0 given)) call name.2 in
-    let is = same_call (Made script.0 ty.0 name.0 given.0) call given.2 in
+    let is = ok_is (Made script.0 ty.0 name.0 given.0) call given.2 in
     leaf-typed leaves l (arguments-within leaves constants given.0 given.1 n l
     (subst (λ (c : BootstrapCall). slice_get c.arguments n ≡ Some (argument.Leaf l)) (sym is) k))
 

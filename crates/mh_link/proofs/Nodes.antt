@@ -3,6 +3,7 @@ use Rattle.std.proofs.Common.{◌≡◌, refl, sym, subst, List, [], ◌∷◌, 
 use Rattle.std.specs.Prelude.{All, slice_get}
 use Rattle.std.proofs.lemmas.List.Elements.{All-append, All-cons, All-nil}
 use Rattle.std.proofs.lemmas.List.Concat.{flat_map-cons}
+use Rattle.mh_base.proofs.Inversion.{ok_is}
 use Rattle.mh_values.specs.declared.types.MethodTy.{MethodTy}
 use Rattle.mh_values.specs.declared.value.LeafId.{LeafId}
 use Rattle.mh_leaf.specs.LeafTable.{LeafTable}
@@ -51,15 +52,12 @@ uses-typed leaves frame are (r ∷ rs) =
     subst (All (IsTyped leaves)) (sym (flat_map-cons (node_of_use frame) r rs))
     (All-append (IsTyped leaves) (node_of_use frame r) (nodes_of_uses frame rs) (use-typed leaves frame are r) (uses-typed leaves frame are rs))
 
-same_tree : (t u : Tree) → ◌≡◌ {A = OrThrown Tree} (Ok t) (Ok u) → t ≡ u
-same_tree t u h = cc
-
 -- a node that is made has a type
 pub node-typed : (leaves : LeafTable) (frame : Frame) (op : Operation) (t : Tree) → node_of leaves frame op ≡ Ok t → IsTyped leaves t
 node-typed leaves frame op t h =
     let asked = bound-parts (asked_by leaves frame op) (λ u. type_of leaves u >>= (λ own. Ok u)) t h in
     let typed = bound-parts (type_of leaves asked.0) (λ own. Ok asked.0) t asked.2 in
-    subst (IsTyped leaves) (same_tree asked.0 t typed.2) (typed.0, typed.1)
+    subst (IsTyped leaves) (ok_is asked.0 t typed.2) (typed.0, typed.1)
 
 nodes-typed : (leaves : LeafTable) (t : Tree) → IsTyped leaves t → All (IsTyped leaves) (nodes_of t)
 nodes-typed leaves (tree.Spread t array count) h =

@@ -1,6 +1,7 @@
 -- What is linked has the type of its site.
 use Rattle.std.proofs.Common.{◌≡◌, refl, subst, Bool, List, [], ◌∷◌, Ok, Err, codes, ℕ}
 use Rattle.std.specs.Prelude.{not, ◌==◌, ◌%◌}
+use Rattle.mh_base.proofs.Inversion.{ok_is}
 use Rattle.mh_values.specs.declared.types.MethodTy.{MethodTy}
 use Rattle.mh_values.specs.declared.value.Exc.{Exc}
 use Rattle.mh_values.specs.Class.{is_subclass, throwable_class}
@@ -25,9 +26,6 @@ use Rattle.mh_link.specs.Operands.{Frame, handle_in, handle}
 use Rattle.mh_link.specs.Operations.{node_of}
 use Rattle.mh_jobs.specs.Thrown.{OrThrown, ◌>>=◌, ◌>>◌, require, plainly, runtime_class}
 
-same_tree : (t u : Tree) → ◌≡◌ {A = OrThrown Tree} (Ok t) (Ok u) → t ≡ u
-same_tree t u h = cc
-
 is_thrown : (e : Exc) (t : Tree) → ◌≡◌ {A = OrThrown Tree} (Err e) (Ok t) → ⊥
 is_thrown e t h = absurd cc
 
@@ -40,25 +38,22 @@ ended-typed leaves (end.Return r) frame t h =
     let typed = bound-parts (type_of leaves held.0) (λ own. require (same own) (wrong own) >> Ok held.0) t held.2 in
     let asked = require-parts (same typed.0) (wrong typed.0) (Ok held.0) t typed.2 in
     let is = same_method_type-is typed.0 frame.call.ty asked.0 in
-    subst (λ u. type_of leaves u ≡ Ok frame.call.ty) (same_tree held.0 t asked.1) (subst (λ own. type_of leaves held.0 ≡ Ok own) is typed.1)
+    subst (λ u. type_of leaves u ≡ Ok frame.call.ty) (ok_is held.0 t asked.1) (subst (λ own. type_of leaves held.0 ≡ Ok own) is typed.1)
 ended-typed leaves (end.Raise class message) frame t h =
     let known = bound-parts (class_of plainly leaves.classes class)
     (λ c. require (is_subclass leaves.classes c throwable_class) (illegal (codes "raise")) >> Err (saying c message)) t h in
     let below = require-parts (is_subclass leaves.classes known.0 throwable_class) (illegal (codes "raise")) (Err (saying known.0 message)) t known.2 in
     absurd (is_thrown (saying known.0 message) t below.1)
 
-same_frame : (a b : Frame) → ◌≡◌ {A = OrThrown Frame} (Ok a) (Ok b) → a ≡ b
-same_frame a b h = cc
-
 -- no line changes what the script is called with
 pub stepped-call : (leaves : LeafTable) (s : Step) (frame next : Frame) → stepped leaves s frame ≡ Ok next → next.call ≡ frame.call
 stepped-call leaves (step.Let name op) frame next h =
     let made = bound-parts (node_of leaves frame op) (λ t. Ok (assigning name (handle t) frame)) next h in
-    subst (λ (f : Frame). f.call ≡ frame.call) (same_frame (assigning name (handle made.0) frame) next made.2) refl
-stepped-call leaves (step.Serial name) frame next h = subst (λ (f : Frame). f.call ≡ frame.call) (same_frame _ next h) refl
+    subst (λ (f : Frame). f.call ≡ frame.call) (ok_is (assigning name (handle made.0) frame) next made.2) refl
+stepped-call leaves (step.Serial name) frame next h = subst (λ (f : Frame). f.call ≡ frame.call) (ok_is _ next h) refl
 stepped-call leaves (step.FailMod modulus remainder) frame next h =
     let other = require-parts (not (frame.serial % modulus == remainder)) (saying runtime_class (codes "failmod")) (Ok frame) next h in
-    subst (λ (f : Frame). f.call ≡ frame.call) (same_frame frame next other.1) refl
+    subst (λ (f : Frame). f.call ≡ frame.call) (ok_is frame next other.1) refl
 
 -- a target has the site's type
 pub ran-typed : (leaves : LeafTable) (steps : List Step) (e : End) (frame : Frame) (t : Tree) → ran leaves steps e frame ≡ Ok t → type_of leaves t

@@ -1,6 +1,7 @@
 -- The checks that the pool of a made class passes.
 use Rattle.std.proofs.Common.{◌≡◌, ℕ, ◌<◌, Ok, List, [], ◌∷◌, refl}
 use Rattle.std.specs.List.{AllByRecursion, flat_map}
+use Rattle.mh_base.proofs.Lists.{all_append}
 use Rattle.mh_values.proofs.Complete.{descriptor_complete}
 use Rattle.mh_class_pool.specs.Entries.{Slot}
 use Rattle.mh_class_pool.specs.References.{each, good_slot, good_references}
@@ -13,7 +14,7 @@ use Rattle.mh_made_class.proofs.EntrySpelling.{IsWritableEntry}
 use Rattle.mh_made_class.proofs.Lookups.{each_slot}
 use Rattle.mh_made_class.proofs.Standing.{HasSite}
 use Rattle.mh_made_class.proofs.Good.{IsGood}
-use Rattle.mh_made_class.proofs.Fitting.{all_append, all_parts, all_from, common_writable}
+use Rattle.mh_made_class.proofs.Fitting.{all_parts, all_from, common_writable}
 use Rattle.mh_made_class.proofs.Entries.{site_good, common_good, IsBound, site_bound, common_bound}
 use Rattle.mh_made_class.proofs.Writable.{site_writable}
 use Rattle.mh_made_class.proofs.WholeClass.{both_all, all_entries, slots_of, HasArguments, IsStanding}

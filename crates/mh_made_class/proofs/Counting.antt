@@ -1,11 +1,7 @@
 -- How many parts a made class has, and how long they are.
-use Rattle.std.proofs.Common.{◌≡◌, ℕ, suc, ◌+◌, ◌*◌, ◌≤◌, ◌<◌, ◌^◌, List, [], ◌∷◌, ◌++◌, length, sum_by, refl, ap, ◌∙◌, length-append, append_assoc, arith, Ok}
+use Rattle.std.proofs.Common.{◌≡◌, ℕ, suc, ◌+◌, ◌*◌, ◌≤◌, ◌<◌, ◌^◌, List, [], ◌∷◌, ◌++◌, length, sum_by, refl, ap, ◌∙◌, length-append, append_assoc, arith}
 use Rattle.std.proofs.lemmas.List.Sums.{sum_by-cons}
-use Rattle.std.proofs.lemmas.Grind.{flat_map-append}
 use Rattle.std.specs.List.{AllByRecursion, flat_map}
-use Rattle.mh_class_bytes.specs.Format.{Checked}
-use Rattle.mh_class_pool.specs.declared.fault.ClassKind.{ClassKind}
-use Rattle.mh_classfile.specs.Class.{Class}
 use Rattle.mh_made_class.specs.declared.site.MadeArg.{MadeArg}
 use Rattle.mh_made_class.specs.declared.site.MadeArg.TheVariants as args
 use Rattle.mh_made_class.specs.declared.site.MadeSite.{MadeSite}
@@ -17,11 +13,6 @@ use Rattle.mh_made_class.specs.ReadBack.{IsReadable, sites_of}
 use Rattle.mh_made_class.proofs.PoolSpelling.{entries_width, width-append}
 use Rattle.mh_made_class.proofs.Placing.{arguments-length, arguments_few}
 use Rattle.mh_made_class.proofs.Standing.{entries_of_site}
-
--- one after the other, by parts of parts
-pub parts_of_parts : {X Y Z : Type 0} (g : Y → List Z) (f : X → List Y) (xs : List X) → flat_map g (flat_map f xs) ≡ flat_map (λ x. flat_map g (f x)) xs
-parts_of_parts g f [] = refl
-parts_of_parts g f (x ∷ xs) = flat_map-append g (f x) (flat_map f xs) ∙ ap (λ ys. flat_map g (f x) ++ ys) (parts_of_parts g f xs)
 
 pub sites_width : (k b : ℕ) (sites : List MadeSite) → entries_width (flat_map site_entries (sites_from k b sites)) ≡ sum_by site_width sites
 unfolding sites_from
@@ -78,13 +69,6 @@ bootstraps_few k b sites = omega (arith, all_few k b sites)
 -- parts of a file, grouped as they are written and as they are read
 pub regrouped : (v q c s n f m a : List ℕ) → v ++ (q ++ c ++ s) ++ n ++ f ++ m ++ a ≡ (v ++ q) ++ ((c ++ s) ++ (n ++ ((f ++ m) ++ a)))
 regrouped v q c s n f m a = simp append_assoc refl
-
-abbrev pub found : Class → Checked ClassKind Class
-found c = Ok c
-
--- Two classes that one answer is are one.
-pub same_class : (c d : Class) → found c ≡ found d → c ≡ d
-same_class c d e = cc
 
 -- as many call sites as there are
 pub counted : (k : ℕ) (sites : List MadeSite) → length (sites_of k sites) ≡ length sites

@@ -3,6 +3,7 @@ use Rattle.std.proofs.Common.{◌≡◌, ℕ, ◌+◌, ◌/◌, ◌%◌, ◌<◌
 use Rattle.std.proofs.lemmas.Bool.Decides.{nat_tests}
 use Rattle.std.specs.Int.{cast_unsigned, w32, w64}
 use Rattle.std.specs.List.{AllByRecursion, flat_map}
+use Rattle.mh_base.proofs.Lists.{all_append}
 use Rattle.mh_values.specs.Grammar.{descriptor_fault}
 use Rattle.mh_class_pool.specs.declared.entry.Entry.{Entry}
 use Rattle.mh_class_pool.specs.declared.fault.ClassKind.TheVariants.{BadBootstraps}
@@ -16,7 +17,6 @@ use Rattle.mh_made_class.specs.Constants.{bootstrap_type, common_entries, entrie
 use Rattle.mh_made_class.proofs.Lookups.{Holds}
 use Rattle.mh_made_class.proofs.Standing.{HasCommon, HasSite}
 use Rattle.mh_made_class.proofs.Good.{IsGood, good_text, good_integer, good_long, good_class, good_string, good_name_and_type, good_method, good_handle_of_method, good_call}
-use Rattle.mh_made_class.proofs.Fitting.{all_append}
 use Rattle.mh_made_class.proofs.Writable.{}
 
 entries_good : (pool : List Slot) (first : ℕ) (arg : MadeArg) → Holds pool first (entries_at first arg) → AllByRecursion (IsGood pool) (entries_at first arg)

@@ -3,6 +3,7 @@ use Rattle.std.proofs.Common.{◌≡◌, ℕ, suc, ◌+◌, ◌≤◌, ◌<◌, 
 use Rattle.std.proofs.lemmas.Bool.Decides.{nat_tests}
 use Rattle.std.proofs.lemmas.List.Sums.{sum_by-cons}
 use Rattle.std.specs.List.{AllByRecursion, flat_map}
+use Rattle.mh_base.proofs.Lists.{all_append}
 use Rattle.mh_class_bytes.specs.Mutf8.{sound_len, sound_from, unit_len}
 use Rattle.mh_made_class.specs.declared.site.MadeArg.{MadeArg}
 use Rattle.mh_made_class.specs.declared.site.MadeSite.{MadeSite}
@@ -10,10 +11,6 @@ use Rattle.mh_made_class.specs.Sites.{IsMakeableArgument, IsMakeableSite, argume
 use Rattle.mh_made_class.specs.Layout.{IsPlacedArgument, arguments_from, IsPlaced, sites_from}
 use Rattle.mh_made_class.specs.Constants.{common_entries}
 use Rattle.mh_made_class.proofs.EntrySpelling.{IsWritableEntry}
-
-pub all_append : {X : Type 0} (P : X → Type 0) (xs ys : List X) → AllByRecursion P xs → AllByRecursion P ys → AllByRecursion P (xs ++ ys)
-all_append P [] ys h k = k
-all_append P (x ∷ xs) ys h k = (h.0, all_append P xs ys h.1 k)
 
 -- what each part has, all have
 pub all_parts : {X Y : Type 0} (P : Y → Type 0) (f : X → List Y) (xs : List X) → AllByRecursion (λ x. AllByRecursion P (f x)) xs →

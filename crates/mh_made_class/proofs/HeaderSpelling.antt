@@ -3,6 +3,7 @@ use Rattle.std.proofs.Common.{◌≡◌, ℕ, ◌<◌, ◌^◌, true, ltb, List,
 use Rattle.std.proofs.lemmas.Bool.Decides.{nat_tests}
 use Rattle.std.proofs.lemmas.Grind.{flat_map-append}
 use Rattle.std.specs.List.{flat_map}
+use Rattle.mh_base.proofs.Lists.{flat_map_twice}
 use Rattle.mh_class_bytes.specs.Format.{Spells}
 use Rattle.mh_classfile.specs.File.{header}
 use Rattle.mh_made_class.specs.declared.site.MadeSite.{MadeSite}
@@ -12,7 +13,7 @@ use Rattle.mh_made_class.specs.Constants.{u2, u4, entry_bytes, common_entries, s
 use Rattle.mh_made_class.specs.Parts.{methods, class_attributes}
 use Rattle.mh_made_class.specs.File.{version, class_names, fields, made_class}
 use Rattle.mh_made_class.proofs.Spelling.{u2_is}
-use Rattle.mh_made_class.proofs.Counting.{parts_of_parts, regrouped}
+use Rattle.mh_made_class.proofs.Counting.{regrouped}
 use Rattle.mh_made_class.proofs.WholeClass.{all_entries}
 
 pub header_spelled : (count : ℕ) → 0 < count → count < 2 ^ 16 → Spells header 0 (version ++ u2 count) count
@@ -88,7 +89,7 @@ header_spelled count pos few =
 pool_bytes : (ps : List PlacedSite) → flat_map entry_bytes common_entries ++ flat_map (λ p. flat_map entry_bytes (site_entries p)) ps ≡ flat_map entry_bytes
     (all_entries ps)
 pool_bytes ps =
-    ap (λ xs. flat_map entry_bytes common_entries ++ xs) (sym (parts_of_parts entry_bytes site_entries ps)) ∙
+    ap (λ xs. flat_map entry_bytes common_entries ++ xs) (sym (flat_map_twice entry_bytes site_entries ps)) ∙
     sym (flat_map-append entry_bytes common_entries (flat_map site_entries ps))
 
 -- the bytes of the class file, as they are read

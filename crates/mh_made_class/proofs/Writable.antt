@@ -5,6 +5,7 @@ use Rattle.std.proofs.lemmas.List.Sums.{sum_by-cons}
 use Rattle.std.specs.Int.{cast_unsigned, w32, w64}
 use Rattle.std.specs.List.{AllByRecursion, flat_map}
 use mir.ValLaws.{of_z_fits}
+use Rattle.mh_base.proofs.Lists.{all_append}
 use Rattle.mh_class_pool.specs.declared.entry.Entry.TheVariants as entries
 use Rattle.mh_made_class.specs.declared.site.MadeArg.{MadeArg}
 use Rattle.mh_made_class.specs.declared.site.MadeArg.TheVariants as args
@@ -13,7 +14,7 @@ use Rattle.mh_made_class.specs.Layout.{PlacedSite, IsPlaced, arguments_from}
 use Rattle.mh_made_class.specs.Constants.{entries_at, argument_entries, site_entries}
 use Rattle.mh_made_class.specs.ReadBack.{IsNumber}
 use Rattle.mh_made_class.proofs.EntrySpelling.{IsWritableEntry}
-use Rattle.mh_made_class.proofs.Fitting.{all_append, ascii_sound}
+use Rattle.mh_made_class.proofs.Fitting.{ascii_sound}
 
 text_writable : (text : List ℕ) → IsShortAscii text → IsWritableEntry (entries.Utf8 text)
 text_writable text h = (ascii_sound text h.ascii, h.short)

@@ -9,6 +9,7 @@ use Rattle.std.proofs.lemmas.Bool.Decides.{nat_tests}
 use Rattle.std.proofs.lemmas.Fmt.{decimal_digit, decimal_nonempty, first_decimal}
 use Rattle.mh_base.specs.Lines.{is_full, is_plain, tokens_of}
 use Rattle.mh_base.specs.Provided.{provided}
+use Rattle.mh_base.proofs.Tests.{or_true}
 use Rattle.mh_plan.specs.declared.kinds.PlanKind.TheVariants.{BadLine, TooMany}
 use Rattle.mh_plan.specs.Plan.{call_counted, is_digit, is_number, line_counted, none_counted, tokens_counted}
 use Rattle.mh_generated.specs.Plan.{called_site}
@@ -16,10 +17,6 @@ use Rattle.mh_generated.proofs.Digits.{IsDigit, are-digits, all-of}
 use Rattle.mh_generated.proofs.Lines.{call_line, call-tokens}
 
 -- ---- digits
-
-or-true : (b : Bool) → (b || true) ≡ true
-or-true true = refl
-or-true false = refl
 
 -- tests that each item passes
 all-pass : (p : ℕ → Bool) (xs : List ℕ) → AllByRecursion (λ b. p b ≡ true) xs → list_all p xs ≡ true
@@ -39,7 +36,7 @@ number-of (b ∷ bs) digits some front =
     ap (λ t. t && (length bs == 0 || not (b == 48))) (all-pass is_digit (b ∷ bs) (all-of IsDigit (λ d. is_digit d ≡ true) digit-passes (b ∷ bs) digits))
     ∙ (elim front [
       | inl one ↦ let none : length bs ≡ 0 = omega arith in ap (λ t. t || not (b == 48)) (eq-eqb (length bs) 0 none)
-      | inr high ↦ ap (λ t. length bs == 0 || not t) (ne_eqb b 48 (λ e. omega (arith, e, high))) ∙ or-true (length bs == 0)
+      | inr high ↦ ap (λ t. length bs == 0 || not t) (ne_eqb b 48 (λ e. omega (arith, e, high))) ∙ or_true (length bs == 0)
     ])
 
 -- the number of a site, as it is written

@@ -3,6 +3,7 @@ use Rattle.std.proofs.Common.{◌≡◌, ◌∙◌, refl, sym, ap, ℕ, zero, su
 use Rattle.std.specs.List.{AllByRecursion, flat_map, range_with_len}
 use Rattle.std.proofs.lemmas.List.Concat.{flat_map-append}
 use Rattle.std.proofs.lemmas.List.Folds.{flat_map-map}
+use Rattle.mh_base.proofs.Lists.{all_append}
 use Rattle.mh_generated.specs.Counts.{calls_of_thread, site_count, thread_count}
 use Rattle.mh_generated.specs.Plan.{call_text, called_site, calls_text, generated_plan, thread_text, threads_text}
 use Rattle.mh_generated.proofs.Digits.{Lacks}
@@ -43,10 +44,6 @@ plan-ended number =
     (thread-ended (site_count number)) (range_with_len 0 (thread_count number))
     ∙ parts-ended (thread_lines (site_count number) calls_of_thread) (range_with_len 0 (thread_count number))
 
-all-append : {A : Type 0} (P : A → Type 0) (xs ys : List A) → AllByRecursion P xs → AllByRecursion P ys → AllByRecursion P (xs ++ ys)
-all-append P [] ys h k = k
-all-append P (x ∷ xs) ys h k = (h.0, all-append P xs ys h.1 k)
-
 calls-lack : (sites thread first count : ℕ) → 0 < sites → sites ≤ 64 → first + count ≤ 1000 →
     AllByRecursion (Lacks 10) (map (call_line sites thread) (range_with_len first count))
 calls-lack sites thread first zero some few fits = tt
@@ -58,6 +55,6 @@ pub lines-lack : (sites count first threads : ℕ) → 0 < sites → sites ≤ 6
 unfolding lines_from thread_lines
 lines-lack sites count first zero some few fits = tt
 lines-lack sites count first (suc threads) some few fits =
-    all-append (Lacks 10) (thread_lines sites count first) (lines_from sites count (first + 1) threads)
+    all_append (Lacks 10) (thread_lines sites count first) (lines_from sites count (first + 1) threads)
     ((refl, (refl, (refl, (refl, (refl, (refl, tt)))))), calls-lack sites first 0 count some few (omega arith))
     (lines-lack sites count (first + 1) threads some few fits)

@@ -8,7 +8,7 @@ use Rattle.mh_base.specs.Provided.{provided_some}
 use Rattle.mh_base.proofs.Conditions.{provided_some-parts}
 use Rattle.mh_base.proofs.LineTokens.{AreFullTokens}
 use Rattle.mh_texts.specs.Number.{unsigned_of}
-use Rattle.mh_texts.proofs.Inversion.{by_test, some_is, none_is_not, then_some}
+use Rattle.mh_base.proofs.Inversion.{by_test, some_is, none_is_not, then_some}
 use Rattle.mh_texts.proofs.SpelledNumbers.{unsigned_spelled}
 use Rattle.mh_leaf.specs.LeafTable.{LeafTable}
 use Rattle.mh_jobs.specs.declared.job.Job.{Job}

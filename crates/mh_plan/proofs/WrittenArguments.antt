@@ -7,7 +7,7 @@ use Rattle.mh_values.specs.declared.value.Value.{Value}
 use Rattle.mh_values.specs.HasType.{has_type}
 use Rattle.mh_texts.specs.Literal.{literal_of}
 use Rattle.mh_texts.specs.LiteralText.{literal_text}
-use Rattle.mh_texts.proofs.Inversion.{by_test, some_is, none_is_not, then_some}
+use Rattle.mh_base.proofs.Inversion.{by_test, some_is, none_is_not, then_some}
 use Rattle.mh_texts.proofs.LiteralAgain.{literal_of-again}
 use Rattle.mh_script.proofs.GraphicTokens.{literal-token}
 use Rattle.mh_plan.specs.Plan.{argument_of, arguments_of}

@@ -20,7 +20,7 @@ use Rattle.mh_values.specs.Descriptor.{desc}
 use Rattle.mh_values.specs.ReadAs.{IsMethodTypeRead}
 use Rattle.mh_values.specs.TypeText.{method_type_text}
 use Rattle.mh_values.proofs.ReadBy.{method_read}
-use Rattle.mh_texts.proofs.Inversion.{by_test, some_is, none_is_not, then_some}
+use Rattle.mh_base.proofs.Inversion.{by_test, some_is, none_is_not, then_some}
 use Rattle.mh_values.proofs.NamedClass.{named_is}
 use Rattle.mh_leaf.specs.declared.leaf.Leaf.{Leaf}
 use Rattle.mh_leaf.specs.LeafTable.{LeafTable}

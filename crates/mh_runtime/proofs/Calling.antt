@@ -1,9 +1,10 @@
 -- Which recipes calls ask for, by what they answer.
-use Rattle.std.proofs.Common.{◌≡◌, refl, sym, ◌∙◌, ap, subst, ◌||◌, List, [], ◌∷◌, ◌++◌, append-nil, append_assoc, Result, Ok, Err, ◌⊎◌, ⊎_elim}
+use Rattle.std.proofs.Common.{◌≡◌, sym, ◌∙◌, ap, subst, ◌||◌, List, [], ◌∷◌, ◌++◌, append-nil, append_assoc, Result, Ok, Err, ◌⊎◌, ⊎_elim}
 use Rattle.std.specs.Prelude.{IsErrAnd}
+use Rattle.mh_base.proofs.Tests.{or_true}
 use Rattle.mh_values.specs.declared.types.MethodTy.{MethodTy}
 use Rattle.mh_leaf.specs.LeafTable.{LeafTable}
-use Rattle.mh_tree.specs.Tree.{Tree, weight}
+use Rattle.mh_tree.specs.Tree.{Tree}
 use Rattle.mh_edit.specs.declared.key.Key.{Key}
 use Rattle.mh_handle.specs.declared.answer.Answer.{Answer}
 use Rattle.mh_handle.specs.declared.error.EditError.{EditError}
@@ -20,7 +21,7 @@ use Rattle.mh_attempt.specs.Asked.{Asks, HasAsked, HasAskedMore, HasStoppedAt, I
 use Rattle.mh_attempt.specs.Errors.{of_edit}
 use Rattle.mh_attempt.proofs.AskedAfter.{asked_more-both, full-after, full-first, stopped-first}
 use Rattle.mh_attempt.proofs.AskedForms.{asked-again, asked-full, asked-more, drawn-more}
-use Rattle.mh_attempt.proofs.RecipeCounts.{is_one, one-more, or-true}
+use Rattle.mh_attempt.proofs.RecipeCounts.{is_one, one-more}
 use Rattle.mh_plan.specs.Forms.{used_edits}
 use Rattle.mh_runtime.proofs.UsedRecipes.{uses}
 
@@ -36,7 +37,7 @@ asks-again : (r : List Key) (old mid : PassView) → HasAskedMore (r ∷ []) old
 asks-again r old mid first = record {
   asked = λ before has. subst (λ rs. HasAsked rs mid) (append_assoc before (r ∷ []) (r ∷ []))
       (asked-again (before ++ r ∷ []) mid r (first.asked before has)
-      (one-more before r r ∙ (ap (λ b. is_one before r || b) (same_recipe-equivalence.refl r) ∙ or-true (is_one before r))));
+      (one-more before r r ∙ (ap (λ b. is_one before r || b) (same_recipe-equivalence.refl r) ∙ or_true (is_one before r))));
   within = first.within;
 }
 

@@ -1,12 +1,12 @@
 -- How many forms a run has asked for.
-use Rattle.std.proofs.Common.{◌≡◌, refl, sym, ◌∙◌, ap, List, [], ◌∷◌, ◌++◌, length, arith}
+use Rattle.std.proofs.Common.{◌≡◌, sym, ◌∙◌, ap, List, [], ◌∷◌, ◌++◌, length, arith}
 use Rattle.std.specs.Prelude.{Contains}
 use Rattle.std.specs.List.{flat_map}
 use Rattle.std.specs.Set.{distinct_count}
-use Rattle.std.proofs.lemmas.Grind.{flat_map-append}
 use Rattle.std.proofs.lemmas.List.{length-map}
 use Rattle.std.proofs.lemmas.List.Sorted.{Contains-permutation, IsPermutation-sym}
 use Rattle.std.proofs.lemmas.Map.Made.{length-from_keys}
+use Rattle.mh_base.proofs.Lists.{flat_map_twice}
 use Rattle.mh_edit.specs.declared.key.Key.{Key}
 use Rattle.mh_handle.specs.Index.{recipe_of}
 use Rattle.mh_handle.specs.Passes.{PassView}
@@ -37,10 +37,6 @@ flat-among : {X : Type 0} (f : X → List (List Key)) (xs ys : List X) → ((x :
 flat-among f xs ys within q there =
     let found = of-flat (same_recipe q) f xs there in in-flat (same_recipe q) f ys found.0 (within found.0 found.1) found.2
 
-flat-flat : {X Y Z : Type 0} (f : Y → List Z) (g : X → List Y) (xs : List X) → flat_map f (flat_map g xs) ≡ flat_map (λ x. flat_map f (g x)) xs
-flat-flat f g [] = refl
-flat-flat f g (x ∷ xs) = flat_map-append f (g x) (flat_map g xs) ∙ ap (λ zs. flat_map f (g x) ++ zs) (flat-flat f g xs)
-
 -- ---- the forms of a run
 
 pub asked-count : (recipes : List (List Key)) (pass : PassView) → HasAsked recipes pass → length pass.asked ≡ distinct_count same_recipe recipes
@@ -50,7 +46,7 @@ asked-count recipes pass has =
 module _ (given : Given) (threads : List (List Call)) (all : List ThreadPasses) (joined : LinkPass) (ordered : List Attempt) (is_joined : AreJoined all joined)
     (in_order : AreInOrder joined.attempts ordered) where
   all-edits : flat_map (attempt_edits given) joined.attempts ≡ flat_map (λ p. flat_map (attempt_edits given) p.links.attempts) all
-  all-edits = ap (flat_map (attempt_edits given)) is_joined.attempts ∙ flat-flat (attempt_edits given) (λ (p : ThreadPasses). p.links.attempts) all
+  all-edits = ap (flat_map (attempt_edits given)) is_joined.attempts ∙ flat_map_twice (attempt_edits given) (λ (p : ThreadPasses). p.links.attempts) all
 
   -- the recipes of the attempts, thread by thread, are those of the attempts in order
   to-ordered : AreAmong (flat_map (λ p. flat_map (attempt_edits given) p.links.attempts) all) (flat_map (attempt_edits given) ordered)

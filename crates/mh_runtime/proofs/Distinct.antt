@@ -8,6 +8,7 @@ use Rattle.std.proofs.lemmas.List.Folds.{list_any-append}
 use Rattle.std.proofs.lemmas.List.Kept.{AllPairs-filter}
 use Rattle.std.proofs.lemmas.Map.Keys.{IsDistinct-from_apart, apart_from_distinct}
 use Rattle.std.proofs.lemmas.Map.Made.{is_member-filter}
+use Rattle.mh_base.proofs.Tests.{or_true}
 
 module _ {K : Type 0} (eq : K → K → Bool) where
   -- whether an item is one of a list
@@ -44,12 +45,8 @@ module _ {K : Type 0} (eq : K → K → Bool) where
     distinct-both [] ys once once' others = once'
     distinct-both (x ∷ xs) ys once once' others = (
       apart x (xs ++ ys) (list_any-append (eq x) xs ys ∙ or_from (has xs x) (has ys x) (absent x xs once.0) (others x (ap (λ b. b || has xs x) (laws.refl x)))),
-      distinct-both xs ys once.1 once' (λ q there. others q (ap (λ b. eq q x || b) there ∙ or-true (eq q x))),
+      distinct-both xs ys once.1 once' (λ q there. others q (ap (λ b. eq q x || b) there ∙ or_true (eq q x))),
     )
-      where
-        or-true : (b : Bool) → (b || true) ≡ true
-        or-true true = refl
-        or-true false = refl
 
     none-had : (a b : Bool) → a ≡ true → (b && not a) ≡ false
     none-had a true is = ap not is

@@ -3,6 +3,7 @@ use Rattle.std.proofs.Common.{◌≡◌, sym, ◌∙◌, ap, ap₂, subst, ℕ, 
 use Rattle.std.specs.Prelude.{slice_get, slice_index_or}
 use Rattle.std.proofs.lemmas.List.{length-take-le, map_push, take_all, take_more}
 use Rattle.std.proofs.lemmas.Option.{get_or_from_slice_get, slice_get-get_or, slice_get_within}
+use Rattle.mh_base.proofs.Slices.{slice_get-within}
 use Rattle.mh_jobs.specs.Given.{Given}
 use Rattle.mh_plan.specs.declared.call.Call.{Call}
 use Rattle.mh_plan.specs.Plan.{most_calls}
@@ -13,7 +14,6 @@ use Rattle.mh_runtime.specs.Lanes.{HasRun, Tables}
 use Rattle.mh_runtime.specs.Passes.{LinkerView, split_room}
 use Rattle.mh_runtime.proofs.JoiningSteps.{joined-push}
 use Rattle.mh_runtime.proofs.MoreThreads.{few-each, fresh-push}
-use Rattle.mh_runtime.proofs.Parts.{there-is}
 
 -- the first items of a list, and the next one
 take-next : {X : Type 0} (xs : List X) (i : ℕ) (x : X) → slice_get xs i ≡ Some x → take (i + 1) xs ≡ take i xs ++ x ∷ []
@@ -103,7 +103,7 @@ module _ {J : Type 0} (given : Given) (linker : LinkerView) (tables : Tables) (t
         OnOk r (Adds old lane new) → OnOk r (AreJoinedTo given linker tables threads before (after ++ lane ∷ []) new)
     joined-told (Err e) ran adds = tt
     joined-told (Ok a) ran adds =
-        let calls = there-is threads (length after) (omega (arith, within, joined.fresh.count)) in
+        let calls = slice_get-within threads (length after) (omega (arith, within, joined.fresh.count)) in
         joined-next calls.0 calls.1 ran.0 ran.1 adds
 
 -- the calls of all lanes are those of the threads

@@ -6,6 +6,7 @@ use Rattle.std.specs.List.{flat_map, list_any}
 use Rattle.std.proofs.lemmas.Bool.{or_cases, or_left, or_right}
 use Rattle.std.proofs.lemmas.List.Folds.{list_any-append}
 use Rattle.std.proofs.lemmas.Map.Made.{length-from_keys}
+use Rattle.mh_base.proofs.Tests.{same_tests}
 use Rattle.mh_values.specs.declared.types.MethodTy.{MethodTy}
 use Rattle.mh_values.specs.Same.{is_same_method_type}
 use Rattle.mh_intern.specs.declared.holding.Entry.{Entry}
@@ -18,7 +19,7 @@ use Rattle.mh_plan.specs.declared.attempt.Attempt.{Attempt}
 use Rattle.mh_plan.specs.Recorded.{held_at, held_from, types}
 use Rattle.mh_plan.specs.Results.{Serials, serial_at}
 use Rattle.mh_runtime.proofs.Needed.{in-flat, of-flat}
-use Rattle.mh_runtime.proofs.TypeLists.{any-counted, any-turned, counted-any, is_one, one-answer, same-equivalence}
+use Rattle.mh_runtime.proofs.TypeLists.{any-counted, any-turned, counted-any, is_one, same-equivalence}
 use Rattle.mh_runtime.proofs.SeatKinds.{lasts, lasts-count, last-held, held-last, lasts-distinct}
 
 -- ---- the types of a table
@@ -71,7 +72,7 @@ pub held-types : (given : Given) (recorded : List Attempt) (linked : Serials) (h
     distinct_types holds ≡ types given linked
 held-types given recorded linked holds just back forth =
     sym (lasts-count holds) ∙ length-from_keys same-equivalence (lasts holds) (held_from given 0 linked) (lasts-distinct holds)
-    (λ t. one-answer (is_one (lasts holds) t) (is_one (held_from given 0 linked) t) (to t) (from t))
+    (λ t. same_tests (is_one (lasts holds) t) (is_one (held_from given 0 linked) t) (to t) (from t))
   where
     to : (t : MethodTy) → is_one (lasts holds) t ≡ true → is_one (held_from given 0 linked) t ≡ true
     to t there =

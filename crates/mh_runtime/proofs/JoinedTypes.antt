@@ -3,19 +3,19 @@ use Rattle.std.proofs.Common.{◌≡◌, sym, ◌∙◌, ap, subst, ℕ, List, �
 use Rattle.mh_values.specs.declared.types.MethodTy.{MethodTy}
 use Rattle.mh_intern.specs.Held.{times_type}
 use Rattle.mh_intern.specs.Views.{SeatView, joined_seats}
+use Rattle.mh_intern.proofs.Measures.{times_type-append}
 use Rattle.mh_attempt.specs.AskedTypes.{HasNoSlot}
 use Rattle.mh_runtime.specs.Asking.{WasAsked}
-use Rattle.mh_runtime.proofs.SeatAsked.{times-append}
 
 module _ (old other new : SeatView) (joined : new ≡ joined_seats old other) where
   -- it was asked for what both were asked for
   pub types-joined : (xs ys : List MethodTy) → WasAsked xs old → WasAsked ys other → WasAsked (xs ++ ys) new
   types-joined xs ys mine theirs t none =
-      let both = times-append t xs ys in
+      let both = times_type-append t xs ys in
       let p = mine t (omega (arith, none, both)) in
       let q = theirs t (omega (arith, none, both)) in
       let all : times_type t new.asked ≡ times_type t (other.asked ++ old.asked) = ap (λ (s : SeatView). times_type t s.asked) joined in
-      omega (arith, all, times-append t other.asked old.asked, p, q)
+      omega (arith, all, times_type-append t other.asked old.asked, p, q)
 
   -- a bucket that one of them has found full, it has found full
   pub no-slot-mine : (bucket : ℕ) → HasNoSlot bucket old → HasNoSlot bucket new
@@ -26,7 +26,7 @@ module _ (old other new : SeatView) (joined : new ≡ joined_seats old other) wh
         t,
         record {
           bucket_is = found.bucket_is;
-          asked = omega (arith, found.asked, times-append t other.asked old.asked);
+          asked = omega (arith, found.asked, times_type-append t other.asked old.asked);
           full = found.full;
           full_for = found.full_for;
           found = (
@@ -46,7 +46,7 @@ module _ (old other new : SeatView) (joined : new ≡ joined_seats old other) wh
         t,
         record {
           bucket_is = found.bucket_is;
-          asked = omega (arith, found.asked, times-append t other.asked old.asked);
+          asked = omega (arith, found.asked, times_type-append t other.asked old.asked);
           full = found.full;
           full_for = found.full_for;
           found = (

@@ -7,9 +7,10 @@ use Rattle.std.proofs.lemmas.List.{length-set, take-append-drop, take_all}
 use Rattle.std.proofs.lemmas.Option.{slice_get-get_or, slice_get-map, slice_get_within}
 use Rattle.mh_setonce.specs.Views.{WalkView}
 use Rattle.mh_setonce.specs.Walks.{Meet, StartsWith}
+use Rattle.mh_setonce.specs.ManyWalks.{DoMeet, IsLonger, chains_of}
 use Rattle.mh_handle.proofs.Members.{set-here, set-there}
 use Rattle.mh_attempt.specs.Linkage.{LinkageView}
-use Rattle.mh_runtime.specs.Passes.{DoMeet, HasSerials, IsLongerWalk, chains_of, linked_by}
+use Rattle.mh_runtime.specs.Passes.{HasSerials, linked_by}
 use Rattle.mh_runtime.proofs.ManySites.{set-chains}
 use Rattle.mh_runtime.proofs.SiteSerials.{more-serials}
 
@@ -19,7 +20,7 @@ use Rattle.mh_runtime.proofs.SiteSerials.{more-serials}
 begins : (xs ys : List LinkageView) (n : ℕ) → length xs ≤ n → take n xs ≡ take n ys → StartsWith ys xs
 begins xs ys n few same = (drop n ys, sym (take-append-drop n ys) ∙ ap (λ v. v ++ drop n ys) (sym same ∙ take_all n xs few))
 
-module _ (a b kept : WalkView LinkageView) (n : ℕ) (meet : Meet a.nodes b.nodes n) (longer : IsLongerWalk a b kept) where
+module _ (a b kept : WalkView LinkageView) (n : ℕ) (meet : Meet a.nodes b.nodes n) (longer : IsLonger a b kept) where
   longer-mine : StartsWith kept.nodes a.nodes
   longer-mine = ⊎_elim
       (λ (same : (kept ≡ a) × (length b.nodes ≤ length a.nodes)).
@@ -47,7 +48,7 @@ module _ (first second : List (WalkView LinkageView)) where
     pub kept : length walks ≡ length first
     pub count : length others ≡ length second
     pub done : (c : ℕ) (a b k : WalkView LinkageView) → c < place → slice_get first c ≡ Some a → slice_get second c ≡ Some b → slice_get walks c ≡ Some k →
-        IsLongerWalk a b k
+        IsLonger a b k
     pub mine : (c : ℕ) → place ≤ c → slice_get walks c ≡ slice_get first c
     pub theirs : (c : ℕ) → place ≤ c → slice_get others c ≡ slice_get second c
 
@@ -63,7 +64,7 @@ module _ (first second : List (WalkView LinkageView)) where
 
   module _ (walks others : List (WalkView LinkageView)) (place : ℕ) (a b k o : WalkView LinkageView) (so : Joining walks others place)
       (chains : chains_of second ≡ chains_of first) (at_mine : slice_get walks place ≡ Some a) (at_theirs : slice_get others place ≡ Some b)
-      (longer : IsLongerWalk a b k) where
+      (longer : IsLonger a b k) where
     mine-at : slice_get first place ≡ Some a
     mine-at = sym (so.mine place (omega arith)) ∙ at_mine
 
@@ -85,13 +86,13 @@ module _ (first second : List (WalkView LinkageView)) where
         longer
 
     done-next : (c : ℕ) (a' b' k' : WalkView LinkageView) → c < place + 1 → slice_get first c ≡ Some a' → slice_get second c ≡ Some b' →
-        slice_get (set walks place k) c ≡ Some k' → Dec (c ≡ place) → IsLongerWalk a' b' k'
+        slice_get (set walks place k) c ≡ Some k' → Dec (c ≡ place) → IsLonger a' b' k'
     done-next c a' b' k' low mine theirs kept (yes here) =
         let e : Some a ≡ Some a' = sym mine-at ∙ (ap (slice_get first) (sym here) ∙ mine) in
         let f : Some b ≡ Some b' = sym theirs-at ∙ (ap (slice_get second) (sym here) ∙ theirs) in
         let g : Some k ≡ Some k' = sym (set-here walks place a k at_mine) ∙ (ap (slice_get (set walks place k)) (sym here) ∙ kept) in
         let e' : a ≡ a' = cc in let f' : b ≡ b' = cc in let g' : k ≡ k' = cc in
-        subst (λ v. IsLongerWalk v b' k') e' (subst (λ v. IsLongerWalk a v k') f' (subst (IsLongerWalk a b) g' longer))
+        subst (λ v. IsLonger v b' k') e' (subst (λ v. IsLonger a v k') f' (subst (IsLonger a b) g' longer))
     done-next c a' b' k' low mine theirs kept (no other) =
         so.done c a' b' k' (omega (arith, low, other)) mine theirs (sym (set-there walks place c k other) ∙ kept)
 

@@ -1,26 +1,18 @@
 -- What steps of a thread leave of its pass over the call sites.
-use Rattle.std.proofs.Common.{◌≡◌, ◌≢◌, refl, sym, ◌∙◌, ap, ap₂, subst, ℕ, ◌+◌, ◌<◌, List, [], ◌∷◌, ◌++◌, length, map, Option, None, Some, arith}
-use Rattle.std.specs.Prelude.{All, AllPairs, Contains, IsSome, filter}
+use Rattle.std.proofs.Common.{◌≡◌, ◌≢◌, refl, sym, ◌∙◌, ap, ap₂, subst, ℕ, ◌+◌, ◌<◌, List, [], ◌∷◌, ◌++◌, length, map, None, arith}
+use Rattle.std.specs.Prelude.{All, AllPairs, Contains, filter}
 use Rattle.std.proofs.lemmas.List.{length-append}
-use Rattle.std.proofs.lemmas.List.Elements.{All-weaker, Contains-push}
+use Rattle.std.proofs.lemmas.List.Elements.{Contains-push}
 use Rattle.mh_tickets.specs.Seats.{Draws, SeatView}
 use Rattle.mh_attempt.specs.Linkage.{LinkageView}
 use Rattle.mh_plan.specs.declared.attempt.Attempt.{Attempt}
 use Rattle.mh_plan.specs.Naming.{first_places}
-use Rattle.mh_plan.specs.Results.{Serials, serial_at}
-use Rattle.mh_runtime.specs.Attempts.{AreLinked, AttemptsMore, GoesOnLinking, IsThreadRun, sites_of}
-use Rattle.mh_runtime.specs.Passes.{Begins, HasSerials, LearnsSites, LinkPass, attempt_of}
+use Rattle.mh_plan.specs.Results.{serial_at}
+use Rattle.mh_runtime.specs.Attempts.{AttemptsMore, GoesOnLinking, IsThreadRun, sites_of}
+use Rattle.mh_runtime.specs.Passes.{Begins, LearnsSites, LinkPass, attempt_of}
 use Rattle.mh_runtime.proofs.Sites.{is_in}
 use Rattle.mh_runtime.proofs.ThreadRuns.{not-linked, run-more, run-same}
-
--- what is linked stays so
-linked-on : (a b : Serials) (sites : List ℕ) → HasSerials a b → AreLinked a sites → AreLinked b sites
-linked-on a b sites has all =
-    All-weaker (λ site. IsSome (serial_at a site)) (λ site. IsSome (serial_at b site)) (λ site some. one site (serial_at a site) refl some) sites all
-  where
-    one : (site : ℕ) (o : Option ℕ) → serial_at a site ≡ o → IsSome o → IsSome (serial_at b site)
-    one site None is some = absurd cc
-    one site (Some serial) is some = subst IsSome (sym (has site serial is)) refl
+use Rattle.mh_runtime.proofs.ThreadSteps.{linked-on}
 
 -- ---- more is learnt
 

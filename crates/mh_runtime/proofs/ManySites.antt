@@ -11,9 +11,10 @@ use Rattle.mh_setonce.specs.Puts.{PutIn}
 use Rattle.mh_setonce.specs.Walks.{Distinct, FindsNode, StartsWith}
 use Rattle.mh_setonce.specs.declared.put.Put.{Put}
 use Rattle.mh_setonce.specs.declared.put.Put.TheVariants.{Mine, Theirs}
+use Rattle.mh_setonce.specs.ManyWalks.{chains_of}
 use Rattle.mh_handle.proofs.Members.{set-here, set-there}
 use Rattle.mh_attempt.specs.Linkage.{LinkageView}
-use Rattle.mh_runtime.specs.Passes.{FindsLinkage, HasSerials, PutsLinkage, PutsNode, chains_of, linked_by, site_of}
+use Rattle.mh_runtime.specs.Passes.{FindsLinkage, HasSerials, PutsLinkage, PutsNode, linked_by, site_of}
 use Rattle.mh_runtime.proofs.SiteSerials.{HaveMore, finds-linkage, more-serials, puts-linkage}
 
 module _ (walks : List (WalkView LinkageView)) (site : ℕ) (old new : WalkView LinkageView) (stands : slice_get walks site ≡ Some old) where

@@ -2,6 +2,7 @@
 use Rattle.std.proofs.Common.{◌≡◌, sym, ◌∙◌, ap, subst, ℕ, zero, suc, ◌+◌, ◌≤◌, List, [], ◌∷◌, ◌++◌, length, length-append, Some, ⊎_elim, arith}
 use Rattle.std.specs.Prelude.{slice_get}
 use Rattle.std.proofs.lemmas.Option.{slice_get_within}
+use Rattle.mh_base.proofs.Slices.{slice_get-push}
 use Rattle.mh_jobs.specs.Given.{Given}
 use Rattle.mh_plan.specs.declared.call.Call.{Call}
 use Rattle.mh_plan.specs.Limits.{calls_in}
@@ -10,7 +11,6 @@ use Rattle.mh_runtime.specs.declared.lane.Lane.{Lane}
 use Rattle.mh_runtime.specs.Joined.{AreDone, AreUsed, IsDoneBy, IsUsedBy, ThreadPasses}
 use Rattle.mh_runtime.specs.Joining.{AreFresh, IsFreshFor}
 use Rattle.mh_runtime.specs.Passes.{LinkerView}
-use Rattle.mh_runtime.proofs.Places.{at-push_cases}
 
 -- ---- pairs
 
@@ -25,13 +25,13 @@ each-push {X} {Y} R xs ys x y same each one i a b is there =
     (λ (before : slice_get xs i ≡ Some a). ⊎_elim
     (λ (old : slice_get ys i ≡ Some b). each i a b before old)
     (λ (last : (i ≡ length ys) × (y ≡ b)). absurd (let w = slice_get_within xs i a before in omega (arith, w, last.0, same)))
-    (at-push_cases ys y i b there))
+    (slice_get-push ys y i b there))
     (λ (last : (i ≡ length xs) × (x ≡ a)). ⊎_elim
     (λ (old : slice_get ys i ≡ Some b). absurd (let w = slice_get_within ys i b old in omega (arith, w, last.0, same)))
     (λ (here : (i ≡ length ys) × (y ≡ b)).
     subst (λ n. R n a b) (sym last.0) (subst (λ z. R (length xs) z b) last.1 (subst (R (length xs) x) here.1 one)))
-    (at-push_cases ys y i b there))
-    (at-push_cases xs x i a is)
+    (slice_get-push ys y i b there))
+    (slice_get-push xs x i a is)
 
 one-longer : {X Y : Type 0} (xs : List X) (ys : List Y) (x : X) (y : Y) → length ys ≡ length xs → length (ys ++ y ∷ []) ≡ length (xs ++ x ∷ [])
 one-longer xs ys x y same = length-append ys (y ∷ []) ∙ (ap (λ n. n + 1) same ∙ sym (length-append xs (x ∷ [])))

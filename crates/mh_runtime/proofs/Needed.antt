@@ -7,6 +7,7 @@ use Rattle.std.proofs.lemmas.List.Concat.{length-flat_map}
 use Rattle.std.proofs.lemmas.List.Folds.{list_any-append}
 use Rattle.std.proofs.lemmas.List.Sums.{sum_by-le}
 use Rattle.std.proofs.lemmas.Option.{slice_get-get_or}
+use Rattle.std.proofs.lemmas.List.FromFn.{length-range_with_len}
 use Rattle.mh_edit.specs.declared.key.Key.{Key}
 use Rattle.mh_handle.specs.Passes.{PassView}
 use Rattle.mh_handle.specs.Recipe.{recipe}
@@ -26,7 +27,7 @@ use Rattle.mh_runtime.specs.Passes.{LinkPass}
 use Rattle.mh_runtime.proofs.Numbers.{number-within, serial-within}
 use Rattle.mh_runtime.proofs.Owners.{IsThread, attempts_in, reached, thread-of}
 use Rattle.mh_runtime.proofs.Parts.{part-in}
-use Rattle.mh_runtime.proofs.Places.{length-range, place-Contains, range-from}
+use Rattle.mh_runtime.proofs.Places.{place-Contains, range-from}
 
 -- ---- lists of lists
 
@@ -52,7 +53,7 @@ in-range : (n serial : ℕ) → 1 ≤ serial → serial ≤ n → Contains (rang
 in-range n serial some few =
     let same : 1 + (serial - 1) ≡ serial = omega (arith, some) in (
       serial - 1,
-      omega (arith, length-range 1 n, some, few),
+      omega (arith, length-range_with_len 1 n, some, few),
       subst (λ d. get_or (range_with_len 1 n) (serial - 1) d ≡ d) same (range-from 1 n (serial - 1) (omega (arith, some, few))),
     )
 

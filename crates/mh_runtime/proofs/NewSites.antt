@@ -4,9 +4,10 @@ use Rattle.std.specs.Prelude.{slice_get}
 use Rattle.std.proofs.lemmas.List.{length-map, map-append}
 use Rattle.mh_base.proofs.Slices.{slice_get-push}
 use Rattle.mh_setonce.specs.Views.{ChainView, WalkView}
+use Rattle.mh_setonce.specs.ManyWalks.{chains_of}
 use Rattle.mh_attempt.specs.Linkage.{LinkageView}
 use Rattle.mh_plan.specs.Results.{Serials}
-use Rattle.mh_runtime.specs.Passes.{chains_of, linked_by, linked_from, serial_among}
+use Rattle.mh_runtime.specs.Passes.{linked_by, linked_from, serial_among}
 
 -- walks of these chains, which have learnt nothing
 pub record AreNew (chains : List ChainView) (walks : List (WalkView LinkageView)) : Type 0 where

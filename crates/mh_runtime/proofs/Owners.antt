@@ -4,13 +4,14 @@ use Rattle.std.specs.Prelude.{Contains, slice_get}
 use Rattle.std.specs.List.{flat_map}
 use Rattle.std.proofs.lemmas.List.Elements.{All-contains}
 use Rattle.std.proofs.lemmas.Option.{slice_get_within}
+use Rattle.mh_base.proofs.Slices.{slice_get-within}
 use Rattle.mh_jobs.specs.Given.{Given}
 use Rattle.mh_plan.specs.declared.attempt.Attempt.{Attempt}
 use Rattle.mh_plan.specs.declared.call.Call.{Call}
 use Rattle.mh_plan.specs.Naming.{naming_of, sites_named}
 use Rattle.mh_runtime.specs.Joined.{AreUsed, IsUsedBy, ThreadPasses}
 use Rattle.mh_runtime.specs.Ledger.{IsReached}
-use Rattle.mh_runtime.proofs.Parts.{at-map, in-part, there-is}
+use Rattle.mh_runtime.proofs.Parts.{at-map, in-part}
 
 -- the attempts of all passes
 abbrev pub attempts_in : List ThreadPasses → List Attempt
@@ -28,7 +29,7 @@ module _ (given : Given) (threads : List (List Call)) (all : List ThreadPasses) 
   pub thread-of : (thread : ℕ) (passes : ThreadPasses) → slice_get all thread ≡ Some passes → IsThread given threads all thread passes
   thread-of thread passes at =
       let within : thread < length all = slice_get_within all thread passes at in
-      let calls = there-is threads thread (omega (arith, within, used.count)) in
+      let calls = slice_get-within threads thread (omega (arith, within, used.count)) in
       record { calls = calls.0; named = calls.1; at = at; used = used.each thread calls.0 passes calls.1 at }
 
   -- and each thread has passes
@@ -36,7 +37,7 @@ module _ (given : Given) (threads : List (List Call)) (all : List ThreadPasses) 
       (passes : ThreadPasses) × (slice_get all thread ≡ Some passes) × IsUsedBy given thread calls passes
   passes-of thread calls named =
       let within : thread < length threads = slice_get_within threads thread calls named in
-      let passes = there-is all thread (omega (arith, within, used.count)) in
+      let passes = slice_get-within all thread (omega (arith, within, used.count)) in
       (passes.0, passes.1, used.each thread calls passes.0 named passes.1)
 
   -- the thread of an attempt

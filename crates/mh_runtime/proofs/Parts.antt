@@ -1,5 +1,5 @@
 -- Items of lists that are joined, filtered and mapped, by their places.
-use Rattle.std.proofs.Common.{◌≡◌, refl, sym, ◌∙◌, ap, subst, ℕ, zero, suc, ◌<◌, Bool, true, false, cond, List, [], ◌∷◌, length, map, Some, ⊎_elim, arith}
+use Rattle.std.proofs.Common.{◌≡◌, refl, sym, ◌∙◌, ap, subst, ℕ, zero, suc, ◌<◌, Bool, true, false, cond, List, [], ◌∷◌, map, Some, ⊎_elim, arith}
 use Rattle.std.specs.Prelude.{Contains, filter, slice_get}
 use Rattle.std.specs.List.{flat_map}
 use Rattle.std.proofs.lemmas.List.Elements.{All-contains, All-contains_itself, All-filter, Contains-append_cases, Contains-append_left, Contains-append_right, filter_passes}
@@ -57,9 +57,3 @@ at-map f (y ∷ xs) zero x is = ap (λ z. Some (f z)) (cc is)
 at-map f (y ∷ xs) (suc i) x is = at-map f xs i x is
 
 -- ---- places
-
--- there is an item at each place within the list
-pub there-is : {X : Type 0} (xs : List X) (i : ℕ) → i < length xs → (x : X) × (slice_get xs i ≡ Some x)
-there-is [] i within = absurd (omega (arith, within))
-there-is (x ∷ xs) zero within = (x, refl)
-there-is (x ∷ xs) (suc i) within = there-is xs i (omega (arith, within))

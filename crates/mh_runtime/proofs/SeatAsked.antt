@@ -3,10 +3,9 @@ use Rattle.std.proofs.Common.{◌≡◌, sym, ◌∙◌, ap, subst, ◌+◌, Lis
 use Rattle.std.specs.List.{flat_map}
 use Rattle.std.proofs.lemmas.Grind.{flat_map-append}
 use Rattle.mh_values.specs.declared.types.MethodTy.{MethodTy}
-use Rattle.mh_values.specs.Same.{is_same_method_type}
 use Rattle.mh_intern.specs.Held.{times_type}
 use Rattle.mh_intern.specs.Views.{SeatView}
-use Rattle.mh_intern.proofs.Measures.{count_append}
+use Rattle.mh_intern.proofs.Measures.{times_type-append}
 use Rattle.mh_jobs.specs.Given.{Given}
 use Rattle.mh_attempt.specs.AskedTypes.{AsksNoOther}
 use Rattle.mh_plan.specs.declared.attempt.Attempt.{Attempt}
@@ -14,10 +13,6 @@ use Rattle.mh_plan.specs.Types.{attempt_types}
 use Rattle.mh_runtime.specs.Asking.{HasAskedOn, WasAsked, run_types}
 
 -- ---- lists of types
-
--- how often a type stands in two lists
-pub times-append : (t : MethodTy) (xs ys : List MethodTy) → times_type t (xs ++ ys) ≡ times_type t xs + times_type t ys
-times-append t xs ys = count_append (λ (u : MethodTy). is_same_method_type u t) xs ys
 
 -- nothing more was asked for after a call
 pub asks-still : (types : List MethodTy) (old mid new : SeatView) → AsksNoOther types old mid → AsksNoOther [] mid new → AsksNoOther types old new
@@ -32,7 +27,7 @@ module _ (given : Given) where
   -- how often it is one of those of attempts and of calls
   times-run : (t : MethodTy) (attempts : List Attempt) (types : List MethodTy) →
       times_type t (run_types given attempts types) ≡ times_type t (flat_map (attempt_types given) attempts) + times_type t types
-  times-run t attempts types = times-append t (flat_map (attempt_types given) attempts) types
+  times-run t attempts types = times_type-append t (flat_map (attempt_types given) attempts) types
 
   -- how often it is one of those of attempts and of one more
   times-made : (t : MethodTy) (attempts : List Attempt) (a : Attempt) →
@@ -42,7 +37,7 @@ module _ (given : Given) where
       let made : List MethodTy = flat_map (attempt_types given) attempts in
       ap (times_type t)
       (flat_map-append (attempt_types given) attempts (a ∷ []) ∙ ap (λ ts. made ++ ts) (append-nil (attempt_types given a)))
-      ∙ times-append t made (attempt_types given a)
+      ∙ times_type-append t made (attempt_types given a)
 
   -- ---- what one step leaves
 
@@ -55,7 +50,7 @@ module _ (given : Given) where
       HasAskedOn given attempts (attempts ++ a ∷ []) [] old new
   on-attempt attempts a old new asks types was t none =
       let p = times-run t (attempts ++ a ∷ []) (types ++ []) in
-      let q = times-append t types [] in
+      let q = times_type-append t types [] in
       let m = times-made t attempts a in
       let r = times-run t attempts types in
       let before = was t (omega (arith, none, p, q, m, r)) in
@@ -66,7 +61,7 @@ module _ (given : Given) where
       HasAskedOn given attempts attempts more old new
   on-call attempts more old new asks types was t none =
       let p = times-run t attempts (types ++ more) in
-      let q = times-append t types more in
+      let q = times_type-append t types more in
       let r = times-run t attempts types in
       let before = was t (omega (arith, none, p, q, r)) in
       asks t (omega (arith, none, p, q, before))
@@ -82,8 +77,8 @@ module _ (given : Given) where
       HasAskedOn given a b (some ++ rest) old new
   on-early some rest a b old new x types was t none =
       let p = times-run t b (types ++ (some ++ rest)) in
-      let q = times-append t types (some ++ rest) in
-      let r = times-append t some rest in
+      let q = times_type-append t types (some ++ rest) in
+      let r = times_type-append t some rest in
       let u = times-run t b (types ++ some) in
-      let v = times-append t types some in
+      let v = times_type-append t types some in
       x types was t (omega (arith, none, p, q, r, u, v))

@@ -2,7 +2,7 @@
 use Rattle.std.proofs.Common.{◌≡◌, refl, ap, subst, ◌+◌, ◌<◌, ◌==◌, Bool, true, false, cond, List, [], ◌∷◌, length}
 use Rattle.std.proofs.Common.{⊎_elim, arith}
 use Rattle.std.specs.List.{IsDistinct}
-use Rattle.std.proofs.lemmas.Bool.{eqb-true, or_cases, or_left, or_right}
+use Rattle.std.proofs.lemmas.Bool.{eqb-true, or_cases, or_left, or_right, false_from_ne_true}
 use Rattle.mh_values.specs.declared.types.MethodTy.{MethodTy}
 use Rattle.mh_values.specs.Same.{is_same_method_type}
 use Rattle.mh_values.proofs.SameTypes.{same_method_type-is}
@@ -11,8 +11,7 @@ use Rattle.mh_intern.specs.Held.{on_type}
 use Rattle.mh_intern.specs.Seats.{distinct_types}
 use Rattle.mh_intern.proofs.Entries.{bit}
 use Rattle.mh_intern.proofs.Measures.{count_cons}
-use Rattle.mh_plan.specs.Recorded.{types}
-use Rattle.mh_runtime.proofs.TypeLists.{differs, fails, is_one, not-zero, same-turned}
+use Rattle.mh_runtime.proofs.TypeLists.{differs, is_one, not-zero, same-turned}
 
 -- ---- the types of a seat
 
@@ -75,7 +74,7 @@ lasts-distinct (e ∷ es) = cases (on_type e.ty es == 0) refl (lasts-distinct es
         IsDistinct is_same_method_type (cond b (e.ty ∷ lasts es) (lasts es))
     cases true none rest = (
       differs e.ty (lasts es)
-          (fails (is_one (lasts es) e.ty)
+          (false_from_ne_true (is_one (lasts es) e.ty)
           (λ there.
           let more = last-held e.ty es there in
           let zero_of = eqb-true (on_type e.ty es) 0 none in absurd (omega (arith, more, zero_of)))),

@@ -4,18 +4,15 @@ use Rattle.std.specs.Prelude.{◌==◌, Contains, filter}
 use Rattle.std.specs.List.{list_any}
 use Rattle.std.proofs.lemmas.Bool.{eqb-true, eqb-false, eq-eqb, ne_eqb, or_parts}
 use Rattle.std.proofs.lemmas.List.Folds.{list_any-append, list_any_at}
+use Rattle.mh_base.proofs.Tests.{or_false}
 use Rattle.mh_plan.specs.Naming.{first_places}
 
 -- the site is one of a list
 abbrev pub is_in : List ℕ → ℕ → Bool
 is_in sites k = list_any (λ s. s == k) sites
 
-pub or-false : (b : Bool) → (b || false) ≡ b
-or-false true = refl
-or-false false = refl
-
 pub in-push : (sites : List ℕ) (x k : ℕ) → is_in (sites ++ x ∷ []) k ≡ (is_in sites k || (x == k))
-in-push sites x k = list_any-append (λ s. s == k) sites (x ∷ []) ∙ ap (λ b. is_in sites k || b) (or-false (x == k))
+in-push sites x k = list_any-append (λ s. s == k) sites (x ∷ []) ∙ ap (λ b. is_in sites k || b) (or_false (x == k))
 
 pub Contains-in : (sites : List ℕ) (k : ℕ) → Contains sites k → is_in sites k ≡ true
 Contains-in sites k h = list_any_at (λ s. s == k) sites h.0 k h.1 (eq-eqb _ _ h.2)
@@ -46,7 +43,7 @@ seen-next false b c = refl
 
 pub first-push : (seen sites : List ℕ) (x : ℕ) →
     first_places seen (sites ++ x ∷ []) ≡ first_places seen sites ++ (if is_in seen x || is_in sites x then [] else x ∷ [])
-first-push seen [] x = ap (λ b. if b then [] else x ∷ []) (sym (or-false (is_in seen x)))
+first-push seen [] x = ap (λ b. if b then [] else x ∷ []) (sym (or_false (is_in seen x)))
 first-push seen (s ∷ sites) x = cases (is_in seen s) refl (first-push seen sites x) (first-push (s ∷ seen) sites x)
   where
     cases : (b : Bool) → is_in seen s ≡ b →
@@ -78,5 +75,5 @@ kept-other made x [] none = refl
 kept-other made x (s ∷ sites) none =
     let apart = or_parts (s == x) (is_in sites x) none in
     ap₂ (λ b ks. cond b (s ∷ ks) ks)
-    (in-push made x s ∙ (ap (λ b. is_in made s || b) (ne_eqb x s (λ e. eqb-false s x apart.0 (sym e))) ∙ or-false (is_in made s)))
+    (in-push made x s ∙ (ap (λ b. is_in made s || b) (ne_eqb x s (λ e. eqb-false s x apart.0 (sym e))) ∙ or_false (is_in made s)))
     (kept-other made x sites apart.1)

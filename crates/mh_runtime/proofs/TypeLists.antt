@@ -1,11 +1,12 @@
 -- Lists of types, and which types they have.
-use Rattle.std.proofs.Common.{◌≡◌, refl, sym, ◌∙◌, ap, subst, ℕ, zero, suc, ◌<◌, ◌≤◌, ◌==◌, Bool, true, false, ◌||◌, cond, List, [], ◌∷◌, length, ⊎_elim, arith}
+use Rattle.std.proofs.Common.{◌≡◌, refl, ◌∙◌, ap, subst, ℕ, zero, suc, ◌<◌, ◌≤◌, ◌==◌, Bool, true, false, ◌||◌, cond, List, [], ◌∷◌, length, ⊎_elim, arith}
 use Rattle.std.specs.Prelude.{count_by}
 use Rattle.std.specs.Cmp.{IsEquivalence}
 use Rattle.std.specs.List.{list_any, IsDistinct, AllByRecursion}
 use Rattle.std.specs.Set.{distinct_count, unique_keys}
-use Rattle.std.proofs.lemmas.Bool.{or_cases}
+use Rattle.std.proofs.lemmas.Bool.{or_cases, false_from_ne_true}
 use Rattle.std.proofs.lemmas.Map.Made.{length-le_from_is_member}
+use Rattle.mh_base.proofs.Tests.{same_tests}
 use Rattle.mh_values.specs.declared.types.MethodTy.{MethodTy}
 use Rattle.mh_values.specs.Same.{is_same_method_type}
 use Rattle.mh_values.proofs.SameTypes.{same_method_type-is, same_method_type-itself}
@@ -14,17 +15,6 @@ use Rattle.mh_intern.proofs.Entries.{bit}
 use Rattle.mh_intern.proofs.Measures.{count_cons}
 
 -- ---- tests
-
--- two tests have one answer where each of them passes with the other
-pub one-answer : (a b : Bool) → (a ≡ true → b ≡ true) → (b ≡ true → a ≡ true) → a ≡ b
-one-answer true b to from = sym (to refl)
-one-answer false true to from = from refl
-one-answer false false to from = refl
-
--- a test that cannot pass fails
-pub fails : (b : Bool) → (b ≡ true → ⊥) → b ≡ false
-fails true not_so = absurd (not_so refl)
-fails false not_so = refl
 
 -- a number that is not zero is more
 pub not-zero : (n : ℕ) → (n == 0) ≡ false → 0 < n
@@ -39,7 +29,7 @@ same-turned s t same = subst (λ (u : MethodTy). is_same_method_type u s ≡ tru
 pub same-equivalence : IsEquivalence is_same_method_type
 same-equivalence = record {
   refl = same_method_type-itself;
-  symm = λ s t. one-answer (is_same_method_type s t) (is_same_method_type t s) (same-turned s t) (same-turned t s);
+  symm = λ s t. same_tests (is_same_method_type s t) (is_same_method_type t s) (same-turned s t) (same-turned t s);
   congr = λ s t u same. ap (λ (v : MethodTy). is_same_method_type v u) (same_method_type-is s t same);
 }
 
@@ -87,7 +77,7 @@ differs t (u ∷ ts) none = cases (is_same_method_type t u) refl none (differs t
 -- a type of which none is counted is none of a list
 none-one : (t : MethodTy) (ts : List MethodTy) → times_type t ts ≡ 0 → is_one ts t ≡ false
 none-one t ts none =
-    fails (is_one ts t) (λ there.
+    false_from_ne_true (is_one ts t) (λ there.
     let more = any-counted (λ (u : MethodTy). is_same_method_type u t) ts (any-turned t ts ∙ there) in absurd (omega (arith, more, none)))
 
 -- where each type is counted at most once, no two are one

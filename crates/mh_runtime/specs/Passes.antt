@@ -1,11 +1,11 @@
 -- What contracts see of a linker, which threads share, and of a pass, which each thread has of its own.
-use Rattle.std.specs.Prelude.{◌≡◌, ℕ, suc, ◌^◌, ◌<◌, ◌≤◌, ◌==◌, ◌⊎◌, List, [], ◌∷◌, ◌++◌, length, map, replicate, slice_get, All, Result, Ok, Err, Option, None, Some, option_map, Contains}
+use Rattle.std.specs.Prelude.{◌≡◌, ℕ, suc, ◌^◌, ◌<◌, ◌≤◌, ◌==◌, ◌⊎◌, List, [], ◌∷◌, ◌++◌, length, replicate, All, Result, Ok, Err, Option, None, Some, option_map, Contains}
 use Rattle.std.specs.List.{find}
 use denote.Ref.{Bor}
 use Rattle.mh_setonce.specs.declared.put.Put.{Put}
 use Rattle.mh_setonce.specs.declared.put.Put.TheVariants.{Mine, Theirs}
 use Rattle.mh_setonce.specs.Views.{ChainView, WalkView}
-use Rattle.mh_setonce.specs.Walks.{Has, Meet}
+use Rattle.mh_setonce.specs.Walks.{Has}
 use Rattle.mh_tickets.specs.Seats.{Draws, SeatView, TicketsId, new_seat}
 use Rattle.mh_script.specs.declared.script.Script.{Script}
 use Rattle.mh_jobs.specs.declared.job.Job.{Job}
@@ -45,10 +45,6 @@ pub record LinkPass : Type 0 where
   pub recorded : List Attempt
   pub seat : SeatView
 
--- the chains of walks
-abbrev pub chains_of : List (WalkView LinkageView) → List ChainView
-chains_of walks = map (λ w. w.chain) walks
-
 -- the site of a linkage
 abbrev pub site_of : LinkageView → ℕ
 site_of l = l.job.site
@@ -65,14 +61,6 @@ linked_from site (w ∷ walks) = serial_among w.nodes site ∷ linked_from (suc 
 -- the serial of the linkage that walks have learnt of each site, where they have
 abbrev pub linked_by : List (WalkView LinkageView) → Serials
 linked_by walks = linked_from 0 walks
-
--- of two walks of one chain, one begins with the other
-abbrev pub DoMeet : List (WalkView LinkageView) → List (WalkView LinkageView) → Type 0
-DoMeet walks others = (c : ℕ) (a b : WalkView LinkageView) → slice_get walks c ≡ Some a → slice_get others c ≡ Some b → (n : ℕ) × Meet a.nodes b.nodes n
-
--- the longer of two walks
-abbrev pub IsLongerWalk : WalkView LinkageView → WalkView LinkageView → WalkView LinkageView → Type 0
-IsLongerWalk walk other kept = ((kept ≡ walk) × (length other.nodes ≤ length walk.nodes)) ⊎ ((kept ≡ other) × (length walk.nodes < length other.nodes))
 
 -- the attempt is one of these, and its linkage is that of its site
 abbrev pub IsRecorded : Serials → List Attempt → Attempt → Type 0

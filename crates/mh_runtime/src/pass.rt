@@ -34,7 +34,8 @@ pub(crate) struct Pass<'s, 't, J: Run> {
 }
 
 impl<'s, 't, J: Run> Model for Pass<'s, 't, J> {
-    ghost use Rattle.mh_runtime.specs.Passes.{IsLinkPass, LinkPass, chains_of, linked_by};
+    ghost use Rattle.mh_setonce.specs.ManyWalks.{chains_of};
+    ghost use Rattle.mh_runtime.specs.Passes.{IsLinkPass, LinkPass, linked_by};
 
     ghost Value = { LinkPass };
 

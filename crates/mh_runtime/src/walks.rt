@@ -1,7 +1,8 @@
 ghost use Rattle.std.specs.Prelude.{◌≡◌, ◌<◌, length, replicate, IfOk, OnErr, None, List};
 ghost use Rattle.mh_setonce.specs.Walks.{Distinct, StartsWith};
+ghost use Rattle.mh_setonce.specs.ManyWalks.{DoMeet, IsLonger, chains_of};
 ghost use Rattle.mh_plan.specs.Results.{serial_at};
-ghost use Rattle.mh_runtime.specs.Passes.{DoMeet, FindsLinkage, HasSerials, IsLongerWalk, PutsLinkage, PutsNode, chains_of, linked_by, site_of};
+ghost use Rattle.mh_runtime.specs.Passes.{FindsLinkage, HasSerials, PutsLinkage, PutsNode, linked_by, site_of};
 
 use crate::linker::Linker;
 use mh_attempt::Linkage;
@@ -148,7 +149,7 @@ fn keep_longer<'s, 't, J: Run>(
     walk: &mut Walk<'s, Linkage<'t, J>>,
     other: &mut Walk<'s, Linkage<'t, J>>,
 )
-    ensures { IsLongerWalk walk.old other.old walk.new }
+    ensures { IsLonger walk.old other.old walk.new }
 {
     if walk.len() < other.len() {
         mem::swap(walk, other);

@@ -6,7 +6,7 @@ use Rattle.std.proofs.lemmas.Bool.{and_parts, leb-true}
 use Rattle.mh_values.specs.declared.class.Class.{Class}
 use Rattle.mh_base.specs.Provided.{provided_some}
 use Rattle.mh_base.proofs.Conditions.{provided_some-parts}
-use Rattle.mh_texts.proofs.Inversion.{then_some}
+use Rattle.mh_base.proofs.Inversion.{then_some}
 use Rattle.mh_script.specs.declared.kinds.ScriptKind.{ScriptKind}
 use Rattle.mh_script.specs.declared.kinds.ScriptKind.TheVariants.{BadLine, BadLiteral}
 use Rattle.mh_script.specs.declared.line.Line.{Line}

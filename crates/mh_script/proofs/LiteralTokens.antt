@@ -3,15 +3,15 @@ use Rattle.std.proofs.Common.{◌≡◌, refl, ap, subst, ◌∙◌, ℕ, ◌==�
 use Rattle.std.proofs.lemmas.Bool.{eqb-true}
 use Rattle.std.specs.List.{list_all}
 use Rattle.std.specs.Str.{bytes_eq}
+use Rattle.mh_base.proofs.Tests.{same_text}
 use Rattle.mh_values.specs.declared.class.Class.{Class}
 use Rattle.mh_values.specs.declared.value.Cell.TheVariants as cell
 use Rattle.mh_values.specs.declared.value.Value.{Value}
 use Rattle.mh_values.specs.declared.value.Value.TheVariants as value
 use Rattle.mh_values.specs.Array.{value_of_item}
 use Rattle.mh_texts.specs.Literal.{tagged, item_of, array_of_literal, literal_of}
-use Rattle.mh_texts.proofs.Inversion.{then_some}
+use Rattle.mh_base.proofs.Inversion.{then_some}
 use Rattle.mh_script.specs.Tokens.{is_of_register, is_register, if_operand, operand_literal, if_text, text_literal}
-use Rattle.mh_script.proofs.Operands.{same_text}
 
 -- ---- no literal is a register
 

@@ -6,11 +6,11 @@ use Rattle.std.specs.BTreeMap.{BTreeMap}
 use Rattle.std.specs.Global.{Vec}
 use Rattle.std.specs.Option.{is_some}
 use Rattle.std.specs.Str.{bytes_eq}
+use Rattle.mh_base.specs.TextMaps.{at_text, WritesText}
 use Rattle.mh_base.proofs.TextMaps.{at_text-other}
-use Rattle.mh_script.specs.Index.{at_text, Writes}
 
 -- what a map has at a text after another text was written
-pub at_text-written : {X : Type 0} (old new : BTreeMap (Vec ℕ) X) (key text : List ℕ) (there : Option X) → Writes old new key there →
+pub at_text-written : {X : Type 0} (old new : BTreeMap (Vec ℕ) X) (key text : List ℕ) (there : Option X) → WritesText old new key there →
     at_text new text ≡ cond (bytes_eq key text) there (at_text old text)
 at_text-written old new key text there h =
     elim (cases_Bool (bytes_eq key text)) [
@@ -22,7 +22,7 @@ at_text-written old new key text there h =
 
 -- what is found within the map of a key that was taken out and put in again
 pub found-within : {X : Type 0} (old rest new : BTreeMap (Vec ℕ) X) (key text : List ℕ) (inner : X) (find : X → Option ℕ) (test : Bool) (n : ℕ) →
-    Writes old rest key None → Writes rest new key (Some inner) → find inner ≡ cond test (Some n) (option_and_then find (at_text old key)) →
+    WritesText old rest key None → WritesText rest new key (Some inner) → find inner ≡ cond test (Some n) (option_and_then find (at_text old key)) →
     option_and_then find (at_text new text) ≡ cond (bytes_eq key text && test) (Some n) (option_and_then find (at_text old text))
 found-within old rest new key text inner find test n taken put here =
     elim (cases_Bool (bytes_eq key text)) [
@@ -38,8 +38,8 @@ found-within old rest new key text inner find test n taken put here =
     ]
 
 -- something stands under the key of a map that was taken out and put in again
-pub known-within : {X : Type 0} (old rest new : BTreeMap (Vec ℕ) X) (key text : List ℕ) (inner : X) → Writes old rest key None →
-    Writes rest new key (Some inner) → is_some (at_text new text) ≡ (bytes_eq key text || is_some (at_text old text))
+pub known-within : {X : Type 0} (old rest new : BTreeMap (Vec ℕ) X) (key text : List ℕ) (inner : X) → WritesText old rest key None →
+    WritesText rest new key (Some inner) → is_some (at_text new text) ≡ (bytes_eq key text || is_some (at_text old text))
 known-within old rest new key text inner taken put =
     elim (cases_Bool (bytes_eq key text)) [
       | inl e ↦

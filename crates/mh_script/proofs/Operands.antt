@@ -2,14 +2,14 @@
 use Rattle.std.proofs.Common.{◌≡◌, refl, sym, ap, ap₂, ◌∙◌, ℕ, ◌<◌, ◌^◌, ◌==◌, Bool, true, false, ◌&&◌, if◌then◌else◌, List, [], ◌∷◌, codes, length, map, nat_lt, nat_le, Option, None, Some, option_map, arith}
 use Rattle.std.proofs.lemmas.Bool.{and_parts, eqb-true}
 use Rattle.std.proofs.lemmas.List.Splits.{join_with_byte-slice_split, length-slice_split}
-use Rattle.std.proofs.lemmas.Slice.Eq.{bytes_eq-Decides}
 use Rattle.std.specs.Fmt.{decimal}
 use Rattle.std.specs.List.{join_with_byte, slice_split}
 use Rattle.std.specs.Option.{option_map_or}
 use Rattle.std.specs.Str.{bytes_eq}
 use Rattle.std.specs.Str.Parse.{digits_value, without_leading_plus}
 use Rattle.mh_base.specs.Ascii.{comma}
-use Rattle.mh_texts.proofs.Inversion.{some_is, map_some, then_some}
+use Rattle.mh_base.proofs.Inversion.{map_some, then_some, if_some}
+use Rattle.mh_base.proofs.Tests.{same_text}
 use Rattle.mh_script.specs.declared.operand.Register.TheVariants as register
 use Rattle.mh_script.specs.declared.operand.MethodTypeOperand.TheVariants as of_method_type
 use Rattle.mh_script.specs.declared.operand.TypeOperand.TheVariants as of_type
@@ -19,13 +19,6 @@ use Rattle.mh_script.specs.Tokens.{is_register, argument_number, register_of}
 use Rattle.mh_script.specs.Written.{register_text, type_operand_text, method_type_operand_text, order_text}
 
 -- ---- what gives something
-
-pub if_some : {X : Type 0} (b : Bool) (x y : X) → (if b then Some x else None) ≡ Some y → (b ≡ true) × (x ≡ y)
-if_some true x y h = (refl, some_is x y h)
-if_some false x y h = absurd cc
-
-pub same_text : (a b : List ℕ) → bytes_eq a b ≡ true → a ≡ b
-same_text a b h = (bytes_eq-Decides a b).0 h
 
 -- ---- numbers
 

@@ -2,6 +2,7 @@
 use Rattle.std.proofs.Common.{◌≡◌, refl, ap, ◌∙◌, ℕ, Bool, true, false, if◌then◌else◌, List, codes, Option, None, Some}
 use Rattle.std.specs.Option.{option_or}
 use Rattle.std.specs.Str.{bytes_eq}
+use Rattle.mh_base.proofs.Tests.{same_text}
 use Rattle.mh_script.specs.declared.form.One.{One}
 use Rattle.mh_script.specs.declared.form.One.TheVariants as one
 use Rattle.mh_script.specs.declared.form.Two.{Two}
@@ -9,7 +10,6 @@ use Rattle.mh_script.specs.declared.form.Two.TheVariants as two
 use Rattle.mh_script.specs.declared.form.Three.{Three}
 use Rattle.mh_script.specs.declared.form.Three.TheVariants as three
 use Rattle.mh_script.specs.Forms.{one_form, two_form, argument_form, other_form, three_form}
-use Rattle.mh_script.proofs.Operands.{same_text}
 
 -- the words of operations with one operand, with two and with three
 abbrev pub one_word : One → List ℕ

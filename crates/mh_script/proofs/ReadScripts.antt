@@ -6,6 +6,8 @@ use Rattle.std.specs.Str.{bytes_eq}
 use Rattle.mh_base.specs.Lines.{is_full, is_plain, is_passed, tokens_of}
 use Rattle.mh_base.specs.Provided.{provided}
 use Rattle.mh_base.proofs.Conditions.{after_line-parts, provided-parts}
+use Rattle.mh_base.proofs.Inversion.{ok_is}
+use Rattle.mh_base.proofs.Tests.{same_text}
 use Rattle.mh_values.specs.declared.class.Class.{Class}
 use Rattle.mh_values.specs.Grammar.{descriptor_fault}
 use Rattle.mh_leaves.specs.Reference.{Texts, is_class_name, is_method_name}
@@ -27,8 +29,7 @@ use Rattle.mh_script.specs.Scripts.{begun_by, body_line, counting_line, followin
 use Rattle.mh_script.proofs.Divisors.{said-parts}
 use Rattle.mh_script.proofs.FaultlessOperations.{lower-none}
 use Rattle.mh_base.proofs.LineTokens.{IsFullToken, AreFullTokens, tokens_are, none_empty}
-use Rattle.mh_script.proofs.Operands.{same_text}
-use Rattle.mh_script.proofs.Runnable.{faultless, has_room, same_reading}
+use Rattle.mh_script.proofs.Runnable.{faultless, has_room}
 use Rattle.mh_script.proofs.WrittenLines.{line-again}
 use Rattle.mh_script.proofs.FollowingLines.{MayFollow, AreSteps, IsHeader, AreScripts, steps-more, scripts-more}
 
@@ -45,7 +46,7 @@ record IsRead (classes : List Class) (reading : Reading) : Type 0 where
   lines : AreLinesSoFar classes reading.scripts reading.stage
 
 read_by : (classes : List Class) (a b : Reading) → IsRead classes a → ◌≡◌ {A = Result Reading ScriptKind} (Ok a) (Ok b) → IsRead classes b
-read_by classes a b is h = subst (IsRead classes) (same_reading a b h) is
+read_by classes a b is h = subst (IsRead classes) (ok_is a b h) is
 
 -- ---- a line more
 

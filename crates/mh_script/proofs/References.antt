@@ -3,9 +3,8 @@ use Rattle.std.proofs.Common.{◌≡◌, sym, ap, ◌∙◌, ℕ, ◌&&◌, List
 use Rattle.mh_base.specs.Ascii.{colon, full_stop}
 use Rattle.mh_base.specs.Lines.{cut_at}
 use Rattle.mh_texts.proofs.Cuts.{cut_is}
-use Rattle.mh_texts.proofs.Inversion.{then_some}
+use Rattle.mh_base.proofs.Inversion.{then_some, if_some}
 use Rattle.mh_leaves.specs.Reference.{Texts, is_class_name, is_method_name, if_named, reference_of, reference_text}
-use Rattle.mh_script.proofs.Operands.{if_some}
 
 in_parts : (owner name descriptor : List ℕ) →
     owner ++ codes "." ++ name ++ codes ":" ++ descriptor ≡ owner ++ full_stop ∷ (name ++ colon ∷ descriptor)

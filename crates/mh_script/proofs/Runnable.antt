@@ -6,6 +6,7 @@ use Rattle.std.specs.Str.{bytes_eq}
 use Rattle.std.proofs.lemmas.List.Elements.{All-append, All-cons, All-nil}
 use Rattle.mh_base.proofs.Conditions.{provided-parts}
 use Rattle.mh_base.specs.Lines.{is_full, is_passed, is_plain, tokens_of}
+use Rattle.mh_base.proofs.Inversion.{ok_is}
 use Rattle.mh_values.specs.declared.class.Class.{Class}
 use Rattle.mh_base.specs.Provided.{provided}
 use Rattle.mh_values.specs.Grammar.{descriptor_fault}
@@ -66,11 +67,8 @@ with-stands scripts begun (line.Step s) runs divides =
     }
 with-stands scripts begun (line.End e) runs divides = tt
 
-pub same_reading : (a b : Reading) → ◌≡◌ {A = Result Reading ScriptKind} (Ok a) (Ok b) → a ≡ b
-same_reading a b h = cc
-
 stands-by : (a b : Reading) → MayStand a.stage → ◌≡◌ {A = Result Reading ScriptKind} (Ok a) (Ok b) → MayStand b.stage
-stands-by a b may h = subst (λ (r : Reading). MayStand r.stage) (same_reading a b h) may
+stands-by a b may h = subst (λ (r : Reading). MayStand r.stage) (ok_is a b h) may
 
 within-stands : (classes : List Class) (scripts : List Script) (begun : Begun) (tokens : List (List ℕ)) (next : Next) (reading : Reading) →
     AreBegun begun.steps → within_line classes scripts begun tokens next ≡ Ok reading → MayStand reading.stage

@@ -1,10 +1,11 @@
 -- A line within a script that was read: what is written of it is read as it. Lines of a word and two tokens.
-use Rattle.std.proofs.Common.{◌≡◌, refl, sym, ap, ap₂, subst, ◌∙◌, ℕ, Bool, true, false, if◌then◌else◌, List, [], ◌∷◌, codes, Option, None, Some, is_some, option_and_then, Result, Ok}
+use Rattle.std.proofs.Common.{◌≡◌, refl, sym, ap, ap₂, subst, ◌∙◌, ℕ, Bool, true, false, if◌then◌else◌, List, [], ◌∷◌, codes, Option, None, Some, is_some, option_and_then, Ok}
 use Rattle.std.specs.Str.{bytes_eq}
 use Rattle.mh_base.specs.Provided.{provided_some}
+use Rattle.mh_base.proofs.Tests.{same_text}
 use Rattle.mh_values.specs.declared.class.Class.{Class}
 use Rattle.mh_values.specs.declared.value.Value.TheVariants as value
-use Rattle.mh_texts.proofs.Inversion.{then_some}
+use Rattle.mh_base.proofs.Inversion.{then_some, ok_is, if_some}
 use Rattle.mh_texts.proofs.LiteralAgain.{literal_of-again}
 use Rattle.mh_texts.specs.LiteralText.{literal_text}
 use Rattle.mh_leaves.specs.Reference.{is_class_name}
@@ -26,7 +27,7 @@ use Rattle.mh_script.proofs.FaultlessOperations.{lower-none}
 use Rattle.mh_base.proofs.LineTokens.{IsFullToken, AreFullTokens}
 use Rattle.mh_script.proofs.GraphicTokens.{literal-token}
 use Rattle.mh_script.proofs.LiteralTokens.{text-read}
-use Rattle.mh_script.proofs.Operands.{if_some, same_text, number-text}
+use Rattle.mh_script.proofs.Operands.{number-text}
 use Rattle.mh_script.proofs.OperationsAgain.{lower-of_none}
 
 -- the tokens that are written of a line
@@ -39,9 +40,6 @@ pub record StandsAfter (classes : List Class) (steps : List Step) (l : Line) : T
   pub said : line_of classes (line_tokens classes l) ≡ Ok l
   pub fault : body_fault classes steps (line_tokens classes l) ≡ None
   pub tokens : AreFullTokens (line_tokens classes l)
-
-pub line_is : (l m : Line) → ◌≡◌ {A = Result Line ScriptKind} (Ok l) (Ok m) → l ≡ m
-line_is l m h = cc
 
 -- where the tokens of a line have this form
 pub of_tokens : (classes : List Class) (steps : List Step) (tokens : List (List ℕ)) (l : Line) → line_tokens classes l ≡ tokens → AreFullTokens tokens →
@@ -67,7 +65,7 @@ fail-again : (classes : List Class) (steps : List Step) (word a b : List ℕ) (l
     provided_some (fail_of a b) BadLine (λ s. Ok (line.Step s)) ≡ Ok l → StandsAfter classes steps l
 fail-again classes steps word a b l are none said is h =
     let made = provided_some-parts (fail_of a b) BadLine (λ s. Ok (line.Step s)) l h in
-    of_tokens classes steps (word ∷ a ∷ b ∷ []) l (ap (line_tokens classes) (sym (line_is (line.Step made.0) l made.2))
+    of_tokens classes steps (word ∷ a ∷ b ∷ []) l (ap (line_tokens classes) (sym (ok_is (line.Step made.0) l made.2))
     ∙ fail-text classes a b made.0 made.1 ∙ ap (λ w. w ∷ a ∷ b ∷ []) (sym is)) are none said
 
 raise-again : (classes : List Class) (steps : List Step) (a b : List ℕ) (l : Line) → AreFullTokens (codes "raise" ∷ a ∷ b ∷ []) →
@@ -79,7 +77,7 @@ raise-again classes steps a b l are none h =
     let text : List ℕ = literal_text classes v in
     let read = text-read classes b made.0 made.1 in
     let again : text_literal classes text ≡ Some made.0 = ap (option_and_then if_text) (literal_of-again classes b v read) in
-    of_tokens classes steps (codes "raise" ∷ a ∷ text ∷ []) l (ap (line_tokens classes) (sym (line_is (line.End (end.Raise a made.0)) l made.2)))
+    of_tokens classes steps (codes "raise" ∷ a ∷ text ∷ []) l (ap (line_tokens classes) (sym (ok_is (line.End (end.Raise a made.0)) l made.2)))
     (are.0, (are.1.0, (literal-token classes b v read are.1.1.0, tt)))
     (lower-of_none (fault_unless (is_class_name a) BadLine) (fault_unless (is_some (text_literal classes text)) BadLiteral) (lower-none _ _ none).0
     (ap (λ o. fault_unless (is_some o) BadLiteral) again))

@@ -1,5 +1,5 @@
 -- Numbers: what is read is what is written.
-use Rattle.std.proofs.Common.{◌≡◌, refl, sym, ◌∙◌, ap, subst, ℕ, ◌^◌, ◌<◌, Bool, true, false, ◌&&◌, if◌then◌else◌, List, None, Some, Result, Ok, Err, nat_lt, arith}
+use Rattle.std.proofs.Common.{◌≡◌, sym, ◌∙◌, ap, subst, ℕ, ◌^◌, ◌<◌, Bool, true, ◌&&◌, if◌then◌else◌, List, None, Some, Result, Ok, Err, nat_lt, arith}
 use Rattle.std.proofs.lemmas.Bool.{and_parts, ltb-true, lt-ltb}
 use Rattle.std.proofs.lemmas.Fmt.{parse-decimal, IsAscii-decimal}
 use Rattle.std.proofs.lemmas.Slice.Eq.{bytes_eq-Decides}
@@ -7,17 +7,14 @@ use Rattle.std.proofs.lemmas.Str.{IsUtf8-from_ascii}
 use Rattle.std.specs.Fmt.{decimal}
 use Rattle.std.specs.Str.{bytes_eq, IsUtf8}
 use Rattle.std.specs.Str.Parse.{digits_value, without_leading_plus, ParsesUnsigned}
+use Rattle.mh_base.proofs.Inversion.{if_none}
 use Rattle.mh_script.specs.Numbers.{number_of}
-
-none_where : {X : Type 0} (b : Bool) (x : X) → (b ≡ true → ⊥) → None ≡ (if b then Some x else None)
-none_where true x not_so = absurd (not_so refl)
-none_where false x not_so = refl
 
 -- where the digits are refused, no number is written so
 pub number_of-refused : {E : Type 0} (text : List ℕ) (r : Result ℕ E) (e : E) → ParsesUnsigned 64 10 text r → r ≡ Err e → None ≡ number_of text
 number_of-refused text r e parses refused =
     let n : ℕ = digits_value 10 (without_leading_plus text) in
-    none_where (nat_lt n (2 ^ 64) && bytes_eq (decimal n) text) n (λ so.
+    if_none (nat_lt n (2 ^ 64) && bytes_eq (decimal n) text) n (λ so.
     let parts = and_parts _ _ so in
     let small : n < 2 ^ 64 = ltb-true n (2 ^ 64) parts.0 in
     let read : r ≡ Ok n = parse-decimal 64 n text r small (omega arith) (sym ((bytes_eq-Decides _ _).0 parts.1)) parses in cc)
@@ -26,7 +23,7 @@ number_of-refused text r e parses refused =
 pub number_of-no_text : (text : List ℕ) → (IsUtf8 text → ⊥) → None ≡ number_of text
 number_of-no_text text no_text =
     let n : ℕ = digits_value 10 (without_leading_plus text) in
-    none_where (nat_lt n (2 ^ 64) && bytes_eq (decimal n) text) n (λ so.
+    if_none (nat_lt n (2 ^ 64) && bytes_eq (decimal n) text) n (λ so.
     let parts = and_parts _ _ so in
     let small : n < 2 ^ 64 = ltb-true n (2 ^ 64) parts.0 in
     no_text (subst IsUtf8 ((bytes_eq-Decides _ _).0 parts.1) (IsUtf8-from_ascii _ (IsAscii-decimal n (omega arith)))))

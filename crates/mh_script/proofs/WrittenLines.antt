@@ -2,6 +2,8 @@
 use Rattle.std.proofs.Common.{◌≡◌, refl, sym, ap, ap₂, subst, ◌∙◌, ℕ, ◌==◌, Bool, true, false, if◌then◌else◌, List, [], ◌∷◌, codes, length, Option, None, Some, Result, Ok, arith}
 use Rattle.std.proofs.lemmas.Bool.{eqb-true, false_from_ne_true}
 use Rattle.std.specs.Str.{bytes_eq}
+use Rattle.mh_base.proofs.Inversion.{ok_is}
+use Rattle.mh_base.proofs.Tests.{same_text}
 use Rattle.mh_values.specs.declared.class.Class.{Class}
 use Rattle.mh_script.specs.declared.kinds.ScriptKind.{ScriptKind}
 use Rattle.mh_script.specs.declared.kinds.ScriptKind.TheVariants.{BadLine}
@@ -17,10 +19,10 @@ use Rattle.mh_script.specs.Tokens.{register_of, is_assignable}
 use Rattle.mh_script.proofs.Divisors.{said-parts}
 use Rattle.mh_script.proofs.FaultlessOperations.{lower-none, unless-none, no_fault}
 use Rattle.mh_base.proofs.LineTokens.{IsFullToken, AreFullTokens}
-use Rattle.mh_script.proofs.Operands.{same_text, register-text}
+use Rattle.mh_script.proofs.Operands.{register-text}
 use Rattle.mh_script.proofs.OperationsAgain.{lower-of_none}
 use Rattle.mh_script.proofs.WrittenOperations.{operation-again}
-use Rattle.mh_script.proofs.StandingLines.{StandsAfter, line_tokens, line_is, of_tokens, pair-again}
+use Rattle.mh_script.proofs.StandingLines.{StandsAfter, line_tokens, of_tokens, pair-again}
 
 has_one : {A : Type 0} (x : A) (xs : List A) → (length (x ∷ xs) == 0) ≡ false
 has_one x xs = false_from_ne_true (length (x ∷ xs) == 0) (λ e. let none = eqb-true (length (x ∷ xs)) 0 e in omega (arith, none))
@@ -36,7 +38,7 @@ return-again : (classes : List Class) (steps : List Step) (word handle : List �
     body_fault classes steps (word ∷ handle ∷ []) ≡ None → line_of classes (word ∷ handle ∷ []) ≡ Ok l → StandsAfter classes steps l
 return-again classes steps word handle l are none said =
     let is : word ≡ codes "return" = same_text word (codes "return") (needed _ (handle_fault steps handle) BadLine none) in
-    of_tokens classes steps (word ∷ handle ∷ []) l (ap (line_tokens classes) (sym (line_is (line.End (end.Return (register_of handle))) l said))
+    of_tokens classes steps (word ∷ handle ∷ []) l (ap (line_tokens classes) (sym (ok_is (line.End (end.Return (register_of handle))) l said))
     ∙ ap₂ (λ w t. w ∷ t ∷ []) (sym is) (register-text handle)) are none said
 
 -- ---- `let R OP`
@@ -45,7 +47,7 @@ serial-again : (classes : List Class) (steps : List Step) (target word : List �
     let_fault classes steps target word [] ≡ None → let_line classes target word [] ≡ Ok l → StandsAfter classes steps l
 serial-again classes steps target word l are none said =
     let is : word ≡ codes "serial" = same_text word (codes "serial") (unless-none (bytes_eq word (codes "serial")) BadLine (lower-none _ _ none).1) in
-    of_tokens classes steps (codes "let" ∷ target ∷ word ∷ []) l (ap (line_tokens classes) (sym (line_is (line.Step (step.Serial target)) l said))
+    of_tokens classes steps (codes "let" ∷ target ∷ word ∷ []) l (ap (line_tokens classes) (sym (ok_is (line.Step (step.Serial target)) l said))
     ∙ ap (λ w. codes "let" ∷ target ∷ w ∷ []) (sym is)) are none said
 
 let-again : (classes : List Class) (steps : List Step) (target word first : List ℕ) (rest : List (List ℕ)) (l : Line) →
@@ -59,7 +61,7 @@ let-again classes steps target word first rest l are none said =
     let again = operation-again classes word (first ∷ rest) made.0 made.1 in
     let parts = lower-none _ _ none in
     of_tokens classes steps (codes "let" ∷ target ∷ word ∷ again.written) l
-    (ap (line_tokens classes) (sym (line_is (line.Step (step.Let target made.0)) l made.2)) ∙ ap (λ ts. codes "let" ∷ target ∷ ts) again.are)
+    (ap (line_tokens classes) (sym (ok_is (line.Step (step.Let target made.0)) l made.2)) ∙ ap (λ ts. codes "let" ∷ target ∷ ts) again.are)
     (are.0, (are.1.0, (are.1.1.0, again.tokens are.1.1.1)))
     (lower-of_none (fault_unless (is_assignable target) BadLine) (operands_fault classes steps word again.written) parts.0 (again.faults steps parts.1))
     (ap (λ t. if t then serial else said_then (operation_of classes word again.written) (λ op. Ok (line.Step (step.Let target op)))) again.some

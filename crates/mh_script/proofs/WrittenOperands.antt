@@ -1,5 +1,6 @@
 -- The tokens of an operation that has no literal are those that were read.
 use Rattle.std.proofs.Common.{◌≡◌, refl, sym, ap, ap₂, ◌∙◌, ℕ, List, [], ◌∷◌, codes, Result, Ok, decimal}
+use Rattle.mh_base.proofs.Inversion.{ok_is}
 use Rattle.mh_values.specs.declared.class.Class.{Class}
 use Rattle.mh_leaves.specs.Reference.{reference_of}
 use Rattle.mh_script.specs.declared.form.One.{One}
@@ -20,13 +21,10 @@ use Rattle.mh_script.proofs.Operands.{small-text, order-text, register-text, typ
 use Rattle.mh_script.proofs.References.{reference-text}
 use Rattle.mh_script.proofs.OperationWords.{one_word}
 
-operation_is : (made op : Operation) → ◌≡◌ {A = Result Operation ScriptKind} (Ok made) (Ok op) → made ≡ op
-operation_is made op h = cc
-
 -- the tokens of what was made
 pub made_tokens : (classes : List Class) (made op : Operation) (tokens : List (List ℕ)) → ◌≡◌ {A = Result Operation ScriptKind} (Ok made) (Ok op) →
     operation_tokens classes made ≡ tokens → operation_tokens classes op ≡ tokens
-made_tokens classes made op tokens h is = ap (operation_tokens classes) (sym (operation_is made op h)) ∙ is
+made_tokens classes made op tokens h is = ap (operation_tokens classes) (sym (ok_is made op h)) ∙ is
 
 pub after_word : (word a b c : List ℕ) (x y z : List ℕ) → a ≡ x → b ≡ y → c ≡ z → word ∷ a ∷ b ∷ c ∷ [] ≡ word ∷ x ∷ y ∷ z ∷ []
 after_word word a b c x y z p q r = ap₂ (λ s t. word ∷ s ∷ t ∷ c ∷ []) p q ∙ ap (λ u. word ∷ x ∷ y ∷ u ∷ []) r
@@ -51,15 +49,12 @@ pub numbered-tokens : (classes : List Class) (word a b c : List ℕ) (make : Reg
 numbered-tokens classes word a b c make op tokens h =
     let said = said-parts (numbered a b c) (λ x. Ok (make x)) op h in
     let read = provided_some-parts (small_of b) BadLine (λ n. Ok (register_of a, n, register_of c)) said.0 said.1 in
-    let parts : (register_of a, read.0, register_of c) ≡ said.0 = triple_is (register_of a, read.0, register_of c) said.0 read.2 in
+    let parts : (register_of a, read.0, register_of c) ≡ said.0 = ok_is {A = Register × ℕ × Register} (register_of a, read.0, register_of c) said.0 read.2 in
     made_tokens classes (make said.0) op (word ∷ a ∷ b ∷ c ∷ []) said.2
     (tokens said.0
     ∙ ap (λ (x : Register × ℕ × Register). word ∷ register_text x.0 ∷ decimal x.1 ∷ register_text x.2 ∷ []) (sym parts)
     ∙ after_word word (register_text (register_of a)) (decimal read.0) (register_text (register_of c)) a b c (register-text a)
     (small-text b read.0 read.1) (register-text c))
-  where
-    triple_is : (x y : Register × ℕ × Register) → ◌≡◌ {A = Result (Register × ℕ × Register) ScriptKind} (Ok x) (Ok y) → x ≡ y
-    triple_is x y h = cc
 
 pub counted-tokens : (classes : List Class) (word a b c : List ℕ) (make : Register × TypeOperand × ℕ → Operation) (op : Operation) →
     ((x : Register × TypeOperand × ℕ) → operation_tokens classes (make x) ≡ word ∷ register_text x.0 ∷ type_operand_text x.1 ∷ decimal x.2 ∷ []) →
@@ -67,15 +62,12 @@ pub counted-tokens : (classes : List Class) (word a b c : List ℕ) (make : Regi
 counted-tokens classes word a b c make op tokens h =
     let said = said-parts (counted a b c) (λ x. Ok (make x)) op h in
     let read = provided_some-parts (small_of c) BadLine (λ n. Ok (register_of a, type_operand b, n)) said.0 said.1 in
-    let parts : (register_of a, type_operand b, read.0) ≡ said.0 = triple_is (register_of a, type_operand b, read.0) said.0 read.2 in
+    let parts : (register_of a, type_operand b, read.0) ≡ said.0 = ok_is {A = Register × TypeOperand × ℕ} (register_of a, type_operand b, read.0) said.0 read.2 in
     made_tokens classes (make said.0) op (word ∷ a ∷ b ∷ c ∷ []) said.2
     (tokens said.0
     ∙ ap (λ (x : Register × TypeOperand × ℕ). word ∷ register_text x.0 ∷ type_operand_text x.1 ∷ decimal x.2 ∷ []) (sym parts)
     ∙ after_word word (register_text (register_of a)) (type_operand_text (type_operand b)) (decimal read.0) a b c (register-text a)
     (type_operand-text b) (small-text c read.0 read.1))
-  where
-    triple_is : (x y : Register × TypeOperand × ℕ) → ◌≡◌ {A = Result (Register × TypeOperand × ℕ) ScriptKind} (Ok x) (Ok y) → x ≡ y
-    triple_is x y h = cc
 
 pub dropped-tokens : (classes : List Class) (a b c : List ℕ) (op : Operation) → dropped a b c ≡ Ok op →
     operation_tokens classes op ≡ codes "drop" ∷ a ∷ b ∷ c ∷ []

@@ -1,6 +1,7 @@
 -- A value that a line has, as it is written.
-use Rattle.std.proofs.Common.{◌≡◌, sym, ap, subst, ◌∙◌, ℕ, Bool, true, false, if◌then◌else◌, List, Option, None, Some, is_some, option_and_then, Result, Ok}
+use Rattle.std.proofs.Common.{◌≡◌, sym, ap, subst, ◌∙◌, ℕ, Bool, true, false, if◌then◌else◌, List, Option, None, Some, is_some, option_and_then, Ok}
 use Rattle.mh_base.specs.Provided.{provided_some}
+use Rattle.mh_base.proofs.Inversion.{ok_is}
 use Rattle.mh_values.specs.declared.class.Class.{Class}
 use Rattle.mh_values.specs.declared.value.Value.{Value}
 use Rattle.mh_texts.specs.Literal.{literal_of}
@@ -27,9 +28,6 @@ pub record ValueAgain (classes : List Class) (from : List ℕ) (v : ValueOperand
   pub said : value_operand classes (value_operand_text classes v) ≡ Ok v
   pub faults : (steps : List Step) → value_fault classes steps from ≡ None → value_fault classes steps (value_operand_text classes v) ≡ None
   pub token : IsFullToken from → IsFullToken (value_operand_text classes v)
-
-value_is : (v w : ValueOperand) → ◌≡◌ {A = Result ValueOperand ScriptKind} (Ok v) (Ok w) → v ≡ w
-value_is v w h = cc
 
 register-again : (classes : List Class) (token : List ℕ) (v : ValueOperand) → value_operand classes token ≡ Ok v → of_value.Register (register_of token) ≡ v →
     ValueAgain classes token v
@@ -67,7 +65,7 @@ value-again classes token v h = cases (is_register token) h
   where
     cases : (b : Bool) → (if b then Ok (of_value.Register (register_of token))
         else provided_some (operand_literal classes token) BadLiteral (λ u. Ok (of_value.Literal u))) ≡ Ok v → ValueAgain classes token v
-    cases true k = register-again classes token v h (value_is (of_value.Register (register_of token)) v k)
+    cases true k = register-again classes token v h (ok_is (of_value.Register (register_of token)) v k)
     cases false k =
         let read = provided_some-parts (operand_literal classes token) BadLiteral (λ u. Ok (of_value.Literal u)) v k in
-        subst (ValueAgain classes token) (value_is (of_value.Literal read.0) v read.2) (literal-again classes token read.0 read.1)
+        subst (ValueAgain classes token) (ok_is (of_value.Literal read.0) v read.2) (literal-again classes token read.0 read.1)

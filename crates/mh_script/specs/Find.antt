@@ -2,9 +2,10 @@
 use Rattle.std.specs.Prelude.{◌≡◌, ℕ, Bool, List, Option, is_some, position, option_map}
 use Rattle.std.specs.List.{list_any}
 use Rattle.std.specs.Str.{bytes_eq}
+use Rattle.mh_base.specs.TextMaps.{at_text}
 use Rattle.mh_script.specs.declared.script.Script.{Script}
 use Rattle.mh_script.specs.declared.scripts.ScriptId.{ScriptId}
-use Rattle.mh_script.specs.Index.{ByOwner, at_text, are_texts, owned_at}
+use Rattle.mh_script.specs.Index.{ByOwner, are_texts, owned_at}
 
 -- whether a script has this owner, name and descriptor
 abbrev pub has_texts : List ℕ → List ℕ → List ℕ → Script → Bool

@@ -6,14 +6,7 @@ use Rattle.std.specs.Cmp.Lexicographic.{slice_cmp}
 use Rattle.std.specs.Global.{Vec}
 use Rattle.std.specs.Ordering.{nat_cmp}
 use Rattle.std.specs.Str.{bytes_eq}
-
--- what a map has at a text
-abbrev pub at_text : {X : Type 0} → BTreeMap (Vec ℕ) X → List ℕ → Option X
-at_text entries text = get_by (λ k. slice_cmp nat_cmp text k.items) entries
-
--- at a text the new map has what is said, and at every other what the old one has
-abbrev pub Writes : {X : Type 0} → BTreeMap (Vec ℕ) X → BTreeMap (Vec ℕ) X → List ℕ → Option X → Type 0
-Writes old new key there = UpdatesBy (λ (x y : Vec ℕ). slice_cmp nat_cmp x.items y.items) (λ k. slice_cmp nat_cmp key k.items) old new there
+use Rattle.mh_base.specs.TextMaps.{at_text}
 
 -- numbers by descriptors
 abbrev pub ByDescriptor : Type 0

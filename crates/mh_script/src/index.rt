@@ -1,6 +1,7 @@
 ghost use Rattle.std.specs.Prelude.{◌≡◌, ◌&&◌, if◌then◌else◌, ℕ, List, IfOk, Some, None};
 ghost use Rattle.std.specs.Str.{bytes_eq};
-ghost use Rattle.mh_script.specs.Index.{at_text, named_at, owned_at, Writes, FindsOneMore, FindsFirst, KnowsOneMore};
+ghost use Rattle.mh_base.specs.TextMaps.{at_text, WritesText};
+ghost use Rattle.mh_script.specs.Index.{named_at, owned_at, FindsOneMore, FindsFirst, KnowsOneMore};
 
 use mh_base::NoMemory;
 use mh_leaves::Reference;
@@ -33,7 +34,7 @@ pub(crate) fn owned(owners: &ByOwner, texts: Reference<'_>) -> Option<u32>
 
 // Takes out what stands under a name.
 fn take_name(alloc: Global, names: &mut ByName, name: &[u8]) -> ByDescriptor
-    ensures rest { Writes names.old names.new name.now None }
+    ensures rest { WritesText names.old names.new name.now None }
     ensures taken { (d : List ℕ) → at_text result d ≡ named_at names.old name.now d }
 {
     match names.remove(name) {
@@ -44,7 +45,7 @@ fn take_name(alloc: Global, names: &mut ByName, name: &[u8]) -> ByDescriptor
 
 // Takes out what stands under an owner.
 fn take_owner(alloc: Global, owners: &mut ByOwner, owner: &[u8]) -> ByName
-    ensures rest { Writes owners.old owners.new owner.now None }
+    ensures rest { WritesText owners.old owners.new owner.now None }
     ensures taken { (n d : List ℕ) → named_at result n d ≡ owned_at owners.old owner.now n d }
 {
     match owners.remove(owner) {

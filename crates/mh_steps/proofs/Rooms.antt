@@ -10,32 +10,9 @@ use Rattle.mh_handle.specs.declared.handle.Handle.{Handle}
 use Rattle.mh_handle.specs.declared.work.Work.{Work}
 use Rattle.mh_handle.specs.Passes.{PassView, SeatView, pass_at, seat_at}
 use Rattle.mh_handle.specs.Stands.{HandleView, Stands, StandsForSome}
-use Rattle.mh_handle.specs.Works.{GoesOn, IsReady}
-use Rattle.mh_handle.proofs.Going.{goes_on-more, goes_on-still}
+use Rattle.mh_handle.specs.Works.{IsReady}
 
 -- ---- numbers
-
-pub goes_on-none : (numbers : ℕ) (w : Work) → GoesOn numbers w w
-goes_on-none numbers w = goes_on-more 0 numbers w w (omega arith) (goes_on-still w)
-
-pub goes_on-some : (fewer more : ℕ) (old new : Work) → fewer ≤ more → GoesOn fewer old new → GoesOn more old new
-goes_on-some fewer more old new few goes = goes_on-more fewer more old new few goes
-
-pub ready-less : (w : Work) (more fewer : ℕ) → fewer ≤ more → IsReady w more → IsReady w fewer
-ready-less w more fewer low ready = record {
-  of_table = ready.of_table;
-  room = omega (arith, low, ready.room);
-  of_types = ready.of_types;
-  holds = omega (arith, low, ready.holds);
-}
-
-pub ready-after : (numbers rest : ℕ) (old new : Work) → GoesOn numbers old new → IsReady old (numbers + rest) → IsReady new rest
-ready-after numbers rest old new goes ready = record {
-  of_table = goes.table ∙ (ready.of_table ∙ ap (λ f. f.now) (sym goes.forms));
-  room = omega (arith, goes.room, ready.room);
-  of_types = goes.seat ∙ (ready.of_types ∙ ap (λ t. t.now) (sym goes.types));
-  holds = omega (arith, goes.holds, ready.holds);
-}
 
 -- the first pass over a table may draw more numbers than any test or measurement, and the first seat of a table of types has room for their handles
 pub ready-first : (w : Work) (seat : SeatView) (numbers : ℕ) → w.pass.now ≡ pass_at w.forms.now seat → seat ≡ seat_at w.forms.now 0 →

@@ -4,7 +4,7 @@ ghost use Rattle.std.specs.Prelude.{◌≡◌, ◌++◌, ◌≤◌, [], length, 
 ghost use Rattle.mh_intern.specs.Exchanges.{Exchanges};
 ghost use Rattle.mh_handle.specs.Stands.{StandsForSome};
 ghost use Rattle.mh_handle.specs.Works.{HoldsTypes, IsReady, IsUnchanged, GoesOn, leaves_of};
-ghost use Rattle.mh_steps.specs.Adds.{AddsBoth, AddsTypes};
+ghost use Rattle.mh_steps.specs.AnyTypes.{TradesAnyBoth, TradesAny};
 
 use crate::literals::{type_of, value_of};
 use crate::step::{Joined, Root, Step, Typed};
@@ -19,7 +19,7 @@ use std::sync::Wait;
 fn leaf_at<'t, R: Wait>(w: &mut Work<'_, 't>, rt: &R, id: LeafId) -> Result<Handle<'t>, HandleError>
     requires ready { IsReady w.old 1 }
     ensures goes_on { GoesOn 1 w.old w.new }
-    ensures types { AddsTypes [] w.old w.new result }
+    ensures types { TradesAny [] w.old w.new result }
     ensures stands { IfOk result (StandsForSome (leaves_of w.old)) }
 {
     if id.0 >= w.leaves.count() {
@@ -39,7 +39,7 @@ fn two_leaves<'t, R: Wait>(
     ensures goes_on { GoesOn 2 w.old w.new }
     ensures one { IfOk result (λ both. StandsForSome (leaves_of w.old) both.0) }
     ensures other { IfOk result (λ both. StandsForSome (leaves_of w.old) both.1) }
-    ensures types { AddsBoth w.old w.new result }
+    ensures types { TradesAnyBoth w.old w.new result }
 {
     let one = leaf_at(w, rt, one)?;
     match leaf_at(w, rt, other) {
@@ -60,7 +60,7 @@ fn guarded<'t, R: Wait>(
 ) -> Result<Handle<'t>, HandleError>
     requires ready { IsReady w.old 4 }
     ensures goes_on { GoesOn 4 w.old w.new }
-    ensures types { AddsTypes [] w.old w.new result }
+    ensures types { TradesAny [] w.old w.new result }
     ensures stands { IfOk result (StandsForSome (leaves_of w.old)) }
 {
     let (test, target) = two_leaves(w, rt, test, target)?;
@@ -83,7 +83,7 @@ fn caught<'t, R: Wait>(
 ) -> Result<Handle<'t>, HandleError>
     requires ready { IsReady w.old 3 }
     ensures goes_on { GoesOn 3 w.old w.new }
-    ensures types { AddsTypes [] w.old w.new result }
+    ensures types { TradesAny [] w.old w.new result }
     ensures stands { IfOk result (StandsForSome (leaves_of w.old)) }
 {
     let (target, handler) = two_leaves(w, rt, target, handler)?;
@@ -98,7 +98,7 @@ fn constant_of<'t, R: Wait>(
 ) -> Result<Handle<'t>, HandleError>
     requires ready { IsReady w.old 1 }
     ensures goes_on { GoesOn 1 w.old w.new }
-    ensures types { AddsTypes [] w.old w.new result }
+    ensures types { TradesAny [] w.old w.new result }
     ensures stands { IfOk result (StandsForSome (leaves_of w.old)) }
 {
     let classes = w.leaves.classes();
@@ -110,7 +110,7 @@ fn constant_of<'t, R: Wait>(
 fn rooted<'t, R: Wait>(w: &mut Work<'_, 't>, rt: &R, root: Root) -> Result<Handle<'t>, HandleError>
     requires ready { IsReady w.old 4 }
     ensures goes_on { GoesOn 4 w.old w.new }
-    ensures types { AddsTypes [] w.old w.new result }
+    ensures types { TradesAny [] w.old w.new result }
     ensures stands { IfOk result (StandsForSome (leaves_of w.old)) }
 {
     let classes = w.leaves.classes();
@@ -152,7 +152,7 @@ fn bound<'t, R: Wait>(
     requires held { HoldsTypes w.old target.held }
     requires stands { StandsForSome (leaves_of w.old) target }
     ensures goes_on { GoesOn 1 w.old w.new }
-    ensures types { AddsTypes target.entry.held w.old w.new result }
+    ensures types { TradesAny target.entry.held w.old w.new result }
     ensures stands { IfOk result (StandsForSome (leaves_of w.old)) }
 {
     match value_of(w.alloc, text, w.leaves.classes()) {
@@ -172,7 +172,7 @@ fn by_type<'t, R: Wait>(
     requires held { HoldsTypes w.old target.held }
     requires stands { StandsForSome (leaves_of w.old) target }
     ensures goes_on { GoesOn 2 w.old w.new }
-    ensures types { AddsTypes target.entry.held w.old w.new result }
+    ensures types { TradesAny target.entry.held w.old w.new result }
     ensures stands { IfOk result (StandsForSome (leaves_of w.old)) }
 {
     match how {
@@ -195,7 +195,7 @@ fn with_type<'t, R: Wait>(
     requires held { HoldsTypes w.old target.held }
     requires stands { StandsForSome (leaves_of w.old) target }
     ensures goes_on { GoesOn 2 w.old w.new }
-    ensures types { AddsTypes target.entry.held w.old w.new result }
+    ensures types { TradesAny target.entry.held w.old w.new result }
     ensures stands { IfOk result (StandsForSome (leaves_of w.old)) }
 {
     match type_of(w.alloc, text, w.leaves.classes()) {
@@ -216,7 +216,7 @@ fn by_part<'t, R: Wait>(
     requires stands { StandsForSome (leaves_of w.old) target }
     requires part { StandsForSome (leaves_of w.old) part }
     ensures goes_on { GoesOn 1 w.old w.new }
-    ensures types { AddsTypes (target.entry.held ++ part.entry.held) w.old w.new result }
+    ensures types { TradesAny (target.entry.held ++ part.entry.held) w.old w.new result }
     ensures stands { IfOk result (StandsForSome (leaves_of w.old)) }
 {
     match how {
@@ -237,7 +237,7 @@ fn with_part<'t, R: Wait>(
     requires held { HoldsTypes w.old target.held }
     requires stands { StandsForSome (leaves_of w.old) target }
     ensures goes_on { GoesOn 2 w.old w.new }
-    ensures types { AddsTypes target.entry.held w.old w.new result }
+    ensures types { TradesAny target.entry.held w.old w.new result }
     ensures stands { IfOk result (StandsForSome (leaves_of w.old)) }
 {
     match leaf_at(w, rt, id) {
@@ -258,7 +258,7 @@ fn doubled<'t, R: Wait>(
     requires held { HoldsTypes w.old target.held }
     requires stands { StandsForSome (leaves_of w.old) target }
     ensures goes_on { GoesOn 2 w.old w.new }
-    ensures types { AddsTypes target.entry.held w.old w.new result }
+    ensures types { TradesAny target.entry.held w.old w.new result }
     ensures stands { IfOk result (StandsForSome (leaves_of w.old)) }
 {
     match target.copy(w) {
@@ -277,7 +277,7 @@ fn adapted<'t, R: Wait>(
     requires held { HoldsTypes w.old target.held }
     requires stands { StandsForSome (leaves_of w.old) target }
     ensures goes_on { GoesOn 2 w.old w.new }
-    ensures types { AddsTypes target.entry.held w.old w.new result }
+    ensures types { TradesAny target.entry.held w.old w.new result }
     ensures stands { IfOk result (StandsForSome (leaves_of w.old)) }
 {
     match step {
@@ -298,7 +298,7 @@ pub fn made<'t, R: Wait>(
     requires ready { IsReady w.old 204 }
     requires few { length steps.now ≤ 100 }
     ensures goes_on { GoesOn 204 w.old w.new }
-    ensures types { AddsTypes [] w.old w.new result }
+    ensures types { TradesAny [] w.old w.new result }
     ensures stands { IfOk result (StandsForSome (leaves_of w.old)) }
 {
     let mut h = rooted(w, rt, root)?;

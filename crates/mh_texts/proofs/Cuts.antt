@@ -4,7 +4,7 @@ use Rattle.std.proofs.lemmas.Bool.{cases_Bool, eqb-true, ltb-true, and_parts, an
 use Rattle.std.specs.List.{list_all, position_or_len}
 use Rattle.mh_base.specs.Lines.{cut_at}
 use Rattle.mh_texts.specs.Spells.{Lacks}
-use Rattle.mh_texts.proofs.Inversion.{map_some, some_is}
+use Rattle.mh_base.proofs.Inversion.{map_some, some_is}
 use Rattle.mh_base.proofs.Cuts as trip
 
 -- the two ways to say that a text lacks a byte

@@ -3,7 +3,6 @@ mod CommaCuts
 mod ComponentTrip
 pub mod Cuts
 mod HexTrip
-pub mod Inversion
 mod ItemTrip
 mod Literals
 pub mod LiteralAgain

@@ -1,5 +1,5 @@
 -- Numbers: what is read is what is written.
-use Rattle.std.proofs.Common.{◌≡◌, refl, sym, ◌∙◌, ap, subst, zero, suc, lit<, codes, ℕ, ◌^◌, ◌<◌, inl, inr, ℤ, pos, negsuc, neg_ℤ, Bool, true, false, ◌&&◌, if◌then◌else◌, List, ◌∷◌, None, Some, Result, Ok, Err, FitsSigned, w64, nat_lt, arith}
+use Rattle.std.proofs.Common.{◌≡◌, refl, sym, ◌∙◌, ap, subst, zero, suc, lit<, codes, ℕ, ◌^◌, ◌<◌, inl, inr, ℤ, pos, negsuc, neg_ℤ, Bool, true, ◌&&◌, if◌then◌else◌, List, ◌∷◌, None, Some, Result, Ok, Err, FitsSigned, w64, nat_lt, arith}
 use Rattle.std.proofs.lemmas.Bool.{and_parts, or_cases, ltb-true, lt-ltb}
 use Rattle.std.proofs.lemmas.Fmt.{decimal_is_IsNumeral, parse-decimal, IsAscii-decimal}
 use Rattle.std.proofs.lemmas.Result.{Ok-from_Ok_iff}
@@ -9,11 +9,8 @@ use Rattle.std.proofs.lemmas.Str.Parse.{numerals_by_value, tells_digits, parse_s
 use Rattle.std.specs.Fmt.{decimal, signed_decimal}
 use Rattle.std.specs.Str.{bytes_eq, IsUtf8, IsAscii}
 use Rattle.std.specs.Str.Parse.{digits_value, signed_digits_value, without_leading_plus, ParsesSigned, ParsesUnsigned}
+use Rattle.mh_base.proofs.Inversion.{if_none}
 use Rattle.mh_texts.specs.Number.{is_long, writes, long_of, unsigned_of}
-
-none_where : {X : Type 0} (b : Bool) (x : X) → (b ≡ true → ⊥) → None ≡ (if b then Some x else None)
-none_where true x not_so = absurd (not_so refl)
-none_where false x not_so = refl
 
 -- ---- numbers with a sign
 
@@ -41,7 +38,7 @@ parse_minus_zero r h = Ok-from_Ok_iff r _ _ h ((lit< tt, (lit< tt, tt)), is_long
 -- where the digits are refused, no number is written so
 pub long_of-refused : {E : Type 0} (text : List ℕ) (r : Result ℤ E) (e : E) → ParsesSigned w64 10 text r → r ≡ Err e → None ≡ long_of text
 long_of-refused text r e parses refused =
-    none_where (is_long (signed_digits_value 10 text) && writes (signed_digits_value 10 text) text) (signed_digits_value 10 text) (λ so.
+    if_none (is_long (signed_digits_value 10 text) && writes (signed_digits_value 10 text) text) (signed_digits_value 10 text) (λ so.
     let parts = and_parts _ _ so in
     elim (or_cases (bytes_eq (signed_decimal (signed_digits_value 10 text)) text) (bytes_eq (codes "-0") text) parts.1) [
       | inl w ↦
@@ -64,7 +61,7 @@ minus_zero-ascii (suc (suc i)) = lit< tt
 -- what is no text is no number
 pub long_of-no_text : (text : List ℕ) → (IsUtf8 text → ⊥) → None ≡ long_of text
 long_of-no_text text no_text =
-    none_where (is_long (signed_digits_value 10 text) && writes (signed_digits_value 10 text) text) (signed_digits_value 10 text) (λ so.
+    if_none (is_long (signed_digits_value 10 text) && writes (signed_digits_value 10 text) text) (signed_digits_value 10 text) (λ so.
     let parts = and_parts _ _ so in
     elim (or_cases (bytes_eq (signed_decimal (signed_digits_value 10 text)) text) (bytes_eq (codes "-0") text) parts.1) [
       | inl w ↦ no_text (subst IsUtf8 ((bytes_eq-Decides _ _).0 w) (IsUtf8-from_ascii _ (signed-ascii (signed_digits_value 10 text) parts.0)))
@@ -76,7 +73,7 @@ long_of-no_text text no_text =
 pub unsigned_of-refused : {E : Type 0} (text : List ℕ) (r : Result ℕ E) (e : E) → ParsesUnsigned 32 10 text r → r ≡ Err e → None ≡ unsigned_of text
 unsigned_of-refused text r e parses refused =
     let n : ℕ = digits_value 10 (without_leading_plus text) in
-    none_where (nat_lt n (2 ^ 32) && bytes_eq (decimal n) text) n (λ so.
+    if_none (nat_lt n (2 ^ 32) && bytes_eq (decimal n) text) n (λ so.
     let parts = and_parts _ _ so in
     let small : n < 2 ^ 32 = ltb-true n (2 ^ 32) parts.0 in
     let read : r ≡ Ok n = parse-decimal 32 n text r small (omega arith) (sym ((bytes_eq-Decides _ _).0 parts.1)) parses in cc)
@@ -84,7 +81,7 @@ unsigned_of-refused text r e parses refused =
 pub unsigned_of-no_text : (text : List ℕ) → (IsUtf8 text → ⊥) → None ≡ unsigned_of text
 unsigned_of-no_text text no_text =
     let n : ℕ = digits_value 10 (without_leading_plus text) in
-    none_where (nat_lt n (2 ^ 32) && bytes_eq (decimal n) text) n (λ so.
+    if_none (nat_lt n (2 ^ 32) && bytes_eq (decimal n) text) n (λ so.
     let parts = and_parts _ _ so in
     let small : n < 2 ^ 32 = ltb-true n (2 ^ 32) parts.0 in
     no_text (subst IsUtf8 ((bytes_eq-Decides _ _).0 parts.1) (IsUtf8-from_ascii _ (IsAscii-decimal n (omega arith)))))

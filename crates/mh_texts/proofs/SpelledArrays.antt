@@ -10,7 +10,7 @@ use Rattle.mh_texts.specs.Spells.{SpellsItemOf, SpellsMore, SpellsItems}
 use Rattle.mh_texts.proofs.ArrayTrip.{AllLack, split_joined, listed_some}
 use Rattle.mh_texts.proofs.CommaCuts.{commaed, is_split}
 use Rattle.mh_texts.proofs.Cuts.{lacks_each, each_lacks}
-use Rattle.mh_texts.proofs.Inversion.{by_test, some_is, none_is_not, map_some, then_some}
+use Rattle.mh_base.proofs.Inversion.{by_test, some_is, none_is_not, map_some, then_some}
 use Rattle.mh_base.proofs.Cuts.{Lacks}
 use Rattle.mh_texts.proofs.SpelledItems.{item_spelled, item_read}
 

@@ -21,7 +21,7 @@ use Rattle.mh_values.proofs.Complete.{type_complete}
 use Rattle.mh_values.proofs.ReadBy.{type_read}
 use Rattle.mh_texts.specs.Literal.{component_of}
 use Rattle.mh_texts.specs.Spells.{Lacks, SpellsClass, SpellsComponent}
-use Rattle.mh_texts.proofs.Inversion.{some_is, none_is_not}
+use Rattle.mh_base.proofs.Inversion.{some_is, none_is_not}
 use Rattle.mh_base.proofs.Cuts.{front_of}
 
 -- the meaning of a class's descriptor

@@ -6,7 +6,7 @@ use Rattle.std.specs.List.{list_all}
 use Rattle.std.specs.Str.Parse.{digits_value_after}
 use Rattle.mh_texts.specs.Characters.{is_hex_digit}
 use Rattle.mh_texts.specs.Escapes.{hex_value}
-use Rattle.mh_texts.proofs.Inversion.{by_test, some_is, none_is_not}
+use Rattle.mh_base.proofs.Inversion.{by_test, some_is, none_is_not}
 
 pub all_push : (test : ℕ → Bool) (xs : List ℕ) (x : ℕ) → list_all test xs ≡ true → test x ≡ true → list_all test (xs ++ x ∷ []) ≡ true
 all_push test [] x all one = and_from (test x) true one refl

@@ -12,7 +12,7 @@ use Rattle.mh_values.specs.Exception.{bare}
 use Rattle.mh_texts.specs.Literal.{number_of, if_exception, tagged, item_of}
 use Rattle.mh_texts.specs.Spells.{number_mark, boxed_mark, SpellsNumber, SpellsItem}
 use Rattle.mh_texts.specs.Escapes.{text_of}
-use Rattle.mh_texts.proofs.Inversion.{by_test, some_is, none_is_not, map_some}
+use Rattle.mh_base.proofs.Inversion.{by_test, some_is, none_is_not, map_some}
 use Rattle.mh_texts.proofs.SpelledObjects.{object_spelled, object_read, exception_spelled}
 use Rattle.mh_texts.proofs.SpelledNumbers.{letter_of, number_spelled, number_read}
 use Rattle.mh_texts.proofs.SpelledRead.{text_read}

@@ -11,7 +11,7 @@ use Rattle.mh_texts.specs.Literal.{bool_of, number_of}
 use Rattle.mh_texts.specs.Number.{is_int, is_long, writes, long_of, if_int, int_of, unsigned_of}
 use Rattle.mh_texts.specs.LiteralText.{bool_text}
 use Rattle.mh_texts.specs.Spells.{SpellsInteger, SpellsUnsigned, SpellsNumber}
-use Rattle.mh_texts.proofs.Inversion.{by_test, some_is, none_is_not, map_some, then_some}
+use Rattle.mh_base.proofs.Inversion.{by_test, some_is, none_is_not, map_some, then_some}
 use Rattle.mh_texts.proofs.NumberTrip.{bool_trip, int_trip, long_trip, unsigned_trip}
 
 -- ---- integers

@@ -13,7 +13,7 @@ use Rattle.mh_texts.specs.Literal.{has_own_literal, if_object, object_of, if_exc
 use Rattle.mh_texts.specs.Number.{unsigned_of}
 use Rattle.mh_texts.specs.Spells.{SpellsObject, SpellsException}
 use Rattle.mh_texts.proofs.Cuts.{cut_is, cut_read}
-use Rattle.mh_texts.proofs.Inversion.{by_test, some_is, none_is_not, then_some}
+use Rattle.mh_base.proofs.Inversion.{by_test, some_is, none_is_not, then_some}
 use Rattle.mh_texts.proofs.NumberTrip.{unsigned_trip}
 use Rattle.mh_texts.proofs.SpelledNumbers.{unsigned_spelled}
 

@@ -7,7 +7,7 @@ use Rattle.mh_texts.specs.declared.escape.Escape.{Escape}
 use Rattle.mh_texts.specs.declared.escape.Escape.TheVariants as escape
 use Rattle.mh_texts.specs.Characters.{is_graphic, is_hex_digit, is_scalar, SpellsCharacter, itself, space, comma, line, backslash, numbered, SpellsCharacters, SpellsText}
 use Rattle.mh_texts.specs.Escapes.{hex_value, scalar, whole, goes_on, after_backslash, one_digit_more, within_braces, step, in_front, is_outside, characters_from, if_short, text_of}
-use Rattle.mh_texts.proofs.Inversion.{by_test, some_is, none_is_not, map_some, then_some}
+use Rattle.mh_base.proofs.Inversion.{by_test, some_is, none_is_not, map_some, then_some}
 use Rattle.mh_texts.proofs.SpelledDigits.{all_push, value_push, hex_is}
 
 -- ---- what was read of an escape

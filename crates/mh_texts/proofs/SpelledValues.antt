@@ -18,7 +18,7 @@ use Rattle.mh_texts.specs.declared.literal.LiteralError.TheVariants as literal_e
 use Rattle.mh_texts.specs.Literal.{item_of, component_of, listed, if_few, unclosed, array_of_literal, literal_of, TellsLiteral}
 use Rattle.mh_texts.specs.Spells.{SpellsArray, SpellsItem, Spells, IsSpelled}
 use Rattle.mh_texts.proofs.Cuts.{cut_is, cut_read}
-use Rattle.mh_texts.proofs.Inversion.{by_test, some_is, none_is_not, map_some, then_some}
+use Rattle.mh_base.proofs.Inversion.{by_test, some_is, none_is_not, map_some, then_some}
 use Rattle.mh_texts.proofs.RoundTrip.{unclosed_trip}
 use Rattle.mh_texts.proofs.SpelledArrays.{listed_spelled, listed_read}
 use Rattle.mh_texts.proofs.SpelledComponents.{component_spelled, component_read, no_bracket_in}

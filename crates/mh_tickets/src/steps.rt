@@ -1,8 +1,9 @@
 // The counter: each kind of step, over a bare seat. No step takes memory or waits.
 ghost use Rattle.std.specs.Prelude.{◌≡◌, ◌<◌, ◌≤◌, [], length, IfOk};
 ghost use Rattle.mh_seats.specs.Room.{limit};
+ghost use Rattle.mh_seats.specs.Steps.{Begins, Moves};
 ghost use Rattle.mh_tickets.specs.Draws.{Drew, EachOnce, drawn, held_by, without, joined};
-ghost use Rattle.mh_tickets.specs.Steps.{Begins, IsCounter, IsOfCounter, Moves};
+ghost use Rattle.mh_tickets.specs.Steps.{IsCounter, IsOfCounter};
 
 use crate::kinds::{Counter, Drawing, Joining, Looking, Part, Place, Splitting, Steps};
 use std::alloc::{AllocError, Global};

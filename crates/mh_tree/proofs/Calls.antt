@@ -6,12 +6,12 @@ use Rattle.mh_values.specs.declared.value.Exc.{Exc}
 use Rattle.mh_values.specs.declared.calls.LeafCall.{LeafCall}
 use Rattle.mh_values.specs.declared.value.Value.{Value}
 use Rattle.mh_values.specs.declared.value.Value.TheVariants as value
-use Rattle.mh_values.specs.Computation.{Ran, Gave, Threw, Stuck, raised, after, and_then, guarded, spliced}
+use Rattle.mh_values.specs.Computation.{Ran, Gave, Threw, Stuck, raised, after, and_then, guarded, spliced, is_caught}
 use Rattle.mh_leaf.specs.LeafTable.{LeafTable}
 use Rattle.mh_tree.specs.Tree.{Tree}
 use Rattle.mh_tree.specs.Tree as tree
 use Rattle.mh_tree.specs.Typing.{arity}
-use Rattle.mh_tree.specs.Meaning.{mean, part_of, decided, is_caught}
+use Rattle.mh_tree.specs.Meaning.{mean, part_of, decided}
 
 -- the leaf calls that were made
 abbrev pub calls_made : {A : Type 0} → Ran A → List LeafCall

@@ -5,13 +5,13 @@ use Rattle.mh_values.specs.declared.types.Primitive.TheVariants as primitive
 use Rattle.mh_values.specs.declared.types.Comp.TheVariants as comp
 use Rattle.mh_values.specs.declared.types.Ty.{Ty}
 use Rattle.mh_values.specs.declared.types.Ty.TheVariants as ty
-use Rattle.mh_values.specs.declared.types.MethodTy.{MethodTy}
 use Rattle.mh_values.specs.declared.value.Num.TheVariants as num
 use Rattle.mh_values.specs.declared.value.LeafId.{LeafId}
 use Rattle.mh_values.specs.declared.calls.LeafCall.{LeafCall}
 use Rattle.mh_values.specs.declared.value.Value.{Value}
 use Rattle.mh_values.specs.declared.value.Value.TheVariants as value
 use Rattle.mh_values.specs.Class.{builtin_classes, class_at, class_below, object_class}
+pub use Rattle.mh_values.proofs.SameTypes.{method_type as of}
 use Rattle.mh_leaf.specs.declared.leaf.Kind.{Kind}
 use Rattle.mh_leaf.specs.declared.leaf.Kind.TheVariants as kind
 use Rattle.mh_leaf.specs.declared.leaf.Leaf.{Leaf}
@@ -34,9 +34,6 @@ number = ty.Class (class_at 1)
 
 abbrev pub ints : Ty
 ints = ty.Array (comp.Prim primitive.I)
-
-abbrev pub of : List Ty → Option Ty → MethodTy
-of params ret = record { params = params; ret = ret }
 
 abbrev pub static_leaf : List ℕ → List Ty → Option Ty → Kind → Leaf
 static_leaf name params ret kind = record {

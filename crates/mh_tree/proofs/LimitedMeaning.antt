@@ -1,7 +1,7 @@
 -- A tree that has a type, and whose own values are within their limits, keeps the limits of values, and so do calls of it.
-use Rattle.std.proofs.Common.{◌≡◌, refl, ◌-◌, Bool, true, false, cond, [], length, Ok, Err}
+use Rattle.std.proofs.Common.{◌≡◌, refl, ◌-◌, [], length, Ok, Err}
 use Rattle.mh_values.specs.declared.types.MethodTy.{MethodTy}
-use Rattle.mh_values.specs.Computation.{Threw, spliced}
+use Rattle.mh_values.specs.Computation.{Threw, spliced, is_caught}
 use Rattle.mh_values.specs.Same.{is_same_method_type}
 use Rattle.mh_leaf.specs.LeafTable.{LeafTable}
 use Rattle.mh_leaf.specs.Limits.{IsRunWithinLimits}
@@ -11,10 +11,10 @@ use Rattle.mh_tree.specs.Tree as tree
 use Rattle.mh_tree.specs.Rows.{TypeOrRefusal, component_of, mismatch, bind_row, drop_row, permute_row, filter_row, filterret_row, fold_row, collect_row, spread_row, gather_row, astype_row, guard_row, catch_row}
 use Rattle.mh_tree.specs.Typing.{with_type, type_of, arity}
 use Rattle.mh_tree.specs.Limited.{HasLimitedValues, KeepsLimits}
-use Rattle.mh_tree.specs.Meaning.{Done, mean, picked, is_caught, exact_at, exact, unless_refused, generic_at, generic}
+use Rattle.mh_tree.specs.Meaning.{Done, mean, picked, exact_at, exact, unless_refused, generic_at, generic}
 use Rattle.mh_tree.proofs.RowParts.{with_type-parts, gather_row-few}
 use Rattle.mh_tree.proofs.LimitedLists.{splice-limits, picked-limits}
-use Rattle.mh_tree.proofs.LimitedRuns.{known-limits}
+use Rattle.mh_tree.proofs.LimitedRuns.{known-limits, chosen}
 use Rattle.mh_tree.proofs.LimitedNodes.{constant-keeps, identity-keeps, throw-keeps, bind-keeps, then-keeps, filterret-keeps, spread-keeps, gather-keeps, astype-keeps, guard-keeps, catch-keeps}
 
 -- on arguments within their limits it gives a result within its limits, and calls leaves on such arguments
@@ -75,10 +75,6 @@ mean-limits table (tree.Catch t class h) u typed own =
     (mean-limits table h r.0 r.1 own.1)
 
 -- ---- calls
-
-chosen : (b : Bool) (x y : Done) → IsRunWithinLimits x → IsRunWithinLimits y → IsRunWithinLimits (cond b x y)
-chosen true x y h k = h
-chosen false x y h k = k
 
 -- a call by a type that must be the tree's
 pub exact-limits : (table : LeafTable) (t : Tree) (asked : MethodTy) → HasLimitedValues t → KeepsLimits (exact table t asked)

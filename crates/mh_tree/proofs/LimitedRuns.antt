@@ -28,15 +28,15 @@ then-limits (Gave v calls) n next h more = after-limits calls (next v (raised n 
 then-limits (Threw e calls) n next h more = h
 then-limits Stuck n next h more = tt
 
-caught : (b : Bool) (r s : Done) → IsRunWithinLimits r → IsRunWithinLimits s → IsRunWithinLimits (cond b r s)
-caught true r s h k = h
-caught false r s h k = k
+pub chosen : (b : Bool) (r s : Done) → IsRunWithinLimits r → IsRunWithinLimits s → IsRunWithinLimits (cond b r s)
+chosen true r s h k = h
+chosen false r s h k = k
 
 pub guarded-limits : (r : Done) (test : Exc → Bool) (n : ℕ) (handler : Exc → ℕ → Done) → IsRunWithinLimits r →
     ((e : Exc) (k : ℕ) → IsRunWithinLimits (handler e k)) → IsRunWithinLimits (guarded r test n handler)
 guarded-limits (Gave v calls) test n handler h more = h
 guarded-limits (Threw e calls) test n handler h more =
-    caught (test e) (after calls (handler e (raised n calls))) (Threw e calls)
+    chosen (test e) (after calls (handler e (raised n calls))) (Threw e calls)
     (after-limits calls (handler e (raised n calls)) h (more e (raised n calls))) h
 guarded-limits Stuck test n handler h more = tt
 

@@ -1,6 +1,7 @@
 -- What conditions and limits tell where a type is given.
 use Rattle.std.proofs.Common.{◌≡◌, refl, Bool, true, false, ℕ, List, Option, Some, None, Result, Ok, Err, nat_le, codes}
 use Rattle.mh_base.specs.Provided.{provided, provided_some}
+use Rattle.mh_base.proofs.Inversion.{ok_is}
 use Rattle.mh_values.specs.declared.types.MethodTy.{MethodTy}
 use Rattle.mh_values.specs.declared.value.Exc.{Exc}
 use Rattle.mh_values.specs.declared.value.Value.{Value}
@@ -31,12 +32,9 @@ pub provided_fit-parts : (r : Result Value Exc) (word : List ℕ) (next : TypeOr
 provided_fit-parts (Ok w) word next t h = (w, refl, h)
 provided_fit-parts (Err e) word next t h = absurd cc
 
-same_type : (t u : MethodTy) → ◌≡◌ {A = TypeOrRefusal} (Ok t) (Ok u) → u ≡ t
-same_type t u h = cc
-
 pub limited-is : (word : List ℕ) (weight : ℕ) (t u : MethodTy) → limited word weight t ≡ Ok u → u ≡ t
 limited-is word weight t u h =
     let heavy = saying internal_error_class (codes "weight") in
     let q = provided-parts (nat_le (slots_of_all t.params) 254) (illegal word) (provided (nat_le weight 256) heavy (Ok t)) u h in
     let r = provided-parts (nat_le weight 256) heavy (Ok t) u q.1 in
-    same_type t u r.1
+    sym (ok_is t u r.1)

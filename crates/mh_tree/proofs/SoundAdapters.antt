@@ -39,9 +39,9 @@ gives_at-taken None place params h = refl
 gives_at-taken (Some r) place params h = one-taken params place r (same_return-is (slice_get params place) (Some r) h)
 
 -- a result that is there counts one
-is_one : (ret : Option Ty) → is_some ret ≡ true → count_of ret ≡ 1
-is_one None h = absurd cc
-is_one (Some r) h = refl
+pub result-counts : (ret : Option Ty) → is_some ret ≡ true → count_of ret ≡ 1
+result-counts None h = absurd cc
+result-counts (Some r) h = refl
 
 pub bind-sound : (classes : List Class) (body : Body) (t : MethodTy) (weight place : ℕ) (v : Value) (u : MethodTy) → IsSound classes body t →
     bind_row classes t weight place v ≡ Ok u →
@@ -102,7 +102,7 @@ pub filter-sound : (classes : List Class) (body part : Body) (t : MethodTy) (wei
 filter-sound classes body part t weight place f f_weight u sound part-sound typed args n have =
     let q = filter_row-parts t weight place f f_weight u typed in
     let low = gives_at-within f.ret place t.params q.2 in
-    let one = is_one f.ret q.1 in
+    let one = result-counts f.ret q.1 in
     let taken : take 1 (drop place t.params) ≡ option_to_list f.ret = ap (λ c. take c (drop place t.params)) (sym one) ∙ gives_at-taken f.ret place t.params q.2
     in
     let have' : HaveTypes classes args (spliced place 1 f.params t.params) = subst (λ (m : MethodTy). HaveTypes classes args m.params) q.3 have in

@@ -13,7 +13,7 @@ use Rattle.mh_values.specs.declared.value.Value.{Value}
 use Rattle.mh_values.specs.declared.value.Value.TheVariants as value
 use Rattle.mh_values.specs.Class.{is_subclass}
 use Rattle.mh_values.specs.Classes.{AreClasses}
-use Rattle.mh_values.specs.Computation.{and_then, guarded}
+use Rattle.mh_values.specs.Computation.{and_then, guarded, is_caught}
 use Rattle.mh_values.specs.HasType.{HaveTypes, is_type_below}
 use Rattle.mh_values.specs.Returns.{Returns}
 use Rattle.mh_values.specs.Same.{begins_with_types}
@@ -22,7 +22,7 @@ use Rattle.mh_values.proofs.SameTypes.{same_return-is, same_method_type-is, begi
 use Rattle.mh_leaf.specs.Outcome.{boolean_type}
 use Rattle.mh_leaf.proofs.ArgumentTypes.{is_boolean}
 use Rattle.mh_tree.specs.Rows.{takes_exception, guard_row, catch_row}
-use Rattle.mh_tree.specs.Meaning.{Done, decided, is_caught}
+use Rattle.mh_tree.specs.Meaning.{Done, decided}
 use Rattle.mh_tree.specs.Sound.{Body, IsSound}
 use Rattle.mh_tree.proofs.RowParts.{guard_row-parts, catch_row-parts}
 use Rattle.mh_tree.proofs.Returning.{returns-then, returns-guarded}

@@ -75,7 +75,7 @@ default-typed classes (ty.Class c) = refl
 default-typed classes (ty.Array c) = refl
 
 -- how the end of a return conversion is shown
-abbrev shown : Result (Option Value) Exc → Done
+abbrev pub shown : Result (Option Value) Exc → Done
 shown r = or_throw r (λ v. Gave v [])
 
 value-shown : (classes : List Class) (r : Result Value Exc) (t : Ty) → Converts classes r t → Returns classes (shown (result_map_both (λ w. Some w) (λ e. e) r))

@@ -1,6 +1,7 @@
 -- A tree that has a type returns values of its return type or throws exceptions, and is never stuck, where each leaf is well typed.
 use Rattle.std.proofs.Common.{◌≡◌, refl, sym, subst, ℕ, ◌-◌, List, [], ◌∷◌, take, Option, Some, None, Ok}
 use Rattle.std.specs.Prelude.{IsTrue, slice_get, option_to_list}
+use Rattle.mh_base.proofs.Inversion.{ok_is}
 use Rattle.mh_values.specs.declared.types.MethodTy.{MethodTy}
 use Rattle.mh_values.specs.declared.value.Exc.{Exc}
 use Rattle.mh_values.specs.declared.calls.LeafCall.{LeafCall}
@@ -9,7 +10,7 @@ use Rattle.mh_values.specs.declared.value.Value.{Value}
 use Rattle.mh_values.specs.declared.value.Value.TheVariants as value
 use Rattle.mh_values.specs.Array.{array_of, spread_values}
 use Rattle.mh_values.specs.Class.{is_subclass, throwable_class}
-use Rattle.mh_values.specs.Computation.{Threw, found, and_then, guarded, spliced}
+use Rattle.mh_values.specs.Computation.{Threw, found, and_then, guarded, spliced, is_caught}
 use Rattle.mh_values.specs.HasType.{HaveTypes}
 use Rattle.mh_values.specs.Returns.{Returns}
 use Rattle.mh_convert.specs.Conversion.{fit}
@@ -20,9 +21,9 @@ use Rattle.mh_leaf.specs.WellTyped.{IsWellTyped}
 use Rattle.mh_leaf.proofs.Outcomes.{leaf-returns}
 use Rattle.mh_tree.specs.Tree.{Tree, weight}
 use Rattle.mh_tree.specs.Tree as tree
-use Rattle.mh_tree.specs.Rows.{TypeOrRefusal, component_of, leaf_row, bind_row, drop_row, permute_row, filter_row, filterret_row, fold_row, collect_row, spread_row, gather_row, astype_row, guard_row, catch_row}
+use Rattle.mh_tree.specs.Rows.{component_of, leaf_row, bind_row, drop_row, permute_row, filter_row, filterret_row, fold_row, collect_row, spread_row, gather_row, astype_row, guard_row, catch_row}
 use Rattle.mh_tree.specs.Typing.{with_type, type_of, arity_of}
-use Rattle.mh_tree.specs.Meaning.{mean, known, fitted, or_throw, part_of, conv_all, conv_result, decided, is_caught}
+use Rattle.mh_tree.specs.Meaning.{mean, known, fitted, or_throw, part_of, conv_all, conv_result, decided}
 use Rattle.mh_tree.specs.Sound.{IsSound}
 use Rattle.mh_tree.proofs.RowParts.{with_type-parts}
 use Rattle.mh_tree.proofs.SoundRoots.{constant-sound, identity-sound, throw-sound}
@@ -32,14 +33,11 @@ use Rattle.mh_tree.proofs.SoundGather.{gather-sound}
 use Rattle.mh_tree.proofs.SoundConversions.{astype-sound}
 use Rattle.mh_tree.proofs.SoundBranches.{guard-sound, catch-sound}
 
-same_type : (t u : MethodTy) → ◌≡◌ {A = TypeOrRefusal} (Ok t) (Ok u) → t ≡ u
-same_type t u h = cc
-
 leaf-sound : (table : LeafTable) → IsWellTyped table → (l : LeafId) (o : Option Leaf) (u : MethodTy) → slice_get table.leaves l.0 ≡ o → leaf_row o ≡ Ok u →
     IsSound table.classes (leaf_run l o) u
 leaf-sound table are l None u is typed = absurd cc
 leaf-sound table are l (Some leaf) u is typed =
-    subst (IsSound table.classes (leaf_run l (Some leaf))) (same_type leaf.ty u typed) (λ args n have.
+    subst (IsSound table.classes (leaf_run l (Some leaf))) (ok_is leaf.ty u typed) (λ args n have.
     leaf-returns table.classes are.classes l leaf args n (are.leaves l.0 leaf is) have)
 
 pub mean-sound : (table : LeafTable) → IsWellTyped table → (t : Tree) (u : MethodTy) → type_of table t ≡ Ok u → IsSound table.classes (mean table t) u

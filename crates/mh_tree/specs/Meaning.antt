@@ -1,7 +1,6 @@
 -- What a tree does with arguments of its types: a result or an exception, with the leaf calls that it makes in order.
-use Rattle.std.specs.Prelude.{ℕ, ◌-◌, Bool, true, false, List, [], ◌∷◌, ◌++◌, length, take, drop, if◌then◌else◌, Option, Some, slice_get, option_to_list, Result, Ok, Err}
+use Rattle.std.specs.Prelude.{ℕ, ◌-◌, true, false, List, [], ◌∷◌, ◌++◌, length, take, drop, if◌then◌else◌, Option, Some, slice_get, option_to_list, Result, Ok, Err}
 use Rattle.mh_values.specs.declared.class.Class.{Class}
-use Rattle.mh_values.specs.declared.class.ClassId.{ClassId}
 use Rattle.mh_values.specs.declared.types.Ty.{Ty}
 use Rattle.mh_values.specs.declared.types.MethodTy.{MethodTy}
 use Rattle.mh_values.specs.declared.value.Exc.{Exc}
@@ -9,8 +8,8 @@ use Rattle.mh_values.specs.declared.value.Num.TheVariants as num
 use Rattle.mh_values.specs.declared.value.Value.{Value}
 use Rattle.mh_values.specs.declared.value.Value.TheVariants as value
 use Rattle.mh_values.specs.Array.{array_of, spread_values}
-use Rattle.mh_values.specs.Class.{is_subclass, class_cast_class, null_pointer_class}
-use Rattle.mh_values.specs.Computation.{Ran, Gave, Threw, Stuck, and_then, guarded, found, spliced}
+use Rattle.mh_values.specs.Class.{class_cast_class, null_pointer_class}
+use Rattle.mh_values.specs.Computation.{Ran, Gave, Threw, Stuck, and_then, guarded, found, spliced, is_caught}
 use Rattle.mh_values.specs.Exception.{bare}
 use Rattle.mh_values.specs.Same.{is_same_method_type}
 use Rattle.mh_convert.specs.Conversion.{conv, fit, ret_conversion_of, ret_conv}
@@ -83,10 +82,6 @@ abbrev pub decided : Option Value → Done → Done → Done
 decided (Some (value.Prim (num.Z true))) a b = a
 decided (Some (value.Prim (num.Z false))) a b = b
 decided _ a b = Stuck
-
--- an exception of the class or of one below it
-abbrev pub is_caught : List Class → ClassId → Exc → Bool
-is_caught classes class e = is_subclass classes e.class class
 
 -- what a tree does with these arguments, where n leaf calls were made before
 abbrev pub mean : LeafTable → Tree → List Value → ℕ → Done

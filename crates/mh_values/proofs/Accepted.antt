@@ -1,6 +1,7 @@
 -- The first byte of a type, and what is then spelled.
 use Rattle.std.proofs.Common.{◌≡◌, refl, sym, ap, subst, ◌∙◌, suc, ℕ, ◌==◌, inl, inr, false, if◌then◌else◌, lit≤, List, [], ◌∷◌, ◌++◌, replicate, None, Some, append_assoc, arith}
 use Rattle.std.proofs.lemmas.Bool.{cases_Bool, eqb-true, ne_eqb}
+use Rattle.mh_base.proofs.Inversion.{some_is}
 use Rattle.mh_values.specs.declared.descriptor.Place.{Place}
 use Rattle.mh_values.specs.declared.descriptor.Place.TheVariants as place
 use Rattle.mh_values.specs.declared.descriptor.Standing.{Standing}
@@ -15,9 +16,6 @@ pub after_whole : (p : Place) (text : List ℕ) → Goes (after_type p) text →
 after_whole (place.Parameter n) text h = h
 after_whole place.Listed text h = h
 after_whole place.Last text h = h
-
-pub some_is : {A : Type 0} (x y : A) → Some x ≡ Some y → x ≡ y
-some_is x y h = cc
 
 -- an element that begins with a byte
 pub record BeginsElement (p : Place) (b : ℕ) (text : List ℕ) : Type 0 where

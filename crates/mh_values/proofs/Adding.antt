@@ -6,7 +6,8 @@ use Rattle.std.proofs.lemmas.Slice.Eq.{bytes_eq-Decides}
 use Rattle.std.specs.BTreeMap.{BTreeMap}
 use Rattle.std.specs.Global.{Vec}
 use Rattle.std.specs.Str.{bytes_eq}
-use Rattle.mh_base.proofs.TextMaps.{WritesText, at_text-other}
+use Rattle.mh_base.specs.TextMaps.{WritesText}
+use Rattle.mh_base.proofs.TextMaps.{at_text-other}
 use Rattle.mh_values.specs.declared.class.Class.{Class}
 use Rattle.mh_values.specs.declared.class.ClassId.{ClassId}
 use Rattle.mh_values.specs.Class.{class_at}

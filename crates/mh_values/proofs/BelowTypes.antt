@@ -21,7 +21,7 @@ use Rattle.mh_values.proofs.Subclasses.{is_subclass-trans, is_subclass-itself}
 use Rattle.mh_values.proofs.SameTypes.{same_primitive-is, same_primitive-itself, same_class-is}
 
 -- the built-in classes come first
-in_front : (classes : List Class) → AreClasses classes → classes ≡ builtin_classes ++ drop 28 classes
+pub in_front : (classes : List Class) → AreClasses classes → classes ≡ builtin_classes ++ drop 28 classes
 in_front classes are = sym (take-append-drop 28 classes) ∙ ap (λ front. front ++ drop 28 classes) are.builtin
 
 -- a class that is built in and below Throwable, by computation

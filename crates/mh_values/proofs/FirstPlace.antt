@@ -2,6 +2,7 @@
 use Rattle.std.proofs.Common.{◌≡◌, refl, sym, ap, subst, ◌∙◌, suc, ℕ, ◌+◌, ◌<◌, ◌≤◌, true, false, if◌then◌else◌, List, [], ◌∷◌, ◌++◌, length, take, inl, inr, Option, None, Some, arith}
 use Rattle.std.proofs.lemmas.Bool.{cases_Bool}
 use Rattle.std.specs.Option.{option_map_or}
+use Rattle.mh_base.proofs.Inversion.{some_is}
 use Rattle.mh_values.specs.declared.descriptor.Place.{Place}
 use Rattle.mh_values.specs.declared.descriptor.Place.TheVariants as place
 use Rattle.mh_values.specs.declared.descriptor.Standing.{Standing}
@@ -35,9 +36,6 @@ accepts_from (standing.Name p has) =
 accepts_from standing.End = ([], λ at. refl)
 
 -- ---- where a text goes wrong
-
-same_number : (m n : ℕ) → Some m ≡ Some n → m ≡ n
-same_number m n h = cc
 
 -- what is known where a text goes wrong, from where it stands on
 record GoesWrong (s : Standing) (text : List ℕ) (n : ℕ) : Type 0 where
@@ -80,13 +78,13 @@ at_end : (s : Standing) (at p : ℕ) → (if is_end s then None else Some at) �
 at_end s at p told =
     elim (cases_Bool (is_end s)) [
       | inl e ↦ let is : None ≡ Some p = sym (ap (λ t. if t then None else Some at) e) ∙ told in cc
-      | inr e ↦ let is : Some at ≡ Some p = sym (ap (λ t. if t then None else Some at) e) ∙ told in omega (arith, same_number at p is)
+      | inr e ↦ let is : Some at ≡ Some p = sym (ap (λ t. if t then None else Some at) e) ∙ told in omega (arith, some_is at p is)
     ]
 
 wrong_on : (s : Standing) (b : ℕ) (bs : List ℕ) (at p : ℕ) (o : Option Standing) → next s b ≡ o → ((n : Standing) → first_bad (at + 1) n bs ≡ Some p →
     (k : ℕ) × (p ≡ at + 1 + k) × GoesWrong n bs k) → option_map_or (λ n. first_bad (at + 1) n bs) o (Some at) ≡ Some p → (k : ℕ) × (p ≡ at + k)
     × GoesWrong s (b ∷ bs) k
-wrong_on s b bs at p None told more is = (0, omega (arith, same_number at p is), wrong_here s b bs told)
+wrong_on s b bs at p None told more is = (0, omega (arith, some_is at p is), wrong_here s b bs told)
 wrong_on s b bs at p (Some n) told more is =
     let later = more n is in
     (suc later.0, omega (arith, later.1), wrong_later s n b bs later.0 told later.2)

@@ -3,13 +3,11 @@ use Rattle.std.proofs.Common.{◌≡◌, sym, ap, ◌∙◌, suc, ℕ, ◌+◌, 
 use Rattle.std.proofs.lemmas.Bool.{cases_Bool}
 use Rattle.std.proofs.lemmas.Slice.Eq.{bytes_eq-Decides}
 use Rattle.std.specs.Str.{bytes_eq}
+use Rattle.mh_base.proofs.Inversion.{some_is}
 use Rattle.mh_values.specs.declared.class.Class.{Class}
 use Rattle.mh_values.specs.declared.class.ClassId.{ClassId}
 use Rattle.mh_values.specs.Class.{class_at}
 use Rattle.mh_values.specs.Classes.{class_named, named_from, name_of}
-
-same_class : (c d : ClassId) → Some c ≡ Some d → c.0 ≡ d.0
-same_class c d h = cc
 
 named_from_is : (n : ℕ) (classes : List Class) (name : List ℕ) (c : ClassId) → named_from n classes name ≡ Some c →
     (k : ℕ) × (c.0 ≡ n + k) × (name_of classes (class_at k) ≡ name)
@@ -18,7 +16,7 @@ named_from_is n (class ∷ classes) name c found =
     elim (cases_Bool (bytes_eq class.name name)) [
       | inl e ↦
           let here : Some (class_at n) ≡ Some c = sym (ap (λ t. if t then Some (class_at n) else named_from (n + 1) classes name) e) ∙ found in
-          (0, omega (arith, same_class (class_at n) c here), (bytes_eq-Decides class.name name).0 e)
+          (0, omega (arith, ap (λ class. class.0) (some_is (class_at n) c here)), (bytes_eq-Decides class.name name).0 e)
       | inr e ↦
           let later : named_from (n + 1) classes name ≡ Some c = sym (ap (λ t. if t then Some (class_at n) else named_from (n + 1) classes name) e) ∙ found in
           let more = named_from_is (n + 1) classes name c later in

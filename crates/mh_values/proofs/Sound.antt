@@ -3,12 +3,13 @@ use Rattle.std.proofs.Common.{◌≡◌, refl, sym, ap, subst, ◌∙◌, ℕ, �
 use Rattle.std.proofs.lemmas.List.{append-nil}
 use Rattle.std.proofs.lemmas.Bool.{cases_Bool, eqb-true, leb-true}
 use Rattle.std.specs.Option.{option_map_or}
+use Rattle.mh_base.proofs.Inversion.{some_is}
 use Rattle.mh_values.specs.declared.descriptor.Place.TheVariants as place
 use Rattle.mh_values.specs.declared.descriptor.Standing.{Standing}
 use Rattle.mh_values.specs.declared.descriptor.Standing.TheVariants as standing
 use Rattle.mh_values.specs.Grammar.{begun, slots_from, parameter, next, is_end, first_bad, descriptor_fault, type_fault, types_fault}
 use Rattle.mh_values.specs.Spelling.{spelled_text, texts_of, return_spelled, IsMethodDescriptor, IsTypeText, AreTypeTexts}
-use Rattle.mh_values.proofs.Accepted.{begins_type, some_is}
+use Rattle.mh_values.proofs.Accepted.{begins_type}
 use Rattle.mh_values.proofs.Goes.{ParametersFrom, TypesFrom, ReturnFrom, Goes, BeginsType}
 use Rattle.mh_values.proofs.WithinType.{dimensions_step, name_step}
 

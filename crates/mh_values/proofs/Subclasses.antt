@@ -1,19 +1,18 @@
 -- Ways up from a class: the test that looks classes up, and reachability.
 use Rattle.std.proofs.Common.{◌≡◌, refl, sym, ap, subst, ◌∙◌, zero, suc, ℕ, ◌<◌, ◌≤◌, ◌==◌, ◌⊎◌, inl, inr, Bool, true, false, List, length, Option, None, Some, IsTrue, ◌↔◌, not, arith}
-use Rattle.std.proofs.lemmas.Bool.{cases_lt, eqb-true, eq-eqb, or_left, or_right, or_cases, not-false, false_from_ne_true}
+use Rattle.std.proofs.lemmas.Bool.{cases_lt, eq-eqb, or_left, or_right, or_cases, not-false, false_from_ne_true}
 use Rattle.std.proofs.lemmas.Option.{slice_get_past}
 use Rattle.std.specs.Option.{option_map_or}
+use Rattle.mh_base.proofs.Tests.{same_tests}
 use Rattle.mh_values.specs.declared.class.Class.{Class}
 use Rattle.mh_values.specs.declared.class.ClassId.{ClassId}
-use Rattle.mh_values.specs.Class.{class_at, superclass_of, IsSubclass, itself, above, reaches_within, is_subclass}
+use Rattle.mh_values.specs.Class.{superclass_of, IsSubclass, itself, above, reaches_within, is_subclass}
 use Rattle.mh_values.specs.Classes.{IsAscending}
+use Rattle.mh_values.proofs.SameTypes.{same_class-is}
 
 -- a way up from a class through its superclass
-abbrev through : ℕ → List Class → ClassId → Option ClassId → Bool
+abbrev pub through : ℕ → List Class → ClassId → Option ClassId → Bool
 through steps classes b superclass = option_map_or (λ c. reaches_within steps classes c b) superclass false
-
-same_class : (a b : ClassId) → (a.0 == b.0) ≡ true → a ≡ b
-same_class a b h = ap class_at (eqb-true a.0 b.0 h)
 
 -- ---- what the test finds is there
 
@@ -23,10 +22,10 @@ by_superclass steps classes a b None is more h = cc
 by_superclass steps classes a b (Some c) is more h = above is (more c h)
 
 pub reaches-sound : (steps : ℕ) (classes : List Class) (a b : ClassId) → reaches_within steps classes a b ≡ true → IsSubclass classes a b
-reaches-sound zero classes a b h = subst (IsSubclass classes a) (same_class a b h) itself
+reaches-sound zero classes a b h = subst (IsSubclass classes a) (same_class-is a b h) itself
 reaches-sound (suc steps) classes a b h =
     elim (or_cases (a.0 == b.0) (through steps classes b (superclass_of classes a)) h) [
-      | inl here ↦ subst (IsSubclass classes a) (same_class a b here) itself
+      | inl here ↦ subst (IsSubclass classes a) (same_class-is a b here) itself
       | inr further ↦ by_superclass steps classes a b (superclass_of classes a) refl (λ c t. reaches-sound steps classes c b t) further
     ]
 
@@ -62,10 +61,6 @@ pub is_subclass-law : (classes : List Class) → IsAscending classes → (a b : 
 is_subclass-law classes ascending a b = (reaches-sound (length classes) classes a b, is_subclass-complete classes ascending a b)
 
 -- ---- one step up
-
-same_tests : (x y : Bool) → (x ≡ true → y ≡ true) → (y ≡ true → x ≡ true) → x ≡ y
-same_tests true y f g = sym (f refl)
-same_tests false y f g = sym (false_from_ne_true y (λ h. cc (g h)))
 
 through_or_here : (classes : List Class) (a b : ClassId) → IsSubclass classes a b → (a ≡ b) ⊎ ((c : ClassId) × (superclass_of classes a ≡ Some c)
     × IsSubclass classes c b)
@@ -111,4 +106,4 @@ other_class a b test same =
     let here : not (a.0 == b.0) ≡ false = ap not (eq-eqb a.0 b.0 (ap (λ c. c.0) same)) in cc
 
 pub one_class : (a b : ClassId) → false ≡ not (a.0 == b.0) → a ≡ b
-one_class a b test = same_class a b (not-false (a.0 == b.0) (sym test))
+one_class a b test = same_class-is a b (not-false (a.0 == b.0) (sym test))

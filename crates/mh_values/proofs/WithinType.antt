@@ -2,12 +2,13 @@
 use Rattle.std.proofs.Common.{◌≡◌, refl, sym, ap, subst, ◌∙◌, suc, ℕ, ◌+◌, ◌==◌, inl, inr, Bool, true, ◌||◌, if◌then◌else◌, nat_le, List, [], ◌∷◌, None, Some, arith}
 use Rattle.std.proofs.lemmas.Bool.{cases_Bool, eqb-true, leb-true, and_from, not_from_false, or_from}
 use Rattle.std.specs.List.{list_all}
+use Rattle.mh_base.proofs.Inversion.{some_is}
 use Rattle.mh_values.specs.declared.descriptor.Place.{Place}
 use Rattle.mh_values.specs.declared.descriptor.Standing.{Standing}
 use Rattle.mh_values.specs.declared.descriptor.Standing.TheVariants as standing
 use Rattle.mh_values.specs.Grammar.{after_type, element, next}
 use Rattle.mh_values.specs.Spelling.{is_name_byte}
-use Rattle.mh_values.proofs.Accepted.{begins_element, some_is, after_whole}
+use Rattle.mh_values.proofs.Accepted.{begins_element, after_whole}
 use Rattle.mh_values.proofs.Goes.{DimensionsFrom, NameFrom, Goes}
 
 pub dimensions_step : (p : Place) (k b : ℕ) (s : Standing) (bs : List ℕ) → next (standing.Dimensions p k) b ≡ Some s → Goes s bs → DimensionsFrom p k (b ∷ bs)

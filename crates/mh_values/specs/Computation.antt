@@ -1,7 +1,10 @@
 -- What a computation gives that runs leaves: a result or an exception, with the leaf calls that it made, in order.
 use Rattle.std.specs.Prelude.{ℕ, ◌+◌, ◌%◌, ◌^◌, List, [], ◌∷◌, ◌++◌, ◌≡◌, Bool, take, drop, Option, None, Some, if◌then◌else◌}
+use Rattle.mh_values.specs.declared.class.Class.{Class}
+use Rattle.mh_values.specs.declared.class.ClassId.{ClassId}
 use Rattle.mh_values.specs.declared.value.Exc.{Exc}
 use Rattle.mh_values.specs.declared.calls.LeafCall.{LeafCall}
+use Rattle.mh_values.specs.Class.{is_subclass}
 
 -- it gave a result, it threw an exception, or it is stuck: it met what nothing is said of, as a place that is not there
 pub data Ran (A : Type 0) : Type 0 where
@@ -46,6 +49,10 @@ abbrev pub guarded : {A : Type 0} → Ran A → (Exc → Bool) → ℕ → (Exc 
 guarded (Gave a calls) test n handler = Gave a calls
 guarded (Threw e calls) test n handler = if test e then after calls (handler e (raised n calls)) else Threw e calls
 guarded Stuck test n handler = Stuck
+
+-- an exception of the class or of one below it
+abbrev pub is_caught : List Class → ClassId → Exc → Bool
+is_caught classes class e = is_subclass classes e.class class
 
 -- the second does what the first does, where the first is not stuck
 abbrev pub Refines : {B : Type 0} → Ran B → Ran B → Type 0

@@ -2,8 +2,8 @@ use Rattle.std.proofs.Common.{◌∷◌, ◌++◌, []}
 use Rattle.mh_intern.proofs.HeldLists.{held-second}
 use Rattle.mh_handle.proofs.Going.{goes_on-after, makes-after, seated-still}
 use Rattle.mh_handle.proofs.HoldOrders.{exchanges-few}
+use Rattle.mh_handle.proofs.BackwardHolds.{exchanges-backwards, first-yet}
 use Rattle.mh_adapt.proofs.Added.{part-grows}
-use Rattle.mh_adapt.proofs.Trading.{first-yet, second-back}
 use Rattle.mh_adapt.proofs.joining.grown_with.Goals as goal
 
 pub push-requires-clause-held : goal.push-requires-clause-held
@@ -25,10 +25,10 @@ returns-in-Ok-clause-grows g c =
 
 pub give_back-requires-clause-held : goal.give_back-requires-clause-held
 give_back-requires-clause-held g c =
-    first-yet c.args.target.held c.args.part.held c.args.w.now.seat.now c.push.new.w.seat.now c.in-Err.ensures.given_back c.requires.held
+    first-yet c.args.target.held c.args.part.held c.args.w.now.seat.now c.push.new.w.seat.now c.requires.held c.in-Err.ensures.given_back
 
 pub returns-clause-types : goal.returns-clause-types
 returns-clause-types g c =
     exchanges-few (c.args.by.ty ∷ []) (c.args.target.held ++ c.args.part.held) [] c.args.w.now.seat.now c.give_back.new.w.seat.now
-    (second-back c.args.target.held c.args.part.held c.args.w.now.seat.now c.push.new.w.seat.now c.give_back.new.w.seat.now c.in-Err.ensures.given_back
+    (exchanges-backwards c.args.target.held c.args.part.held c.args.w.now.seat.now c.push.new.w.seat.now c.give_back.new.w.seat.now c.in-Err.ensures.given_back
     c.give_back.ensures.types)

@@ -1,6 +1,7 @@
 use Rattle.std.proofs.Common.{◌<◌, ◌≤◌, ◌+◌, refl, sym, subst, drop, length, arith, rules}
+use Rattle.mh_base.proofs.Lists.{drop_item}
 use Rattle.mh_script.specs.Limits.{CanDivide}
-use Rattle.mh_attempt.proofs.RegisterContents.{drop_all, rest-from}
+use Rattle.mh_attempt.proofs.RegisterContents.{drop_all}
 use Rattle.mh_attempt.proofs.RunEnds.{run-ends}
 use Rattle.mh_attempt.proofs.RunFails.{run-fails}
 use Rattle.mh_attempt.proofs.RunLines.{HasRun, run-next, run-none}
@@ -51,7 +52,7 @@ loop-step-preserved g c =
     run-next i (i + 1) steps (drop (i + 1) steps) c.step-item.result c.args.end.now c.args.registers.now c.loop-step.registers c.stepped.new.registers
     c.args.w.now c.loop-step.w c.stepped.new.w c.in_ok-stepped.field-0 refl
     (subst (λ l. HasRun i steps l c.args.end.now c.args.registers.now c.loop-step.registers c.args.w.now c.loop-step.w)
-    (rest-from steps i c.step-item.result within c.step-item.is) c.loop-step.invariant) c.in_ok-stepped.ensures
+    (drop_item steps i c.step-item.result within c.step-item.is) c.loop-step.invariant) c.in_ok-stepped.ensures
 
 pub returns-in_err-stepped : goal.returns-in_err-stepped
 returns-in_err-stepped g c =
@@ -61,7 +62,7 @@ returns-in_err-stepped g c =
     run-fails i steps (drop (i + 1) steps) c.step-item.result c.args.end.now c.args.registers.now c.loop-step.registers c.stepped.new.registers
     c.args.w.now c.loop-step.w c.stepped.new.w c.in_err-stepped.field-0.0 c.from_residual.result c.from_residual.ensures.1 (omega (arith, within))
     (subst (λ l. HasRun i steps l c.args.end.now c.args.registers.now c.loop-step.registers c.args.w.now c.loop-step.w)
-    (rest-from steps i c.step-item.result within c.step-item.is) c.loop-step.invariant) c.in_err-stepped.ensures
+    (drop_item steps i c.step-item.result within c.step-item.is) c.loop-step.invariant) c.in_err-stepped.ensures
 
 -- ---- the last line
 

@@ -7,8 +7,9 @@ use Rattle.mh_handle.specs.Works.{types_in}
 use Rattle.mh_handle.proofs.HoldOrders.{exchanges-back}
 use Rattle.mh_handle.proofs.Trading.{trades-checked}
 use Rattle.mh_handle.proofs.Going.{goes_on-after, makes-after, seated-still}
+use Rattle.mh_handle.proofs.BackwardHolds.{second-yet}
 use Rattle.mh_branch.proofs.GuardAnswers.{guard-answers, guard-fits-by, guard-gains, guard-held, guard-light, guard-makes}
-use Rattle.mh_branch.proofs.Trading.{held-same, ready-still, second-yet, trades-parts, trades-short}
+use Rattle.mh_branch.proofs.Trading.{held-same, ready-still, trades-parts, trades-short}
 use Rattle.mh_branch.proofs.branches.guard.Goals as goal
 
 pub branch_of-requires-clause-fits : goal.branch_of-requires-clause-fits

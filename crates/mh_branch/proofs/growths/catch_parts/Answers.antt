@@ -3,8 +3,8 @@ use Rattle.mh_intern.specs.Exchanges.{AreHeld, Exchanges}
 use Rattle.mh_intern.proofs.HeldLists.{held-first}
 use Rattle.mh_handle.specs.Parts.{PartsView}
 use Rattle.mh_handle.proofs.HoldOrders.{exchanges-back}
+use Rattle.mh_handle.proofs.BackwardHolds.{second-yet}
 use Rattle.mh_branch.proofs.Growing.{catch-all}
-use Rattle.mh_branch.proofs.Trading.{second-yet}
 use Rattle.mh_branch.proofs.growths.catch_parts.Goals as goal
 
 pub returns-in-Ok-clause-parts : goal.returns-in-Ok-clause-parts

@@ -3,7 +3,7 @@ use Rattle.mh_intern.specs.Exchanges.{AreHeld, Exchanges}
 use Rattle.mh_intern.proofs.HeldLists.{held-first}
 use Rattle.mh_handle.specs.Parts.{PartsView}
 use Rattle.mh_handle.proofs.HoldOrders.{exchanges-back}
-use Rattle.mh_branch.proofs.Trading.{second-yet}
+use Rattle.mh_handle.proofs.BackwardHolds.{second-yet}
 use Rattle.mh_branch.proofs.growths.with_handler.Goals as goal
 
 pub give_back-requires-clause-held : goal.give_back-requires-clause-held

@@ -2,11 +2,11 @@ use Rattle.std.proofs.Common.{◌≡◌, ◌≤◌, ◌-◌, ◌+◌, ◌++◌, 
 use Rattle.std.specs.Prelude.{slice_get}
 use Rattle.std.specs.Option.{option_map}
 use Rattle.std.proofs.lemmas.List.{get_or_read}
-use Rattle.mh_values.specs.Computation.{Gave, Threw, after, raised}
+use Rattle.mh_values.specs.Computation.{Gave, Threw, after, raised, is_caught}
 use Rattle.mh_form.specs.declared.field.Bound.{the_lemmas}
 use Rattle.mh_form.specs.Guards.{guarded_on}
 use Rattle.mh_form.specs.Run.{result_at, run_field, senses_in}
-use Rattle.mh_form.specs.Slots.{filled, is_caught, none_as_zero}
+use Rattle.mh_form.specs.Slots.{filled, none_as_zero}
 use Rattle.mh_form.specs.Stack.{StackView, done, left, on_stack, run_slots, slots_on, step_on}
 use Rattle.mh_form.proofs.Fields.{run_field-held, run_field-none}
 use Rattle.mh_form.proofs.Frames.{left-below}

@@ -1,6 +1,6 @@
 use Rattle.std.proofs.Common.{◌∙◌, ap, ℕ, List, Some, cond}
 use Rattle.std.specs.Str.{bytes_eq}
-use Rattle.mh_script.specs.Index.{at_text}
+use Rattle.mh_base.specs.TextMaps.{at_text}
 use Rattle.mh_script.proofs.Nested.{at_text-written}
 use Rattle.mh_script.proofs.index.with_descriptor.Goals as goal
 

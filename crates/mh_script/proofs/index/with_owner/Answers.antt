@@ -1,6 +1,7 @@
 use Rattle.std.proofs.Common.{◌∙◌, ◌&&◌, ap, subst, Bool, ℕ, List, Some, cond}
 use Rattle.std.specs.Str.{bytes_eq}
-use Rattle.mh_script.specs.Index.{ByName, named_at, Writes}
+use Rattle.mh_base.specs.TextMaps.{WritesText}
+use Rattle.mh_script.specs.Index.{ByName, named_at}
 use Rattle.mh_script.proofs.Nested.{found-within, known-within}
 use Rattle.mh_script.proofs.index.with_owner.Goals as goal
 
@@ -11,7 +12,7 @@ returns-clause-found c =
     let rest = c.take_owner-names.new.owners in
     let inner = c.in_ok-names.names in
     let test : Bool = bytes_eq texts.name.now n && bytes_eq texts.descriptor.now d in
-    let put = subst (λ (k : List ℕ). Writes rest c.insert.new.self k (Some inner)) c.in_ok-from_slice.ensures.items c.in_ok-insert.ensures.updates in
+    let put = subst (λ (k : List ℕ). WritesText rest c.insert.new.self k (Some inner)) c.in_ok-from_slice.ensures.items c.in_ok-insert.ensures.updates in
     found-within c.args.owners rest c.insert.new.self texts.owner.now o inner (λ (m : ByName). named_at m n d) test c.args.number
     c.take_owner-names.ensures.rest put
     (c.in_ok-names.ensures n d ∙ ap (cond test (Some c.args.number)) (c.take_owner-names.ensures.taken n d))
@@ -21,5 +22,5 @@ returns-clause-owners c =
     λ o.
     let rest = c.take_owner-names.new.owners in
     let inner = c.in_ok-names.names in
-    let put = subst (λ (k : List ℕ). Writes rest c.insert.new.self k (Some inner)) c.in_ok-from_slice.ensures.items c.in_ok-insert.ensures.updates in
+    let put = subst (λ (k : List ℕ). WritesText rest c.insert.new.self k (Some inner)) c.in_ok-from_slice.ensures.items c.in_ok-insert.ensures.updates in
     known-within c.args.owners rest c.insert.new.self c.args.texts.owner.now o inner c.take_owner-names.ensures.rest put

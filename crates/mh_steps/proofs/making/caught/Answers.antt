@@ -1,13 +1,14 @@
-use Rattle.std.proofs.Common.{ap, [], ◌++◌}
+use Rattle.std.proofs.Common.{ap, [], ◌++◌, arith}
 use Rattle.mh_tree.specs.Tree as tree
 use Rattle.mh_handle.proofs.Going.{goes_on-both}
+use Rattle.mh_handle.proofs.Rooms.{ready-after}
 use Rattle.mh_steps.proofs.Adding.{adds, adds-held, types-next}
-use Rattle.mh_steps.proofs.Rooms.{ready-after, some-over, stands-over}
+use Rattle.mh_steps.proofs.Rooms.{some-over, stands-over}
 use Rattle.mh_steps.proofs.making.caught.Goals as goal
 
 pub catch-requires : goal.catch-requires
 catch-requires g c = record {
-  ready = ready-after 2 1 _ _ c.in_ok-target.ensures.goes_on c.requires.ready;
+  ready = ready-after 2 1 3 _ _ (omega arith) c.in_ok-target.ensures.goes_on c.requires.ready;
   held =
       adds-held (c.in_ok-target.target.held ++ c.in_ok-target.handler.held) c.args.w.now.seat.now c.two_leaves.new.w.seat.now c.in_ok-target.ensures.types;
 }

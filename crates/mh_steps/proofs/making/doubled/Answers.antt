@@ -1,14 +1,15 @@
-use Rattle.std.proofs.Common.{[], ◌++◌, ap}
+use Rattle.std.proofs.Common.{[], ◌++◌, ap, arith}
 use Rattle.mh_tree.specs.Tree as tree
 use Rattle.mh_handle.proofs.Going.{goes_on-both, unchanged-goes_on}
+use Rattle.mh_handle.proofs.Rooms.{ready-after}
 use Rattle.mh_steps.proofs.Adding.{adds, adds-back, adds-beside, adds-yet, copy-seated, types-with}
-use Rattle.mh_steps.proofs.Rooms.{ready-after, some-over, stands-over}
+use Rattle.mh_steps.proofs.Rooms.{some-over, stands-over}
 use Rattle.mh_steps.proofs.making.doubled.Goals as goal
 
 pub filterret-requires-clause-ready : goal.filterret-requires-clause-ready
 filterret-requires-clause-ready g c =
     let e = c.in-Ok.ensures in
-    ready-after 1 1 c.args.w.now c.copy.new.w
+    ready-after 1 1 2 c.args.w.now c.copy.new.w (omega arith)
     (unchanged-goes_on 1 c.args.w.now c.copy.new.w e.unchanged
     (copy-seated c.args.target c.in-Ok.part c.args.w.now c.copy.new.w e.shaped e.held e.types))
     c.requires.ready

@@ -1,8 +1,9 @@
 use Rattle.std.proofs.Common.{ap, ◌∙◌, [], ◌++◌, arith}
 use Rattle.mh_tree.specs.Tree as tree
 use Rattle.mh_handle.proofs.Going.{goes_on-before, goes_on-both, goes_on-more, seated-back}
+use Rattle.mh_handle.proofs.Rooms.{ready-after}
 use Rattle.mh_steps.proofs.Adding.{adds, adds-held, both-back, first-held, second-held, three, types-next}
-use Rattle.mh_steps.proofs.Rooms.{ready-after, some-over, stands-over}
+use Rattle.mh_steps.proofs.Rooms.{some-over, stands-over}
 use Rattle.mh_steps.proofs.making.guarded.Goals as goal
 
 pub guard-requires : goal.guard-requires
@@ -13,7 +14,7 @@ guard-requires g c =
     let seat = c.args.w.now.seat.now in
     let next = c.leaf_at.new.w.seat.now in
     record {
-      ready = ready-after 1 1 _ _ c.in-Ok.ensures.goes_on (ready-after 2 2 _ _ c.in_ok-test.ensures.goes_on c.requires.ready);
+      ready = ready-after 1 1 2 _ _ (omega arith) c.in-Ok.ensures.goes_on (ready-after 2 2 4 _ _ (omega arith) c.in_ok-test.ensures.goes_on c.requires.ready);
       held = adds-held (t ++ u ++ f) seat next (three t u seat c.two_leaves.new.w.seat.now next c.in_ok-test.ensures.types f c.in-Ok.ensures.types);
     }
 

@@ -1,14 +1,15 @@
 use Rattle.std.proofs.Common.{ap, [], ◌+◌, ◌*◌, arith}
 use Rattle.mh_handle.proofs.Going.{goes_on-both, goes_on-more}
+use Rattle.mh_handle.proofs.Rooms.{ready-less, ready-after}
 use Rattle.mh_steps.proofs.Adding.{adds-held, adds-next, adds-refused}
-use Rattle.mh_steps.proofs.Rooms.{ready-after, ready-less, stands-over}
+use Rattle.mh_steps.proofs.Rooms.{stands-over}
 use Rattle.mh_steps.proofs.making.made.Goals as goal
 
 pub adapted-requires-clause-ready : goal.adapted-requires-clause-ready
 adapted-requires-clause-ready g c =
-    ready-after (2 * c.loop-step.step-index) 2 _ _ c.loop-step.invariant.goes_on
+    ready-after (2 * c.loop-step.step-index) 2 (2 * c.loop-step.step-index + 2) _ _ (omega arith) c.loop-step.invariant.goes_on
     (ready-less _ 200 (2 * c.loop-step.step-index + 2) (omega (arith, c.loop-step-test.true, c.requires.few))
-    (ready-after 4 200 _ _ c.in_ok-h.ensures.goes_on c.requires.ready))
+    (ready-after 4 200 204 _ _ (omega arith) c.in_ok-h.ensures.goes_on c.requires.ready))
 
 pub returns-in_err-h-2-clause-goes_on : goal.returns-in_err-h-2-clause-goes_on
 returns-in_err-h-2-clause-goes_on g c =

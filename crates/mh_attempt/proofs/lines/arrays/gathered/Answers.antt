@@ -2,9 +2,9 @@ use Rattle.std.proofs.Common.{refl, arith, [], ◌∷◌}
 use Rattle.mh_tree.specs.Rows.{gather_row}
 use Rattle.mh_tree.specs.Tree as tree
 use Rattle.mh_handle.specs.declared.handle.Handle.{Handle}
+use Rattle.mh_handle.proofs.Rooms.{goes_on-sum, ready-after}
 use Rattle.mh_attempt.proofs.Asking.{error-node}
 use Rattle.mh_attempt.proofs.LineNodes.{unmade-node}
-use Rattle.mh_attempt.proofs.Rooms.{goes_on-sum, ready-after}
 use Rattle.mh_attempt.proofs.Rules.{checked-one, node-of-one}
 use Rattle.mh_attempt.proofs.AskedOperands.{asks-one, asks-unmade}
 use Rattle.mh_attempt.proofs.AskedNodes.{asks-refused}

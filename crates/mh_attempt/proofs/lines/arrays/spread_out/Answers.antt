@@ -2,12 +2,12 @@ use Rattle.std.proofs.Common.{ap, ◌∙◌, arith, Err, [], ◌∷◌}
 use Rattle.mh_tree.specs.Tree as tree
 use Rattle.mh_tree.specs.Use.{items_used_as}
 use Rattle.mh_handle.specs.Errors.{of_check}
+use Rattle.mh_handle.proofs.Rooms.{goes_on-sum, ready-after}
 use Rattle.mh_jobs.specs.Thrown.{◌>>=◌}
 use Rattle.mh_handle.specs.declared.handle.Handle.{Handle}
 use Rattle.mh_attempt.specs.Lines.{typed}
 use Rattle.mh_attempt.proofs.Asking.{error-node}
 use Rattle.mh_attempt.proofs.LineNodes.{same-node, typed-is, unmade-node}
-use Rattle.mh_attempt.proofs.Rooms.{goes_on-sum, ready-after}
 use Rattle.mh_attempt.proofs.SpreadNodes.{node-of-spread, refused-spread, spread-is, spread-rule}
 use Rattle.mh_attempt.proofs.AskedOperands.{asks-unmade}
 use Rattle.mh_attempt.proofs.AskedNodes.{asks-refused}

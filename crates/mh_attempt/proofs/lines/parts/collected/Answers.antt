@@ -3,9 +3,9 @@ use Rattle.mh_tree.specs.Rows.{collect_row}
 use Rattle.mh_tree.specs.Tree as tree
 use Rattle.mh_handle.proofs.Going.{goes_on-more}
 use Rattle.mh_handle.specs.declared.handle.Handle.{Handle}
+use Rattle.mh_handle.proofs.Rooms.{goes_on-sum, ready-after}
 use Rattle.mh_attempt.proofs.Asking.{error-node}
 use Rattle.mh_attempt.proofs.LineNodes.{unmade-node}
-use Rattle.mh_attempt.proofs.Rooms.{goes_on-sum, ready-after}
 use Rattle.mh_attempt.proofs.Rules.{checked-two, node-of-two}
 use Rattle.mh_attempt.proofs.AskedOperands.{asks-two, asks-unmade}
 use Rattle.mh_attempt.proofs.AskedNodes.{asks-refused}

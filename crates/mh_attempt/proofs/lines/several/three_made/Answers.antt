@@ -1,11 +1,11 @@
 use Rattle.std.proofs.Common.{◌∙◌, arith, [], ◌∷◌, ◌++◌, Ok, Err}
 use Rattle.mh_handle.proofs.Going.{goes_on-before, goes_on-both, seated-back}
 use Rattle.mh_handle.specs.declared.handle.Handle.{Handle}
+use Rattle.mh_handle.proofs.Rooms.{goes_on-sum}
 use Rattle.mh_attempt.specs.AskedTypes.{types_made}
 use Rattle.mh_attempt.specs.Recipes.{recipes_made}
 use Rattle.mh_attempt.proofs.AskedNodes.{asks-unchanged}
 use Rattle.mh_attempt.proofs.AskedOperands.{asks-more, asks-unmade-both}
-use Rattle.mh_attempt.proofs.Rooms.{goes_on-sum}
 use Rattle.mh_attempt.proofs.Adding.{adds-back-both, adds-three, holds-after, holds-first, holds-second, of-types, operand-yet}
 use Rattle.mh_attempt.proofs.AskingTypes.{types-back}
 use Rattle.mh_attempt.proofs.OperandTypes.{types-others, types-unmade_both}

@@ -2,9 +2,9 @@ use Rattle.std.proofs.Common.{◌∙◌, arith, Err, [], ◌∷◌}
 use Rattle.mh_tree.specs.Use.{used_as}
 use Rattle.mh_handle.specs.Errors.{of_check}
 use Rattle.mh_handle.specs.declared.handle.Handle.{Handle}
+use Rattle.mh_handle.proofs.Rooms.{goes_on-sum, ready-after}
 use Rattle.mh_attempt.proofs.Asking.{error-node}
 use Rattle.mh_attempt.proofs.LineNodes.{refused-node, same-node, typed-is, unmade-node}
-use Rattle.mh_attempt.proofs.Rooms.{goes_on-sum, ready-after}
 use Rattle.mh_attempt.proofs.UsedNodes.{node-of-use, use-is, use-rule}
 use Rattle.mh_attempt.proofs.AskedOperands.{asks-unmade}
 use Rattle.mh_attempt.proofs.AskedNodes.{asks-refused}
