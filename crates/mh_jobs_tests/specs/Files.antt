@@ -2,5 +2,5 @@
 use Rattle.std.specs.Prelude.{◌≡◌, ℕ, List, ◌++◌}
 
 -- bytes stand after those that there were
-abbrev pub IsLonger : List ℕ → List ℕ → Type 0
-IsLonger old new = (more : List ℕ) × (new ≡ old ++ more)
+abbrev pub Extends : List ℕ → List ℕ → Type 0
+Extends old new = (more : List ℕ) × (new ≡ old ++ more)

@@ -1,5 +1,5 @@
 ghost use Rattle.std.specs.Prelude.{OnOk, IfOk};
-ghost use Rattle.mh_jobs_tests.specs.Files.{IsLonger};
+ghost use Rattle.mh_jobs_tests.specs.Files.{Extends};
 
 use std::alloc::{AllocError, Global};
 
@@ -46,7 +46,7 @@ const MEMBERS: &[u8] = b"\0\x21\0\x02\0\x04\0\0\0\0\0\x01\0\x09\0\x05\0\x06\0\x0
 
 /// A `Utf8` of these bytes.
 fn push_utf8(file: &mut Vec<u8>, text: &[u8]) -> Result<(), AllocError>
-    ensures { OnOk result (IsLonger file.old.items file.new.items) }
+    ensures { OnOk result (Extends file.old.items file.new.items) }
 {
     file.push(1)?;
     file.extend_from_slice(&(text.len() as u64).to_be_bytes()[6..])?;
@@ -55,7 +55,7 @@ fn push_utf8(file: &mut Vec<u8>, text: &[u8]) -> Result<(), AllocError>
 
 /// The constants from the ninth on, up to the bootstrap method's handle.
 fn push_handle(file: &mut Vec<u8>, site: Site) -> Result<(), AllocError>
-    ensures { OnOk result (IsLonger file.old.items file.new.items) }
+    ensures { OnOk result (Extends file.old.items file.new.items) }
 {
     push_utf8(file, site.owner.as_bytes())?;
     file.extend_from_slice(b"\x07\0\x09")?;
@@ -68,7 +68,7 @@ fn push_handle(file: &mut Vec<u8>, site: Site) -> Result<(), AllocError>
 
 /// The constants after it: what the site calls, and its static argument.
 fn push_site(file: &mut Vec<u8>, site: Site) -> Result<(), AllocError>
-    ensures { OnOk result (IsLonger file.old.items file.new.items) }
+    ensures { OnOk result (Extends file.old.items file.new.items) }
 {
     push_utf8(file, site.name)?;
     push_utf8(file, site.ty.as_bytes())?;
@@ -78,7 +78,7 @@ fn push_site(file: &mut Vec<u8>, site: Site) -> Result<(), AllocError>
 
 /// The attribute `BootstrapMethods`, of one method.
 fn push_bootstrap(file: &mut Vec<u8>, count: u8) -> Result<(), AllocError>
-    ensures { OnOk result (IsLonger file.old.items file.new.items) }
+    ensures { OnOk result (Extends file.old.items file.new.items) }
 {
     file.extend_from_slice(b"\0\x01\0\x08\0\0\0")?;
     if count == 0 {
@@ -91,7 +91,7 @@ fn push_bootstrap(file: &mut Vec<u8>, count: u8) -> Result<(), AllocError>
 
 /// The class `made/Main` with one call site: magic and versions, and what stands after them.
 pub fn class_file(alloc: Global, site: Site) -> Result<Vec<u8>, AllocError>
-    ensures { IfOk result (λ file. IsLonger HEAD.now file.items) }
+    ensures { IfOk result (λ file. Extends HEAD.now file.items) }
 {
     let mut file = Vec::new(alloc);
     file.extend_from_slice(HEAD)?;

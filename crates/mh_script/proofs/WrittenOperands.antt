@@ -62,7 +62,8 @@ pub counted-tokens : (classes : List Class) (word a b c : List ℕ) (make : Regi
 counted-tokens classes word a b c make op tokens h =
     let said = said-parts (counted a b c) (λ x. Ok (make x)) op h in
     let read = provided_some-parts (small_of c) BadLine (λ n. Ok (register_of a, type_operand b, n)) said.0 said.1 in
-    let parts : (register_of a, type_operand b, read.0) ≡ said.0 = ok_is {A = Register × TypeOperand × ℕ} (register_of a, type_operand b, read.0) said.0 read.2 in
+    let parts : (register_of a, type_operand b, read.0) ≡ said.0 =
+    ok_is {A = Register × TypeOperand × ℕ} (register_of a, type_operand b, read.0) said.0 read.2 in
     made_tokens classes (make said.0) op (word ∷ a ∷ b ∷ c ∷ []) said.2
     (tokens said.0
     ∙ ap (λ (x : Register × TypeOperand × ℕ). word ∷ register_text x.0 ∷ type_operand_text x.1 ∷ decimal x.2 ∷ []) (sym parts)

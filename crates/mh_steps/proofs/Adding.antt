@@ -42,7 +42,8 @@ none-made P w r is = adds-refused P [] w w r is (adds-none w.seat.now)
 -- ---- seats after calls
 
 -- holds come in the place of those that had come
-pub adds-next : (gone through came : List HoldView) (a b c : SeatView) → ExchangesAny gone through a b → ExchangesAny through came b c → ExchangesAny gone came a c
+pub adds-next : (gone through came : List HoldView) (a b c : SeatView) → ExchangesAny gone through a b → ExchangesAny through came b c →
+    ExchangesAny gone came a c
 adds-next gone through came a b c x y = (
   x.0 ++ y.0,
   subst (λ l. Exchanges (x.0 ++ y.0) l came a c) (append-nil gone)
@@ -58,7 +59,8 @@ pub adds-still : (came : List HoldView) (a b c : SeatView) → ExchangesAny [] c
 adds-still came a b c x y = subst (λ l. ExchangesAny [] l a c) (append-nil came) (adds-both came [] a b c x y)
 
 -- holds come in the place of others and of those that had come
-pub adds-with : (kept part came : List HoldView) (a b c : SeatView) → ExchangesAny [] part a b → ExchangesAny (kept ++ part) came b c → ExchangesAny kept came a c
+pub adds-with : (kept part came : List HoldView) (a b c : SeatView) → ExchangesAny [] part a b → ExchangesAny (kept ++ part) came b c →
+    ExchangesAny kept came a c
 adds-with kept part came a b c x y =
     (x.0 ++ y.0, exchanges-then x.0 y.0 [] part kept came a b c x.1 (exchanges-same y.0 (kept ++ part) (part ++ kept) came b c (same-swapped kept part) y.1))
 
