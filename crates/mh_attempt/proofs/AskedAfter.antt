@@ -8,7 +8,7 @@ use Rattle.mh_handle.specs.Index.{recipe_of}
 use Rattle.mh_handle.specs.Passes.{PassView}
 use Rattle.mh_handle.specs.SameRecipes.{same_recipe}
 use Rattle.mh_handle.proofs.SameRecipes.{same_recipe-equivalence}
-use Rattle.mh_attempt.specs.Asked.{DrawsWithin, HasAsked, HasAskedMore, HasDrawn, HasStoppedAt, IsFull, asked_recipes}
+use Rattle.mh_attempt.specs.Asked.{DrawsWithin, HasAsked, HasAskedMore, HasDrawn, HasStoppedAt, HasNoNumber, asked_recipes}
 use Rattle.mh_attempt.proofs.RecipeCounts.{drawn-first}
 
 -- nothing is asked for
@@ -51,10 +51,10 @@ stopped-still recipes a b same = subst (HasStoppedAt recipes a) (sym same)
     (λ whole within before has. drawn-first whole before recipes a (asked-drawn whole before a has within))
 
 -- no number was left for these, so none is left for more
-pub full-first : (recipes more : List (List Key)) (drawn : ℕ) (a b : PassView) → IsFull recipes drawn a b → IsFull (recipes ++ more) drawn a b
+pub full-first : (recipes more : List (List Key)) (drawn : ℕ) (a b : PassView) → HasNoNumber recipes drawn a b → HasNoNumber (recipes ++ more) drawn a b
 full-first recipes more drawn a b full = (stopped-first recipes more a b full.0, full.1)
 
 -- no number was left for more, after these were asked for
-pub full-after : (recipes more : List (List Key)) (drawn : ℕ) (a b c : PassView) → HasAskedMore recipes a b → IsFull more drawn b c →
-    IsFull (recipes ++ more) drawn a c
+pub full-after : (recipes more : List (List Key)) (drawn : ℕ) (a b c : PassView) → HasAskedMore recipes a b → HasNoNumber more drawn b c →
+    HasNoNumber (recipes ++ more) drawn a c
 full-after recipes more drawn a b c x full = (stopped-after recipes more a b c x full.0, full.1)

@@ -5,7 +5,7 @@ use Rattle.mh_edit.specs.declared.key.Key.{Key}
 use Rattle.mh_handle.specs.declared.error.HandleError.{HandleError}
 use Rattle.mh_handle.specs.declared.error.HandleError.TheVariants.{NoMemory, FormsFull, TypesFull, Refused}
 use Rattle.mh_handle.specs.declared.work.Work.{Work}
-use Rattle.mh_attempt.specs.Asked.{AsksOrThrows, HasAskedMore, HasStoppedAt, IsFull}
+use Rattle.mh_attempt.specs.Asked.{AsksOrThrows, HasAskedMore, HasStoppedAt, HasNoNumber}
 use Rattle.mh_attempt.proofs.AskedAfter.{asked_more-both, full-after, stopped-after}
 
 -- what is asked for is the same
@@ -28,7 +28,7 @@ pub asks-given_back : {A : Type 0} (recipes : List (List Key)) (old new back : W
     AsksOrThrows recipes old new r → AsksOrThrows recipes old back r
 asks-given_back recipes old new back (Ok a) same asks = subst (HasAskedMore recipes old.pass.now) (sym same) asks
 asks-given_back recipes old new back (Err (Refused e)) same asks = subst (HasAskedMore recipes old.pass.now) (sym same) asks
-asks-given_back recipes old new back (Err (FormsFull drawn)) same full = subst (IsFull recipes drawn old.pass.now) (sym same) full
+asks-given_back recipes old new back (Err (FormsFull drawn)) same full = subst (HasNoNumber recipes drawn old.pass.now) (sym same) full
 asks-given_back recipes old new back (Err (TypesFull bucket)) same stopped = subst (HasStoppedAt recipes old.pass.now) (sym same) stopped
 asks-given_back recipes old new back (Err NoMemory) same asks = tt
 

@@ -23,7 +23,7 @@ use Rattle.mh_link.specs.Made.{handles_of, node_of_use, nodes_of_uses, unless_th
 use Rattle.mh_link.specs.Operands.{Frame, handle_in}
 use Rattle.mh_link.specs.Operations.{node_of}
 use Rattle.mh_attempt.specs.declared.handle.HandleOperand.{HandleOperand}
-use Rattle.mh_attempt.specs.Asked.{AsksIfMade, AsksOrThrows, HasAskedMore, HasStoppedAt, IsFull}
+use Rattle.mh_attempt.specs.Asked.{AsksIfMade, AsksOrThrows, HasAskedMore, HasStoppedAt, HasNoNumber}
 use Rattle.mh_attempt.specs.Lines.{MakesNode, typed}
 use Rattle.mh_attempt.specs.Recipes.{asked_itself, line_recipes, recipes_made, spread_asked, use_asked}
 use Rattle.mh_attempt.specs.Registers.{node_made}
@@ -39,7 +39,7 @@ asks-node leaves node asked old new (Err NoMemory) makes asks = tt
 asks-node leaves node asked old new (Err (TypesFull bucket)) makes asks =
     subst (λ m. HasStoppedAt (map (recipe leaves) (unless_thrown m asked)) old.pass.now new.pass.now) (sym makes.1) (asks makes.0 makes.1)
 asks-node leaves node asked old new (Err (FormsFull drawn)) makes asks =
-    subst (λ m. IsFull (map (recipe leaves) (unless_thrown m asked)) drawn old.pass.now new.pass.now) (sym makes.1) (asks makes.0 makes.1)
+    subst (λ m. HasNoNumber (map (recipe leaves) (unless_thrown m asked)) drawn old.pass.now new.pass.now) (sym makes.1) (asks makes.0 makes.1)
 asks-node leaves node asked old new (Err (Refused e)) makes asks =
     subst (λ m. HasAskedMore (map (recipe leaves) (unless_thrown m asked)) old.pass.now new.pass.now) (sym makes.0)
     (asks-still old.pass.now new.pass.now makes.1.pass)

@@ -22,7 +22,7 @@ use Rattle.mh_link.specs.Operations.{node_of}
 use Rattle.mh_attempt.specs.Asked.{AsksOrThrows}
 use Rattle.mh_attempt.specs.AskedTypes.{AsksTypesOrThrows}
 use Rattle.mh_attempt.specs.Lines.{MakesNode, passes}
-use Rattle.mh_attempt.specs.Registers.{AreKept, Hold, HoldSame, holds_in}
+use Rattle.mh_attempt.specs.Registers.{AreHeldBy, Hold, HoldSame, holds_in}
 use Rattle.mh_attempt.specs.Runs.{RunsStep, TellsStep, step_recipes, step_types}
 use Rattle.mh_attempt.specs.Several.{Adds}
 use Rattle.mh_attempt.specs.Told.{Tells}
@@ -49,7 +49,7 @@ tells-error leaves next after error (Ok u) is tells = absurd is
 tells-error leaves next after error (Err x) is tells = subst (λ y. TellsStep leaves next after (Err y)) (sym is) tells
 
 step-fails : (s : Step) (before after : Registers) (old new : Work) (error : HandleError) (r : Result (Unit {0}) HandleError) → IsErrAnd r (λ x. x ≡ error) →
-    HoldSame before after → AreKept old.seat.now before → GoesOn 4 old new → Adds [] old new → Fails s before after old new error →
+    HoldSame before after → AreHeldBy old.seat.now before → GoesOn 4 old new → Adds [] old new → Fails s before after old new error →
     RunsStep s before after old new r
 step-fails s before after old new error r is same kept goes adds fails =
     let leaves = old.leaves.now in
@@ -65,7 +65,7 @@ step-fails s before after old new error r is same kept goes adds fails =
 
 -- no memory was left for a name
 pub reserve-fails : (s : Step) (before after : Registers) (w : Work) (r : Result (Unit {0}) HandleError) → IsErrAnd r (λ x. x ≡ NoMemory) →
-    HoldSame before after → AreKept w.seat.now before → RunsStep s before after w w r
+    HoldSame before after → AreHeldBy w.seat.now before → RunsStep s before after w w r
 reserve-fails s before after w r is same kept =
     step-fails s before after w w NoMemory r is same kept (goes_on-none 4 w) (adds-none w) (record {
       told = λ frame hold. tt;
@@ -75,7 +75,7 @@ reserve-fails s before after w r is same kept =
 
 -- no node was made
 pub node-fails : (name : List ℕ) (op : Operation) (before roomy : Registers) (old new : Work) (error : HandleError) (r : Result (Unit {0}) HandleError) →
-    IsErrAnd r (λ x. x ≡ error) → HoldSame before roomy → AreKept old.seat.now before → MakesLine roomy op old new (Err error) →
+    IsErrAnd r (λ x. x ≡ error) → HoldSame before roomy → AreHeldBy old.seat.now before → MakesLine roomy op old new (Err error) →
     RunsStep (step.Let name op) before roomy old new r
 node-fails name op before roomy old new error r is same kept made =
     let leaves = old.leaves.now in
@@ -94,7 +94,7 @@ node-fails name op before roomy old new error r is same kept made =
 
 -- the number of the attempt has the remainder that fails
 pub pass-fails : (modulus remainder : ℕ) (registers : Registers) (w : Work) (error : CheckError) (r : Result (Unit {0}) HandleError) →
-    IsErrAnd r (λ x. x ≡ of_check error) → AreKept w.seat.now registers → Tells {A = Unit {0}} (Err error) (passes registers.serial modulus remainder) →
+    IsErrAnd r (λ x. x ≡ of_check error) → AreHeldBy w.seat.now registers → Tells {A = Unit {0}} (Err error) (passes registers.serial modulus remainder) →
     RunsStep (step.FailMod modulus remainder) registers registers w w r
 pass-fails modulus remainder registers w error r is kept tells =
     step-fails (step.FailMod modulus remainder) registers registers w w (of_check error) r is (record { call = refl; serial = refl; assigned = refl }) kept

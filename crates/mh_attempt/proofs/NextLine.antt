@@ -8,7 +8,7 @@ use Rattle.mh_handle.proofs.Rooms.{ready-after}
 use Rattle.mh_script.specs.declared.script.End.{End}
 use Rattle.mh_script.specs.declared.script.Step.{Step}
 use Rattle.mh_attempt.specs.declared.registers.Registers.{Registers}
-use Rattle.mh_attempt.specs.Registers.{AreKept, Hold, HoldSome, holds_in}
+use Rattle.mh_attempt.specs.Registers.{AreHeldBy, Hold, HoldSome, holds_in}
 use Rattle.mh_attempt.specs.Runs.{MayRun, draws}
 use Rattle.mh_attempt.proofs.Replacing.{replaces-held}
 use Rattle.mh_attempt.proofs.RunLines.{HasRun}
@@ -25,7 +25,7 @@ module _ (lines : ℕ) (steps rest : List Step) (e : End) (before after : Regist
       let at = so_far.reaches may.holds.0 may.holds.1 in
       (at.reached, subst (λ (leaves : Bor LeafTable). Hold leaves.now after at.reached) (sym so_far.goes_on.leaves) at.holds)
 
-  pub next-kept : AreKept now.seat.now after
+  pub next-kept : AreHeldBy now.seat.now after
   next-kept = replaces-held (holds_in before.assigned.items) (holds_in after.assigned.items) old now may.kept so_far.types
 
   pub next-serial : after.serial < 2 ^ 63

@@ -23,7 +23,7 @@ use Rattle.mh_attempt.specs.declared.registers.Registers.{Registers}
 use Rattle.mh_attempt.specs.AskedTypes.{job_types, script_types, target_types}
 use Rattle.mh_attempt.specs.Linkage.{target_of, target_recipes}
 use Rattle.mh_attempt.specs.Recipes.{attempt_recipes, script_asked, script_recipes}
-use Rattle.mh_attempt.specs.Registers.{AreKept, HasLeaves, Hold, HoldsLast, held_under, holds_in}
+use Rattle.mh_attempt.specs.Registers.{AreHeldBy, HasLeaves, Hold, HoldsLast, held_under, holds_in}
 use Rattle.mh_attempt.specs.Runs.{MayRun, draws}
 
 -- ---- a call of a bootstrap method
@@ -39,7 +39,7 @@ start-holds leaves registers call serial is is' none are = record {
 }
 
 -- they hold nothing
-pub start-kept : (seat : SeatView) (registers : Registers) → registers.assigned.items ≡ [] → AreKept seat registers
+pub start-kept : (seat : SeatView) (registers : Registers) → registers.assigned.items ≡ [] → AreHeldBy seat registers
 start-kept seat registers none = subst (λ l. AreHeld seat (holds_in l)) (sym none) (held-none seat)
 
 -- the lines of a script may be run, where as many numbers are left as its lines may draw

@@ -13,7 +13,7 @@ use Rattle.mh_attempt.specs.declared.registers.Content.{Content as Found}
 use Rattle.mh_attempt.specs.declared.registers.Held.{Held}
 use Rattle.mh_attempt.specs.declared.registers.Registers.{Registers}
 use Rattle.mh_link.specs.Operands.{Content, Frame, content, content_of, no_argument}
-use Rattle.mh_attempt.specs.Registers.{Hold, Holds, HoldsLast, IsContent, IsLeafOf, held_under, is_named}
+use Rattle.mh_attempt.specs.Registers.{Hold, HoldsContent, HoldsLast, IsContent, IsLeafWithin, held_under, is_named}
 use Rattle.mh_attempt.specs.Told.{TellsBy}
 
 get-some : {A : Type 0} (xs : List A) (n : ℕ) (a : A) → n < length xs → ((d : A) → a ≡ get_or xs n d) → slice_get xs n ≡ Some a
@@ -27,7 +27,7 @@ drop_all xs i past = nil_from_length (drop i xs) (length-drop i xs ∙ omega (ar
 -- a static argument that is there
 pub argument-content : (leaves : LeafTable) (registers : Registers) (frame : Frame) → Hold leaves registers frame → (n : ℕ) (a : Argument) (c : Found) →
     n < length registers.call.now.arguments → ((d : Argument) → a ≡ get_or registers.call.now.arguments n d) →
-    (IsLeafOf leaves a → IsContent leaves c (content_of a)) →
+    (IsLeafWithin leaves a → IsContent leaves c (content_of a)) →
     TellsBy (IsContent leaves) (Ok c) (content frame (register.Argument n))
 argument-content leaves registers frame hold n a c within there is =
     let at = get-some registers.call.now.arguments n a within there in (
@@ -46,7 +46,7 @@ argument-none leaves registers frame hold n at =
 
 -- what was assigned last
 pub last-content : (leaves : LeafTable) (h : Held) (c : Found) (o : Option Content) → HoldsLast leaves (Some h) o →
-    ((m : Content) → Holds leaves h m → IsContent leaves c m) → TellsBy (IsContent leaves) (Ok c) (ok_or o no_argument)
+    ((m : Content) → HoldsContent leaves h m → IsContent leaves c m) → TellsBy (IsContent leaves) (Ok c) (ok_or o no_argument)
 last-content leaves h c (Some m) holds is = (m, refl, is m holds)
 last-content leaves h c None holds is = absurd holds
 

@@ -13,7 +13,7 @@ use Rattle.mh_attempt.specs.declared.registers.Held.TheVariants as held
 use Rattle.mh_attempt.specs.declared.registers.Registers.{Registers}
 use Rattle.mh_link.specs.Operands.{Frame, handle}
 use Rattle.mh_attempt.specs.Operations.{MakesOperation}
-use Rattle.mh_attempt.specs.Registers.{AreKept, Hold, HoldSame, HoldSome, assigned_to, holds_in, holds_of}
+use Rattle.mh_attempt.specs.Registers.{AreHeldBy, Hold, HoldSame, HoldSome, assigned_to, holds_in, holds_of}
 use Rattle.mh_attempt.specs.Runs.{Replaces}
 use Rattle.mh_attempt.specs.Several.{Adds, AddsTypes}
 use Rattle.mh_attempt.proofs.Adding.{adds-none}
@@ -39,22 +39,23 @@ pub record Assigns (name : Bor (List ℕ)) (h : Held) (before after : Registers)
 pub roomy-some : (leaves : LeafTable) (before roomy : Registers) → HoldSame before roomy → HoldSome leaves before → HoldSome leaves roomy
 roomy-some leaves before roomy same some = (some.0, same-hold leaves before roomy some.0 same some.1)
 
-pub roomy-kept : (w : Work) (before roomy : Registers) → HoldSame before roomy → AreKept w.seat.now before → AreKept w.seat.now roomy
+pub roomy-kept : (w : Work) (before roomy : Registers) → HoldSame before roomy → AreHeldBy w.seat.now before → AreHeldBy w.seat.now roomy
 roomy-kept w before roomy same kept = subst (λ l. AreHeld w.seat.now (holds_in l)) (sym same.assigned) kept
 
-pub roomy-replaces : (w : Work) (before roomy : Registers) → HoldSame before roomy → AreKept w.seat.now before →
+pub roomy-replaces : (w : Work) (before roomy : Registers) → HoldSame before roomy → AreHeldBy w.seat.now before →
     Replaces (holds_in before.assigned.items) (holds_in roomy.assigned.items) w w
 roomy-replaces w before roomy same kept =
     subst (λ l. Replaces (holds_in before.assigned.items) (holds_in l) w w) (sym same.assigned) (replaces-none (holds_in before.assigned.items) w kept)
 
 -- the types of a handle that a line made, and of what registers hold
-pub made-kept : (before roomy : Registers) (h : Handle) (old new : Work) → HoldSame before roomy → AreKept old.seat.now before → Adds h.held old new →
+pub made-kept : (before roomy : Registers) (h : Handle) (old new : Work) → HoldSame before roomy → AreHeldBy old.seat.now before → Adds h.held old new →
     HoldsTypes new (holds_in roomy.assigned.items ++ h.held)
 made-kept before roomy h old new same kept adds =
     replaces-held (holds_in before.assigned.items) (holds_in roomy.assigned.items ++ h.held) old new kept
     (replaces-more (holds_in before.assigned.items) (holds_in roomy.assigned.items) h.held old old new (roomy-replaces old before roomy same kept) adds)
 
-pub number-kept : (before roomy : Registers) (w : Work) → HoldSame before roomy → AreKept w.seat.now before → HoldsTypes w (holds_in roomy.assigned.items ++ [])
+pub number-kept : (before roomy : Registers) (w : Work) → HoldSame before roomy → AreHeldBy w.seat.now before →
+    HoldsTypes w (holds_in roomy.assigned.items ++ [])
 number-kept before roomy w same kept =
     replaces-held (holds_in before.assigned.items) (holds_in roomy.assigned.items ++ []) w w kept
     (replaces-more (holds_in before.assigned.items) (holds_in roomy.assigned.items) [] w w w (roomy-replaces w before roomy same kept) (adds-none w))

@@ -12,8 +12,8 @@ use Rattle.mh_script.specs.declared.script.Script.{Script}
 use Rattle.mh_script.specs.declared.script.Step.{Step}
 use Rattle.mh_script.specs.Limits.{CanRun}
 use Rattle.mh_attempt.specs.declared.registers.Registers.{Registers}
-use Rattle.mh_attempt.specs.Registers.{AreKept, holds_in}
-use Rattle.mh_attempt.specs.Runs.{KeepsTypes, Replaces, draws}
+use Rattle.mh_attempt.specs.Registers.{AreHeldBy, holds_in}
+use Rattle.mh_attempt.specs.Runs.{ReplacesTypes, Replaces, draws}
 use Rattle.mh_attempt.specs.Several.{AddsTypes}
 use Rattle.mh_attempt.proofs.Replacing.{replaces-back, replaces-held, replaces-then}
 
@@ -23,16 +23,16 @@ from_none : (before : Registers) (came : List HoldView) (old new : Work) → bef
 from_none before came old new none x = subst (λ l. Replaces (holds_in l) came old new) none x
 
 -- what they hold then, the seat holds for them
-pub called-kept : (before after : Registers) (old new : Work) (r : Result Handle HandleError) → AreKept old.seat.now before →
-    KeepsTypes before after old new r → AreKept new.seat.now after
+pub called-kept : (before after : Registers) (old new : Work) (r : Result Handle HandleError) → AreHeldBy old.seat.now before →
+    ReplacesTypes before after old new r → AreHeldBy new.seat.now after
 called-kept before after old new (Ok h) kept x =
     held-first new.seat.now (holds_in after.assigned.items) h.held
     (replaces-held (holds_in before.assigned.items) (holds_in after.assigned.items ++ h.held) old new kept x)
 called-kept before after old new (Err error) kept x = replaces-held (holds_in before.assigned.items) (holds_in after.assigned.items) old new kept x
 
 -- once that is given back, only the target's types are held more
-pub called-adds : (before after : Registers) (old mid new : Work) (r : Result Handle HandleError) → before.assigned.items ≡ [] → AreKept old.seat.now before →
-    KeepsTypes before after old mid r → Exchanges [] (holds_in after.assigned.items) [] mid.seat.now new.seat.now → AddsTypes old new r
+pub called-adds : (before after : Registers) (old mid new : Work) (r : Result Handle HandleError) → before.assigned.items ≡ [] → AreHeldBy old.seat.now before →
+    ReplacesTypes before after old mid r → Exchanges [] (holds_in after.assigned.items) [] mid.seat.now new.seat.now → AddsTypes old new r
 called-adds before after old mid new (Ok h) none kept x back =
     from_none before h.held old new none
     (replaces-back (holds_in before.assigned.items) (holds_in after.assigned.items) h.held old mid new kept x back)

@@ -17,7 +17,7 @@ use Rattle.mh_attempt.specs.AskedTypes.{AsksTypesOrThrows, end_types}
 use Rattle.mh_attempt.specs.Lines.{MakesNode}
 use Rattle.mh_attempt.specs.Recipes.{end_recipes}
 use Rattle.mh_attempt.specs.Registers.{Hold, holds_in}
-use Rattle.mh_attempt.specs.Runs.{KeepsTypes, Replaces, Runs, draws}
+use Rattle.mh_attempt.specs.Runs.{ReplacesTypes, Replaces, Runs, draws}
 use Rattle.mh_attempt.specs.Several.{AddsTypes}
 use Rattle.mh_attempt.proofs.Replacing.{replaces-more, replaces-still}
 use Rattle.mh_attempt.proofs.RunLines.{HasRun}
@@ -45,7 +45,7 @@ ends-says e registers old mid new r same ends =
     })
 
 ends-keeps : (before after : Registers) (old mid new : Work) (r : Result Handle HandleError) →
-    Replaces (holds_in before.assigned.items) (holds_in after.assigned.items) old mid → AddsTypes mid new r → KeepsTypes before after old new r
+    Replaces (holds_in before.assigned.items) (holds_in after.assigned.items) old mid → AddsTypes mid new r → ReplacesTypes before after old new r
 ends-keeps before after old mid new (Ok h) x adds =
     replaces-more (holds_in before.assigned.items) (holds_in after.assigned.items) h.held old mid new x adds
 ends-keeps before after old mid new (Err error) x adds =

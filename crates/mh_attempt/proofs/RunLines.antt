@@ -24,7 +24,7 @@ use Rattle.mh_link.specs.Operands.{Frame}
 use Rattle.mh_attempt.specs.Asked.{AsksOrThrows, HasAskedMore}
 use Rattle.mh_attempt.specs.AskedTypes.{AsksNoOther, AsksTypesOrThrows, script_types}
 use Rattle.mh_attempt.specs.Recipes.{script_asked, script_recipes, step_asked}
-use Rattle.mh_attempt.specs.Registers.{AreKept, Hold, holds_in}
+use Rattle.mh_attempt.specs.Registers.{AreHeldBy, Hold, holds_in}
 use Rattle.mh_attempt.specs.Runs.{Replaces, RunsStep, TellsStep, step_recipes, step_types}
 use Rattle.mh_attempt.proofs.AskedAfter.{asked_more-both, asked_more-none}
 use Rattle.mh_attempt.proofs.AskingTypes.{no_other-still, no_other-then}
@@ -51,7 +51,7 @@ pub record HasRun (lines : ℕ) (steps rest : List Step) (e : End) (before after
 
 -- ---- before the first line
 
-pub run-none : (steps : List Step) (e : End) (registers : Registers) (w : Work) → AreKept w.seat.now registers →
+pub run-none : (steps : List Step) (e : End) (registers : Registers) (w : Work) → AreHeldBy w.seat.now registers →
     HasRun 0 steps steps e registers registers w w
 run-none steps e registers w kept = record {
   goes_on = goes_on-still w;

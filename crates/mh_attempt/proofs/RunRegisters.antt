@@ -12,19 +12,19 @@ use Rattle.mh_attempt.specs.declared.registers.Held.TheVariants as held
 use Rattle.mh_attempt.specs.declared.registers.Registers.{Registers}
 use Rattle.mh_link.specs.Linked.{assigning}
 use Rattle.mh_link.specs.Operands.{Content, Frame, last_assigned, value}
-use Rattle.mh_attempt.specs.Registers.{Hold, HoldSame, Holds, HoldsLast, assigned_to, held_under}
+use Rattle.mh_attempt.specs.Registers.{Hold, HoldSame, HoldsContent, HoldsLast, assigned_to, held_under}
 use Rattle.mh_attempt.proofs.Assigning.{held-assigned}
 
 -- ---- frames
 
-last-where : (leaves : LeafTable) (p : Bool) (h : Held) (c : Content) (found : Option Held) (last : Option Content) → Holds leaves h c →
+last-where : (leaves : LeafTable) (p : Bool) (h : Held) (c : Content) (found : Option Held) (last : Option Content) → HoldsContent leaves h c →
     HoldsLast leaves found last → HoldsLast leaves (if p then Some h else found) (if p then Some c else last)
 last-where leaves true h c found last holds rest = holds
 last-where leaves false h c found last holds rest = rest
 
 -- registers of which one is assigned stand for the frame where it is
 pub assigned-hold : (leaves : LeafTable) (old new : Registers) (name : Bor (List ℕ)) (h : Held) (frame : Frame) (c : Content) → new.call ≡ old.call →
-    new.serial ≡ old.serial → new.assigned.items ≡ assigned_to name h old.assigned.items → Hold leaves old frame → Holds leaves h c →
+    new.serial ≡ old.serial → new.assigned.items ≡ assigned_to name h old.assigned.items → Hold leaves old frame → HoldsContent leaves h c →
     Hold leaves new (assigning name.now c frame)
 assigned-hold leaves old new name h frame c call serial assigned hold holds = record {
   call = hold.call ∙ ap (λ b. b.now) (sym call);
@@ -54,6 +54,6 @@ numbered serial = value (values.Boxed (num.J (pos serial)))
 
 -- the number that is held is that of the frame
 pub number-held : (leaves : LeafTable) (registers : Registers) (frame : Frame) → Hold leaves registers frame → registers.serial < 2 ^ 63 →
-    Holds leaves (held.Number (to_z w64 registers.serial)) (numbered frame.serial)
+    HoldsContent leaves (held.Number (to_z w64 registers.serial)) (numbered frame.serial)
 number-held leaves registers frame hold low =
     ap numbered hold.serial ∙ ap (λ n. value (values.Boxed (num.J n))) (sym (to_z_pos w64 registers.serial low))

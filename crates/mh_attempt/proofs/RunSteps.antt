@@ -14,7 +14,7 @@ use Rattle.mh_link.specs.Operands.{handle}
 use Rattle.mh_attempt.specs.AskedTypes.{line_types}
 use Rattle.mh_attempt.specs.Lines.{passes}
 use Rattle.mh_attempt.specs.Recipes.{line_recipes}
-use Rattle.mh_attempt.specs.Registers.{AreKept, Hold, HoldSame, holds_in}
+use Rattle.mh_attempt.specs.Registers.{AreHeldBy, Hold, HoldSame, holds_in}
 use Rattle.mh_attempt.specs.Runs.{RunsStep}
 use Rattle.mh_attempt.proofs.Adding.{adds-none}
 use Rattle.mh_attempt.proofs.AskedAfter.{asked_more-none}
@@ -30,7 +30,7 @@ use Rattle.mh_attempt.proofs.RoomyRegisters.{MakesLine, Assigns, roomy-replaces}
 -- ---- a line that is carried out
 
 pub let-runs : (name : List ℕ) (op : Operation) (at : Bor (List ℕ)) (h : Handle) (before roomy after : Registers) (old mid new : Work) → at.now ≡ name →
-    HoldSame before roomy → AreKept old.seat.now before → MakesLine roomy op old mid (Ok h) → Assigns at (held.Handle h) roomy after mid new →
+    HoldSame before roomy → AreHeldBy old.seat.now before → MakesLine roomy op old mid (Ok h) → Assigns at (held.Handle h) roomy after mid new →
     RunsStep (step.Let name op) before after old new (Ok tt)
 let-runs name op at h before roomy after old mid new named same kept made assigns =
     let leaves = old.leaves.now in
@@ -61,7 +61,7 @@ let-runs name op at h before roomy after old mid new named same kept made assign
     }
 
 pub serial-runs : (name : List ℕ) (at : Bor (List ℕ)) (before roomy after : Registers) (old new : Work) → at.now ≡ name → HoldSame before roomy →
-    AreKept old.seat.now before → roomy.serial < 2 ^ 63 → Assigns at (held.Number (to_z w64 roomy.serial)) roomy after old new →
+    AreHeldBy old.seat.now before → roomy.serial < 2 ^ 63 → Assigns at (held.Number (to_z w64 roomy.serial)) roomy after old new →
     RunsStep (step.Serial name) before after old new (Ok tt)
 serial-runs name at before roomy after old new named same kept low assigns =
     let leaves = old.leaves.now in
@@ -89,7 +89,7 @@ serial-runs name at before roomy after old new named same kept low assigns =
           (no_other-still [] old.seat.now) assigns.types;
     }
 
-pub pass-runs : (modulus remainder : ℕ) (registers : Registers) (w : Work) (u : Unit {0}) → AreKept w.seat.now registers →
+pub pass-runs : (modulus remainder : ℕ) (registers : Registers) (w : Work) (u : Unit {0}) → AreHeldBy w.seat.now registers →
     passes registers.serial modulus remainder ≡ Ok u → RunsStep (step.FailMod modulus remainder) registers registers w w (Ok tt)
 pass-runs modulus remainder registers w u kept passed = record {
   goes_on = goes_on-none 4 w;

@@ -46,13 +46,13 @@ HasStoppedAt recipes old new =
     (whole : ℕ) → DrawsWithin whole old → (before : List (List Key)) → HasAsked before old → HasDrawn whole (before ++ recipes) new
 
 -- no number was left for a form of these recipes
-abbrev pub IsFull : List (List Key) → ℕ → PassView → PassView → Type 0
-IsFull recipes drawn old new = HasStoppedAt recipes old new × IsOver drawn new
+abbrev pub HasNoNumber : List (List Key) → ℕ → PassView → PassView → Type 0
+HasNoNumber recipes drawn old new = HasStoppedAt recipes old new × IsOver drawn new
 
 -- what a call leaves that asks for forms of these recipes
 abbrev pub Asks : {A : Type 0} → List (List Key) → Work → Work → Result A WorkError → Type 0
 Asks recipes old new (Ok a) = HasAskedMore recipes old.pass.now new.pass.now
-Asks recipes old new (Err (work.FormsFull drawn)) = IsFull recipes drawn old.pass.now new.pass.now
+Asks recipes old new (Err (work.FormsFull drawn)) = HasNoNumber recipes drawn old.pass.now new.pass.now
 Asks recipes old new (Err (work.TypesFull bucket)) = HasStoppedAt recipes old.pass.now new.pass.now
 Asks recipes old new (Err work.NoMemory) = Unit {0}
 
@@ -60,13 +60,13 @@ Asks recipes old new (Err work.NoMemory) = Unit {0}
 abbrev pub AsksOrThrows : {A : Type 0} → List (List Key) → Work → Work → Result A HandleError → Type 0
 AsksOrThrows recipes old new (Ok a) = HasAskedMore recipes old.pass.now new.pass.now
 AsksOrThrows recipes old new (Err (handle.Refused e)) = HasAskedMore recipes old.pass.now new.pass.now
-AsksOrThrows recipes old new (Err (handle.FormsFull drawn)) = IsFull recipes drawn old.pass.now new.pass.now
+AsksOrThrows recipes old new (Err (handle.FormsFull drawn)) = HasNoNumber recipes drawn old.pass.now new.pass.now
 AsksOrThrows recipes old new (Err (handle.TypesFull bucket)) = HasStoppedAt recipes old.pass.now new.pass.now
 AsksOrThrows recipes old new (Err handle.NoMemory) = Unit {0}
 
 -- a call has stopped that asks for forms of these recipes; where it was refused, another clause says that it leaves the pass as it was
 abbrev pub HasStopped : List (List Key) → PassView → PassView → HandleError → Type 0
-HasStopped recipes old new (handle.FormsFull drawn) = IsFull recipes drawn old new
+HasStopped recipes old new (handle.FormsFull drawn) = HasNoNumber recipes drawn old new
 HasStopped recipes old new (handle.TypesFull bucket) = HasStoppedAt recipes old new
 HasStopped recipes old new error = Unit {0}
 

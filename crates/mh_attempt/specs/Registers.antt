@@ -56,13 +56,13 @@ assigned_to name h (a ∷ assigned) =
     if is_named name.now a then record { name = a.name; held = h } ∷ assigned else a ∷ assigned_to name h assigned
 
 -- what a line assigned stands for what a register holds
-abbrev pub Holds : LeafTable → Held → Content → Type 0
-Holds leaves (held.Handle h) c = (t : Tree) × (c ≡ handle t) × Stands leaves h t
-Holds leaves (held.Number n) c = c ≡ value (values.Boxed (num.J n))
+abbrev pub HoldsContent : LeafTable → Held → Content → Type 0
+HoldsContent leaves (held.Handle h) c = (t : Tree) × (c ≡ handle t) × Stands leaves h t
+HoldsContent leaves (held.Number n) c = c ≡ value (values.Boxed (num.J n))
 
 -- what is found under a name stands for what was assigned last under it, and nothing for nothing
 abbrev pub HoldsLast : LeafTable → Option Held → Option Content → Type 0
-HoldsLast leaves (Some h) (Some c) = Holds leaves h c
+HoldsLast leaves (Some h) (Some c) = HoldsContent leaves h c
 HoldsLast leaves None None = Unit {0}
 HoldsLast leaves _ _ = ⊥
 
@@ -73,13 +73,13 @@ pub record HoldEach (leaves : LeafTable) (assigned : List Assignment) (meant : L
 -- ---- frames
 
 -- a static argument that is a leaf is a leaf of the table
-abbrev pub IsLeafOf : LeafTable → Argument → Type 0
-IsLeafOf leaves (argument.Leaf l) = l.0 < length leaves.leaves
-IsLeafOf leaves _ = Unit {0}
+abbrev pub IsLeafWithin : LeafTable → Argument → Type 0
+IsLeafWithin leaves (argument.Leaf l) = l.0 < length leaves.leaves
+IsLeafWithin leaves _ = Unit {0}
 
 -- the static arguments that are leaves are leaves of the table
 abbrev pub HasLeaves : LeafTable → BootstrapCall → Type 0
-HasLeaves leaves call = (n : ℕ) (a : Argument) → slice_get call.arguments n ≡ Some a → IsLeafOf leaves a
+HasLeaves leaves call = (n : ℕ) (a : Argument) → slice_get call.arguments n ≡ Some a → IsLeafWithin leaves a
 
 -- the registers stand for a frame
 pub record Hold (leaves : LeafTable) (registers : Registers) (frame : Frame) : Type 0 where
@@ -99,8 +99,8 @@ pub record HoldSame (old new : Registers) : Type 0 where
   pub assigned : new.assigned.items ≡ old.assigned.items
 
 -- there is room for one name more
-abbrev pub HasRoom : Registers → Type 0
-HasRoom registers = vec_len registers.assigned < vec_capacity registers.assigned
+abbrev pub HasRoomForName : Registers → Type 0
+HasRoomForName registers = vec_len registers.assigned < vec_capacity registers.assigned
 
 -- ---- what a register holds
 
@@ -149,8 +149,8 @@ abbrev pub IsKeptIn : SeatView → Held → Type 0
 IsKeptIn seat h = AreHeld seat (holds_of h)
 
 -- the seat holds the types of all handles that registers hold, each as often as it stands there
-abbrev pub AreKept : SeatView → Registers → Type 0
-AreKept seat registers = AreHeld seat (holds_in registers.assigned.items)
+abbrev pub AreHeldBy : SeatView → Registers → Type 0
+AreHeldBy seat registers = AreHeld seat (holds_in registers.assigned.items)
 
 -- ---- classes
 

@@ -23,7 +23,7 @@ use Rattle.mh_attempt.specs.Asked.{AsksOrThrows}
 use Rattle.mh_attempt.specs.AskedTypes.{AsksTypesOrThrows, script_types}
 use Rattle.mh_attempt.specs.Lines.{TellsTarget}
 use Rattle.mh_attempt.specs.Recipes.{script_recipes, step_asked}
-use Rattle.mh_attempt.specs.Registers.{AreKept, Hold, HoldSome, holds_in}
+use Rattle.mh_attempt.specs.Registers.{AreHeldBy, Hold, HoldSome, holds_in}
 
 -- how many numbers lines may draw before the last one, and with it
 abbrev pub draws : List Step → ℕ
@@ -33,7 +33,7 @@ draws steps = 4 * length steps + 1
 pub record MayRun (steps : List Step) (registers : Registers) (w : Work) : Type 0 where
   pub ready : IsReady w (draws steps)
   pub holds : HoldSome w.leaves.now registers
-  pub kept : AreKept w.seat.now registers
+  pub kept : AreHeldBy w.seat.now registers
   pub divide : All CanDivide steps
   pub serial : registers.serial < 2 ^ 63
 
@@ -42,9 +42,9 @@ abbrev pub Replaces : List HoldView → List HoldView → Work → Work → Type
 Replaces gone came old new = (asks : List MethodTy) × Exchanges asks gone came old.seat.now new.seat.now
 
 -- the seat has the types of what registers hold now in the place of those before, and those of a handle more, if there is one
-abbrev pub KeepsTypes : {E : Type 0} → Registers → Registers → Work → Work → Result Handle E → Type 0
-KeepsTypes before after old new (Ok h) = Replaces (holds_in before.assigned.items) (holds_in after.assigned.items ++ h.held) old new
-KeepsTypes before after old new (Err error) = Replaces (holds_in before.assigned.items) (holds_in after.assigned.items) old new
+abbrev pub ReplacesTypes : {E : Type 0} → Registers → Registers → Work → Work → Result Handle E → Type 0
+ReplacesTypes before after old new (Ok h) = Replaces (holds_in before.assigned.items) (holds_in after.assigned.items ++ h.held) old new
+ReplacesTypes before after old new (Err error) = Replaces (holds_in before.assigned.items) (holds_in after.assigned.items) old new
 
 -- ---- one line
 
@@ -77,7 +77,7 @@ pub record RunsStep (s : Step) (before after : Registers) (old new : Work) (resu
 -- nodes asked for
 pub record Runs (steps : List Step) (e : End) (before after : Registers) (old new : Work) (result : Result Handle HandleError) : Type 0 where
   pub goes_on : GoesOn (draws steps) old new
-  pub types : KeepsTypes before after old new result
+  pub types : ReplacesTypes before after old new result
   pub target : (frame : Frame) → Hold old.leaves.now before frame → TellsTarget (ran old.leaves.now steps e frame) old result
   pub asks : (frame : Frame) → Hold old.leaves.now before frame → AsksOrThrows (script_recipes old.leaves.now steps e frame) old new result
   pub asked : (frame : Frame) → Hold old.leaves.now before frame → AsksTypesOrThrows (script_types old.leaves.now steps e frame) old new result

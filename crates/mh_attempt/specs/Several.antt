@@ -9,9 +9,9 @@ use Rattle.mh_handle.specs.declared.handle.Handle.{Handle}
 use Rattle.mh_handle.specs.declared.work.Work.{Work}
 
 -- nothing is refused by a rule
-abbrev pub AreAccepted : {A : Type 0} → Result A HandleError → Type 0
-AreAccepted (Err (Refused e)) = ⊥
-AreAccepted made = Unit {0}
+abbrev pub NothingRefused : {A : Type 0} → Result A HandleError → Type 0
+NothingRefused (Err (Refused e)) = ⊥
+NothingRefused made = Unit {0}
 
 -- the seat has these holds more
 abbrev pub Adds : List HoldView → Work → Work → Type 0

@@ -3,7 +3,7 @@
 ghost use Rattle.mh_handle.specs.Works.{GoesOn, IsReady, leaves_of};
 ghost use Rattle.mh_attempt.specs.Operations.{MakesOperation};
 ghost use Rattle.mh_link.specs.Operands.{Frame};
-ghost use Rattle.mh_attempt.specs.Registers.{AreKept, Hold, HoldSome};
+ghost use Rattle.mh_attempt.specs.Registers.{AreHeldBy, Hold, HoldSome};
 
 mod arrays;
 mod branches;
@@ -36,7 +36,7 @@ pub(crate) fn node<'t, R: Wait>(
 ) -> Result<Handle<'t>, HandleError>
     requires ready { IsReady w.old 4 }
     requires registers { HoldSome (leaves_of w.old) registers.now }
-    requires kept { AreKept w.old.seat.now registers.now }
+    requires kept { AreHeldBy w.old.seat.now registers.now }
     ensures goes_on { GoesOn 4 w.old w.new }
     ensures types { AddsTypes w.old w.new result }
     ensures line { (frame : Frame) → Hold (leaves_of w.old) registers.now frame

@@ -11,7 +11,7 @@ ghost use Rattle.mh_script.specs.declared.operand.Register.TheVariants as regist
 ghost use Rattle.mh_link.specs.Made.{leaf_among, node_of_use};
 ghost use Rattle.mh_link.specs.Operands as operands;
 ghost use Rattle.mh_link.specs.Operands.{Frame, content, content_of, no_argument, as_handle, as_value, as_method_type, as_class, handle_in, value_in, type_in, method_type_in};
-ghost use Rattle.mh_attempt.specs.Registers.{AreKept, HasRoom, Hold, HoldSame, Holds, IsContent, IsFoundIn, IsHeldIn, IsKeptIn, IsLeafOf, StandsFor, assigned_to, class_in, held_under, holds_in, holds_of, is_named, node_held, node_made};
+ghost use Rattle.mh_attempt.specs.Registers.{AreHeldBy, HasRoomForName, Hold, HoldSame, HoldsContent, IsContent, IsFoundIn, IsHeldIn, IsKeptIn, IsLeafWithin, StandsFor, assigned_to, class_in, held_under, holds_in, holds_of, is_named, node_held, node_made};
 ghost use Rattle.mh_attempt.specs.Told.{Tells, TellsBy, Throws};
 
 use crate::handle::HandleOperand;
@@ -96,8 +96,8 @@ fn place_of(assigned: &[Assignment<'_, '_>], name: &[u8]) -> Option<usize>
 
 // What a line assigned as what a register holds.
 fn content_held<'a, 'f, 't>(held: &'a Held<'t>) -> Content<'a, 'f, 't>
-    ensures holds { (leaves : LeafTable) (meant : operands.Content) → Holds leaves held.now meant
-        → IsContent leaves result meant }
+    ensures holds { (leaves : LeafTable) (meant : operands.Content)
+        → HoldsContent leaves held.now meant → IsContent leaves result meant }
     ensures makes { node_held result ≡ [] }
     ensures kept { (seat : SeatView) → IsKeptIn seat held.now → IsFoundIn seat result }
 {
@@ -112,7 +112,7 @@ fn content_of<'a, 'f, 't>(
     alloc: Global,
     argument: &'f Argument,
 ) -> Result<Content<'a, 'f, 't>, NoMemory>
-    ensures holds { (leaves : LeafTable) → IsLeafOf leaves argument.now
+    ensures holds { (leaves : LeafTable) → IsLeafWithin leaves argument.now
         → IfOk result (λ found. IsContent leaves found (content_of argument.now)) }
     ensures makes { IfOk result (λ found. node_held found ≡ leaf_among (Some argument.now)) }
     ensures kept { (seat : SeatView) → IfOk result (IsFoundIn seat) }
@@ -206,7 +206,7 @@ impl<'f, 't> Registers<'f, 't> {
     /// Makes room for an assignment. Where memory is short all stays as it was.
     pub fn reserve(&mut self) -> Result<(), NoMemory>
         ensures same { HoldSame self.old self.new }
-        ensures room { OnOk result (HasRoom self.new) }
+        ensures room { OnOk result (HasRoomForName self.new) }
     {
         self.assigned.reserve(1)?;
         Ok(())
@@ -214,7 +214,7 @@ impl<'f, 't> Registers<'f, 't> {
 
     // Assigns a register, and hands out what it held before, if it held anything.
     fn exchange(&mut self, name: &'f [u8], held: Held<'t>) -> Option<Held<'t>>
-        requires { HasRoom self.old }
+        requires { HasRoomForName self.old }
         ensures before { result ≡ held_under name.now self.old.assigned.items }
         ensures call { self.new.call ≡ self.old.call }
         ensures serial { self.new.serial ≡ self.old.serial }
@@ -232,7 +232,7 @@ impl<'f, 't> Registers<'f, 't> {
 
     /// Assigns a register, for which there is room, and gives up what it held before.
     pub fn assign(&mut self, w: &mut Work<'_, 't>, name: &'f [u8], held: Held<'t>)
-        requires room { HasRoom self.old }
+        requires room { HasRoomForName self.old }
         requires of_types { w.old.seat.now.table ≡ w.old.types.now }
         requires kept { HoldsTypes w.old (holds_in self.old.assigned.items ++ holds_of held) }
         ensures call { self.new.call ≡ self.old.call }
@@ -251,7 +251,7 @@ impl<'f, 't> Registers<'f, 't> {
     /// Gives up the handles that registers hold, with the types that these hold.
     pub fn give_back(mut self, w: &mut Work<'_, 't>)
         requires of_types { w.old.seat.now.table ≡ w.old.types.now }
-        requires kept { AreKept w.old.seat.now self }
+        requires kept { AreHeldBy w.old.seat.now self }
         ensures unchanged { IsUnchanged w.old w.new }
         ensures types { Exchanges [] (holds_in self.entry.assigned.items) []
             w.old.seat.now w.new.seat.now }
@@ -284,7 +284,7 @@ impl<'f, 't> Registers<'f, 't> {
         ensures holds { (leaves : LeafTable) (frame : Frame) → Hold leaves self.now frame
             → TellsBy (IsContent leaves) result (content frame (register.Assigned name.now)) }
         ensures makes { IfOk result (λ found. node_held found ≡ []) }
-        ensures kept { (seat : SeatView) → AreKept seat self.now → IfOk result (IsFoundIn seat) }
+        ensures kept { (seat : SeatView) → AreHeldBy seat self.now → IfOk result (IsFoundIn seat) }
     {
         match held_under(self.assigned.as_slice(), name) {
             Some(held) => Ok(content_held(held)),
@@ -299,7 +299,7 @@ impl<'f, 't> Registers<'f, 't> {
             → TellsBy (IsContent leaves) result (content frame register.now) }
         ensures makes { (leaves : LeafTable) (frame : Frame) → Hold leaves self.now frame
             → IfOk result (λ found. node_held found ≡ node_of_use frame register.now) }
-        ensures kept { (seat : SeatView) → AreKept seat self.now → IfOk result (IsFoundIn seat) }
+        ensures kept { (seat : SeatView) → AreHeldBy seat self.now → IfOk result (IsFoundIn seat) }
     {
         match register {
             Register::SiteType => Ok(Content::MethodType(&self.call.ty)),
@@ -319,7 +319,7 @@ impl<'f, 't> Registers<'f, 't> {
             → TellsBy (StandsFor leaves) result (handle_in frame register.now) }
         ensures makes { (leaves : LeafTable) (frame : Frame) → Hold leaves self.now frame
             → IfOk result (λ operand. node_made operand ≡ node_of_use frame register.now) }
-        ensures kept { (seat : SeatView) → AreKept seat self.now → IfOk result (IsHeldIn seat) }
+        ensures kept { (seat : SeatView) → AreHeldBy seat self.now → IfOk result (IsHeldIn seat) }
     {
         let held = self.content(alloc, register)?;
         as_handle(alloc, held)

@@ -10,7 +10,7 @@ ghost use Rattle.mh_attempt.specs.Lines.{MakesNode, passes, raised};
 ghost use Rattle.mh_link.specs.Linked.{ended};
 ghost use Rattle.mh_link.specs.Operands.{Frame};
 ghost use Rattle.mh_attempt.specs.Recipes.{end_recipes};
-ghost use Rattle.mh_attempt.specs.Registers.{AreKept, Hold, HoldSome};
+ghost use Rattle.mh_attempt.specs.Registers.{AreHeldBy, Hold, HoldSome};
 ghost use Rattle.mh_attempt.specs.Runs.{MayRun, Runs, RunsStep};
 ghost use Rattle.mh_attempt.specs.Told.{Tells};
 ghost use Rattle.mh_attempt.specs.Several.{AddsTypes};
@@ -63,7 +63,7 @@ fn returned<'t, R: Wait>(
 ) -> Result<Handle<'t>, HandleError>
     requires ready { IsReady w.old 1 }
     requires registers { HoldSome (leaves_of w.old) registers.now }
-    requires kept { AreKept w.old.seat.now registers.now }
+    requires kept { AreHeldBy w.old.seat.now registers.now }
     ensures goes_on { GoesOn 1 w.old w.new }
     ensures types { AddsTypes w.old w.new result }
     ensures node { (frame : Frame) → Hold (leaves_of w.old) registers.now frame
@@ -90,7 +90,7 @@ fn ended<'t, R: Wait>(
 ) -> Result<Handle<'t>, HandleError>
     requires ready { IsReady w.old 1 }
     requires registers { HoldSome (leaves_of w.old) registers.now }
-    requires kept { AreKept w.old.seat.now registers.now }
+    requires kept { AreHeldBy w.old.seat.now registers.now }
     ensures goes_on { GoesOn 1 w.old w.new }
     ensures types { AddsTypes w.old w.new result }
     ensures node { (frame : Frame) → Hold (leaves_of w.old) registers.now frame
@@ -119,7 +119,7 @@ fn stepped<'f, 't, R: Wait>(
 ) -> Result<(), HandleError>
     requires ready { IsReady w.old 4 }
     requires registers { HoldSome (leaves_of w.old) registers.old }
-    requires kept { AreKept w.old.seat.now registers.old }
+    requires kept { AreHeldBy w.old.seat.now registers.old }
     requires divides { CanDivide step.now }
     requires serial { registers.old.serial < 2 ^ 63 }
     ensures { RunsStep step.now registers.old registers.new w.old w.new result }

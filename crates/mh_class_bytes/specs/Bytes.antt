@@ -21,7 +21,7 @@ abbrev pub number_at : ℕ → Position → Found ℕ
 number_at n p = if nat_lt (length p.bytes) (p.at + n) then Err (record { at = p.at }) else Ok (big_number n (drop p.at p.bytes), skip n p)
 
 -- a cursor never goes back, nor over other bytes
-pub record Moves (old new : Position) : Type 0 where
+pub record MovesOn (old new : Position) : Type 0 where
   pub bytes : new.bytes ≡ old.bytes
   pub onward : old.at ≤ new.at
 
@@ -33,4 +33,4 @@ Taken view old (Err e) new found = (found ≡ Err e) × (new ≡ old)
 -- a call on a cursor answered what stands at its old position, and only moved the cursor on
 pub record Takes {X Y : Type 0} (view : X → Y) (old : Position) (result : Result X Short) (new : Position) (found : Found Y) : Type 0 where
   pub taken : Taken view old result new found
-  pub moves : Moves old new
+  pub moves : MovesOn old new

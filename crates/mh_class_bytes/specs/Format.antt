@@ -3,7 +3,7 @@ use Rattle.std.specs.Prelude.{◌≡◌, ℕ, zero, suc, ◌+◌, List, [], ◌�
 use Rattle.std.specs.Bool.{MatchBool}
 use Rattle.byteorder.specs.Endian.{big_number}
 use Rattle.mh_class_bytes.specs.Position.{Position}
-use Rattle.mh_class_bytes.specs.Bytes.{number_at, bytes_at, Found, Moves}
+use Rattle.mh_class_bytes.specs.Bytes.{number_at, bytes_at, Found, MovesOn}
 use Rattle.mh_class_bytes.specs.declared.fault.Fault.{Fault}
 
 infixl 10 ◌>>=◌
@@ -104,7 +104,7 @@ Judges view (Err f) checked = checked ≡ Err f
 -- a function that reads at a cursor answered, seen by a view, what is to be read of the format there, and only moved the cursor on
 pub record Reads {K X Y : Type 0} (view : X → Y) (result : Result X (Fault K)) (old new : Position) (format : Format K Y) : Type 0 where
   pub found : Judges (λ x. (view x, new)) result (reads format old)
-  pub moves : Moves old new
+  pub moves : MovesOn old new
 
 -- so many steps, each from what the ones before it left
 unfoldable pub repeated : {K S : Type 0} → (S → Format K S) → ℕ → S → Format K S

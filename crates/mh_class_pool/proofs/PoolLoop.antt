@@ -1,7 +1,7 @@
 -- Reading the pool one entry after the other, as a loop does.
 use Rattle.std.proofs.Common.{◌≡◌, ℕ, suc, ◌-◌, ◌+◌, ◌≤◌, ◌<◌, true, false, eqb, List, [], ◌∷◌, ◌++◌, length, map, Some, None, Ok, Err, refl, sym, ap, subst, ◌∙◌, append_assoc, arith}
 use Rattle.std.proofs.lemmas.List.{length-append, length-map, map_push}
-use Rattle.mh_class_bytes.specs.Bytes.{Moves}
+use Rattle.mh_class_bytes.specs.Bytes.{MovesOn}
 use Rattle.mh_class_bytes.specs.Position.{Position}
 use Rattle.mh_class_bytes.specs.declared.fault.Fault.{Fault}
 use Rattle.mh_class_bytes.specs.Format.{reads, repeated}
@@ -14,7 +14,7 @@ use Rattle.mh_class_pool.proofs.NextEntry.{any_index, step, step-err, idle, slot
 
 -- the loop's state: what is read before, followed by what is still read, is the pool
 pub record IsReading (start p : Position) (places : List ℕ) (count : ℕ) : Type 0 where
-  pub moves : Moves start p
+  pub moves : MovesOn start p
   pub inside : 0 < p.at
   pub most : ℕ
   pub enough : count ≤ length places + most
@@ -40,7 +40,7 @@ next start p q places count n e k lt h =
     step count (map (slot_at start.bytes) places) p q e (omega (arith, len)) (subst (λ (m : ℕ). reads (entry (eqb (m + 1) count)) p ≡ Ok (e, q)) (sym len) h)
 
 pub next_narrow : (start p q : Position) (places : List ℕ) (count n : ℕ) (e : Entry) → IsReading start p places count → n ≡ length places →
-    length places < count → reads (entry (eqb (n + 1) count)) p ≡ Ok (e, q) → is_wide e ≡ false → Moves p q
+    length places < count → reads (entry (eqb (n + 1) count)) p ≡ Ok (e, q) → is_wide e ≡ false → MovesOn p q
     → IsReading start q (places ++ p.at ∷ []) count
 next_narrow start p q places count n e r k lt h w m =
     let f = map (slot_at start.bytes) places in
@@ -65,7 +65,7 @@ next_narrow start p q places count n e r k lt h w m =
     }
 
 pub next_wide : (start p q : Position) (places : List ℕ) (count n : ℕ) (e : Entry) → IsReading start p places count → n ≡ length places → length places < count
-    → reads (entry (eqb (n + 1) count)) p ≡ Ok (e, q) → is_wide e ≡ true → Moves p q
+    → reads (entry (eqb (n + 1) count)) p ≡ Ok (e, q) → is_wide e ≡ true → MovesOn p q
     → IsReading start q ((places ++ p.at ∷ []) ++ 0 ∷ []) count
 next_wide start p q places count n e r k lt h w m =
     let f = map (slot_at start.bytes) places in

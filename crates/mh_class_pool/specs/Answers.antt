@@ -1,7 +1,7 @@
 -- What functions answer that read a part of a class file and take memory.
 use Rattle.std.specs.Prelude.{◌≡◌, Result, Ok, Err}
 use Rattle.mh_class_bytes.specs.Position.{Position}
-use Rattle.mh_class_bytes.specs.Bytes.{Moves}
+use Rattle.mh_class_bytes.specs.Bytes.{MovesOn}
 use Rattle.mh_class_bytes.specs.Format.{Format, Checked, reads}
 use Rattle.mh_class_pool.specs.declared.fault.ClassKind.{ClassKind}
 use Rattle.mh_class_pool.specs.declared.fault.ClassError.{ClassError}
@@ -20,4 +20,4 @@ Yields view (Err e) checked = Fails e checked
 -- a function that reads at a cursor answered, seen by a view, what is to be read of the format there, and only moved the cursor on
 pub record Gives {X Y : Type 0} (view : X → Y) (result : Result X ClassError) (old new : Position) (format : Format ClassKind Y) : Type 0 where
   pub found : Yields (λ x. (view x, new)) result (reads format old)
-  pub moves : Moves old new
+  pub moves : MovesOn old new

@@ -2,7 +2,7 @@
 use Rattle.std.proofs.Common.{◌≡◌, ℕ, suc, ◌-◌, ◌+◌, ◌≤◌, ◌<◌, ltb, List, ◌++◌, length, Ok, Err, refl, sym, subst, ◌∙◌, arith}
 use Rattle.std.proofs.lemmas.Bool.{lt-leb, le-leb}
 use Rattle.mh_class_bytes.specs.Position.{Position}
-use Rattle.mh_class_bytes.specs.Bytes.{Moves}
+use Rattle.mh_class_bytes.specs.Bytes.{MovesOn}
 use Rattle.mh_class_bytes.specs.declared.fault.Fault.{Fault}
 use Rattle.mh_class_bytes.specs.Format.{reads, repeated}
 use Rattle.mh_class_bytes.proofs.Moves.{moves_again}
@@ -18,7 +18,7 @@ pub record IsFinding (pool : List Slot) (method : Method) (room start end : ℕ)
   pub most : ℕ
   pub enough : end ≤ p.at + most
   pub begun : start ≤ p.at
-  pub moves : Moves from p
+  pub moves : MovesOn from p
   pub so_far : reads (repeated (next_site pool method room start end) most found) p ≡ reads (code_sites pool method room start end before) from
 
 pub finding-starts : (pool : List Slot) (method : Method) (room start end : ℕ) (p : Position) (before : List Site) → start ≤ p.at →
@@ -53,7 +53,7 @@ one_left pool method room start end from p before found s lt =
     subst (λ (k : ℕ). reads (repeated (next_site pool method room start end) k found) p ≡ reads (code_sites pool method room start end before) from) em s.so_far
 
 pub finding-next : (pool : List Slot) (method : Method) (room start end : ℕ) (from p q : Position) (before found here : List Site) →
-    IsFinding pool method room start end from p before found → p.at < end → p.at < q.at → Moves p q
+    IsFinding pool method room start end from p before found → p.at < end → p.at < q.at → MovesOn p q
     → reads (instruction pool method (ltb (length found) room) start) p ≡ Ok (here, q) → IsFinding pool method room start end from q before (found ++ here)
 finding-next pool method room start end from p q before found here s lt on m h =
     let one = step pool method room start end p q found here lt h in

@@ -6,7 +6,7 @@ use Rattle.mh_setonce.specs.ManyWalks.{chains_of}
 use Rattle.mh_handle.specs.Chains.{learnt_by}
 use Rattle.mh_handle.specs.Form.{FormView}
 use Rattle.mh_handle.specs.Joins.{unasked}
-use Rattle.mh_handle.specs.Passes.{AreLearnt, AreNumbered, AreOneEach, IsPass}
+use Rattle.mh_handle.specs.Passes.{AreLearnt, HaveNumbers, AreOneEach, IsPass}
 use Rattle.mh_handle.specs.Seats.{SeatView, joined_seats}
 use Rattle.mh_handle.proofs.JoinedForms.{is_asked}
 use Rattle.mh_handle.proofs.Members.{IsIn, in-either, passing-in}
@@ -23,7 +23,7 @@ module _ (walks others walks' : List (WalkView FormView)) (made made' asked aske
     chains = mine.chains ∙ table;
     learnt = mine.learnt;
     once = mine.once;
-    numbered = subst (λ (s : SeatView). AreNumbered made s.numbers) (sym joined) (numbered-later made seat.numbers seat'.numbers mine.numbered);
+    numbered = subst (λ (s : SeatView). HaveNumbers made s.numbers) (sym joined) (numbered-later made seat.numbers seat'.numbers mine.numbered);
   }
 
   learnt-both : AreLearnt (learnt_by walks') (learnt_by walks) → AreLearnt (learnt_by walks') (learnt_by others) →
@@ -46,6 +46,6 @@ module _ (walks others walks' : List (WalkView FormView)) (made made' asked aske
         chains = chains ∙ (mine.chains ∙ table);
         learnt = learnt-both a b;
         once = once;
-        numbered = subst (λ (s : SeatView). AreNumbered (made ++ made') s.numbers) (sym joined)
+        numbered = subst (λ (s : SeatView). HaveNumbers (made ++ made') s.numbers) (sym joined)
             (numbered-both made made' seat.numbers seat'.numbers mine.numbered theirs.numbered);
       }))

@@ -45,10 +45,10 @@ abbrev pub AreLearnt : List FormView → List FormView → Type 0
 AreLearnt learnt asked = (i : ℕ) (f : FormView) → slice_get asked i ≡ Some f → (j : ℕ) × (slice_get learnt j ≡ Some f)
 
 -- forms have numbers of this list, each one of its own, in the list's order
-abbrev pub AreNumbered : List FormView → List ℕ → Type 0
-AreNumbered [] numbers = Unit {0}
-AreNumbered (form ∷ forms) [] = ⊥
-AreNumbered (form ∷ forms) (n ∷ numbers) = ((form.number ≡ n) × AreNumbered forms numbers) ⊎ AreNumbered (form ∷ forms) numbers
+abbrev pub HaveNumbers : List FormView → List ℕ → Type 0
+HaveNumbers [] numbers = Unit {0}
+HaveNumbers (form ∷ forms) [] = ⊥
+HaveNumbers (form ∷ forms) (n ∷ numbers) = ((form.number ≡ n) × HaveNumbers forms numbers) ⊎ HaveNumbers (form ∷ forms) numbers
 
 -- forms of two lists that have one recipe are one form
 abbrev pub DoMatch : List FormView → List FormView → Type 0
@@ -64,7 +64,7 @@ pub record IsPass (walks : List (WalkView FormView)) (made asked : List FormView
   pub chains : chains_of walks ≡ seat.table.chains
   pub learnt : AreLearnt (learnt_by walks) asked
   pub once : AreOneEach (learnt_by walks)
-  pub numbered : AreNumbered made seat.numbers
+  pub numbered : HaveNumbers made seat.numbers
 
 -- this is the form of the recipe that the pass has learnt
 abbrev pub IsFormOf : List Key → PassView → FormView → Type 0

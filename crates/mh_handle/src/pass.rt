@@ -3,7 +3,7 @@ ghost use Rattle.mh_setonce.specs.Walks.{FindsNode, Has, Lacks};
 ghost use Rattle.mh_handle.specs.Form.{FormView, body_of};
 ghost use Rattle.mh_handle.specs.Index.{recipe_of};
 ghost use Rattle.mh_handle.specs.Joins.{DoAgree, KnowsBoth, split_pass, split_room, unasked, with_seat};
-ghost use Rattle.mh_handle.specs.Passes.{AreNumbered, AsksShown, IsFormOf, IsKept, IsPassOf, IsPut, Learns, MakesForm, StaysLearnt, pass_at};
+ghost use Rattle.mh_handle.specs.Passes.{HaveNumbers, AsksShown, IsFormOf, IsKept, IsPassOf, IsPut, Learns, MakesForm, StaysLearnt, pass_at};
 ghost use Rattle.mh_handle.specs.Seats.{KnowsAll, joined_seats, with_less_room};
 
 use crate::error::EditError;
@@ -122,7 +122,7 @@ impl<'t> FormPass<'t> {
     /// How many forms were asked for. No two of them have one recipe.
     pub fn len(&self) -> u32
         ensures count { result ≡ length self.now.asked }
-        ensures numbered { AreNumbered self.now.made self.now.seat.numbers }
+        ensures numbered { HaveNumbers self.now.made self.now.seat.numbers }
     {
         self.seen.len()
     }

@@ -8,7 +8,7 @@ use Rattle.atomic_table.specs.Seated.{TableId}
 use Rattle.atomic_table.specs.Table.{Splits, Joins, opening}
 use Rattle.mh_intern.specs.declared.keeper.Claimer.{Claimer}
 use Rattle.mh_seats.specs.Room.{times}
-use Rattle.mh_intern.specs.Claims.{Slot, HasKeeper, Claimed, unclaimed, claims_joined, spent_claimer}
+use Rattle.mh_intern.specs.Claims.{KeeperSlot, HasKeeper, Claimed, unclaimed, claims_joined, spent_claimer}
 use Rattle.mh_seats.proofs.Totals.{total_set, total_cut, each_set, each_more}
 use Rattle.mh_intern.proofs.Measures.{count_append}
 use Rattle.mh_intern.proofs.Claiming.{Names}
@@ -45,12 +45,14 @@ module _ (holders : TableId) where
       no_name : (t : TableId) → None ≡ Some t → ⊥
       no_name t e = cc
 
-  some_at : (l : List Slot) (b : ℕ) (h : home.Option Slot) → get_elem? (map some l) b ≡ some h → (x : Slot) × (h ≡ some x) × (get_elem? l b ≡ some x)
+  some_at : (l : List KeeperSlot) (b : ℕ) (h : home.Option KeeperSlot) → get_elem? (map some l) b ≡ some h →
+      (x : KeeperSlot) × (h ≡ some x) × (get_elem? l b ≡ some x)
   some_at [] b h e = absurd (some-ne-none h (sym e))
   some_at (x ∷ xs) zero h e = (x, sym (some-injective (some x) h e), refl)
   some_at (x ∷ xs) (suc b) h e = some_at xs b h e
 
-  pub opens : (keepers : List Slot) (v : Claimer) → length keepers ≡ 64 → ((b : ℕ) (x : Slot) → get_elem? keepers b ≡ some x → HasKeeper holders b x) →
+  pub opens : (keepers : List KeeperSlot) (v : Claimer) → length keepers ≡ 64 →
+      ((b : ℕ) (x : KeeperSlot) → get_elem? keepers b ≡ some x → HasKeeper holders b x) →
       v.claims ≡ [] → Names holders v
       → Claimed holders (opening (replicate 64 0) keepers v)
   opens keepers v many good unclaimed names = record {

@@ -13,7 +13,7 @@ use Rattle.mh_intern.specs.declared.keeper.Keeper.{Keeper}
 use Rattle.mh_intern.specs.declared.keeper.Claimer.{Claimer}
 use Rattle.mh_seats.specs.Room.{times}
 use Rattle.mh_intern.specs.Keep.{IsKeeper}
-use Rattle.mh_intern.specs.Claims.{Slot, Stands, HasKeeper, Claimed, CMe, named, claiming, takes_bucket, gives_bucket}
+use Rattle.mh_intern.specs.Claims.{KeeperSlot, IsFreeOrTaken, HasKeeper, Claimed, CMe, named, claiming, takes_bucket, gives_bucket}
 use Rattle.mh_seats.proofs.Totals.{total_set, at_most, each_set}
 use Rattle.mh_intern.proofs.Measures.{count_cons}
 use Rattle.mh_intern.proofs.Entries.{bit}
@@ -25,9 +25,9 @@ Names holders v = (t : TableId) → named v ≡ Some t → t ≡ holders
 
 module _ (holders : TableId) where
   -- one bucket changes hands
-  changed : (s : State Slot Claimer) → Claimed holders s → (b n : ℕ) (h : home.Option Slot) (id : ℕ) (v : Claimer) (cs : List ℕ) → b < 64 →
+  changed : (s : State KeeperSlot Claimer) → Claimed holders s → (b n : ℕ) (h : home.Option KeeperSlot) (id : ℕ) (v : Claimer) (cs : List ℕ) → b < 64 →
       get_elem? s.views id ≡ some v
-      → Stands holders b n h → times b cs + slice_index s.words b ≡ times b v.claims + n → ((j : ℕ) → j ≢ b → times j cs ≡ times j v.claims)
+      → IsFreeOrTaken holders b n h → times b cs + slice_index s.words b ≡ times b v.claims + n → ((j : ℕ) → j ≢ b → times j cs ≡ times j v.claims)
       → Claimed holders record { words = set s.words b n; homes = set s.homes b h; views = set s.views id (claiming v cs) }
   changed s k b n h id v cs small at stands here there =
       let lt : b < length s.words = omega (arith, k.wide) in
@@ -35,10 +35,10 @@ module _ (holders : TableId) where
         wide = length-set s.words b n ∙ k.wide;
         many = length-set s.homes b h ∙ k.many;
         each = λ j g e. ⊎_elim
-            (λ (t : (j ≡ b) × (h ≡ g)). subst (λ (z : ℕ × home.Option Slot). Stands holders z.0 (slice_index (set s.words b n) z.0) z.1)
+            (λ (t : (j ≡ b) × (h ≡ g)). subst (λ (z : ℕ × home.Option KeeperSlot). IsFreeOrTaken holders z.0 (slice_index (set s.words b n) z.0) z.1)
             (λ i. (sym t.0 i, t.1 i))
-            (subst (λ (m : ℕ). Stands holders b m h) (sym (get_or-set_same s.words b n 0 lt)) stands))
-            (λ (t : (j ≢ b) × (get_elem? s.homes j ≡ some g)). subst (λ (m : ℕ). Stands holders j m g) (sym (get_or-set_other s.words b j n 0 t.0))
+            (subst (λ (m : ℕ). IsFreeOrTaken holders b m h) (sym (get_or-set_same s.words b n 0 lt)) stands))
+            (λ (t : (j ≢ b) × (get_elem? s.homes j ≡ some g)). subst (λ (m : ℕ). IsFreeOrTaken holders j m g) (sym (get_or-set_other s.words b j n 0 t.0))
             (k.each j g t.1))
             (at_set s.homes b j h g e);
         claims = λ j b'.
@@ -56,13 +56,13 @@ module _ (holders : TableId) where
       }
 
   -- nothing changes
-  same : (s : State Slot Claimer) → Claimed holders s → (b id : ℕ) (v : Claimer) → get_elem? s.views id ≡ some v
+  same : (s : State KeeperSlot Claimer) → Claimed holders s → (b id : ℕ) (v : Claimer) → get_elem? s.views id ≡ some v
       → Claimed holders record { words = set s.words b (slice_index s.words b); homes = s.homes; views = set s.views id v }
   same s k b id v at =
       subst (λ (z : List ℕ × List Claimer). Claimed holders record { words = z.0; homes = s.homes; views = z.1 })
       (λ i. (sym (set-get_or s.words b 0) i, sym (set_again s.views id v at) i)) k
 
-  home_at : (l : List (home.Option Slot)) (b : ℕ) → b < length l → (h : home.Option Slot) × (get_elem? l b ≡ some h)
+  home_at : (l : List (home.Option KeeperSlot)) (b : ℕ) → b < length l → (h : home.Option KeeperSlot) × (get_elem? l b ≡ some h)
   home_at [] i lt = absurd (omega arith)
   home_at (x ∷ xs) zero lt = (x, refl)
   home_at (x ∷ xs) (suc i) lt = home_at xs i (omega arith)
@@ -72,11 +72,11 @@ module _ (holders : TableId) where
   takes_allowed slots id b me small s k width at _ =
       let n : ℕ = slice_index s.words b in
       let h = home_at s.homes b (omega (arith, k.many)) in
-      let Goal : Type 0 = (w : Claimer) × (a : Act Slot) × Valid s.homes me.1 a × Claimed holders (stepped s b (either (n == 0) 1 n) id me.1 w a)
+      let Goal : Type 0 = (w : Claimer) × (a : Act KeeperSlot) × Valid s.homes me.1 a × Claimed holders (stepped s b (either (n == 0) 1 n) id me.1 w a)
       × takes_bucket (step slots b 0 1 none) me n (w, carried_after me.1 a) in
       ⊎_elim {C = Goal}
-      (λ (t : (n ≡ 0) × ((x : Slot) × (h.0 ≡ some x) × HasKeeper holders b x)).
-      let x : Slot = t.1.0 in let y = t.1.2 in
+      (λ (t : (n ≡ 0) × ((x : KeeperSlot) × (h.0 ≡ some x) × HasKeeper holders b x)).
+      let x : KeeperSlot = t.1.0 in let y = t.1.2 in
       let o : bit (b == b) ≡ 1 = ap bit (eq-eqb b b refl) in (
         claiming me.0 (b ∷ me.0.claims),
         takes b (Some y.0),
@@ -110,14 +110,14 @@ module _ (holders : TableId) where
       let m = at_most (λ (u : Claimer). times b u.claims) s.views id me.0 at in
       let h = home_at s.homes b (omega (arith, k.many)) in
       let at_one : slice_index s.words b ≤ 1 = ⊎_elim
-      (λ (t : (slice_index s.words b ≡ 0) × ((x : Slot) × (h.0 ≡ some x) × HasKeeper holders b x)). omega arith)
+      (λ (t : (slice_index s.words b ≡ 0) × ((x : KeeperSlot) × (h.0 ≡ some x) × HasKeeper holders b x)). omega arith)
       (λ (t : (slice_index s.words b ≡ 1) × (h.0 ≡ none)). omega arith)
       (k.each b h.0 h.1) in
       let one : slice_index s.words b ≡ 1 = omega (arith, k.claims b small, count_cons (λ (z : ℕ). z == b) b []) in (
         claiming me.0 [],
         gives,
         tt,
-        subst (λ (c : List (ℕ × Slot)). Claimed holders record {
+        subst (λ (c : List (ℕ × KeeperSlot)). Claimed holders record {
           words = set s.words b 0;
           homes = put_back s.homes c;
           views =
@@ -134,5 +134,5 @@ module _ (holders : TableId) where
       )
 
 -- the first of what is carried
-pub first_held : (l m : List (ℕ × Slot)) (x : ℕ × Slot) → l ≡ x ∷ m → l ≡ x ∷ rest l
+pub first_held : (l m : List (ℕ × KeeperSlot)) (x : ℕ × KeeperSlot) → l ≡ x ∷ m → l ≡ x ∷ rest l
 first_held l m x p = p ∙ ap (λ z. x ∷ z) (sym (ap rest p))

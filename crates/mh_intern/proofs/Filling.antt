@@ -11,7 +11,7 @@ use Rattle.mh_intern.specs.Held.{on_slot, IsFull}
 use Rattle.mh_seats.specs.Room.{times}
 use Rattle.mh_intern.specs.Lists.{Listed}
 use Rattle.mh_intern.specs.Kinds.{full_bucket, up_from, with_notes}
-use Rattle.mh_intern.specs.Plays.{Found}
+use Rattle.mh_intern.specs.Plays.{WasRead}
 use Rattle.mh_intern.proofs.Measures.{count_cons}
 use Rattle.mh_intern.proofs.Entries.{bit}
 
@@ -100,7 +100,7 @@ full_at b v keeps l read =
     }
 
 -- one slot more was read, and is not zero
-pub read_more : (b i n : ℕ) (u v w : Holding) → v ≡ with_notes v.zeros v.busy u → Found (32 * b + i) n v w → ¬ (n ≡ 0)
+pub read_more : (b i n : ℕ) (u v w : Holding) → v ≡ with_notes v.zeros v.busy u → WasRead (32 * b + i) n v w → ¬ (n ≡ 0)
     → ((j : ℕ) → 32 * b ≤ j → j < 32 * b + i → (0 < times j v.busy) × (0 < on_slot j v.entries))
     → (w ≡ with_notes w.zeros w.busy u) × ((j : ℕ) → 32 * b ≤ j → j < 32 * b + (i + 1) → (0 < times j w.busy) × (0 < on_slot j w.entries))
 read_more b i n u v w is f some_holds all =

@@ -16,7 +16,7 @@ use Rattle.mh_intern.specs.Buckets.{bucket_at}
 use Rattle.mh_intern.specs.Held.{on_slot, has, Fits, Held}
 use Rattle.mh_seats.specs.Room.{times}
 use Rattle.mh_intern.specs.Kinds.{after_read}
-use Rattle.mh_intern.specs.Plays.{HMe, Found}
+use Rattle.mh_intern.specs.Plays.{HMe, WasRead}
 use Rattle.mh_seats.proofs.Totals.{total_set, at_most, alone}
 use Rattle.mh_intern.proofs.Measures.{count_cons}
 use Rattle.mh_intern.proofs.Entries.{bit, has-on_slot, one_le}
@@ -66,7 +66,7 @@ entry_of s h id k v at small kept some_holds =
     (λ some_are. omega arith)
 
 pub reads_allowed : (slots id k : ℕ) (me : HMe) → k < 2048 → 0 < times (bucket_at k) me.0.keeps
-    → Allows Held slots id me k (λ n. n) (λ n m. Found k n me.0 m.0 × (m.1 ≡ me.1))
+    → Allows Held slots id me k (λ n. n) (λ n m. WasRead k n me.0 m.0 × (m.1 ≡ me.1))
 reads_allowed slots id k me small kept s h _ at _ =
     let v : Holding = me.0 in
     let n : ℕ = slice_index s.words k in
@@ -105,7 +105,7 @@ reads_allowed slots id k me small kept s h _ at _ =
     (λ (c : (j ≢ k) × (slice_index (set s.words k n) j ≡ slice_index s.words j)).
     let e = more j c.0 in c.1 ∙ h.zeros j (omega (arith, total_set (λ (u : Holding). times j u.zeros) s.views id v w at)))
     (either_word s.words k n j lt)) in
-    let found : Found k n v w = record {
+    let found : WasRead k n v w = record {
       now = refl;
       used = entry_of s h id k v at small kept;
     } in

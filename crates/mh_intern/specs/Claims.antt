@@ -13,8 +13,8 @@ use Rattle.mh_intern.specs.Buckets.{buckets}
 use Rattle.mh_intern.specs.Keep.{IsKeeper}
 
 -- what lies in the slot of a bucket: its keeper, or nothing
-abbrev pub Slot : Type 0
-Slot = Option Keeper
+abbrev pub KeeperSlot : Type 0
+KeeperSlot = Option Keeper
 
 -- the table of holders that a view names
 abbrev pub named : Claimer → Option TableId
@@ -25,20 +25,20 @@ abbrev pub claiming : Claimer → List ℕ → Claimer
 claiming v claims = record { like = v.like; claims = claims }
 
 -- the slot has the bucket's keeper
-abbrev pub HasKeeper : TableId → ℕ → Slot → Type 0
+abbrev pub HasKeeper : TableId → ℕ → KeeperSlot → Type 0
 HasKeeper holders b x = (k : Keeper) × (x ≡ Some k) × IsKeeper holders b k
 
 -- free, with its keeper at home; or taken, and the slot is out
-abbrev pub Stands : TableId → ℕ → ℕ → home.Option Slot → Type 0
-Stands holders b n h = ((n ≡ 0) × ((x : Slot) × (h ≡ some x) × HasKeeper holders b x)) ⊎ ((n ≡ 1) × (h ≡ none))
+abbrev pub IsFreeOrTaken : TableId → ℕ → ℕ → home.Option KeeperSlot → Type 0
+IsFreeOrTaken holders b n h = ((n ≡ 0) × ((x : KeeperSlot) × (h ≡ some x) × HasKeeper holders b x)) ⊎ ((n ≡ 1) × (h ≡ none))
 
 -- the rule of the table of claims
-pub record Claimed (holders : TableId) (s : State Slot Claimer) : Type 0 where
+pub record Claimed (holders : TableId) (s : State KeeperSlot Claimer) : Type 0 where
   -- a word and a slot for each bucket
   pub wide : length s.words ≡ buckets
   pub many : length s.homes ≡ buckets
   -- what stands in each bucket
-  pub each : (b : ℕ) (h : home.Option Slot) → get_elem? s.homes b ≡ some h → Stands holders b (slice_index s.words b) h
+  pub each : (b : ℕ) (h : home.Option KeeperSlot) → get_elem? s.homes b ≡ some h → IsFreeOrTaken holders b (slice_index s.words b) h
   -- a word is the number of the views that claim its bucket
   pub claims : (b : ℕ) → b < buckets → sum_by (λ v. times b v.claims) s.views ≡ slice_index s.words b
   -- the table of holders that every view names
@@ -46,7 +46,7 @@ pub record Claimed (holders : TableId) (s : State Slot Claimer) : Type 0 where
 
 -- what a seat of the table of claims knows and carries
 abbrev pub CMe : Type 0
-CMe = Me Slot Claimer
+CMe = Me KeeperSlot Claimer
 
 -- the seat has claimed nothing, and carries nothing
 abbrev pub IsIdle : CMe → Type 0
@@ -57,18 +57,18 @@ abbrev pub HasClaimed : ℕ → CMe → Type 0
 HasClaimed bucket me = (me.1 ≡ (bucket, None) ∷ []) × (me.0.claims ≡ bucket ∷ [])
 
 -- the seat stays at its table, and names the same table of holders
-abbrev pub Names : Seat Slot Claimer → Seat Slot Claimer → Type 0
+abbrev pub Names : Seat KeeperSlot Claimer → Seat KeeperSlot Claimer → Type 0
 Names old new = (new.table_id ≡ old.table_id) × (named new.me.0 ≡ named old.me.0)
 
 -- where 0 was found, the bucket is claimed, and its keeper came along; else nothing changed
-abbrev pub takes_bucket : Step Slot → CMe → ℕ → CMe → Type 0
+abbrev pub takes_bucket : Step KeeperSlot → CMe → ℕ → CMe → Type 0
 takes_bucket st m n m' =
     (n ≡ 0 → (m'.0 ≡ claiming m.0 (st.word ∷ m.0.claims))
     × ((k : Keeper) × (m'.1 ≡ (st.word, Some k) ∷ m.1) × ((t : TableId) → named m.0 ≡ Some t → IsKeeper t st.word k)))
     × (¬ (n ≡ 0) → m' ≡ m)
 
 -- the bucket is no longer claimed, and its keeper is at home
-abbrev pub gives_bucket : Step Slot → CMe → ℕ → CMe → Type 0
+abbrev pub gives_bucket : Step KeeperSlot → CMe → ℕ → CMe → Type 0
 gives_bucket st m n m' = (m'.0 ≡ claiming m.0 []) × (m'.1 ≡ rest m.1)
 
 -- a new seat names the same table of holders, and claims nothing

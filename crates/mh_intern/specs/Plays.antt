@@ -22,13 +22,13 @@ abbrev pub releases : Entry → Step (Unit {0}) → HMe → ℕ → HMe → Type
 releases e _ m _ m' = (m'.0 ≡ held_less e m.0) × (m'.1 ≡ m.1)
 
 -- a slot was read, and n found; one that is not zero has an entry
-pub record Found (k n : ℕ) (v w : Holding) : Type 0 where
+pub record WasRead (k n : ℕ) (v w : Holding) : Type 0 where
   pub now : w ≡ after_read k n v
   pub used : ¬ (n ≡ 0) → 0 < on_slot k v.entries
 
 -- a keeper has read a slot
 abbrev pub reads : Step (Unit {0}) → HMe → ℕ → HMe → Type 0
-reads st m n m' = Found st.word n m.0 m'.0 × (m'.1 ≡ m.1)
+reads st m n m' = WasRead st.word n m.0 m'.0 × (m'.1 ≡ m.1)
 
 -- a keeper has raised a word, and has this list
 abbrev pub raises : Entry → List Entry → Step (Unit {0}) → HMe → ℕ → HMe → Type 0

@@ -6,7 +6,7 @@ ghost use mathlib.Core.Option.{some};
 ghost use Rattle.mh_seats.specs.Steps.{Moves, Begins};
 ghost use Rattle.mh_intern.specs.Buckets.{buckets};
 ghost use Rattle.mh_intern.specs.Keep.{IsKeeper};
-ghost use Rattle.mh_intern.specs.Claims.{Slot, Claimed, HasKeeper, named, IsIdle, HasClaimed, Names, takes_bucket, gives_bucket, unclaimed, claims_joined, spent_claimer, CMe};
+ghost use Rattle.mh_intern.specs.Claims.{KeeperSlot, Claimed, HasKeeper, named, IsIdle, HasClaimed, Names, takes_bucket, gives_bucket, unclaimed, claims_joined, spent_claimer, CMe};
 ghost use Rattle.mh_intern.specs.Steps.{IsOfClaims, IsTableOfClaims};
 
 use crate::bucket::BUCKETS;
@@ -79,7 +79,7 @@ pub(crate) fn new_claims(
     like: &Place,
 ) -> Result<(Claims, ClaimSeat), NoMemory>
     requires many { length keepers.items ≡ buckets }
-    requires keepers { (b : ℕ) (x : Slot) → get_elem? keepers.items b ≡ some x
+    requires keepers { (b : ℕ) (x : KeeperSlot) → get_elem? keepers.items b ≡ some x
         → HasKeeper like.now.table_id b x }
     ensures table { IfOk result (λ t. IsTableOfClaims t.0.shared.table_id) }
     ensures seat { IfOk result (λ t. (t.1.table_id ≡ t.0.shared.table_id) × IsIdle t.1.me) }

@@ -9,7 +9,7 @@ ghost use Rattle.mh_intern.specs.Held.{on_type, has, weight, asks, uses, IsFull}
 ghost use Rattle.mh_seats.specs.Room.{limit, times};
 ghost use Rattle.mh_intern.specs.Lists.{Places, Agrees};
 ghost use Rattle.mh_intern.specs.Kinds.{caller, joined, first, without_first, first_keeper, less_room, after_request, request, after_reply, reply, full_bucket, refusal, held_more, held_less, after_raise};
-ghost use Rattle.mh_intern.specs.Plays.{Found};
+ghost use Rattle.mh_intern.specs.Plays.{WasRead};
 ghost use Rattle.mh_intern.specs.Steps.{IsOfHolders, MayAsk, IsTableOfHolders};
 
 use crate::bucket::SLOTS;
@@ -127,7 +127,7 @@ pub(crate) fn read(steps: &Steps, seat: &mut Place, slot: u32) -> u64
     requires seat { IsOfHolders seat.old.table_id steps.now.table_id }
     requires slot { (slot < slots) × (0 < times (bucket_at slot) seat.old.me.0.keeps) }
     ensures same { (seat.new.table_id ≡ seat.old.table_id) × (seat.new.me.1 ≡ seat.old.me.1) }
-    ensures found { Found slot result seat.old.me.0 seat.new.me.0 }
+    ensures found { WasRead slot result seat.old.me.0 seat.new.me.0 }
 {
     steps.load::<Reading>(seat, slot as usize)
 }

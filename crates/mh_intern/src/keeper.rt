@@ -3,7 +3,7 @@ ghost use lib.ListN.{get_elem?};
 ghost use mathlib.Core.Option.{some};
 ghost use Rattle.mh_intern.specs.Buckets.{buckets};
 ghost use Rattle.mh_intern.specs.Kinds.{dealt};
-ghost use Rattle.mh_intern.specs.Claims.{Slot, HasKeeper};
+ghost use Rattle.mh_intern.specs.Claims.{KeeperSlot, HasKeeper};
 ghost use Rattle.mh_intern.specs.Steps.{IsOfHolders};
 
 use crate::bucket::BUCKETS;
@@ -39,7 +39,7 @@ pub(crate) fn deal_keepers(
     ensures same { first.new.table_id ≡ first.old.table_id }
     ensures first { IfOk result (λ v. first.new.me ≡ (dealt buckets, [])) }
     ensures many { IfOk result (λ v. length v.items ≡ buckets) }
-    ensures keepers { IfOk result (λ v. (b : ℕ) (x : Slot) → get_elem? v.items b ≡ some x
+    ensures keepers { IfOk result (λ v. (b : ℕ) (x : KeeperSlot) → get_elem? v.items b ≡ some x
         → HasKeeper steps.now.table_id b x) }
 {
     let mut keepers = Vec::with_capacity(alloc, BUCKETS as usize)?;

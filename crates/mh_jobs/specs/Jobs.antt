@@ -24,8 +24,8 @@ abbrev pub jobs_of : LeafTable → List Script → List class_file.Class → Lis
 jobs_of leaves scripts classes = fold (with_class leaves scripts) [] classes
 
 -- the number of each call site is its place
-abbrev pub AreNumbered : List Job → Type 0
-AreNumbered jobs = (k : ℕ) (job : Job) → slice_get jobs k ≡ Some job → job.site ≡ k
+abbrev pub AreInPlace : List Job → Type 0
+AreInPlace jobs = (k : ℕ) (job : Job) → slice_get jobs k ≡ Some job → job.site ≡ k
 
 -- the type of a call site, where it is readable
 abbrev pub type_at : List Job → ℕ → Option MethodTy

@@ -7,7 +7,7 @@ use Rattle.mh_words.specs.Words.{Command, command_of}
 use Rattle.mh_main.specs.declared.answer.TopAnswer.{TopAnswer}
 use Rattle.mh_main.specs.declared.program.Program.{Program}
 use Rattle.mh_main.specs.declared.stop.Stop.{Stop}
-use Rattle.mh_main.specs.Due.{AnswersCalls, AreAnswers, AreAnswersOf, FailsToRead, FillsForms, FillsTypes, IsDue, IsDueOf, IsFullOf, IsIdle, IsOutputOf, IsOverfullOf, IsReportOf, NeedsManyForms, NeedsManyTypes, RefusesInput, Reports, Writes, WritesPart}
+use Rattle.mh_main.specs.Due.{AnswersCalls, AreAnswers, AreAnswersOf, FailsToRead, FillsForms, FillsTypes, IsDue, IsDueOf, IsFullOf, IsEmptyAnswer, IsOutputOf, IsOverfullOf, IsReportOf, NeedsManyForms, NeedsManyTypes, RefusesInput, Reports, Writes, WritesPart}
 use Rattle.mh_main.specs.Input.{AreAccepted, FitsTables, IfAccepted, IsMissing, IsRefused, command_input, input, program}
 use Rattle.mh_main.specs.Status.{IsDoneFullOrWant, IsDoneOrWant, IsRefusedOrWant, IsUnreadOrWant, done, forms_full, types_full, no_memory, refused, unread, write_failed}
 use Rattle.mh_main.specs.Stops.{InputsStill, IsReachedInput, IsStopAmong, Refuses, stop_line, stop_status}
@@ -72,7 +72,7 @@ pub stop-ends :
     Some command ≡ command_of words →
     IsStopAmong (IsReachedInput command files) before now stop →
     Refuses (command_input command files) stop →
-    IsIdle answer →
+    IsEmptyAnswer answer →
     (answer.status ≢ write_failed → answer.status ≡ stop_status stop) →
     (answer.status ≢ write_failed → stop_status stop ≢ no_memory → Appends old new (stop_line stop)) →
     (answer.status ≡ write_failed → AppendsPart old new (stop_line stop)) →

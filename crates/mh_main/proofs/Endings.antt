@@ -13,7 +13,7 @@ use Rattle.mh_runtime.specs.Passes.{most_sites}
 use Rattle.mh_main.specs.Input.{Accepted, AreListed, IfAccepted, IfRefused, Input, accepted, command_input, fault_line, input_of, listed, listing_input, missing, place_line, program, refused, too_long_line, untold, usage}
 use Rattle.mh_main.specs.Status.{no_memory, refused as refusal, unread}
 use Rattle.mh_main.specs.Stops.{Refuses, IsStopAmong, IsReachedInput, stop_line, stop_status, unread_line}
-use Rattle.mh_main.specs.Due.{FailsToRead, IsDue, IsDueOf, IsIdle, IsOutputOf, NeedsManyForms, NeedsManyTypes, RefusesInput}
+use Rattle.mh_main.specs.Due.{FailsToRead, IsDue, IsDueOf, IsEmptyAnswer, IsOutputOf, NeedsManyForms, NeedsManyTypes, RefusesInput}
 
 -- a stop that comes with a refusal has the line of the input that is refused
 pub refused-at-stop :
@@ -54,7 +54,7 @@ unread-at-stop words files before now command (Place at place kind) asked is sto
 pub due-at-stop :
     (words : List (List ℕ)) (files : List ℕ → Told) (before now : List ℕ → ℕ) (answer : TopAnswer) (command : Command) (stop : Stop) →
     Some command ≡ command_of words →
-    IsIdle answer →
+    IsEmptyAnswer answer →
     stop_status stop ≢ no_memory →
     IsStopAmong (IsReachedInput command files) before now stop →
     Refuses (command_input command files) stop →
@@ -137,7 +137,7 @@ pub due-of-listing :
     Some (sites names) ≡ command_of words →
     IfAccepted (listing_input most_sites names files) (AreListed (λ classes. bytes ≡ listing classes)) →
     AreSame before now →
-    IsIdle answer →
+    IsEmptyAnswer answer →
     IsDue words files before now answer bytes
 due-of-listing words files before now answer names bytes asked is same idle =
     inl (

@@ -42,8 +42,8 @@ IsGenerated (Some (generate number)) = Unit {0}
 IsGenerated _ = ⊥
 
 -- no table, no attempts and no answers
-abbrev pub IsIdle : TopAnswer → Type 0
-IsIdle answer = (answer.table ≡ []) × (answer.attempts ≡ []) × (answer.threads ≡ [])
+abbrev pub IsEmptyAnswer : TopAnswer → Type 0
+IsEmptyAnswer answer = (answer.table ≡ []) × (answer.attempts ≡ []) × (answer.threads ≡ [])
 
 -- the answers of a program's calls under a table: the result of each, and how many keys the form has that it ran
 abbrev pub AreAnswersOf : Program → Serials → List (List Answer) → Type 0
@@ -60,7 +60,7 @@ IsReportOf p answer bytes =
 
 -- the listing of classes, with no table, no attempts and no answers
 abbrev pub IsListingOf : List Class → TopAnswer → List ℕ → Type 0
-IsListingOf classes answer bytes = IsIdle answer × (bytes ≡ listing classes)
+IsListingOf classes answer bytes = IsEmptyAnswer answer × (bytes ≡ listing classes)
 
 -- the report on a program, or the listing of classes
 abbrev pub IsOutputOf : Accepted → TopAnswer → List ℕ → Type 0
@@ -82,7 +82,7 @@ IsOverfullOf p bytes = OverfillBucket (all_types (given_of p) p.plan) × (bytes 
 -- what is due of a program: its report, or that its threads can draw too many numbers of forms, or that it can need too many types of a bucket, and then
 -- nothing is answered
 abbrev pub IsDueOf : Program → TopAnswer → List ℕ → Type 0
-IsDueOf p answer bytes = IsReportOf p answer bytes ⊎ (IsIdle answer × (IsFullOf p bytes ⊎ IsOverfullOf p bytes))
+IsDueOf p answer bytes = IsReportOf p answer bytes ⊎ (IsEmptyAnswer answer × (IsFullOf p bytes ⊎ IsOverfullOf p bytes))
 
 -- the answers of a program's calls; classes are not run
 abbrev pub AreAnswers : Accepted → TopAnswer → Type 0
@@ -137,7 +137,7 @@ WritesPart IsDue old new = (bytes : List ℕ) × IsDue bytes × AppendsPart old 
 abbrev pub IsDue : List (List ℕ) → (List ℕ → Told) → (List ℕ → ℕ) → (List ℕ → ℕ) → TopAnswer → List ℕ → Type 0
 IsDue words files before now answer bytes =
     (AreSame before now × Reports words files answer bytes)
-    ⊎ (IsIdle answer × ((AreSame before now × RefusesWords words bytes)
+    ⊎ (IsEmptyAnswer answer × ((AreSame before now × RefusesWords words bytes)
     ⊎ RefusesInput words files before now bytes
     ⊎ FailsToRead (command_of words) files before now bytes
     ⊎ (AreSame before now × FillsForms words files bytes)

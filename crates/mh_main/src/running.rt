@@ -9,7 +9,7 @@ ghost use Rattle.mh_main.specs.Runnable.{IsRunnable};
 ghost use Rattle.mh_main.specs.Input.{input, IsRefused, AreAccepted, IsMissing, FitsTables};
 ghost use Rattle.mh_main.specs.Stops.{stop_line, stop_status, InputsStill};
 ghost use Rattle.mh_main.specs.Status.{done, refused, usage_wanted, no_memory, forms_full, types_full, unread, write_failed, IsStatus, IsUsageOrWant, IsRefusedOrWant, IsUnreadOrWant, IsDoneOrWant, IsDoneFullOrWant, FailsWhere};
-ghost use Rattle.mh_main.specs.Due.{AnswersCalls, AreAnswersOf, FailsToRead, FillsForms, FillsTypes, IsDue, IsDueOf, IsFullOf, IsGenerated, IsIdle, IsListing, IsListingOf, IsOverfullOf, IsReportOf, RefusesInput, RefusesWords, Reports, Writes, WritesPart};
+ghost use Rattle.mh_main.specs.Due.{AnswersCalls, AreAnswersOf, FailsToRead, FillsForms, FillsTypes, IsDue, IsDueOf, IsFullOf, IsGenerated, IsEmptyAnswer, IsListing, IsListingOf, IsOverfullOf, IsReportOf, RefusesInput, RefusesWords, Reports, Writes, WritesPart};
 
 use crate::generated::read_generated;
 use crate::lines::{FORMS, TYPES, USAGE, write_pieces};
@@ -32,7 +32,7 @@ use std::thread::Threads;
 
 fn nothing_ran(alloc: Global, status: u8) -> TopAnswer
     ensures status { result.status ≡ status }
-    ensures idle { IsIdle result }
+    ensures idle { IsEmptyAnswer result }
 {
     TopAnswer {
         status,
@@ -46,7 +46,7 @@ fn nothing_ran(alloc: Global, status: u8) -> TopAnswer
 // that failed.
 fn answer_line<S: Sink>(alloc: Global, sink: &mut S, status: u8, pieces: &[&[u8]]) -> TopAnswer
     requires { status ≢ write_failed }
-    ensures idle { IsIdle result }
+    ensures idle { IsEmptyAnswer result }
     ensures status { result.status ≢ write_failed → result.status ≡ status }
     ensures written { result.status ≢ write_failed
         → Appends (S.taken sink.old) (S.taken sink.new) (flat_map (λ p. p.now) pieces.now) }
@@ -113,7 +113,7 @@ fn run_program<R: Threads + Wait + Sync, S: Sink, G: Gate + Sync>(
     ensures broken { result.status ≡ write_failed
         → WritesPart (IsDueOf program.now result) (S.taken sink.old) (S.taken sink.new) }
     ensures nothing { result.status ≡ no_memory → Keeps (S.taken sink.old) (S.taken sink.new) }
-    ensures idle { result.status ≢ done → result.status ≢ write_failed → IsIdle result }
+    ensures idle { result.status ≢ done → result.status ≢ write_failed → IsEmptyAnswer result }
     ensures status { result.status ≢ write_failed → IsDoneFullOrWant result.status }
     ensures fails { FailsWhere result.status (S.faults sink.old) (S.faults sink.new) }
 {
@@ -131,7 +131,7 @@ fn run_program<R: Threads + Wait + Sync, S: Sink, G: Gate + Sync>(
 
 // Says why there is no program.
 fn answer_stop<S: Sink>(alloc: Global, sink: &mut S, stop: Stop<'_>) -> TopAnswer
-    ensures idle { IsIdle result }
+    ensures idle { IsEmptyAnswer result }
     ensures status { result.status ≢ write_failed → result.status ≡ stop_status stop.entry }
     ensures written { result.status ≢ write_failed → stop_status stop.entry ≢ no_memory
         → Appends (S.taken sink.old) (S.taken sink.new) (stop_line stop.entry) }
@@ -183,7 +183,7 @@ fn answer_stop<S: Sink>(alloc: Global, sink: &mut S, stop: Stop<'_>) -> TopAnswe
 
 // Writes the listing of class files.
 fn answer_listing<S: Sink>(alloc: Global, sink: &mut S, text: &[u8]) -> TopAnswer
-    ensures idle { IsIdle result }
+    ensures idle { IsEmptyAnswer result }
     ensures status { result.status ≢ write_failed → result.status ≡ done }
     ensures written { result.status ≢ write_failed
         → Appends (S.taken sink.old) (S.taken sink.new) text.now }
@@ -234,8 +234,8 @@ pub fn top<'a, R: Threads + Wait + Sync, I: Inputs, S: Sink, G: Gate + Sync>(
     ensures broken { result.status ≡ write_failed
         → WritesPart (IsDue (said words.now) (I.told inputs.old)
         (I.faults inputs.old) (I.faults inputs.new) result) (S.taken sink.old) (S.taken sink.new) }
-    ensures idle { result.status ≢ done → result.status ≢ write_failed → IsIdle result }
-    ensures listed { IsListing (command_of (said words.now)) → IsIdle result }
+    ensures idle { result.status ≢ done → result.status ≢ write_failed → IsEmptyAnswer result }
+    ensures listed { IsListing (command_of (said words.now)) → IsEmptyAnswer result }
 
     // The status `write_failed` comes exactly where the sink failed.
     ensures fails { FailsWhere result.status (S.faults sink.old) (S.faults sink.new) }

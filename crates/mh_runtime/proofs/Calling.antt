@@ -17,7 +17,7 @@ use Rattle.mh_handle.proofs.SameRecipes.{same_recipe-equivalence}
 use Rattle.mh_astype.specs.Calls.{AsksBy, call_keys}
 use Rattle.mh_attempt.specs.declared.error.WorkError.{WorkError}
 use Rattle.mh_attempt.specs.declared.error.WorkError.TheVariants.{NoMemory, FormsFull, TypesFull}
-use Rattle.mh_attempt.specs.Asked.{Asks, HasAsked, HasAskedMore, HasStoppedAt, IsFull}
+use Rattle.mh_attempt.specs.Asked.{Asks, HasAsked, HasAskedMore, HasStoppedAt, HasNoNumber}
 use Rattle.mh_attempt.specs.Errors.{of_edit}
 use Rattle.mh_attempt.proofs.AskedAfter.{asked_more-both, full-after, full-first, stopped-first}
 use Rattle.mh_attempt.proofs.AskedForms.{asked-again, asked-full, asked-more, drawn-more}
@@ -69,7 +69,7 @@ pub asks-back : {A : Type 0} (recipes : List (List Key)) (old new new' : Work) (
     Asks recipes old new answer → Asks recipes old new' answer
 asks-back recipes old new new' (Ok a) back asks = subst (HasAskedMore recipes old.pass.now) (sym back) asks
 asks-back recipes old new new' (Err NoMemory) back asks = tt
-asks-back recipes old new new' (Err (FormsFull drawn)) back full = subst (IsFull recipes drawn old.pass.now) (sym back) full
+asks-back recipes old new new' (Err (FormsFull drawn)) back full = subst (HasNoNumber recipes drawn old.pass.now) (sym back) full
 asks-back recipes old new new' (Err (TypesFull bucket)) back stopped = subst (HasStoppedAt recipes old.pass.now) (sym back) stopped
 
 -- a generic call of what stands for a tree, and the handle given back

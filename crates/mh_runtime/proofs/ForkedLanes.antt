@@ -9,7 +9,7 @@ use Rattle.mh_plan.specs.declared.call.Call.{Call}
 use Rattle.mh_plan.specs.Plan.{most_calls}
 use Rattle.mh_runtime.specs.declared.joining.Joined.{Joined}
 use Rattle.mh_runtime.specs.declared.lane.Lane.{Lane}
-use Rattle.mh_runtime.specs.Joining.{Adds, AreForked, AreFresh, AreJoinedTo, IsFreshFor, IsUnused, IsUnusedForms, IsUnusedTypes, calls_of}
+use Rattle.mh_runtime.specs.Joining.{JoinsLane, AreForked, AreFresh, AreJoinedTo, IsFreshFor, IsUnused, IsUnusedForms, IsUnusedTypes, calls_of}
 use Rattle.mh_runtime.specs.Lanes.{HasRun, Tables}
 use Rattle.mh_runtime.specs.Passes.{LinkerView, split_room}
 use Rattle.mh_runtime.proofs.JoiningSteps.{joined-push}
@@ -86,7 +86,7 @@ module _ {J : Type 0} (given : Given) (linker : LinkerView) (tables : Tables) (t
 
     -- one lane more was joined
     pub joined-next : (calls : List Call) → slice_get threads (length after) ≡ Some calls → lane.calls ≡ forked.calls →
-        HasRun given linker tables forked.links.thread forked.calls.now lane → Adds old lane new →
+        HasRun given linker tables forked.links.thread forked.calls.now lane → JoinsLane old lane new →
         AreJoinedTo given linker tables threads before (after ++ lane ∷ []) new
     joined-next calls at same ran adds =
         let more : length (after ++ lane ∷ []) ≡ length after + 1 = length-append after (lane ∷ []) in
@@ -100,7 +100,7 @@ module _ {J : Type 0} (given : Given) (linker : LinkerView) (tables : Tables) (t
 
     -- what a lane's joining tells
     pub joined-told : {A E : Type 0} (r : Result A E) → (lane.calls ≡ forked.calls) × HasRun given linker tables forked.links.thread forked.calls.now lane →
-        OnOk r (Adds old lane new) → OnOk r (AreJoinedTo given linker tables threads before (after ++ lane ∷ []) new)
+        OnOk r (JoinsLane old lane new) → OnOk r (AreJoinedTo given linker tables threads before (after ++ lane ∷ []) new)
     joined-told (Err e) ran adds = tt
     joined-told (Ok a) ran adds =
         let calls = slice_get-within threads (length after) (omega (arith, within, joined.fresh.count)) in

@@ -17,7 +17,7 @@ use Rattle.mh_runtime.specs.declared.joining.Full.TheVariants as full
 use Rattle.mh_runtime.specs.declared.joining.Joined.{Joined}
 use Rattle.mh_runtime.specs.declared.lane.Lane.{Lane}
 use Rattle.mh_runtime.specs.Joined.{AreDone, IsDoneBy, ThreadPasses}
-use Rattle.mh_runtime.specs.Joining.{Adds, EndedWith, EndsSoFar, calls_of}
+use Rattle.mh_runtime.specs.Joining.{JoinsLane, EndedWith, EndsSoFar, calls_of}
 use Rattle.mh_runtime.specs.Keys.{plan_keys, thread_keys}
 use Rattle.mh_runtime.specs.Lanes.{DrawsFew, EndsAs, EndsWithoutSlot, HasAnswered, Tables, passes_of}
 use Rattle.mh_runtime.specs.Passes.{LinkerView}
@@ -32,14 +32,14 @@ module _ {J : Type 0} (given : Given) (linker : LinkerView) (tables : Tables) (c
     abbrev calls : List Call
     calls = lane.calls.now
 
-    over-old : (drawn : ℕ) → Adds old lane new → IsOver drawn old.forms → IsOver drawn new.forms
+    over-old : (drawn : ℕ) → JoinsLane old lane new → IsOver drawn old.forms → IsOver drawn new.forms
     over-old drawn adds over = (
       over.0,
       subst (λ s. Contains s drawn) (sym (ap (λ (s : forms.SeatView). s.numbers) adds.forms_seat_is))
           (Contains-append_left old.forms.seat.numbers lane.forms.seat.numbers drawn over.1),
     )
 
-    over-lane : (drawn : ℕ) → Adds old lane new → IsOver drawn lane.forms → IsOver drawn new.forms
+    over-lane : (drawn : ℕ) → JoinsLane old lane new → IsOver drawn lane.forms → IsOver drawn new.forms
     over-lane drawn adds over = (
       over.0,
       subst (λ s. Contains s drawn) (sym (ap (λ (s : forms.SeatView). s.numbers) adds.forms_seat_is))
@@ -47,7 +47,7 @@ module _ {J : Type 0} (given : Given) (linker : LinkerView) (tables : Tables) (c
     )
 
     -- what a lane whose calls were made to their end adds
-    ends-done : (answers : List Answer) → Adds old lane new → new.threads ≡ old.threads ++ answers ∷ [] →
+    ends-done : (answers : List Answer) → JoinsLane old lane new → new.threads ≡ old.threads ++ answers ∷ [] →
         length (calls_of lanes) ≡ length (map passes_of lanes) → EndsSoFar given lanes old None →
         IsDoneBy given calls (passes_of lane) → HasAnswered given calls lane.links answers →
         EndsSoFar given (lanes ++ lane ∷ []) new None
@@ -77,7 +77,7 @@ module _ {J : Type 0} (given : Given) (linker : LinkerView) (tables : Tables) (c
     few-drawn (Some (full.Types bucket)) ended ends = subst (EndsAs given calls (passes_of lane)) ended.0 ends
 
     pub ends-push : (before ended : Option Full) → EndedWith lane old.threads new.threads ended → length (calls_of lanes) ≡ length (map passes_of lanes) →
-        Adds old lane new → EndsAs given calls (passes_of lane) lane.ran → EndsWithoutSlot lane.ran lane.types → EndsSoFar given lanes old before →
+        JoinsLane old lane new → EndsAs given calls (passes_of lane) lane.ran → EndsWithoutSlot lane.ran lane.types → EndsSoFar given lanes old before →
         EndsSoFar given (lanes ++ lane ∷ []) new (option_or before ended)
     ends-push (Some (full.Forms drawn)) ended how same adds ends no_slot before = over-old drawn adds before
     ends-push (Some (full.Types bucket)) ended how same adds ends no_slot before =

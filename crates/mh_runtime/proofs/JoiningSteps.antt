@@ -14,7 +14,7 @@ use Rattle.mh_runtime.specs.declared.joining.Joined.{Joined}
 use Rattle.mh_runtime.specs.declared.lane.Lane.{Lane}
 use Rattle.mh_runtime.specs.Asking.{WasAsked, run_types}
 use Rattle.mh_runtime.specs.Joined.{AreUsed, IsUsedBy, ThreadPasses}
-use Rattle.mh_runtime.specs.Joining.{Adds, AreJoinedSoFar, EndsSoFar, calls_of, lanes_types}
+use Rattle.mh_runtime.specs.Joining.{JoinsLane, AreJoinedSoFar, EndsSoFar, calls_of, lanes_types}
 use Rattle.mh_runtime.specs.Lanes.{DrawsFew, HasRun, Tables, passes_of}
 use Rattle.mh_runtime.specs.Passes.{HasSerials, LinkerView, split_room}
 use Rattle.mh_runtime.proofs.JoinedTypes.{types-joined}
@@ -39,7 +39,7 @@ module _ {J : Type 0} (given : Given) (linker : LinkerView) (tables : Tables) (c
       drawn = (split_room, few);
     }
 
-    pub joined-push : AreJoinedSoFar given linker tables count lanes old → HasRun given linker tables (length lanes) calls lane → Adds old lane new →
+    pub joined-push : AreJoinedSoFar given linker tables count lanes old → HasRun given linker tables (length lanes) calls lane → JoinsLane old lane new →
         AreJoinedSoFar given linker tables count (lanes ++ lane ∷ []) new
     joined-push before ran adds =
         let few = few-drawn given linker tables count lanes lane old new adds.full adds.ended ran.ends in

@@ -21,7 +21,7 @@ use Rattle.mh_runtime.specs.declared.lane.Lane.{Lane}
 use Rattle.mh_runtime.specs.Asking.{RunsOn, RunsOnTypes, WasAsked, run_edits, run_types}
 use Rattle.mh_runtime.specs.Attempts.{AreLinked, AttemptsMore, GoesOnLinking, IsThreadRun}
 use Rattle.mh_runtime.specs.Keys.{thread_keys}
-use Rattle.mh_runtime.specs.Lanes.{CanRun, EndsAs, EndsWithoutSlot, HasRun, Tables, fresh_forms, fresh_links, passes_of}
+use Rattle.mh_runtime.specs.Lanes.{IsReadyLane, EndsAs, EndsWithoutSlot, HasRun, Tables, fresh_forms, fresh_links, passes_of}
 use Rattle.mh_runtime.specs.Linking.{HoldsRecorded}
 use Rattle.mh_values.specs.declared.types.MethodTy.{MethodTy}
 use Rattle.mh_intern.specs.Held.{times_type}
@@ -87,7 +87,7 @@ no-slot given a b more old new (Err (TypesFull bucket)) runs = runs.1
 
 -- a lane that could be run has run
 pub has-run : {J : Type 0} (given : Given) (linker : LinkerView) (tables : Tables) (before after : Lane J) (serials : ℕ)
-    (r : Result (List Answer) WorkError) → CanRun given linker tables before → after.ran ≡ Some r → GoesOnLinking serials before.links after.links →
+    (r : Result (List Answer) WorkError) → IsReadyLane given linker tables before → after.ran ≡ Some r → GoesOnLinking serials before.links after.links →
     after.forms.table ≡ before.forms.table → HoldsRecorded given before.links.recorded after.links.recorded before.types after.types →
     AttemptsMore (flat_map sites_named before.calls.now) before.links after.links →
     Gave given before.calls.now after.links r →

@@ -9,7 +9,7 @@ use Rattle.mh_plan.specs.declared.attempt.Attempt.{Attempt}
 use Rattle.mh_plan.specs.Naming.{first_places}
 use Rattle.mh_plan.specs.Results.{serial_at}
 use Rattle.mh_runtime.specs.Attempts.{AttemptsMore, GoesOnLinking, IsThreadRun, sites_of}
-use Rattle.mh_runtime.specs.Passes.{Begins, LearnsSites, LinkPass, attempt_of}
+use Rattle.mh_runtime.specs.Passes.{BeginsAttempt, LearnsSites, LinkPass, attempt_of}
 use Rattle.mh_runtime.proofs.Sites.{is_in}
 use Rattle.mh_runtime.proofs.ThreadRuns.{not-linked, run-more, run-same}
 use Rattle.mh_runtime.proofs.ThreadSteps.{linked-on}
@@ -64,11 +64,11 @@ attempts-learnt more old mid new learns after sites linked run =
 abbrev pub begun_by : LinkPass → ℕ → ℕ → Attempt
 begun_by old site serial = record { thread = old.thread; site = site; serial = serial }
 
-pub begun-attempts : (site serial : ℕ) (old mid : LinkPass) → Begins site serial old mid → mid.attempts ≡ old.attempts ++ begun_by old site serial ∷ []
+pub begun-attempts : (site serial : ℕ) (old mid : LinkPass) → BeginsAttempt site serial old mid → mid.attempts ≡ old.attempts ++ begun_by old site serial ∷ []
 begun-attempts site serial old mid begins = ap (λ (p : LinkPass). p.attempts) begins.1
 
 -- the attempt that made a linkage is the one that was begun
-pub begun-made : (site serial : ℕ) (old mid : LinkPass) (l : LinkageView) → Begins site serial old mid → l.job.site ≡ site → l.serial ≡ serial →
+pub begun-made : (site serial : ℕ) (old mid : LinkPass) (l : LinkageView) → BeginsAttempt site serial old mid → l.job.site ≡ site → l.serial ≡ serial →
     Contains mid.attempts (attempt_of mid.thread l)
 begun-made site serial old mid l begins own number =
     let begun : Attempt = begun_by old site serial in
@@ -79,7 +79,7 @@ begun-made site serial old mid l begins own number =
     subst (Contains mid.attempts) (sym same)
     (subst (λ all. Contains all begun) (sym (begun-attempts site serial old mid begins)) (Contains-push old.attempts begun))
 
-module _ (site serial : ℕ) (old mid new : LinkPass) (begins : Begins site serial old mid) (learns : LearnsSites mid new) where
+module _ (site serial : ℕ) (old mid new : LinkPass) (begins : BeginsAttempt site serial old mid) (learns : LearnsSites mid new) where
   pub goes-begun : GoesOnLinking 1 old new
   goes-begun = record {
     linker = learns.linker ∙ ap (λ (p : LinkPass). p.linker) begins.1;

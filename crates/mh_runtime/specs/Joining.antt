@@ -29,7 +29,7 @@ use Rattle.mh_runtime.specs.declared.lane.Lane.{Lane}
 use Rattle.mh_runtime.specs.Asking.{WasAsked, run_edits, run_types}
 use Rattle.mh_runtime.specs.Joined.{AreDone, AreFormsJoined, AreJoined, AreUsed, edits_of}
 use Rattle.mh_runtime.specs.Keys.{plan_keys}
-use Rattle.mh_runtime.specs.Lanes.{CanRun, Tables, passes_of}
+use Rattle.mh_runtime.specs.Lanes.{IsReadyLane, Tables, passes_of}
 use Rattle.mh_runtime.specs.Linking.{HoldsJust}
 use Rattle.mh_runtime.specs.Passes.{HasBoth, HasSerials, LinkPass, LinkerView, pass_at, split_room}
 
@@ -49,7 +49,7 @@ IsUnusedTypes table seat = seat ≡ types_seat.new_seat table seat.room
 
 -- a lane for this thread and these calls, which may be run
 pub record IsFreshFor {J : Type 0} (given : Given) (linker : LinkerView) (tables : Tables) (thread : ℕ) (calls : List Call) (lane : Lane J) : Type 0 where
-  pub can_run : CanRun given linker tables lane
+  pub can_run : IsReadyLane given linker tables lane
   pub thread_is : lane.links.thread ≡ thread
   pub calls_are : lane.calls.now ≡ calls
 
@@ -86,7 +86,7 @@ EndedWith lane before after (Some (full.Forms drawn)) = (lane.ran ≡ Some (Err 
 EndedWith lane before after (Some (full.Types bucket)) = (lane.ran ≡ Some (Err (TypesFull bucket))) × (after ≡ before)
 
 -- what a lane has left was added to what those before it have left
-pub record Adds {J : Type 0} (old : Joined J) (lane : Lane J) (new : Joined J) : Type 0 where
+pub record JoinsLane {J : Type 0} (old : Joined J) (lane : Lane J) (new : Joined J) : Type 0 where
   pub linker : new.links.linker ≡ old.links.linker
   pub links : HasBoth old.links lane.links new.links
   pub links_seat : new.links.seat ≡ serials.joined_seats old.links.seat lane.links.seat

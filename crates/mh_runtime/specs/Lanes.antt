@@ -56,7 +56,7 @@ abbrev pub fresh_forms : TableView → PassView
 fresh_forms table = record { table = table; learnt = []; made = []; asked = []; seat = forms_seat.new_seat table forms.split_room }
 
 -- a lane that may be run, over this linker and these tables
-pub record CanRun {J : Type 0} (given : Given) (linker : LinkerView) (tables : Tables) (lane : Lane J) : Type 0 where
+pub record IsReadyLane {J : Type 0} (given : Given) (linker : LinkerView) (tables : Tables) (lane : Lane J) : Type 0 where
   pub links : lane.links ≡ fresh_links linker (length given.jobs) lane.links.thread
   pub forms_are : lane.forms ≡ fresh_forms tables.forms
   pub types_are : lane.types ≡ types_seat.new_seat tables.types split_room

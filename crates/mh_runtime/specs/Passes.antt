@@ -142,8 +142,8 @@ abbrev pub attempt_of : ℕ → LinkageView → Attempt
 attempt_of thread l = record { thread = thread; site = l.job.site; serial = l.serial }
 
 -- the pass has begun an attempt of a site with a serial that was drawn now
-abbrev pub Begins : ℕ → ℕ → LinkPass → LinkPass → Type 0
-Begins site serial old new =
+abbrev pub BeginsAttempt : ℕ → ℕ → LinkPass → LinkPass → Type 0
+BeginsAttempt site serial old new =
     Draws serial old.seat new.seat
     × (new ≡ record {
       linker = old.linker;

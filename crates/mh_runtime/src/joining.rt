@@ -1,7 +1,7 @@
 ghost use Rattle.std.specs.Prelude.{◌≡◌, ◌≢◌, ◌+◌, ◌<◌, ◌≤◌, All, None, length, IfOk, OnOk};
 ghost use Rattle.mh_plan.specs.Plan.{most_calls};
 ghost use Rattle.mh_plan.specs.Results.{IsCallOf};
-ghost use Rattle.mh_runtime.specs.Joining.{Adds, IsFreshFor, IsUnused, IsUnusedForms, IsUnusedTypes};
+ghost use Rattle.mh_runtime.specs.Joining.{JoinsLane, IsFreshFor, IsUnused, IsUnusedForms, IsUnusedTypes};
 ghost use Rattle.mh_runtime.specs.Lanes.{tables_at};
 ghost use Rattle.mh_runtime.specs.Passes.{split_room};
 
@@ -83,7 +83,7 @@ pub(crate) enum Full {
 }
 
 impl<'s, 't, J: Run> Joined<'s, 't, J> {
-    // Adds what a thread leaves.
+    // JoinsLane what a thread leaves.
     fn add<G>(
         &mut self,
         context: &Context<'s, 't, J, G>,
@@ -96,7 +96,7 @@ impl<'s, 't, J: Run> Joined<'s, 't, J> {
         requires lane_forms { lane.forms.table ≡ context.now.forms.now }
         requires lane_types { lane.types.table ≡ context.now.types.now }
         requires ran { lane.ran ≢ None }
-        ensures { OnOk result (Adds self.old lane.entry self.new) }
+        ensures { OnOk result (JoinsLane self.old lane.entry self.new) }
     {
         let Lane {
             links,

@@ -7,7 +7,7 @@ ghost use Rattle.mh_plan.specs.Results.{IsCallOf, Serials, thread_keys_said, thr
 ghost use Rattle.mh_runtime.specs.Asking.{RunsOn, RunsOnTypes, thread_draws};
 ghost use Rattle.mh_runtime.specs.Attempts.{AreLinked, AttemptsMore, GoesOnLinking};
 ghost use Rattle.mh_runtime.specs.Keys.{thread_keys};
-ghost use Rattle.mh_runtime.specs.Lanes.{CanRun, HasRun, tables_at};
+ghost use Rattle.mh_runtime.specs.Lanes.{IsReadyLane, HasRun, tables_at};
 ghost use Rattle.mh_runtime.specs.Linking.{KeepsOthers};
 ghost use Rattle.mh_runtime.specs.Passes.{HasSerials};
 
@@ -75,7 +75,7 @@ impl<'s, 't, J: Run, G: Gate> Context<'s, 't, J, G> {
     /// Makes the calls of a lane.
     pub(crate) fn run_lane<R: Wait>(&self, rt: &R, lane: &mut Lane<'s, 't, J>)
         requires leaves { self.now.leaves.now ≡ J.given.leaves }
-        requires lane { CanRun J.given self.now.linker.now
+        requires lane { IsReadyLane J.given self.now.linker.now
             (tables_at self.now.forms.now self.now.types.now) lane.old }
         ensures calls { lane.new.calls ≡ lane.old.calls }
         ensures ran { HasRun J.given self.entry.now.linker.now

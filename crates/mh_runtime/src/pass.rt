@@ -4,7 +4,7 @@ ghost use Rattle.mh_handle.specs.Works.{HoldsTypes, IsUnchanged};
 ghost use Rattle.mh_attempt.specs.AskedTypes.{AsksNoOther};
 ghost use Rattle.mh_plan.specs.Results.{serial_at};
 ghost use Rattle.mh_runtime.specs.Linking.{Records};
-ghost use Rattle.mh_runtime.specs.Passes.{Begins, FindsLinkage, HasBoth, IsLinkageOf, IsRecorded, LearnsSites, RecordsAtMost, attempt_of, pass_at, split_pass, split_room, with_seat};
+ghost use Rattle.mh_runtime.specs.Passes.{BeginsAttempt, FindsLinkage, HasBoth, IsLinkageOf, IsRecorded, LearnsSites, RecordsAtMost, attempt_of, pass_at, split_pass, split_room, with_seat};
 
 use crate::linker::Linker;
 use crate::walks::SiteWalks;
@@ -183,12 +183,12 @@ impl<'s, 't, J: Run> Pass<'s, 't, J> {
         self.walks.find(linker, site)
     }
 
-    /// Begins an attempt of a site, and draws its serial.
+    /// BeginsAttempt an attempt of a site, and draws its serial.
     pub(crate) fn begin(&mut self, linker: &'s Linker<'t, J>, site: u32) -> Result<u64, NoMemory>
         requires pass { self.old.linker ≡ linker.now }
         requires site { site < length J.given.jobs }
         requires room { 1 ≤ self.old.seat.room }
-        ensures begins { IfOk result (λ serial. Begins site serial self.old self.new) }
+        ensures begins { IfOk result (λ serial. BeginsAttempt site serial self.old self.new) }
         ensures range { IfOk result (λ serial. (1 ≤ serial) × (serial ≤ 2 ^ 62)) }
         ensures err { OnErr result (self.new ≡ self.old) }
     {

@@ -3,18 +3,18 @@ use Rattle.std.proofs.Common.{◌≡◌, refl, sym, ap, subst, ◌∙◌, suc, �
 use Rattle.std.proofs.lemmas.Bool.{cases_Bool, eqb-true, ltb-true, and_parts, and_from, not-true, not_from_false}
 use Rattle.std.specs.List.{list_all, position_or_len}
 use Rattle.mh_base.specs.Lines.{cut_at}
-use Rattle.mh_texts.specs.Spells.{Lacks}
+use Rattle.mh_texts.specs.Spells.{LacksByte}
 use Rattle.mh_base.proofs.Inversion.{map_some, some_is}
 use Rattle.mh_base.proofs.Cuts as trip
 
 -- the two ways to say that a text lacks a byte
-pub lacks_each : (byte : ℕ) (text : List ℕ) → Lacks byte text → trip.Lacks byte text
+pub lacks_each : (byte : ℕ) (text : List ℕ) → LacksByte byte text → trip.Lacks byte text
 lacks_each byte [] lacks = tt
 lacks_each byte (b ∷ bs) lacks =
     let parts = and_parts (not (b == byte)) (list_all (λ b. not (b == byte)) bs) lacks in
     (not-true _ parts.0, lacks_each byte bs parts.1)
 
-pub each_lacks : (byte : ℕ) (text : List ℕ) → trip.Lacks byte text → Lacks byte text
+pub each_lacks : (byte : ℕ) (text : List ℕ) → trip.Lacks byte text → LacksByte byte text
 each_lacks byte [] lacks = refl
 each_lacks byte (b ∷ bs) lacks =
     and_from (not (b == byte)) (list_all (λ b. not (b == byte)) bs) (not_from_false (b == byte) lacks.0) (each_lacks byte bs lacks.1)
@@ -22,7 +22,7 @@ each_lacks byte (b ∷ bs) lacks =
 -- a text around the first place of a byte
 record IsAround (byte : ℕ) (text : List ℕ) (n : ℕ) : Type 0 where
   is : text ≡ take n text ++ byte ∷ drop (n + 1) text
-  lacks : Lacks byte (take n text)
+  lacks : LacksByte byte (take n text)
 
 around_first : (byte : ℕ) (text : List ℕ) → position_or_len (λ b. b == byte) text < length text → IsAround byte text (position_or_len (λ b. b == byte) text)
 around_first byte [] within = absurd (omega (arith, within))
@@ -47,14 +47,14 @@ place_is true n at told = (refl, some_is n at told)
 place_is false n at told = absurd cc
 
 -- what a cut gives
-pub cut_is : (byte : ℕ) (text : List ℕ) (parts : List ℕ × List ℕ) → cut_at byte text ≡ Some parts → (text ≡ parts.0 ++ byte ∷ parts.1) × Lacks byte parts.0
+pub cut_is : (byte : ℕ) (text : List ℕ) (parts : List ℕ × List ℕ) → cut_at byte text ≡ Some parts → (text ≡ parts.0 ++ byte ∷ parts.1) × LacksByte byte parts.0
 cut_is byte text parts told =
     let first : ℕ = position_or_len (λ b. b == byte) text in
     let read = map_some (λ at. (take at text, drop (at + 1) text)) _ parts told in
     let place = place_is (nat_lt first (length text)) first read.0 read.1 in
     let around = around_first byte text (ltb-true first (length text) place.0) in
     let same : (take first text, drop (first + 1) text) ≡ parts = ap (λ n. (take n text, drop (n + 1) text)) place.1 ∙ read.2 in
-    subst (λ p. (text ≡ p.0 ++ byte ∷ p.1) × Lacks byte p.0) same (around.is, around.lacks)
+    subst (λ p. (text ≡ p.0 ++ byte ∷ p.1) × LacksByte byte p.0) same (around.is, around.lacks)
 
-pub cut_read : (byte : ℕ) (front rest : List ℕ) → Lacks byte front → cut_at byte (front ++ byte ∷ rest) ≡ Some (front, rest)
+pub cut_read : (byte : ℕ) (front rest : List ℕ) → LacksByte byte front → cut_at byte (front ++ byte ∷ rest) ≡ Some (front, rest)
 cut_read byte front rest lacks = trip.cut_found byte front rest (lacks_each byte front lacks)

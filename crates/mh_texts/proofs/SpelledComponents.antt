@@ -20,7 +20,7 @@ use Rattle.mh_values.specs.Spelling.{Element, letter, named, element_text, is_na
 use Rattle.mh_values.proofs.Complete.{type_complete}
 use Rattle.mh_values.proofs.ReadBy.{type_read}
 use Rattle.mh_texts.specs.Literal.{component_of}
-use Rattle.mh_texts.specs.Spells.{Lacks, SpellsClass, SpellsComponent}
+use Rattle.mh_texts.specs.Spells.{LacksByte, SpellsClass, SpellsComponent}
 use Rattle.mh_base.proofs.Inversion.{some_is, none_is_not}
 use Rattle.mh_base.proofs.Cuts.{front_of}
 
@@ -98,7 +98,7 @@ no_bracket_in_name (b ∷ bs) good =
     and_from (not (b == 91)) (list_all (λ c. not (c == 91)) (bs ++ 59 ∷ [])) (not_from_false (b == 91) (or_parts (b == 46) (b == 91) others.1).1)
     (no_bracket_in_name bs parts.1)
 
-pub no_bracket_in : (classes : List Class) (text : List ℕ) (c : Comp) → SpellsComponent classes text c → Lacks 91 text
+pub no_bracket_in : (classes : List Class) (text : List ℕ) (c : Comp) → SpellsComponent classes text c → LacksByte 91 text
 no_bracket_in classes text (comp.Prim primitive.Z) is = ap (list_all (λ b. not (b == 91))) is
 no_bracket_in classes text (comp.Prim primitive.I) is = ap (list_all (λ b. not (b == 91))) is
 no_bracket_in classes text (comp.Prim primitive.J) is = ap (list_all (λ b. not (b == 91))) is

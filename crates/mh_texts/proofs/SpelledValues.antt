@@ -16,7 +16,7 @@ use Rattle.mh_values.specs.Descriptor.{type_desc}
 use Rattle.mh_texts.specs.declared.literal.LiteralError.{LiteralError}
 use Rattle.mh_texts.specs.declared.literal.LiteralError.TheVariants as literal_error
 use Rattle.mh_texts.specs.Literal.{item_of, component_of, listed, if_few, unclosed, array_of_literal, literal_of, TellsLiteral}
-use Rattle.mh_texts.specs.Spells.{SpellsArray, SpellsItem, Spells, IsSpelled}
+use Rattle.mh_texts.specs.Spells.{SpellsArray, SpellsItem, Spells, TellsSpelling}
 use Rattle.mh_texts.proofs.Cuts.{cut_is, cut_read}
 use Rattle.mh_base.proofs.Inversion.{by_test, some_is, none_is_not, map_some, then_some}
 use Rattle.mh_texts.proofs.RoundTrip.{unclosed_trip}
@@ -126,7 +126,7 @@ value_read classes value.Null token is = item_of_value_read classes cell.Null to
 
 -- an answer that tells the meaning tells what the token spells
 pub told_spelled : (classes : List Class) (token : List ℕ) (r : Result Value LiteralError) → TellsLiteral r (literal_of classes token) →
-    IsSpelled classes token r
+    TellsSpelling classes token r
 told_spelled classes token (Ok v) told =
     (value_spelled classes token v told, λ other is. some_is other v (sym (value_read classes other token is) ∙ told))
 told_spelled classes token (Err literal_error.NoMemory) told = tt

@@ -28,8 +28,8 @@ use Rattle.mh_texts.specs.Number.{is_int, is_long}
 use Rattle.mh_texts.specs.LiteralText.{bool_text}
 
 -- a text without a byte
-abbrev pub Lacks : ℕ → List ℕ → Type 0
-Lacks byte text = IsTrue (list_all (λ b. not (b == byte)) text)
+abbrev pub LacksByte : ℕ → List ℕ → Type 0
+LacksByte byte text = IsTrue (list_all (λ b. not (b == byte)) text)
 
 -- ---- numbers
 
@@ -65,7 +65,7 @@ boxed_mark (num.J n) = codes "J:"
 pub record SpellsObject (classes : List Class) (text : List ℕ) (class : ClassId) (number : ℕ) : Type 0 where
   pub name : List ℕ
   pub is : text ≡ name ++ (codes "#" ++ decimal number)
-  pub cut : Lacks 35 name
+  pub cut : LacksByte 35 name
   pub named : class_named classes name ≡ Some class
   pub plain : has_own_literal classes class ≡ false
   pub small : number < 2 ^ 32
@@ -113,7 +113,7 @@ SpellsComponent classes text (comp.Class c) = SpellsClass classes text c
 pub record SpellsItemOf (classes : List Class) (component : Comp) (text : List ℕ) (item : Cell) : Type 0 where
   pub spelled : SpellsItem classes item text
   pub typed : IsTrue (is_item_of classes component item)
-  pub cut : Lacks 44 text
+  pub cut : LacksByte 44 text
 
 -- items, each after a comma
 abbrev pub SpellsMore : List Class → Comp → List ℕ → List Cell → Type 0
@@ -150,7 +150,7 @@ Spells classes (value.Array c items) = Marked (codes "a:") (SpellsArray classes 
 Spells classes value.Null = SpellsItem classes cell.Null
 
 -- a value that was read is the only one that the token spells; a token that was refused spells none
-abbrev pub IsSpelled : List Class → List ℕ → Result Value LiteralError → Type 0
-IsSpelled classes token (Ok v) = Spells classes v token × ((other : Value) → Spells classes other token → other ≡ v)
-IsSpelled classes token (Err literal_error.NoMemory) = Unit {0}
-IsSpelled classes token (Err literal_error.Bad) = (v : Value) → Spells classes v token → ⊥
+abbrev pub TellsSpelling : List Class → List ℕ → Result Value LiteralError → Type 0
+TellsSpelling classes token (Ok v) = Spells classes v token × ((other : Value) → Spells classes other token → other ≡ v)
+TellsSpelling classes token (Err literal_error.NoMemory) = Unit {0}
+TellsSpelling classes token (Err literal_error.Bad) = (v : Value) → Spells classes v token → ⊥

@@ -5,7 +5,7 @@ ghost use Rattle.mh_values.specs.Descriptor.{type_desc};
 ghost use Rattle.mh_values.specs.ValueLimits.{IsValueWithinLimits};
 ghost use Rattle.mh_texts.specs.Literal.{bool_of, number_of, has_own_literal, object_of, exception_of, tagged, item_of, component_of, items_of, listed, unclosed, array_of_literal, literal_of, TellsLiteral};
 ghost use Rattle.mh_texts.specs.LiteralText.{literal_text};
-ghost use Rattle.mh_texts.specs.Spells.{IsSpelled};
+ghost use Rattle.mh_texts.specs.Spells.{TellsSpelling};
 
 use crate::escape::read_text;
 use crate::number::{read_int, read_long, read_unsigned};
@@ -252,7 +252,7 @@ fn read_value(alloc: Global, classes: &Classes, token: &[u8]) -> Result<Value, L
 /// message, `a:COMP[ITEM,ITEM]` an array. In a text `\s` is a space, `\c` a comma, `\n` LF, `\\` a
 /// backslash, and `\u{H}` the character of a hexadecimal number.
 pub fn read_literal(alloc: Global, token: &[u8], classes: &Classes) -> Result<Value, LiteralError>
-    ensures spelled { IsSpelled classes.now token.now result }
+    ensures spelled { TellsSpelling classes.now token.now result }
     ensures tells { TellsLiteral result (literal_of classes.now token.now) }
     ensures limits { IfOk result IsValueWithinLimits }
     ensures again { IfOk result

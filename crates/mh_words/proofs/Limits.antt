@@ -4,7 +4,7 @@ use Rattle.std.specs.Prelude.{IfSome, codes, nat_le, option_and_then, option_map
 use Rattle.std.specs.Str.{bytes_eq}
 use Rattle.clap.specs.Words.{Text}
 use Rattle.mh_words.specs.Number.{is_written, number_of}
-use Rattle.mh_words.specs.Options.{Given}
+use Rattle.mh_words.specs.Options.{GivenOptions}
 use Rattle.mh_words.specs.Words.{Command, IsCommandWithinLimits, asked, generate, generated_with, most_class_files, of_mode}
 use Rattle.mh_words.specs.Words.{run_with, sites_with}
 use Rattle.mh_words.proofs.Digits.{written_is_small}
@@ -47,21 +47,21 @@ generated_within None None None None classes = tt
 generated_within None None None (Some number) [] = number_within number (is_written number) refl
 generated_within None None None (Some number) (class ∷ classes) = tt
 
-mode_within : (mode : Text) (given : Given) → length given.classes ≤ most_class_files → IsWithin (of_mode mode given)
+mode_within : (mode : Text) (given : GivenOptions) → length given.classes ≤ most_class_files → IsWithin (of_mode mode given)
 mode_within mode given few =
     either (bytes_eq mode (codes "run")) _ _ (run_within given.leaves given.scripts given.plan given.number given.classes few)
     (either (bytes_eq mode (codes "sites")) _ _ (sites_within given.leaves given.scripts given.plan given.number given.classes few)
     (either (bytes_eq mode (codes "gen")) _ _ (generated_within given.leaves given.scripts given.plan given.number given.classes) tt))
 
-any_mode_within : (mode : Option Text) (given : Given) → length given.classes ≤ most_class_files
+any_mode_within : (mode : Option Text) (given : GivenOptions) → length given.classes ≤ most_class_files
     → IsWithin (option_and_then (λ name. of_mode name given) mode)
 any_mode_within None given few = tt
 any_mode_within (Some mode) given few = mode_within mode given few
 
-asked_within : (given : Given) (b : Bool) → nat_le (length given.classes) most_class_files ≡ b → IsWithin (asked given)
+asked_within : (given : GivenOptions) (b : Bool) → nat_le (length given.classes) most_class_files ≡ b → IsWithin (asked given)
 asked_within given true few = rw few (any_mode_within given.mode given (grind arith))
 asked_within given false few = rw few tt
 
 -- what options and names of class files ask for
-pub within : (given : Given) (command : Option Command) → command ≡ asked given → IfSome command IsCommandWithinLimits
+pub within : (given : GivenOptions) (command : Option Command) → command ≡ asked given → IfSome command IsCommandWithinLimits
 within given command is = rw is (asked_within given _ refl)

@@ -35,7 +35,7 @@ unfoldable pub found : List Text → Option (List Row)
 found words = if is_empty (fault_of app words) then Some (matches_of app words) else None
 
 -- what the words give: the value of each option, where it is there, and the names of class files in their order
-pub record Given : Type 0 where
+pub record GivenOptions : Type 0 where
   pub mode : Option Text
   pub leaves : Option Text
   pub scripts : Option Text
@@ -44,7 +44,7 @@ pub record Given : Type 0 where
   pub classes : List Text
 
 -- what the words give, by what `clap` found
-abbrev pub given_by : List Row → Given
+abbrev pub given_by : List Row → GivenOptions
 given_by rows = record {
   mode = first_of (codes "mode") rows;
   leaves = first_of (codes "leaves") rows;
@@ -59,7 +59,7 @@ abbrev pub text : Option (Bor (List ℕ)) → Option Text
 text = option_map (λ value. value.now)
 
 -- what a value of the program says that the words give
-abbrev pub values : Held → Given
+abbrev pub values : Held → GivenOptions
 values given = record {
   mode = text given.mode;
   leaves = text given.leaves;

@@ -3,7 +3,7 @@ use Rattle.std.specs.Prelude.{ℕ, ◌^◌, ◌<◌, ◌≤◌, List, [], codes,
 use Rattle.std.specs.Str.{bytes_eq}
 use Rattle.clap.specs.Words.{Text}
 use Rattle.mh_words.specs.Number.{most_digits, number_of}
-use Rattle.mh_words.specs.Options.{Given, found, given_by, said}
+use Rattle.mh_words.specs.Options.{GivenOptions, found, given_by, said}
 use Rattle.mh_words.specs.declared.command.Names.{Names}
 use Rattle.mh_words.specs.declared.command.Command.{Command as Held}
 use Rattle.mh_words.specs.declared.command.Command.TheVariants as held
@@ -32,7 +32,7 @@ run_with (Some leaves) (Some scripts) (Some plan) None classes =
 run_with _ _ _ _ classes = None
 
 -- the run that is asked for
-abbrev pub run_of : Given → Option Command
+abbrev pub run_of : GivenOptions → Option Command
 run_of given = run_with given.leaves given.scripts given.plan given.number given.classes
 
 -- a listing has no option beside the mode
@@ -41,7 +41,7 @@ sites_with None None None None classes = Some (sites classes)
 sites_with _ _ _ _ classes = None
 
 -- the listing that is asked for
-abbrev pub sites_of : Given → Option Command
+abbrev pub sites_of : GivenOptions → Option Command
 sites_of given = sites_with given.leaves given.scripts given.plan given.number given.classes
 
 -- a generated run has a number alone, and no class files
@@ -50,18 +50,18 @@ generated_with None None None (Some number) [] = option_map (λ n. generate n) (
 generated_with _ _ _ _ classes = None
 
 -- the generated run that is asked for
-abbrev pub generated_of : Given → Option Command
+abbrev pub generated_of : GivenOptions → Option Command
 generated_of given = generated_with given.leaves given.scripts given.plan given.number given.classes
 
 -- the command of a mode
-abbrev pub of_mode : Text → Given → Option Command
+abbrev pub of_mode : Text → GivenOptions → Option Command
 of_mode mode given =
     if bytes_eq mode (codes "run") then run_of given
     else (if bytes_eq mode (codes "sites") then sites_of given
     else (if bytes_eq mode (codes "gen") then generated_of given else None))
 
 -- the command that options and names of class files ask for, if there is one: a mode with just its options, and not too many class files
-abbrev pub asked : Given → Option Command
+abbrev pub asked : GivenOptions → Option Command
 asked given =
     if nat_le (length given.classes) most_class_files then option_and_then (λ mode. of_mode mode given) given.mode else None
 

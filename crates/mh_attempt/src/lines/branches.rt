@@ -11,7 +11,7 @@ ghost use Rattle.mh_attempt.specs.Lines.{MakesNode, typed};
 ghost use Rattle.mh_link.specs.Operands.{Frame};
 ghost use Rattle.mh_link.specs.Operations.{node_of};
 ghost use Rattle.mh_attempt.specs.Recipes.{line_recipes, recipes_made};
-ghost use Rattle.mh_attempt.specs.Registers.{AreKept, Hold, HoldSome, IsHeldIn, StandsFor, StandsForSome};
+ghost use Rattle.mh_attempt.specs.Registers.{AreHeldBy, Hold, HoldSome, IsHeldIn, StandsFor, StandsForSome};
 ghost use Rattle.mh_attempt.specs.Several.{AddsTypes};
 
 use crate::handle::HandleOperand;
@@ -86,7 +86,7 @@ pub(crate) fn guard_line<'t, R: Wait>(
 ) -> Result<Handle<'t>, HandleError>
     requires ready { IsReady w.old 4 }
     requires registers { HoldSome (leaves_of w.old) registers.now }
-    requires kept { AreKept w.old.seat.now registers.now }
+    requires kept { AreHeldBy w.old.seat.now registers.now }
     ensures goes_on { GoesOn 4 w.old w.new }
     ensures types { AddsTypes w.old w.new result }
     ensures node { (frame : Frame) → Hold (leaves_of w.old) registers.now frame → MakesNode
@@ -160,7 +160,7 @@ pub(crate) fn catch_line<'t, R: Wait>(
 ) -> Result<Handle<'t>, HandleError>
     requires ready { IsReady w.old 4 }
     requires registers { HoldSome (leaves_of w.old) registers.now }
-    requires kept { AreKept w.old.seat.now registers.now }
+    requires kept { AreHeldBy w.old.seat.now registers.now }
     ensures goes_on { GoesOn 4 w.old w.new }
     ensures types { AddsTypes w.old w.new result }
     ensures node { (frame : Frame) → Hold (leaves_of w.old) registers.now frame → MakesNode

@@ -8,7 +8,7 @@ ghost use Rattle.mh_attempt.specs.Lines.{MakesNode};
 ghost use Rattle.mh_link.specs.Operands.{Frame};
 ghost use Rattle.mh_link.specs.Operations.{node_of};
 ghost use Rattle.mh_attempt.specs.Recipes.{line_recipes};
-ghost use Rattle.mh_attempt.specs.Registers.{AreKept, Hold, HoldSome};
+ghost use Rattle.mh_attempt.specs.Registers.{AreHeldBy, Hold, HoldSome};
 ghost use Rattle.mh_attempt.specs.Several.{AddsTypes};
 
 use crate::names::{class_of, leaf_named};
@@ -50,7 +50,7 @@ pub(crate) fn constant_line<'t, R: Wait>(
 ) -> Result<Handle<'t>, HandleError>
     requires ready { IsReady w.old 4 }
     requires registers { HoldSome (leaves_of w.old) registers.now }
-    requires kept { AreKept w.old.seat.now registers.now }
+    requires kept { AreHeldBy w.old.seat.now registers.now }
     ensures goes_on { GoesOn 4 w.old w.new }
     ensures types { AddsTypes w.old w.new result }
     ensures node { (frame : Frame) → Hold (leaves_of w.old) registers.now frame → MakesNode
@@ -77,7 +77,7 @@ pub(crate) fn identity_line<'t, R: Wait>(
 ) -> Result<Handle<'t>, HandleError>
     requires ready { IsReady w.old 4 }
     requires registers { HoldSome (leaves_of w.old) registers.now }
-    requires kept { AreKept w.old.seat.now registers.now }
+    requires kept { AreHeldBy w.old.seat.now registers.now }
     ensures goes_on { GoesOn 4 w.old w.new }
     ensures types { AddsTypes w.old w.new result }
     ensures node { (frame : Frame) → Hold (leaves_of w.old) registers.now frame → MakesNode
@@ -103,7 +103,7 @@ pub(crate) fn throw_line<'t, R: Wait>(
 ) -> Result<Handle<'t>, HandleError>
     requires ready { IsReady w.old 4 }
     requires registers { HoldSome (leaves_of w.old) registers.now }
-    requires kept { AreKept w.old.seat.now registers.now }
+    requires kept { AreHeldBy w.old.seat.now registers.now }
     ensures goes_on { GoesOn 4 w.old w.new }
     ensures types { AddsTypes w.old w.new result }
     ensures node { (frame : Frame) → Hold (leaves_of w.old) registers.now frame → MakesNode

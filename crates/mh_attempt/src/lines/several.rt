@@ -7,7 +7,7 @@ ghost use Rattle.mh_attempt.specs.Asked.{AsksIfMade};
 ghost use Rattle.mh_attempt.specs.AskedTypes.{AsksTypesOrThrows, types_made};
 ghost use Rattle.mh_attempt.specs.Recipes.{recipes_made};
 ghost use Rattle.mh_attempt.specs.Registers.{IsHeldIn, StandsFor, StandsForSome};
-ghost use Rattle.mh_attempt.specs.Several.{AddsBoth, AddsThree, AreAccepted};
+ghost use Rattle.mh_attempt.specs.Several.{AddsBoth, AddsThree, NothingRefused};
 
 use crate::handle::HandleOperand;
 use mh_handle::{Handle, HandleError, Work};
@@ -26,7 +26,7 @@ pub(crate) fn both_made<'t, R: Wait>(
     requires second { StandsForSome (leaves_of w.old) second.now }
     requires second_held { IsHeldIn w.old.seat.now second.now }
     ensures goes_on { GoesOn 2 w.old w.new }
-    ensures accepted { AreAccepted result }
+    ensures accepted { NothingRefused result }
     ensures types { AddsBoth w.old w.new result }
     ensures asks { AsksIfMade (recipes_made (leaves_of w.old) (first.now ∷ second.now ∷ []) [])
         w.old w.new result }
@@ -63,7 +63,7 @@ pub(crate) fn three_made<'t, R: Wait>(
     requires third { StandsForSome (leaves_of w.old) third.now }
     requires third_held { IsHeldIn w.old.seat.now third.now }
     ensures goes_on { GoesOn 3 w.old w.new }
-    ensures accepted { AreAccepted result }
+    ensures accepted { NothingRefused result }
     ensures types { AddsThree w.old w.new result }
     ensures asks { AsksIfMade (recipes_made (leaves_of w.old)
         (first.now ∷ second.now ∷ third.now ∷ []) []) w.old w.new result }

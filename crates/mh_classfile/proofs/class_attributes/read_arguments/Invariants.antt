@@ -1,5 +1,5 @@
 use Rattle.std.proofs.Common.{◌≡◌, ◌-◌, length}
-use Rattle.mh_class_bytes.specs.Bytes.{Moves}
+use Rattle.mh_class_bytes.specs.Bytes.{MovesOn}
 use Rattle.mh_class_bytes.specs.Format.{reads, repeated, listed, times}
 use Rattle.mh_class_pool.specs.declared.entry.Kind.TheVariants.{Argument}
 use Rattle.mh_class_pool.specs.declared.fault.ClassKind.TheVariants.{BadBootstraps}
@@ -12,5 +12,5 @@ invariant-loop l = record {
       (times (named_index BadBootstraps l.pool Argument) l.count) l.fn.cursor;
   closed : l.methods.closed ≡ l.fn.methods.closed;
   count : length l.methods.begun ≡ l.counter;
-  moves : Moves l.fn.cursor l.cursor;
+  moves : MovesOn l.fn.cursor l.cursor;
 }

@@ -1,5 +1,5 @@
 use Rattle.std.proofs.Common.{◌≡◌, ◌-◌}
-use Rattle.mh_class_bytes.specs.Bytes.{Moves}
+use Rattle.mh_class_bytes.specs.Bytes.{MovesOn}
 use Rattle.mh_class_bytes.specs.Format.{reads}
 use Rattle.mh_classfile.specs.Members.{rows}
 use Rattle.mh_classfile.specs.Code.{passed}
@@ -8,5 +8,5 @@ use Rattle.mh_classfile.proofs.code_attribute.pass_handlers.Given as goal
 abbrev pub invariant-loop : goal.invariant-loop
 invariant-loop l = record {
   so_far : reads (rows (passed 8) (l.count - l.counter)) l.cursor ≡ reads (rows (passed 8) l.count) l.fn.cursor;
-  moves : Moves l.fn.cursor l.cursor;
+  moves : MovesOn l.fn.cursor l.cursor;
 }
