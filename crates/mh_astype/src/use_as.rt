@@ -100,11 +100,9 @@ fn kept<'t, R: Wait>(
     ensures types { TradesTypes (ty ∷ []) target.entry.held w.old w.new result }
 {
     let weight = 1 + target.weight();
-    // No form is asked for, so only memory and the table of types can be short.
     match target.retyped(w, rt, ty, weight) {
         Ok(made) => Ok(made),
-        Err(HandleError::TypesFull { bucket }) => Err(HandleError::TypesFull { bucket }),
-        Err(_) => Err(HandleError::NoMemory),
+        Err(error) => Err(HandleError::from(error)),
     }
 }
 

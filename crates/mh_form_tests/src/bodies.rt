@@ -34,6 +34,7 @@ pub fn naming(alloc: Global, name: Name, out: u32) -> Result<FormBody, NoMemory>
     })
 }
 
+/// A list of one slot.
 pub fn one(alloc: Global, slot: Slot) -> Result<Slots, NoMemory>
     ensures { IfOk result (λ slots. slots ≡ slot ∷ []) }
 {
@@ -42,6 +43,7 @@ pub fn one(alloc: Global, slot: Slot) -> Result<Slots, NoMemory>
     Ok(slots)
 }
 
+/// A list of one place.
 pub fn one_place(alloc: Global, place: u32) -> Result<Operands, NoMemory>
     ensures { IfOk result (λ places. places ≡ place ∷ []) }
 {

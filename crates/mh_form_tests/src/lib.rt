@@ -3,9 +3,10 @@
 
 #[cfg(test)]
 mod arrays;
-#[cfg(test)]
 mod bodies;
 #[cfg(test)]
 mod names;
 #[cfg(test)]
 mod parts;
+
+pub use bodies::{gave, gives, naming, one, one_place};

@@ -1,11 +1,12 @@
-ghost use Rattle.std.specs.Prelude.{◌≡◌, ◌≤◌, ◌∷◌, [], IfOk, length};
+ghost use Rattle.std.specs.Prelude.{◌≡◌, ◌≤◌, ◌∷◌, [], IfOk, length, result_map_both};
+ghost use Rattle.mh_handle.specs.Errors.{of_intern};
 ghost use Rattle.mh_handle.specs.Stands.{HasShape, handle_body};
-ghost use Rattle.mh_handle.specs.Works.{HoldsTypes, IsReady, IsUnchanged, IsAccepted, TradesTypes};
+ghost use Rattle.mh_handle.specs.Works.{HoldsTypes, IsReady, IsUnchanged, TradesTypes};
 
-use crate::error::HandleError;
 use crate::handle::Handle;
 use crate::work::Work;
 use mh_form::Bound;
+use mh_intern::InternError;
 use mh_values::MethodTy;
 use std::sync::Wait;
 
@@ -19,15 +20,15 @@ impl<'t> Handle<'t> {
         rt: &R,
         ty: MethodTy,
         weight: u32,
-    ) -> Result<Handle<'t>, HandleError>
+    ) -> Result<Handle<'t>, InternError>
         requires light { weight ≤ 256 }
         requires few { length self.held ≤ weight }
         requires shaped { HasShape (handle_body self) ty }
         requires ready { IsReady w.old 1 }
         requires held { HoldsTypes w.old self.held }
         ensures unchanged { IsUnchanged w.old w.new }
-        ensures types { TradesTypes (ty ∷ []) self.entry.held w.old w.new result }
-        ensures accepted { IsAccepted result }
+        ensures types { TradesTypes (ty ∷ []) self.entry.held w.old w.new
+            (result_map_both (λ h. h) of_intern result) }
         ensures ty { IfOk result (λ h. h.ty ≡ ty) }
         ensures weight { IfOk result (λ h. h.weight ≡ weight) }
         ensures sides { IfOk result (λ h. h.sides ≡ self.entry.sides) }
@@ -49,7 +50,7 @@ impl<'t> Handle<'t> {
             }
             Err(error) => {
                 self.give_back(w);
-                Err(HandleError::from(error))
+                Err(error)
             }
         }
     }
