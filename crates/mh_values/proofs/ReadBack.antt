@@ -1,6 +1,6 @@
 -- The text of a method type means that type.
 use Rattle.std.proofs.Common.{◌≡◌, refl, sym, ap, ◌∙◌, ℕ, ◌+◌, ◌-◌, ◌<◌, ◌==◌, true, false, List, [], ◌∷◌, ◌++◌, length, map, take, Option, None, Some, Ok, codes, slice_get, arith, append_assoc, length-append}
-use Rattle.std.proofs.lemmas.Bool.{and_parts}
+use Rattle.std.proofs.lemmas.Bool.{and_parts, not-true}
 use Rattle.std.specs.List.{list_all, flat_map}
 use Rattle.std.specs.Option.{option_map_or}
 use Rattle.std.proofs.Math.Seq.{take-append_seam}
@@ -19,7 +19,14 @@ use Rattle.mh_values.specs.Descriptor.{pieces, type_meant, class_meant, types_me
 use Rattle.mh_values.proofs.LastTwo.{all_but_two, the_last}
 use Rattle.mh_values.proofs.TypeSpelling.{is_name, is_name_byte, is_type_named, is_component_named, class-joined}
 use Rattle.mh_values.proofs.MethodSpelling.{IsWritableType, is_return_named, method-read}
-use Rattle.mh_values.proofs.SpelledPieces.{name_piece}
+
+-- a name and its `;` are one piece
+name-piece : (name rest : List ℕ) → list_all is_name_byte name ≡ true → pieces true (name ++ 59 ∷ rest) ≡ (name ++ 59 ∷ []) ∷ pieces false rest
+name-piece [] rest good = refl
+name-piece (b ∷ bs) rest good =
+    let parts = and_parts (is_name_byte b) (list_all is_name_byte bs) good in
+    let inside : (b == 59) ≡ false = not-true _ (and_parts _ _ parts.0).0 in
+    rw (inside, name-piece bs rest parts.1) refl
 
 -- a name that may stand in a descriptor has such bytes alone
 name-bytes : (name : List ℕ) → is_name name ≡ true → list_all is_name_byte name ≡ true
@@ -29,7 +36,7 @@ name-bytes (b ∷ bs) good = good
 class-piece : (name rest : List ℕ) → is_name name ≡ true → pieces false ((codes "L" ++ name ++ codes ";") ++ rest) ≡ (codes "L" ++ name ++ codes ";") ∷ pieces
     false rest
 class-piece name rest good =
-    ap (pieces false) (class-joined name rest) ∙ rw (name_piece name rest (name-bytes name good)) refl
+    ap (pieces false) (class-joined name rest) ∙ rw (name-piece name rest (name-bytes name good)) refl
 
 component-piece : (classes : List Class) (c : Comp) (rest : List ℕ) → is_component_named classes c ≡ true →
     pieces false (component_text classes c ++ rest) ≡ component_text classes c ∷ pieces false rest

@@ -7,7 +7,7 @@ use Rattle.mh_values.specs.Spelling.{Element, letter, named, Spelled, element_te
 use Rattle.mh_values.proofs.Beginnings.{base_other}
 
 -- a name and its `;` are one piece
-pub name_piece : (name rest : List ℕ) → list_all is_name_byte name ≡ true → pieces true (name ++ 59 ∷ rest) ≡ (name ++ 59 ∷ []) ∷ pieces false rest
+name_piece : (name rest : List ℕ) → list_all is_name_byte name ≡ true → pieces true (name ++ 59 ∷ rest) ≡ (name ++ 59 ∷ []) ∷ pieces false rest
 name_piece [] rest good = refl
 name_piece (b ∷ bs) rest good =
     let parts = and_parts (is_name_byte b) (list_all is_name_byte bs) good in
