@@ -1,5 +1,5 @@
 -- What conditions and limits tell where a type is given.
-use Rattle.std.proofs.Common.{◌≡◌, refl, Bool, true, false, ℕ, List, Option, Some, None, Result, Ok, Err, nat_le, codes}
+use Rattle.std.proofs.Common.{◌≡◌, refl, sym, Bool, true, false, ℕ, List, Option, Some, None, Result, Ok, Err, nat_le, codes}
 use Rattle.mh_base.specs.Provided.{provided, provided_some}
 use Rattle.mh_base.proofs.Inversion.{ok_is}
 use Rattle.mh_values.specs.declared.types.MethodTy.{MethodTy}
