@@ -1,4 +1,5 @@
-ghost use Rattle.std.specs.Prelude.{◌≡◌, ◌≤◌, ◌∷◌, [], IfOk, length, result_map_both};
+ghost use Rattle.std.specs.Prelude.{◌≡◌, ◌≤◌, ◌∷◌, [], IfOk, length};
+ghost use Rattle.std.specs.Result.{result_map_both};
 ghost use Rattle.mh_handle.specs.Errors.{of_intern};
 ghost use Rattle.mh_handle.specs.Stands.{HasShape, handle_body};
 ghost use Rattle.mh_handle.specs.Works.{HoldsTypes, IsReady, IsUnchanged, TradesTypes};

@@ -1,10 +1,8 @@
-use Rattle.std.proofs.Common.{ap, ◌∙◌, ◌+◌, ◌≤◌, [], ◌∷◌, Err, arith}
+use Rattle.std.proofs.Common.{ap, ◌∙◌, ◌+◌, ◌≤◌, [], ◌∷◌, arith}
 use Rattle.std.proofs.lemmas.Bool.{and_parts}
 use Rattle.mh_convert.specs.Conversion.{is_trivial_ret}
-use Rattle.mh_handle.specs.declared.error.HandleError.TheVariants.{NoMemory}
 use Rattle.mh_handle.specs.Recipe.{are_trivial}
-use Rattle.mh_handle.proofs.Trading.{traded-any}
-use Rattle.mh_astype.proofs.Using.{kept-shaped, light, makes-kept, used-kept}
+use Rattle.mh_astype.proofs.Using.{kept-shaped, light, used-kept}
 use Rattle.mh_astype.proofs.use_as.kept.Goals as goal
 
 pub retyped-requires-clause-light : goal.retyped-requires-clause-light
@@ -23,12 +21,3 @@ pub returns-in-Ok-clause-used : goal.returns-in-Ok-clause-used
 returns-in-Ok-clause-used g c =
     used-kept c.args.w.now.leaves.now.classes c.args.ty c.args.target c.in-Ok.made c.requires.keeps c.in-Ok.ensures.ty
     (c.in-Ok.ensures.weight ∙ ap (λ n. 1 + n) c.weight-weight.ensures.weight) c.in-Ok.ensures.sides c.in-Ok.ensures.form c.in-Ok.ensures.fields
-
-pub returns-clause-makes : goal.returns-clause-makes
-returns-clause-makes g c =
-    makes-kept c.args.w.now.leaves.now.classes c.args.ty c.args.target.ty c.args.target.form.recipe c.args.w.now c.retyped.new.w (Err NoMemory)
-    c.requires.keeps c.in-Err.ensures.unchanged
-
-pub returns-clause-types : goal.returns-clause-types
-returns-clause-types g c =
-    traded-any (c.args.ty ∷ []) c.args.target.held c.args.w.now c.retyped.new.w (Err c.in-Err.field-0) c.in-Err.ensures.types

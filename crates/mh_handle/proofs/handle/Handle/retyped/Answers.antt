@@ -1,8 +1,7 @@
-use Rattle.std.proofs.Common.{[], ◌∷◌, ◌++◌, ap, sym, subst, Err}
+use Rattle.std.proofs.Common.{[], ◌∷◌, ◌++◌, ap, sym, subst}
 use Rattle.mh_intern.specs.Exchanges.{AreHeld, Exchanges}
 use Rattle.mh_intern.proofs.HeldLists.{held-first, held-second}
 use Rattle.mh_handle.specs.Stands.{HandleView}
-use Rattle.mh_handle.specs.Works.{TradesTypes}
 use Rattle.mh_handle.proofs.HoldOrders.{exchanges-after, exchanges-kept}
 use Rattle.mh_handle.proofs.SingleHolds.{held-yet, unheld-yet}
 use Rattle.mh_handle.proofs.Trading.{trades-unheld}
@@ -34,5 +33,4 @@ returns-in-Ok-clause-types g c =
 
 pub returns-in-Err-clause-types : goal.returns-in-Err-clause-types
 returns-in-Err-clause-types g c =
-    subst (λ e. TradesTypes (c.args.ty ∷ []) c.args.self.held c.args.w.now c.give_back.new.w (Err e)) (sym c.from.ensures)
-    (trades-unheld c.args.ty c.args.self.held c.args.w.now c.hold.new.self c.give_back.new.w c.in-Err.error c.in-Err.ensures.types c.give_back.ensures.types)
+    trades-unheld c.args.ty c.args.self.held c.args.w.now c.hold.new.self c.give_back.new.w c.in-Err.error c.in-Err.ensures.types c.give_back.ensures.types
