@@ -1,9 +1,8 @@
 -- What the calls of adapters with a part need and answer, from what they add to the handle that they adapt.
-use Rattle.std.proofs.Common.{◌≡◌, sym, subst, ap, ◌∙◌, ◌+◌, ◌≤◌, [], ◌∷◌, ◌++◌, length, map, arith, Result, Ok, Err, IfOk}
+use Rattle.std.proofs.Common.{◌≡◌, sym, subst, ap, ◌∙◌, ◌+◌, ◌≤◌, [], ◌∷◌, ◌++◌, map, arith, Result, Ok, Err, IfOk}
 use Rattle.std.specs.Prelude.{IsTrue}
 use Rattle.mh_values.specs.declared.types.MethodTy.{MethodTy}
 use Rattle.mh_leaf.specs.LeafTable.{LeafTable}
-use Rattle.mh_tree.specs.Rows.{TypeOrRefusal}
 use Rattle.mh_tree.specs.Tree.{Tree}
 use Rattle.mh_form.specs.declared.field.Field.{Field}
 use Rattle.mh_form.specs.Erasure.{basic_of}
@@ -11,14 +10,11 @@ use Rattle.mh_edit.specs.declared.key.Key.{Key}
 use Rattle.mh_edit.specs.Applied.{applied}
 use Rattle.mh_edit.specs.Fit.{fits}
 use Rattle.mh_handle.specs.declared.error.HandleError.{HandleError}
-use Rattle.mh_handle.specs.declared.error.HandleError.TheVariants.{NoMemory, FormsFull, TypesFull, Refused}
 use Rattle.mh_handle.specs.declared.growth.Growth.{Growth}
 use Rattle.mh_handle.specs.declared.handle.Handle.{Handle}
 use Rattle.mh_handle.specs.Grows.{GainsPart, Grows}
 use Rattle.mh_handle.specs.Parts.{IsPartOf, held_by}
-use Rattle.mh_handle.specs.Obeys.{Obeys}
-use Rattle.mh_handle.specs.Stands.{HandleView, HasShape, IsShaped, Stands, handle_body}
-use Rattle.mh_handle.specs.Works.{IsAccepted}
+use Rattle.mh_handle.specs.Stands.{HandleView, HasShape, Stands, handle_body}
 use Rattle.mh_adapt.specs.Parts.{AddsPart, GrowsByPart}
 
 -- the key fits what the handle's form does, and edits it to the shape of the type
@@ -33,9 +29,6 @@ module _ (t : HandleView) (k : Key) (f : HandleView) (by : Growth) (adds : AddsP
   pub adds-shaped : IsSuited by.ty t k → HasShape (applied by.key (handle_body t)) by.ty
   adds-shaped suited = ap (λ j. (applied j (handle_body t)).params) adds.key ∙ suited.shaped
 
-  pub adds-few : IsShaped t → IsShaped f → length t.held + length f.held ≤ by.weight
-  adds-few shaped part = omega (arith, adds.weight, shaped.few, part.few)
-
   adds-grows : (h : HandleView) (field : Field) → Grows t h by.ty by.weight (held_by f) by.key (field ∷ []) →
       Grows t h by.ty (1 + t.weight + f.weight) (held_by f) k (field ∷ [])
   adds-grows h field grows = record {
@@ -45,13 +38,6 @@ module _ (t : HandleView) (k : Key) (f : HandleView) (by : Growth) (adds : AddsP
     made = grows.made ∙ ap (λ j. t.form.recipe ++ j ∷ []) adds.key;
     fielded = grows.fielded;
   }
-
-  pub adds-obeys : (row : TypeOrRefusal) (r : Result Handle HandleError) → row ≡ Ok by.ty → IsAccepted r → GrowsByPart t by f r → Obeys row r
-  adds-obeys row (Ok h) is accepted grows = is ∙ ap Ok (sym grows.2.typed)
-  adds-obeys row (Err NoMemory) is accepted grows = tt
-  adds-obeys row (Err (FormsFull drawn)) is accepted grows = (by.ty, is)
-  adds-obeys row (Err (TypesFull bucket)) is accepted grows = (by.ty, is)
-  adds-obeys row (Err (Refused e)) is accepted grows = absurd accepted
 
   pub adds-gains : (r : Result Handle HandleError) → GrowsByPart t by f r → IfOk r (GainsPart f t)
   adds-gains (Ok h) grows =

@@ -1,5 +1,5 @@
 -- What a use as a type leaves of the seat of types.
-use Rattle.std.proofs.Common.{◌≡◌, ap, sym, subst, ◌∙◌, true, false, cond, ℕ, List, [], ◌∷◌, Result, Ok}
+use Rattle.std.proofs.Common.{◌≡◌, ap, sym, subst, ◌∙◌, false, cond, ℕ, List, [], ◌∷◌, Result, Ok}
 use Rattle.mh_values.specs.declared.class.Class.{Class}
 use Rattle.mh_values.specs.declared.types.MethodTy.{MethodTy}
 use Rattle.mh_values.specs.Same.{is_same_method_type}
@@ -25,11 +25,6 @@ pub used_types-other : (classes : List Class) (own : MethodTy) (weight : ℕ) (a
     astype_row classes own weight asked ≡ Ok u → used_types classes own weight asked ≡ u ∷ []
 used_types-other classes own weight asked u other row =
     ap (λ b. cond b [] (types_in (astype_row classes own weight asked))) other ∙ ap types_in row
-
--- no type is asked for where the handle has the type
-pub used_types-same : (classes : List Class) (own : MethodTy) (weight : ℕ) (asked : MethodTy) → is_same_method_type own asked ≡ true →
-    used_types classes own weight asked ≡ []
-used_types-same classes own weight asked same = ap (λ b. cond b [] (types_in (astype_row classes own weight asked))) same
 
 -- the seat after a use as another type
 pub trades-used : (classes : List Class) (own : MethodTy) (weight : ℕ) (asked u : MethodTy) (gone : List HoldView) (a b : Work)

@@ -22,9 +22,8 @@ use Rattle.mh_handle.specs.Grows.{GrowsBy}
 use Rattle.mh_handle.specs.Parts.{PartsView}
 use Rattle.mh_handle.specs.Recipe.{convert_keys}
 use Rattle.mh_handle.specs.Stands.{HandleView, IsShaped, Stands}
-use Rattle.mh_handle.specs.Works.{GoesOn, HoldsTypes, IsUnchanged, Makes, TradesTypes}
+use Rattle.mh_handle.specs.Works.{HoldsTypes, IsUnchanged, Makes, TradesTypes}
 use Rattle.mh_handle.proofs.AsTypeStands.{astype-stands}
-use Rattle.mh_handle.proofs.Going.{goes_on-more, goes_on-still}
 use Rattle.mh_handle.proofs.Refusals.{check-makes}
 use Rattle.mh_astype.specs.Use.{AddsConversions, AsksNothing, MakesFrom}
 pub use Rattle.mh_astype.proofs.ConvertKeys.{convert-fits, convert-shaped, convert_key, fields-kept, kept-shaped, keys-changed, keys-kept, light, trivial}
@@ -88,11 +87,6 @@ makes-changed classes asked own recipe key old new r is k makes =
     let keys : key ∷ [] ≡ convert_keys classes asked own = ap (λ v. v ∷ []) k ∙ sym (keys-changed classes asked own is) in
     subst (λ ks. MakesFrom recipe (recipe ++ ks) old new r) keys (inr (differs recipe [] key, makes))
 
--- where nothing is converted the recipe stays, so no form is asked for
-pub makes-kept : (classes : List Class) (asked own : MethodTy) (recipe : List Key) (a b : Work) (r : Result Handle HandleError) →
-    trivial classes asked own ≡ true → AsksNothing a b r → MakesFrom recipe (recipe ++ convert_keys classes asked own) a b r
-makes-kept classes asked own recipe a b r is same = inl (ap (λ ks. recipe ++ ks) (keys-kept classes asked own is) ∙ append-nil recipe, same)
-
 -- what leaves all but the seat of types asks for nothing
 asks-nothing : (old new : Work) (e : CheckError) → IsUnchanged old new → AsksNothing old new (Err (of_check e))
 asks-nothing old new check.NoMemory same = same
@@ -105,9 +99,6 @@ makes-refused recipe [] old new e r is same =
     subst (λ v. MakesFrom recipe (recipe ++ []) old new v) (sym is) (inl (append-nil recipe, asks-nothing old new e same))
 makes-refused recipe (k ∷ keys) old new e r is same =
     inr (differs recipe keys k, check-makes old new e r is (recipe ++ k ∷ keys) same)
-
-pub goes_on-same : (w : Work) → GoesOn 1 w w
-goes_on-same w = goes_on-more 0 1 w w (omega arith) (goes_on-still w)
 
 -- ---- the tree
 

@@ -55,7 +55,6 @@ asks-thrown leaves node asked old new error r is makes =
 
 module _ (leaves : LeafTable) (frame : Frame) (op : Operation) (old new : Work) (r : Result Handle HandleError)
     (makes : MakesNode (node_of leaves frame op) old new r) where
-
   -- an operand throws
   pub line-thrown : (error : CheckError) → IsErrAnd r (λ x. x ≡ of_check error) → AsksOrThrows (line_recipes leaves frame op) old new r
   line-thrown error is =

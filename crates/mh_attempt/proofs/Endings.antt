@@ -1,35 +1,25 @@
 -- The last line of a script: what is returned, and what is raised.
-use Rattle.std.proofs.Common.{◌≡◌, refl, sym, ◌∙◌, ap, Bool, true, false, ℕ, List, Result, Ok, Err, IfOk, codes}
-use Rattle.mh_values.specs.declared.class.ClassId.{ClassId}
+use Rattle.std.proofs.Common.{◌≡◌, refl, sym, ◌∙◌, ap, Bool, true, false, Result, Ok, Err, IfOk}
 use Rattle.mh_values.specs.declared.types.MethodTy.{MethodTy}
 use Rattle.mh_values.specs.declared.value.Exc.{Exc}
-use Rattle.mh_values.specs.Class.{is_subclass, throwable_class}
-use Rattle.mh_values.specs.Exception.{saying}
 use Rattle.mh_values.specs.Same.{is_same_method_type}
 use Rattle.mh_leaf.specs.LeafTable.{LeafTable}
-use Rattle.mh_tree.specs.declared.error.CheckError.{CheckError}
 use Rattle.mh_tree.specs.Tree.{Tree}
-use Rattle.mh_tree.specs.Rows.{illegal, mismatch}
+use Rattle.mh_tree.specs.Rows.{mismatch}
 use Rattle.mh_tree.specs.Typing.{type_of}
 use Rattle.mh_handle.specs.declared.error.HandleError.{HandleError}
 use Rattle.mh_handle.specs.declared.error.HandleError.TheVariants.{NoMemory, FormsFull, TypesFull, Refused}
 use Rattle.mh_handle.specs.declared.handle.Handle.{Handle}
 use Rattle.mh_handle.specs.declared.work.Work.{Work}
-use Rattle.mh_handle.specs.Errors.{of_check}
 use Rattle.mh_handle.specs.Stands.{Stands}
 use Rattle.mh_handle.specs.Works.{IsAccepted}
 use Rattle.mh_handle.proofs.Going.{unchanged-still}
 use Rattle.mh_script.specs.declared.operand.Register.{Register}
 use Rattle.mh_script.specs.declared.script.End.TheVariants as end
-use Rattle.mh_jobs.specs.Names.{class_of}
-use Rattle.mh_jobs.specs.Thrown.{OrThrown, ◌>>=◌, ◌>>◌, plainly, require}
-use Rattle.mh_attempt.specs.declared.handle.HandleOperand.{HandleOperand}
-use Rattle.mh_attempt.specs.Lines.{MakesNode, raised}
+use Rattle.mh_jobs.specs.Thrown.{OrThrown, ◌>>=◌, ◌>>◌, require}
+use Rattle.mh_attempt.specs.Lines.{MakesNode}
 use Rattle.mh_link.specs.Linked.{ended}
 use Rattle.mh_link.specs.Operands.{Frame, handle_in}
-use Rattle.mh_attempt.specs.Registers.{StandsFor}
-use Rattle.mh_attempt.specs.Told.{Tells, TellsBy}
-use Rattle.mh_attempt.proofs.LineNodes.{same-node, thrown-by-node, thrown-node}
 
 -- ---- `return`
 
@@ -44,15 +34,6 @@ unfolding back
 returned-is leaves r frame t own asked held typed is =
     ap (λ m. m >>= (λ u. type_of leaves u >>= (λ o. back leaves frame.call.ty u o))) held
     ∙ (ap (λ m. m >>= (λ o. back leaves frame.call.ty t o)) typed ∙ ap (λ a. back leaves a t own) is)
-
--- a register that holds no handle
-pub unheld-node : (w : Work) (r : Register) (frame : Frame) (error : CheckError) →
-    TellsBy {A = HandleOperand} {B = Tree} (StandsFor w.leaves.now) (Err error) (handle_in frame r) →
-    MakesNode (ended w.leaves.now (end.Return r) frame) w w (Err (of_check error))
-unfolding back
-unheld-node w r frame error h =
-    thrown-by-node (StandsFor w.leaves.now) w error (handle_in frame r)
-    (λ m. m >>= (λ t. type_of w.leaves.now t >>= (λ own. back w.leaves.now frame.call.ty t own))) (λ e. refl) h
 
 -- a handle of another type
 pub mismatched-node : (w : Work) (r : Register) (frame : Frame) (t : Tree) (own asked : MethodTy) (exc : Exc) → handle_in frame r ≡ Ok t →
@@ -95,29 +76,3 @@ throw e = Err e
 below : (b : Bool) (e exc : Exc) → ((require b e >> Ok exc) >>= throw) ≡ (require b e >> throw exc)
 below true e exc = refl
 below false e exc = refl
-
-by-class : (m : OrThrown ClassId) (leaves : LeafTable) (message : List ℕ) →
-    ((m >>= (λ c. require (is_subclass leaves.classes c throwable_class) (illegal (codes "raise")) >> Ok (saying c message))) >>= throw)
-    ≡ (m >>= (λ c. require (is_subclass leaves.classes c throwable_class) (illegal (codes "raise")) >> throw (saying c message)))
-by-class (Err e) leaves message = refl
-by-class (Ok c) leaves message = below (is_subclass leaves.classes c throwable_class) (illegal (codes "raise")) (saying c message)
-
-raise-is : (leaves : LeafTable) (class message : List ℕ) (frame : Frame) →
-    ended leaves (end.Raise class message) frame ≡ (raised leaves.classes class message >>= throw)
-unfolding throw
-raise-is leaves class message frame = sym (by-class (class_of plainly leaves.classes class) leaves message)
-
--- the exception that is raised
-pub raised-node : (w : Work) (class message : List ℕ) (frame : Frame) (exc : Exc) → raised w.leaves.now.classes class message ≡ Ok exc →
-    MakesNode (ended w.leaves.now (end.Raise class message) frame) w w (Err (Refused exc))
-unfolding throw
-raised-node w class message frame exc h = (raise-is w.leaves.now class message frame ∙ ap (λ m. m >>= throw) h, unchanged-still w)
-
--- what is thrown in its place
-pub unraised-node : (w : Work) (class message : List ℕ) (frame : Frame) (error : CheckError) →
-    Tells {A = Exc} (Err error) (raised w.leaves.now.classes class message) →
-    MakesNode (ended w.leaves.now (end.Raise class message) frame) w w (Err (of_check error))
-unraised-node w class message frame error h =
-    same-node (ended w.leaves.now (end.Raise class message) frame) (raised w.leaves.now.classes class message >>= throw) w w (Err (of_check error))
-    (raise-is w.leaves.now class message frame)
-    (thrown-node w error (raised w.leaves.now.classes class message) (λ m. m >>= throw) (λ e. refl) h)

@@ -20,7 +20,7 @@ use Rattle.mh_handle.specs.Works.{IsAccepted}
 use Rattle.mh_handle.proofs.Going.{unchanged-still}
 use Rattle.mh_jobs.specs.Thrown.{OrThrown, ◌>>=◌}
 use Rattle.mh_attempt.specs.Lines.{MakesNode, typed}
-use Rattle.mh_attempt.specs.Told.{Tells, TellsBy}
+use Rattle.mh_attempt.specs.Told.{Tells}
 
 -- a tree that has a type
 pub typed-is : (leaves : LeafTable) (t : Tree) (own : MethodTy) → type_of leaves t ≡ Ok own → typed leaves t ≡ Ok t
@@ -33,11 +33,6 @@ pub thrown-node : {A : Type 0} (w : Work) (error : CheckError) (m : OrThrown A) 
     Tells {A = A} (Err error) m → MakesNode (node m) w w (Err (of_check error))
 thrown-node w check.NoMemory m node strict h = tt
 thrown-node w (check.Refused e) m node strict h = (ap node h ∙ strict e, unchanged-still w)
-
-pub thrown-by-node : {A B : Type 0} (Is : A → B → Type 0) (w : Work) (error : CheckError) (m : OrThrown B) (node : OrThrown B → OrThrown Tree) →
-    ((e : Exc) → node (Err e) ≡ Err e) → TellsBy {A = A} {B = B} Is (Err error) m → MakesNode (node m) w w (Err (of_check error))
-thrown-by-node Is w check.NoMemory m node strict h = tt
-thrown-by-node Is w (check.Refused e) m node strict h = (ap node h ∙ strict e, unchanged-still w)
 
 -- a node that the rule refuses
 pub refused-node : (w : Work) (t : Tree) (own : TypeOrRefusal) (error : CheckError) → type_of w.leaves.now t ≡ own → row.TellsRow (Err error) own →

@@ -1,19 +1,17 @@
 -- What the registers of a run hold is what those of the frame hold for which they stand.
-use Rattle.std.proofs.Common.{◌≡◌, arith, zero, suc, ◌+◌, ◌<◌, ◌≤◌, length, get_or, drop, length-drop, refl, sym, ◌∙◌, ap, ℕ, List, [], ◌∷◌, true, false, Option, Some, None, Ok, Err}
+use Rattle.std.proofs.Common.{◌≡◌, arith, zero, suc, ◌+◌, ◌<◌, ◌≤◌, length, get_or, drop, length-drop, refl, sym, ◌∙◌, ap, ℕ, List, [], ◌∷◌, Option, Some, None, Ok, Err}
 use Rattle.std.specs.Prelude.{if◌then◌else◌, slice_get, option_map, ok_or}
 use Rattle.std.proofs.lemmas.List.{nil_from_length}
 use Rattle.std.proofs.lemmas.Option.{slice_get_past}
-use Rattle.mh_base.proofs.Lists.{drop_item}
 use Rattle.mh_leaf.specs.LeafTable.{LeafTable}
 use Rattle.mh_jobs.specs.declared.job.Argument.{Argument}
 use Rattle.mh_jobs.specs.declared.job.BootstrapCall.{BootstrapCall}
 use Rattle.mh_script.specs.declared.operand.Register.TheVariants as register
-use Rattle.mh_attempt.specs.declared.registers.Assignment.{Assignment}
 use Rattle.mh_attempt.specs.declared.registers.Content.{Content as Found}
 use Rattle.mh_attempt.specs.declared.registers.Held.{Held}
 use Rattle.mh_attempt.specs.declared.registers.Registers.{Registers}
 use Rattle.mh_link.specs.Operands.{Content, Frame, content, content_of, no_argument}
-use Rattle.mh_attempt.specs.Registers.{Hold, HoldsContent, HoldsLast, IsContent, IsLeafWithin, held_under, is_named}
+use Rattle.mh_attempt.specs.Registers.{Hold, HoldsContent, HoldsLast, IsContent, IsLeafWithin}
 use Rattle.mh_attempt.specs.Told.{TellsBy}
 
 get-some : {A : Type 0} (xs : List A) (n : ℕ) (a : A) → n < length xs → ((d : A) → a ≡ get_or xs n d) → slice_get xs n ≡ Some a
@@ -49,25 +47,3 @@ pub last-content : (leaves : LeafTable) (h : Held) (c : Found) (o : Option Conte
     ((m : Content) → HoldsContent leaves h m → IsContent leaves c m) → TellsBy (IsContent leaves) (Ok c) (ok_or o no_argument)
 last-content leaves h c (Some m) holds is = (m, refl, is m holds)
 last-content leaves h c None holds is = absurd holds
-
-pub last-none : (leaves : LeafTable) (o : Option Content) → HoldsLast leaves None o → ok_or o no_argument ≡ Err no_argument
-last-none leaves (Some m) holds = absurd holds
-last-none leaves None holds = refl
-
--- ---- what is found under a name
-
--- what is found under a name from a place on, where another name stands there
-pub found-past : (name : List ℕ) (assigned : List Assignment) (i : ℕ) (a : Assignment) → i < length assigned → a ≡ get_or assigned i a →
-    is_named name a ≡ false → held_under name (drop i assigned) ≡ held_under name (drop (i + 1) assigned)
-found-past name assigned i a within is other =
-    ap (held_under name) (drop_item assigned i a within is) ∙ ap (λ b. if b then Some a.held else held_under name (drop (i + 1) assigned)) other
-
--- and where the name stands there
-pub found-here : (name : List ℕ) (assigned : List Assignment) (i : ℕ) (a : Assignment) → i < length assigned → a ≡ get_or assigned i a →
-    is_named name a ≡ true → held_under name (drop i assigned) ≡ Some a.held
-found-here name assigned i a within is named =
-    ap (held_under name) (drop_item assigned i a within is) ∙ ap (λ b. if b then Some a.held else held_under name (drop (i + 1) assigned)) named
-
--- nothing stands after the last
-pub found-end : (name : List ℕ) (assigned : List Assignment) (i : ℕ) → length assigned ≤ i → held_under name (drop i assigned) ≡ None
-found-end name assigned i past = ap (held_under name) (drop_all assigned i past)

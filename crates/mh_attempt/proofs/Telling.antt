@@ -1,5 +1,5 @@
 -- What parts of a line answer, one after the other.
-use Rattle.std.proofs.Common.{◌≡◌, refl, sym, ◌∙◌, ap, subst, List, ℕ, Result, Ok, Err}
+use Rattle.std.proofs.Common.{◌≡◌, refl, sym, ◌∙◌, ap, subst, List, ℕ, Result, Err}
 use Rattle.mh_values.specs.declared.descriptor.DescriptorError.{DescriptorError}
 use Rattle.mh_values.specs.declared.descriptor.DescriptorError.TheVariants as descriptor
 use Rattle.mh_values.specs.declared.value.Exc.{Exc}
@@ -34,24 +34,3 @@ no_type-tells says text meant (descriptor.NoClass at len) error h memory t =
     throws-tells error (no_type says text (descriptor.NoClass at len)) (meaning says text meant) (ap (λ m. meaning says text m) h) t
 no_type-tells says text meant (descriptor.Unsupported at) error h memory t =
     throws-tells error (no_type says text (descriptor.Unsupported at)) (meaning says text meant) (ap (λ m. meaning says text m) h) t
-
--- ---- one part after the other
-
--- what stands for a value, and what goes on with the value
-pub by-then-by : {A B C D : Type 0} (Is : A → B → Type 0) (Are : C → D → Type 0) (a : A) (m : OrThrown B) (next : B → OrThrown D) (r : Result C CheckError) →
-    TellsBy Is (Ok a) m → ((b : B) → Is a b → TellsBy Are r (next b)) → TellsBy Are r (m >>= next)
-by-then-by Is Are a m next r h k = subst (λ n. TellsBy Are r (n >>= next)) (sym h.1) (k h.0 h.2)
-
-pub by-then : {A B C : Type 0} (Is : A → B → Type 0) (a : A) (m : OrThrown B) (next : B → OrThrown C) (r : Result C CheckError) →
-    TellsBy Is (Ok a) m → ((b : B) → Is a b → Tells r (next b)) → Tells r (m >>= next)
-by-then Is a m next r h k = subst (λ n. Tells r (n >>= next)) (sym h.1) (k h.0 h.2)
-
-pub by-thrown-by : {A B C D : Type 0} (Is : A → B → Type 0) (Are : C → D → Type 0) (error : CheckError) (m : OrThrown B) (next : B → OrThrown D) →
-    TellsBy {A = A} {B = B} Is (Err error) m → TellsBy {A = C} {B = D} Are (Err error) (m >>= next)
-by-thrown-by Is Are NoMemory m next h = tt
-by-thrown-by Is Are (Refused e) m next h = ap (λ n. n >>= next) h
-
-pub by-thrown : {A B C : Type 0} (Is : A → B → Type 0) (error : CheckError) (m : OrThrown B) (next : B → OrThrown C) →
-    TellsBy {A = A} {B = B} Is (Err error) m → Tells {A = C} (Err error) (m >>= next)
-by-thrown Is NoMemory m next h = tt
-by-thrown Is (Refused e) m next h = ap (λ n. n >>= next) h

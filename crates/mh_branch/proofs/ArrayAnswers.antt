@@ -1,21 +1,15 @@
 -- What the call of a gather answers, from what it adds to the handle that it adapts.
-use Rattle.std.proofs.Common.{◌≡◌, sym, subst, ap, ◌∙◌, ℕ, ◌+◌, ◌-◌, ◌≤◌, Bool, ◌&&◌, List, [], ◌∷◌, ◌++◌, append-nil, length, replicate, Option, Some, Result, Ok, Err, IfOk, codes, nat_le, nat_lt, arith}
-use Rattle.std.specs.Prelude.{slice_get, IsTrue}
-use Rattle.mh_base.specs.Provided.{provided}
+use Rattle.std.proofs.Common.{◌≡◌, sym, subst, ap, ◌∙◌, ℕ, ◌+◌, ◌-◌, ◌≤◌, ◌&&◌, List, [], ◌∷◌, ◌++◌, append-nil, length, Option, Some, Result, Ok, Err, IfOk, arith}
+use Rattle.std.specs.Prelude.{IsTrue}
 use Rattle.mh_values.specs.declared.class.Class.{Class}
 use Rattle.mh_values.specs.declared.types.Comp.{Comp}
 use Rattle.mh_values.specs.declared.types.Ty.{Ty}
-use Rattle.mh_values.specs.declared.types.MethodTy.{MethodTy}
 use Rattle.mh_values.specs.Array.{item_type}
 use Rattle.mh_values.specs.Classes.{AreClasses}
-use Rattle.mh_values.specs.Computation.{spliced}
-use Rattle.mh_values.specs.ValueLimits.{most_items}
 use Rattle.mh_leaf.specs.LeafTable.{LeafTable}
-use Rattle.mh_tree.specs.Rows.{TypeOrRefusal, component_of, gather_row, illegal, limited, takes_array, taking}
+use Rattle.mh_tree.specs.Rows.{component_of, gather_row}
 use Rattle.mh_tree.specs.Tree.{Tree}
 use Rattle.mh_tree.specs.Tree as tree
-use Rattle.mh_tree.proofs.Provided.{provided-parts, provided_some-parts}
-use Rattle.mh_tree.proofs.RowParts.{gather_row-parts}
 use Rattle.mh_form.specs.Erasure.{basic_of}
 use Rattle.mh_edit.specs.declared.key.Key.TheVariants as key
 use Rattle.mh_edit.specs.Applied.{applied}
@@ -29,28 +23,11 @@ use Rattle.mh_handle.specs.declared.work.Work.{Work}
 use Rattle.mh_handle.specs.Recipe.{at_some, recipe}
 use Rattle.mh_handle.specs.Stands.{HandleView, HasShape, IsShaped, Stands, handle_body}
 use Rattle.mh_handle.specs.Works.{HoldsTypes, Makes, TradesTypes, types_in}
-use Rattle.mh_handle.proofs.Limits.{limited-low}
 use Rattle.mh_handle.proofs.Trading.{trades-row}
 use Rattle.mh_branch.specs.Growths.{IsGather, TellsGather, gather_keys}
 use Rattle.mh_branch.proofs.ArrayFits.{gather-fits}
 use Rattle.mh_branch.proofs.ArrayShapes.{gather-shaped}
 use Rattle.mh_branch.proofs.GatherStands.{gather-stands}
-
-pub gather-array : (classes : List Class) (t : MethodTy) (weight : ℕ) (array : Option Ty) (count : ℕ) (u : MethodTy) →
-    gather_row classes t weight array count ≡ Ok u → (c : Comp) × (component_of array ≡ Some c)
-gather-array classes t weight array count u row =
-    let parts = gather_row-parts classes t weight array count u row in
-    (parts.0, parts.1)
-
-pub gather-light : (classes : List Class) (t : MethodTy) (weight : ℕ) (array : Option Ty) (count : ℕ) (u : MethodTy) →
-    gather_row classes t weight array count ≡ Ok u → 1 + weight ≤ 256
-gather-light classes t weight array count u row =
-    let made : Comp → MethodTy = λ c. taking (spliced (length t.params - 1) 1 (replicate count (item_type c)) t.params) t in
-    let within : Comp → TypeOrRefusal = λ c. limited (codes "gather") (1 + weight) (made c) in
-    let test : Comp → Bool = λ c. nat_lt 0 (length t.params) && takes_array classes c (slice_get t.params (length t.params - 1)) && nat_le count most_items in
-    let q = provided_some-parts (component_of array) (illegal (codes "gather")) (λ c. provided (test c) (illegal (codes "gather")) (within c)) u row in
-    let r = provided-parts (test q.0) (illegal (codes "gather")) (within q.0) u q.2 in
-    (limited-low (codes "gather") (1 + weight) (made q.0) u r.1).1
 
 module _ (classes : List Class) (h : HandleView) (array : Option Ty) (count : ℕ) (by : Growth) (tells : TellsGather classes h array count (Ok by)) where
   component : Comp

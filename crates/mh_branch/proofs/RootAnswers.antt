@@ -1,5 +1,5 @@
 -- What the calls of roots answer, from what they add to the form that does nothing.
-use Rattle.std.proofs.Common.{◌≡◌, sym, subst, ap, ◌∙◌, List, [], ◌∷◌, Option, Some, None, Result, Ok, Err, IfOk}
+use Rattle.std.proofs.Common.{◌≡◌, subst, ap, ◌∙◌, List, [], ◌∷◌, Option, Some, Result, Ok, Err, IfOk}
 use Rattle.mh_values.specs.declared.class.Class.{Class}
 use Rattle.mh_values.specs.declared.class.ClassId.{ClassId}
 use Rattle.mh_values.specs.declared.types.Ty.{Ty}
@@ -10,7 +10,7 @@ use Rattle.mh_convert.specs.Conversion.{fit}
 use Rattle.mh_leaf.specs.LeafTable.{LeafTable}
 use Rattle.mh_tree.specs.Rows.{constant_row, identity_row, throw_row}
 use Rattle.mh_tree.specs.Tree as tree
-use Rattle.mh_tree.proofs.RowParts.{constant_row-parts, throw_row-parts}
+use Rattle.mh_tree.proofs.RowParts.{throw_row-parts}
 use Rattle.mh_form.specs.declared.basic.Basic.{Basic}
 use Rattle.mh_form.specs.declared.basic.BasicRet.{BasicRet}
 use Rattle.mh_form.specs.declared.basic.Shape.{Shape}
@@ -22,30 +22,11 @@ use Rattle.mh_edit.specs.declared.key.Key.TheVariants as key
 use Rattle.mh_handle.specs.declared.error.HandleError.{HandleError}
 use Rattle.mh_handle.specs.Grows.{Grows, base_handle}
 use Rattle.mh_handle.specs.declared.work.Work.{Work}
-use Rattle.mh_handle.specs.Recipe.{at_some, recipe}
 use Rattle.mh_handle.specs.Stands.{HandleView, Stands}
 use Rattle.mh_handle.specs.Works.{Makes}
 use Rattle.mh_branch.proofs.RootStands.{constant-stands, identity-stands, throw-stands}
 
 -- ---- constants
-
-pub constant-some : (classes : List Class) (t : Option Ty) (v : Value) (u : MethodTy) → constant_row classes t v ≡ Ok u → t ≡ None → ⊥
-constant-some classes t v u row none = let parts = constant_row-parts classes t v u row in let some = parts.2 in cc
-
-pub constant-fits : (classes : List Class) (t : Option Ty) (v : Value) (u : MethodTy) (r : Ty) → constant_row classes t v ≡ Ok u → t ≡ Some r →
-    (w : Value) × (fit classes v r ≡ Ok w)
-constant-fits classes t v u r row is =
-    let parts = constant_row-parts classes t v u row in
-    let same : Some parts.0 ≡ Some r = sym parts.2 ∙ is in
-    let r' : parts.0 ≡ r = cc in
-    (parts.1, subst (λ p. fit classes v p ≡ Ok parts.1) r' parts.3)
-
-pub constant-makes : (table : LeafTable) (t : Option Ty) (v : Value) (r : Ty) (b : Basic) (old new : Work) (res : Result HandleView HandleError) →
-    t ≡ Some r → b ≡ basic_of r → Makes (key.ConstRoot b ∷ []) old new res → Makes (recipe table (tree.Constant t v)) old new res
-constant-makes table t v r b old new res is basic makes =
-    let keys : key.ConstRoot b ∷ [] ≡ at_some t (λ p. key.ConstRoot (basic_of p)) = ap (λ x. key.ConstRoot x ∷ []) basic ∙
-    sym (ap (λ o. at_some o (λ p. key.ConstRoot (basic_of p))) is) in
-    subst (λ ks. Makes ks old new res) keys makes
 
 pub constant-answers :
     (table : LeafTable) (t : Option Ty) (v : Value) (u : MethodTy) (r : Ty) (w : Value) (s : Slot) (b : Basic) (sides : List MethodTy) (fields : List Field)
@@ -70,20 +51,6 @@ constant-answers table t v u r w s b sides fields (Ok h) row is fits slot basic 
 constant-answers table t v u r w s b sides fields (Err e) row is fits slot basic none one g = g
 
 -- ---- identities
-
-identity-none : (u : MethodTy) (o : Option Ty) → o ≡ None → identity_row o ≡ Ok u → ⊥
-identity-none u None none row = cc
-identity-none u (Some t) none row = cc
-
-pub identity-some : (t : Option Ty) (u : MethodTy) → identity_row t ≡ Ok u → t ≡ None → ⊥
-identity-some t u row none = identity-none u t none row
-
-pub identity-makes : (table : LeafTable) (t : Option Ty) (r : Ty) (b : Basic) (old new : Work) (res : Result HandleView HandleError) → t ≡ Some r →
-    b ≡ basic_of r → Makes (key.IdentityRoot b ∷ []) old new res → Makes (recipe table (tree.Identity t)) old new res
-identity-makes table t r b old new res is basic makes =
-    let keys : key.IdentityRoot b ∷ [] ≡ at_some t (λ p. key.IdentityRoot (basic_of p)) = ap (λ x. key.IdentityRoot x ∷ []) basic ∙
-    sym (ap (λ o. at_some o (λ p. key.IdentityRoot (basic_of p))) is) in
-    subst (λ ks. Makes ks old new res) keys makes
 
 pub identity-answers :
     (table : LeafTable) (t : Option Ty) (u : MethodTy) (r : Ty) (b : Basic) (sides : List MethodTy) (fields : List Field) (res : Result HandleView HandleError)

@@ -16,18 +16,8 @@ use Rattle.mh_handle.specs.Works.{IsAccepted, IsReady, IsUnchanged, TradesTypes,
 use Rattle.mh_handle.proofs.Going.{seated-still, unchanged-ready}
 use Rattle.mh_handle.proofs.HoldOrders.{exchanges-few}
 use Rattle.mh_handle.proofs.Trading.{trades-row}
-use Rattle.mh_branch.specs.Growths.{TradesParts}
-
--- ---- holds that are handed back
 
 -- ---- parts
-
--- nothing has come or gone before, and the holds are the same
-pub parts-after : {A E : Type 0} (held held' : List HoldView) (a b c : Work) (r : Result A E) → b.seat.now ≡ a.seat.now → held ≡ held' →
-    TradesParts held b c r → TradesParts held' a c r
-parts-after held held' a b c (Ok parts) same is x = x ∙ same
-parts-after held held' a b c (Err e) same is x =
-    subst (λ l. Exchanges [] l [] a.seat.now c.seat.now) is (subst (λ s. Exchanges [] held [] s c.seat.now) same x)
 
 -- the holds are there still where nothing has come or gone
 pub held-same : (held held' : List HoldView) (a b : SeatView) → b ≡ a → held ≡ held' → AreHeld a held' → AreHeld b held

@@ -1,6 +1,6 @@
 -- Bootstrap methods whose arguments stand in one list, one after the other.
 use Rattle.std.proofs.Common.{◌≡◌, ℕ, ◌+◌, ◌≤◌, List, [], ◌∷◌, ◌++◌, length, take, drop, map, refl, ap, ◌∙◌, arith}
-use Rattle.std.proofs.lemmas.List.{take-append-le, drop-append-le, length-drop, take_all}
+use Rattle.std.proofs.lemmas.List.{take-append-le, drop-append-le, length-drop}
 use Rattle.mh_classfile.specs.declared.bootstraps.Span.{Span}
 use Rattle.mh_classfile.specs.Rows.{Row, row_of, AreWithin}
 
@@ -24,18 +24,3 @@ rows-kept arguments more end (s ∷ spans) le h =
 within-more : (end later : ℕ) (spans : List Span) (s : Span) → end ≤ later → AreWithin end spans → s.start + s.count ≤ later → AreWithin later (spans ++ s ∷ [])
 within-more end later [] s le h k = (k, tt)
 within-more end later (x ∷ spans) s le h k = (omega (arith, h.0), within-more end later spans s le h.1 k)
-
--- one more span, up to the end
-pub within-close : (arguments : List ℕ) (end : ℕ) (spans : List Span) (s : Span) → end ≤ length arguments → AreWithin end spans → s.start ≡ end →
-    length (drop end arguments) ≡ s.count → AreWithin (length arguments) (spans ++ s ∷ [])
-within-close arguments end spans s le h e k = within-more end (length arguments) spans s le h (omega (arith, e, k, length-drop end arguments))
-
-pub row-closed : (arguments : List ℕ) (s : Span) → length (drop s.start arguments) ≡ s.count → row_of arguments s ≡ record {
-  handle = s.handle;
-  arguments =
-      drop s.start arguments;
-}
-row-closed arguments s k = ap (λ (xs : List ℕ). row s.handle xs) (take_all s.count (drop s.start arguments) (omega (arith, k)))
-  where
-    row : ℕ → List ℕ → Row
-    row h xs = record { handle = h; arguments = xs }

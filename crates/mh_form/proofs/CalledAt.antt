@@ -67,19 +67,6 @@ pub step-called :
     step (Call f ps) senses slots n ≡ filled (called_at table l slots ps n)
 step-called table l senses f slots ps n is goes = step-of table l senses f slots ps n (picked slots ps) refl is goes
 
-step-lost :
-    (senses : List Sense) (f : ℕ) (n : ℕ) (o : Option (List Slot)) →
-    field_of leaf_of senses f ≡ None →
-    found o (λ xs. with_field leaf_of senses f (λ leaf. filled (leaf xs n))) ≡ Stuck
-step-lost senses f n None is = refl
-step-lost senses f n (Some xs) is = ap (λ o. found o (λ leaf. filled (leaf xs n))) is
-
--- there is no call where no leaf stands in the field
-pub step-none :
-    (senses : List Sense) (f : ℕ) (slots : List Slot) (ps : List ℕ) (n : ℕ) →
-    field_of leaf_of senses f ≡ None → step (Call f ps) senses slots n ≡ Stuck
-step-none senses f slots ps n is = step-lost senses f n (picked slots ps) is
-
 -- ---- the arguments of a leaf, one after another
 
 at-step :

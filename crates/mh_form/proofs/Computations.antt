@@ -37,11 +37,6 @@ and_then-assoc (Gave a calls) n f g = and_then-after calls (f a (raised n calls)
 and_then-assoc (Threw e calls) n f g = refl
 and_then-assoc Stuck n f g = refl
 
-pub mapped-mapped : {A B C : Type 0} → (f : A → B) (g : B → C) (r : Ran A) → mapped g (mapped f r) ≡ mapped (λ a. g (f a)) r
-mapped-mapped f g (Gave a calls) = refl
-mapped-mapped f g (Threw e calls) = refl
-mapped-mapped f g Stuck = refl
-
 pub mapped-after : {A B : Type 0} → (f : A → B) (calls : List LeafCall) (r : Ran A) → mapped f (after calls r) ≡ after calls (mapped f r)
 mapped-after f calls (Gave a more) = refl
 mapped-after f calls (Threw e more) = refl

@@ -1,9 +1,7 @@
 -- Picking slots one after another, while slots are put at the end.
-use Rattle.std.proofs.Common.{◌≡◌, ◌≢◌, refl, sym, ◌∙◌, ap, ℕ, zero, suc, ◌+◌, ◌<◌, List, [], ◌∷◌, ◌++◌, Option, Some, None, take, drop, length, get_or, drop-cons, append_assoc, arith}
+use Rattle.std.proofs.Common.{◌≡◌, ◌≢◌, refl, sym, ◌∙◌, ap, ℕ, zero, suc, ◌+◌, ◌<◌, List, [], ◌∷◌, ◌++◌, Option, Some, None, drop, length, get_or, drop-cons, append_assoc, arith}
 use Rattle.std.specs.Prelude.{slice_get}
-use Rattle.std.proofs.Math.ListN.{get_or-append}
-use Rattle.std.proofs.Math.Seq.{drop-append_seam, take-suc}
-use Rattle.std.proofs.lemmas.Option.{slice_get_within}
+use Rattle.std.proofs.Math.Seq.{drop-append_seam}
 use Rattle.mh_form.specs.declared.slot.Slot.{Slot}
 use Rattle.mh_form.specs.Run.{picked, picked_more}
 
@@ -11,14 +9,6 @@ use Rattle.mh_form.specs.Run.{picked, picked_more}
 abbrev pub picked_on : List Slot → Option (List Slot) → Option (List Slot)
 picked_on xs None = None
 picked_on xs (Some ys) = Some (xs ++ ys)
-
--- a place where something stands is within the list
-pub place_there : {A : Type 0} → (xs : List A) (p : ℕ) → slice_get xs p ≢ None → p < length xs
-place_there xs p there = place (slice_get xs p) refl
-  where
-    place : (o : Option _) → slice_get xs p ≡ o → p < length xs
-    place None h = absurd (there h)
-    place (Some s) h = slice_get_within xs p s h
 
 -- where nothing stands at the next place, nothing is picked
 pub picked-none :
@@ -103,15 +93,3 @@ copies-none F G all ps i low whole so_far g =
     none : (F xs : List Slot) (p : ℕ) (o : Option Slot) → slice_get F p ≡ o → slice_get (F ++ xs) p ≡ None → slice_get F p ≡ None
     none F xs p None f g = f
     none F xs p (Some t) f g = let e : Some t ≡ None = sym (get-front F xs p t f) ∙ g in absurd cc
-
--- copies of all slots so far, one more
-pub all-next :
-    (F : List Slot) (i : ℕ) (s : Slot) →
-    i < length F →
-    s ≡ get_or (F ++ take i F) i s →
-    F ++ take (i + 1) F ≡ (F ++ take i F) ++ s ∷ []
-all-next F i s low is =
-    let next : i + 1 ≡ suc i = omega arith in
-    let here : get_or F i s ≡ s = sym (is ∙ get_or-append F (take i F) s i low) in
-    ap (λ k. F ++ take k F) next
-    ∙ (ap (λ q. F ++ q) (take-suc F i s low ∙ ap (λ t. take i F ++ t ∷ []) here) ∙ sym (append_assoc F (take i F) (s ∷ [])))

@@ -1,6 +1,5 @@
 -- Runs typed again: what a handle that stands for a tree answers.
-use Rattle.std.proofs.Common.{◌≡◌, ◌≢◌, refl, sym, ap, ◌∙◌, ℕ, ◌<◌, ◌^◌, List, Option, Some, None, Result, Ok, Err, IfOk, map}
-use Rattle.mh_base.specs.declared.memory.NoMemory.{NoMemory}
+use Rattle.std.proofs.Common.{◌≡◌, ◌≢◌, refl, sym, ap, ◌∙◌, ℕ, ◌<◌, ◌^◌, List, Option, Some, None, map}
 use Rattle.mh_values.specs.declared.class.Class.{Class}
 use Rattle.mh_values.specs.declared.types.Ty.{Ty}
 use Rattle.mh_values.specs.declared.value.Value.{Value}
@@ -12,7 +11,7 @@ use Rattle.mh_tree.specs.Tree.{Tree}
 use Rattle.mh_tree.specs.Meaning.{mean}
 use Rattle.mh_form.specs.Erasure.{erased, erased_ran}
 use Rattle.mh_form.proofs.ErasureLaws.{erased-typed}
-use Rattle.mh_handle.specs.Answers.{AnswerView, IsAnswer, some_value, typed_ran}
+use Rattle.mh_handle.specs.Answers.{some_value, typed_ran}
 use Rattle.mh_handle.specs.Stands.{HandleView, Stands, handle_run}
 
 -- a result of a type is found again in its erasure
@@ -42,8 +41,3 @@ pub typed_run-well_formed : (table : LeafTable) (h : HandleView) (t : Tree) (arg
     → typed_ran table.classes h.ty.ret (handle_run table h (map erased args) n) ≢ Stuck
 typed_run-well_formed table h t args n st have low e = not-stuck table.classes (mean table t args n) h.ty.ret (st.returns args n have)
     (sym (typed_run-stands table h t args n st have low) ∙ e)
-
-pub answer-is : (ran ran' : Ran (Option Value)) (keys keys' : ℕ) (r : Result AnswerView NoMemory) → ran ≡ ran' → keys ≡ keys' → IfOk r (IsAnswer ran keys) →
-    IfOk r (IsAnswer ran' keys')
-answer-is ran ran' keys keys' (Ok a) e k h = record { ran_is = h.ran_is ∙ e; keys_are = h.keys_are ∙ k }
-answer-is ran ran' keys keys' (Err x) e k h = h

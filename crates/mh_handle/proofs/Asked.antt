@@ -3,7 +3,7 @@ use Rattle.std.proofs.Common.{◌≡◌, ◌≢◌, ℕ, suc, ◌<◌, ◌≤◌
 use Rattle.std.specs.Prelude.{slice_get, slice_index}
 use native.Mathlib.Decide.{dec_lt}
 use Rattle.std.proofs.lemmas.List.{map-append, length-map}
-use Rattle.std.proofs.lemmas.Option.{slice_get-map, get_or_from_slice_get, slice_get_within}
+use Rattle.std.proofs.lemmas.Option.{slice_get-map, get_or_from_slice_get}
 use Rattle.std.specs.Option.{option_map}
 use Rattle.mh_setonce.specs.Places.{IsLatest}
 use Rattle.mh_setonce.specs.Walks.{Distinct, Lacks}
@@ -18,9 +18,6 @@ mapped-push f xs ys zs x e d = ap (map f) e ∙ (map-append f ys (x ∷ []) ∙ 
 
 none : Distinct {V = FormView} {K = List Key} recipe_of []
 none i j x y p q e = cc
-
-pub seen-empty : (forms : List FormView) (hashes : List ℕ) → forms ≡ [] → hashes ≡ [] → AreSeen forms hashes
-seen-empty forms hashes f h = subst (λ v. AreSeen v hashes) (sym f) (record { hashes_is = h; once = none })
 
 -- with one form more
 pub seen-more : (forms forms' : List FormView) (hashes hashes' : List ℕ) (form : FormView) (hash : ℕ) → AreSeen forms hashes →
@@ -48,21 +45,6 @@ pub record Searched (forms : List FormView) (hashes : List ℕ) (recipe : List K
   pub low : place ≤ length hashes
   pub latest : IsLatest hashes (hash_of recipe) place next
   pub lacks : LacksFrom forms recipe place
-
-pub searched-first : (forms : List FormView) (hashes : List ℕ) (recipe : List Key) (hash : ℕ) (next : Option ℕ) → AreSeen forms hashes → hash ≡ hash_of recipe →
-    IsLatest hashes hash (length hashes) next → Searched forms hashes recipe next
-searched-first forms hashes recipe hash next all is latest = record {
-  place = length hashes;
-  low = omega arith;
-  latest = subst (λ n. IsLatest hashes n (length hashes) next) is latest;
-  lacks = λ i f at past same. absurd (omega (
-    arith,
-    past,
-    slice_get_within forms i f at,
-    length-map forms (λ g. hash_of g.recipe),
-    ap length all.hashes_is,
-  ));
-}
 
 -- the place that comes next is one of a form
 pub searched-within : (forms : List FormView) (hashes : List ℕ) (recipe : List Key) (next : Option ℕ) (place : ℕ) → AreSeen forms hashes →
@@ -108,7 +90,3 @@ searched-none forms hashes recipe next all so is i f at same = cases (dec_lt i s
 abbrev pub turns : Option ℕ → ℕ
 turns None = 0
 turns (Some place) = suc place
-
-pub turns-after : (hashes : List ℕ) (hash place : ℕ) (next after : Option ℕ) → next ≡ Some place → IsLatest hashes hash place after → turns after < turns next
-turns-after hashes hash place next None is latest = subst (λ o. 0 < turns o) (sym is) (omega arith)
-turns-after hashes hash place next (Some p) is latest = subst (λ o. suc p < turns o) (sym is) (omega (arith, latest.0))

@@ -9,7 +9,7 @@ use Rattle.mh_handle.specs.declared.error.EditError.{EditError}
 use Rattle.mh_handle.specs.declared.error.EditError.TheVariants.{NoMemory, FormsFull}
 use Rattle.mh_handle.specs.Form.{FormView}
 use Rattle.mh_handle.specs.Index.{recipe_of}
-use Rattle.mh_handle.specs.Passes.{PassView, Learns, Draws, DrawsAtMostOne, Edits, IsFormOf, IsKept, IsPut, IsUnlearnt, MakesForm, PutsAtMost, PutsAtMostOne, PutsForm, SeatView}
+use Rattle.mh_handle.specs.Passes.{PassView, Learns, Draws, Edits, IsFormOf, IsKept, IsPut, IsUnlearnt, MakesForm, PutsAtMost, PutsAtMostOne, PutsForm}
 use Rattle.mh_handle.proofs.Passing.{lacks-same}
 use Rattle.mh_handle.proofs.Learning.{unlearnt-before}
 
@@ -114,18 +114,3 @@ module _ (number : ℕ) (recipe : List Key) (form : Bor FormView) (old mid : Pas
   made-refused new (Err e) unasked made is =
       subst (λ (p : PassView). MakesForm recipe old p (Err e)) (sym unasked)
       (subst (λ x. MakesForm recipe old mid (Err x)) (sym is) (same, inr (number, draws), most puts made))
-
--- at most one number was drawn
-drawn-room : (number : ℕ) (old new : PassView) → Draws number old.seat new.seat → old.seat.room ≤ new.seat.room + 1
-drawn-room number old new draws = let one = draws.room in omega (arith, one)
-
-most-room : (recipe : List Key) (old new : PassView) → DrawsAtMostOne recipe old new → old.seat.room ≤ new.seat.room + 1
-most-room recipe old new draws = ⊎_elim
-    (λ (same : new.seat ≡ old.seat). let room : new.seat.room ≡ old.seat.room = ap (λ (s : SeatView). s.room) same in omega (arith, room))
-    (λ (one : (number : ℕ) × Draws number old.seat new.seat × IsUnlearnt recipe old). drawn-room one.0 old new one.1)
-    draws
-
-pub edits-room : (recipe : List Key) (old new : PassView) (r : Result (Bor FormView) EditError) → Edits recipe old new r → old.seat.room ≤ new.seat.room + 1
-edits-room recipe old new (Ok form) e = most-room recipe old new e.2
-edits-room recipe old new (Err NoMemory) e = most-room recipe old new e.1
-edits-room recipe old new (Err (FormsFull drawn)) e = drawn-room drawn old new e.1

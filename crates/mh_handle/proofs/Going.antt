@@ -129,11 +129,3 @@ makes-after recipe a b c (Err NoMemory) x makes = rw (← x.pass) makes
 makes-after recipe a b c (Err (FormsFull drawn)) x makes = rw (← x.pass) makes
 makes-after recipe a b c (Err (TypesFull bucket)) x makes = makes ∙ x.pass
 makes-after recipe a b c (Err (Refused e)) x makes = unchanged-both a b c x makes
-
--- and before one
-pub makes-before : (recipe : List Key) (a b c : Work) (r : Result Handle HandleError) → Makes recipe a b r → IsUnchanged b c → Makes recipe a c r
-makes-before recipe a b c (Ok h) makes x = rw x.pass makes
-makes-before recipe a b c (Err NoMemory) makes x = rw x.pass makes
-makes-before recipe a b c (Err (FormsFull drawn)) makes x = rw x.pass makes
-makes-before recipe a b c (Err (TypesFull bucket)) makes x = x.pass ∙ makes
-makes-before recipe a b c (Err (Refused e)) makes x = unchanged-both a b c makes x

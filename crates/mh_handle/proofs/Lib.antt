@@ -12,7 +12,6 @@ pub mod Copying
 pub mod Crossing
 pub mod Edits
 pub mod Erasing
-pub mod Gaining
 pub mod Going
 pub mod JoinedForms
 pub mod JoinedPasses

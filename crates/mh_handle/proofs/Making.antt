@@ -1,11 +1,8 @@
 -- What an edit leaves of a pass, as what the making of a handle leaves of the work.
-use Rattle.std.proofs.Common.{◌≡◌, sym, subst, List, Result, Ok, Err}
-use Rattle.std.specs.Prelude.{IsErrAnd}
+use Rattle.std.proofs.Common.{◌≡◌, List, Err}
 use Rattle.mh_edit.specs.declared.key.Key.{Key}
 use Rattle.mh_handle.specs.declared.error.EditError.{EditError}
 use Rattle.mh_handle.specs.declared.error.EditError.TheVariants as edit
-use Rattle.mh_handle.specs.declared.error.HandleError.{HandleError}
-use Rattle.mh_handle.specs.declared.handle.Handle.{Handle}
 use Rattle.mh_handle.specs.declared.work.Work.{Work}
 use Rattle.mh_handle.specs.Errors.{of_edit}
 use Rattle.mh_handle.specs.Passes.{Edits}
@@ -15,8 +12,3 @@ pub makes-refused : (recipe : List Key) (old new : Work) (e : EditError) → Edi
     Makes recipe old new (Err (of_edit e))
 makes-refused recipe old new edit.NoMemory h = (h.0.1, h.1, h.2)
 makes-refused recipe old new (edit.FormsFull drawn) h = h
-
-pub makes-error : (recipe : List Key) (old new : Work) (e : EditError) (r : Result Handle HandleError) → Edits recipe old.pass.now new.pass.now (Err e) →
-    IsErrAnd r (λ x. x ≡ of_edit e) → Makes recipe old new r
-makes-error recipe old new e (Ok h) edits is = absurd is
-makes-error recipe old new e (Err x) edits is = subst (λ v. Makes recipe old new (Err v)) (sym is) (makes-refused recipe old new e edits)

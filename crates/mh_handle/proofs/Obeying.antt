@@ -52,13 +52,3 @@ grown-obeys row old t weight sides k fields (Err handle.NoMemory) is accepted gr
 grown-obeys row old t weight sides k fields (Err (handle.FormsFull drawn)) is accepted grows = (t, is)
 grown-obeys row old t weight sides k fields (Err (handle.TypesFull bucket)) is accepted grows = (t, is)
 grown-obeys row old t weight sides k fields (Err (handle.Refused e)) is accepted grows = absurd accepted
-
--- ---- want of memory
-
-pub memory-obeys : (row : TypeOrRefusal) (r : Result Handle HandleError) → IsErrAnd r (λ x. x ≡ handle.NoMemory) → Obeys row r
-memory-obeys row (Ok h) is = absurd is
-memory-obeys row (Err x) is = subst (λ v. Obeys row (Err v)) (sym is) tt
-
-pub memory-makes : (recipe : List Key) (w : Work) (r : Result Handle HandleError) → IsErrAnd r (λ x. x ≡ handle.NoMemory) → Makes recipe w w r
-memory-makes recipe w (Ok h) is = absurd is
-memory-makes recipe w (Err x) is = subst (λ v. Makes recipe w w (Err v)) (sym is) (refl, inl refl, inl refl)

@@ -1,5 +1,5 @@
 -- A call that answers with the error of a check, after which all but the seat of types is as it was.
-use Rattle.std.proofs.Common.{◌≡◌, refl, sym, subst, ℕ, List, Result, Err, IfOk, arith}
+use Rattle.std.proofs.Common.{◌≡◌, refl, sym, subst, List, Result, Err, arith}
 use Rattle.std.specs.Prelude.{IsErrAnd}
 use Rattle.mh_tree.specs.declared.error.CheckError.{CheckError}
 use Rattle.mh_tree.specs.Check.{TellsRow}
@@ -10,12 +10,9 @@ use Rattle.mh_handle.specs.declared.handle.Handle.{Handle}
 use Rattle.mh_handle.specs.declared.work.Work.{Work}
 use Rattle.mh_handle.specs.Errors.{of_check}
 use Rattle.mh_handle.specs.Obeys.{Obeys}
-use Rattle.mh_handle.specs.Works.{GoesOn, IsUnchanged, Makes}
-use Rattle.mh_handle.proofs.Going.{Seated, goes_on-more, makes-after, unchanged-goes_on}
+use Rattle.mh_handle.specs.Works.{IsUnchanged, Makes}
+use Rattle.mh_handle.proofs.Going.{makes-after}
 use Rattle.mh_handle.proofs.Obeying.{refused-makes, refused-obeys}
-
-pub unchanged-goes : (numbers : ℕ) (old new : Work) → IsUnchanged old new → Seated 0 old new → GoesOn numbers old new
-unchanged-goes numbers old new same seated = goes_on-more 0 numbers old new (omega arith) (unchanged-goes_on 0 old new same seated)
 
 module _ (old new : Work) (e : CheckError) (r : Result Handle HandleError) (is : r ≡ Err (of_check e)) where
   error-is : IsErrAnd r (λ x. x ≡ of_check e)
@@ -26,6 +23,3 @@ module _ (old new : Work) (e : CheckError) (r : Result Handle HandleError) (is :
 
   pub check-makes : (recipe : List Key) → IsUnchanged old new → Makes recipe old new r
   check-makes recipe same = makes-after recipe old new new r same (refused-makes recipe new e r error-is)
-
-  pub check-none : (P : Handle → Type 0) → IfOk r P
-  check-none P = subst (λ v. IfOk v P) (sym is) tt

@@ -82,10 +82,6 @@ pub has-on_slot : (k : ℕ) (t : MethodTy) (es : List Entry) → has k t es ≤ 
 has-on_slot k t es = one_le (λ (e : Entry). cond ((e.slot == k) && is_same_method_type e.ty t) 1 0) (λ e. cond (e.slot == k) 1 0)
     (λ e. and_left (e.slot == k) (is_same_method_type e.ty t)) es
 
-pub has-on_type : (k : ℕ) (t : MethodTy) (es : List Entry) → has k t es ≤ on_type t es
-has-on_type k t es = one_le (λ (e : Entry). cond ((e.slot == k) && is_same_method_type e.ty t) 1 0) (λ e. cond (is_same_method_type e.ty t) 1 0)
-    (λ e. and_right (e.slot == k) (is_same_method_type e.ty t)) es
-
 -- two types of one slot are two entries of it
 exclude : (a b c : Bool) → ¬ ((b ≡ true) × (c ≡ true)) → cond (a && b) 1 0 + cond (a && c) 1 0 ≤ cond a 1 0
 exclude true true true n = absurd (n (refl, refl))

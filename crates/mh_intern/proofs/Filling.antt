@@ -15,17 +15,6 @@ use Rattle.mh_intern.specs.Plays.{WasRead}
 use Rattle.mh_intern.proofs.Measures.{count_cons}
 use Rattle.mh_intern.proofs.Entries.{bit}
 
--- one bucket alone is kept
-pub not_kept : (b c : ℕ) (keeps : List ℕ) → keeps ≡ b ∷ [] → c ≢ b → times c keeps ≡ 0
-not_kept b c keeps is apart =
-    let q : times c keeps ≡ times c (b ∷ []) = ap (times c) is in let o : bit (b == c) ≡ 0 = ap bit (ne_eqb b c (λ e. apart (sym e))) in
-    omega (arith, count_cons (λ (y : ℕ). y == c) b [])
-
-pub kept_one : (b : ℕ) (keeps : List ℕ) → keeps ≡ b ∷ [] → 0 < times b keeps
-kept_one b keeps is =
-    let q : times b keeps ≡ times b (b ∷ []) = ap (times b) is in let o : bit (b == b) ≡ 1 = ap bit (eq-eqb b b refl) in
-    omega (arith, count_cons (λ (y : ℕ). y == b) b [])
-
 pub on_slot-at : (es : List Entry) (i : ℕ) (d : Entry) → i < length es → 0 < on_slot (get_or es i d).slot es
 on_slot-at [] i d lt = absurd (omega arith)
 on_slot-at (x ∷ xs) zero d lt = let o : bit (x.slot == x.slot) ≡ 1 = ap bit (eq-eqb x.slot x.slot refl) in

@@ -17,9 +17,6 @@ in_longer x e es held = omega (arith, count_cons (λ (y : Entry). is_entry y e) 
 pub in_front : (e : Entry) (es fs : List Entry) → In es e → In (es ++ fs) e
 in_front e es fs held = omega (arith, count_append (λ (y : Entry). is_entry y e) es fs, held)
 
-pub in_back : (e : Entry) (es fs : List Entry) → In fs e → In (es ++ fs) e
-in_back e es fs held = omega (arith, count_append (λ (y : Entry). is_entry y e) es fs, held)
-
 -- how often each hold is there, after one more and after one less
 pub has_more : (e x : Entry) (es : List Entry) → has x.slot x.ty (e ∷ es) ≡ has x.slot x.ty es + bit (is_entry e x)
 has_more e x es = omega (arith, count_cons (λ (y : Entry). is_entry y x) e es)

@@ -2,12 +2,11 @@
 use Rattle.std.proofs.Common.{◌≡◌, sym, ◌∙◌, ap, ap₂, subst, ℕ, ◌+◌, ◌≤◌, ◌<◌, List, [], ◌∷◌, ◌++◌, length, append_assoc, append-nil, take, drop, get_or}
 use Rattle.std.proofs.lemmas.List.{take_more, take-append-drop}
 use Rattle.mh_intern.specs.Exchanges.{AreHeld, Exchanges}
-use Rattle.mh_intern.specs.Lists.{entry}
 use Rattle.mh_intern.specs.Seats.{Holds}
-use Rattle.mh_intern.specs.Views.{HoldView, SeatView, with_hold, without_hold}
+use Rattle.mh_intern.specs.Views.{HoldView, SeatView, with_hold}
 use Rattle.mh_intern.proofs.HeldLists.{held-second, hold-held}
 use Rattle.mh_intern.proofs.Exchanging.{exchanges-then, exchanges-both, held-still}
-use Rattle.mh_intern.proofs.SingleExchanges.{exchanges-released, exchanges-hold}
+use Rattle.mh_intern.proofs.SingleExchanges.{exchanges-hold}
 
 -- ---- holds one after the other
 
@@ -23,13 +22,6 @@ next-held holds i h old mid within is had x =
     sym (take-append-drop (i + 1) holds) ∙ (ap (λ l. l ++ drop (i + 1) holds) (taken-next holds i h within is)
     ∙ append_assoc (take i holds) (h ∷ []) (drop (i + 1) holds)) in
     hold-held mid h (drop (i + 1) holds) (held-still [] (take i holds) [] (h ∷ drop (i + 1) holds) old mid x (subst (AreHeld old) whole had))
-
--- it is let go too
-pub released-next : (holds : List HoldView) (i : ℕ) (h : HoldView) (old mid new : SeatView) → i < length holds → h ≡ get_or holds i h →
-    Exchanges [] (take i holds) [] old mid → Holds mid h → new ≡ without_hold h.entry mid → Exchanges [] (take (i + 1) holds) [] old new
-released-next holds i h old mid new within is x held now =
-    subst (λ l. Exchanges [] l [] old new) (sym (taken-next holds i h within is))
-    (exchanges-then [] [] (take i holds) [] (h ∷ []) [] old mid new x (exchanges-released h mid new held now))
 
 -- copies of the holds up to a place, and of the one there
 pub copied-next : (holds copies more : List HoldView) (i : ℕ) (h copy : HoldView) → i < length holds → h ≡ get_or holds i h → copies ≡ take i holds → copy ≡ h →

@@ -1,7 +1,6 @@
 -- What is so of every seat stays so.
 use Rattle.std.proofs.Common.{◌≡◌, ℕ, ◌+◌, ◌-◌, ◌<◌, ◌≤◌, ◌==◌, ◌&&◌, Bool, true, false, List, [], ◌∷◌, ◌++◌, length, count_by, All, sym, refl, ap, ◌∙◌, subst, arith, length-append, Result, Ok, Err}
 use Rattle.std.proofs.lemmas.Bool.{eq-eqb, ne_eqb}
-use Rattle.std.proofs.lemmas.List.Elements.{All-nil}
 use native.Mathlib.Decide.{ℕ_discrete}
 use mathlib.Core.Logic.{dite}
 use Rattle.mh_values.specs.declared.types.MethodTy.{MethodTy}
@@ -82,21 +81,6 @@ pub seated_part : (holds : List Entry) (room part : ℕ) (asked : List MethodTy)
 seated_part holds room part asked full s some_part lt =
     let m = s.most in
     record { agrees = s.agrees; small = s.small; some_left = omega arith; most = omega arith; filled = s.filled; known = λ whole t used. absurd (omega arith) }
-
-no_holds : Agrees []
-no_holds a b ha hb = absurd (omega arith)
-
-pub seated_new : (room : ℕ) → 1 ≤ room → room ≤ limit → IsSeated [] room [] []
-seated_new room some_room le =
-    record {
-      agrees = no_holds;
-      small = λ k le. refl;
-      some_left = omega arith;
-      most = omega arith;
-      filled = All-nil IsFull;
-      known =
-          λ whole t used. absurd (omega arith);
-    }
 
 -- after a look
 pub seated_looked : (v : Holding) → Agrees v.holds → All IsFull v.full → (weight v ≡ limit → (t : MethodTy) → 0 < uses t v → 0 < asks t v) → weight v ≤ limit →

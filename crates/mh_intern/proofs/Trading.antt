@@ -1,5 +1,5 @@
 -- What a request and a release trade.
-use Rattle.std.proofs.Common.{◌≡◌, Bool, List, [], ◌∷◌, ap, arith, Result, Ok, Err}
+use Rattle.std.proofs.Common.{◌≡◌, List, [], ◌∷◌, ap, arith, Result, Ok, Err}
 use Rattle.atomic_table.specs.Seated.{TableId}
 use Rattle.mh_values.specs.declared.types.MethodTy.{MethodTy}
 use Rattle.mh_intern.specs.declared.error.InternError.{InternError}
@@ -15,15 +15,6 @@ use Rattle.mh_intern.proofs.Measures.{count_cons}
 use Rattle.mh_intern.proofs.Entries.{bit, In, entry-itself}
 use Rattle.mh_intern.proofs.HoldCounts.{has_more, has_less}
 
--- one hold more is let go
-pub trades_then : (e : Entry) (old gone came mid new : List Entry) → Trades old gone came mid → Trades mid (e ∷ []) [] new
-    → Trades old (e ∷ gone) came new
-trades_then e old gone came mid new t r = record {
-  counts = λ k u.
-      let one : Entry → Bool = λ x. is_entry x (entry k u) in
-      omega (arith, t.counts k u, r.counts k u, count_cons one e gone, count_cons one e []);
-}
-
 -- a part that is not gone is still there
 pub still_held : (e : Entry) (old gone came mid : List Entry) → Trades old gone came mid → HoldsAll old (e ∷ gone) → In mid e
 still_held e old gone came mid t all =
@@ -35,10 +26,6 @@ pub part_held : (e : Entry) (old rest : List Entry) → HoldsAll old (e ∷ rest
 part_held e old rest all =
     let o : bit (is_entry e e) ≡ 1 = ap bit (entry-itself e) in
     omega (arith, all.counts e.slot e.ty, count_cons (λ (x : Entry). is_entry x e) e rest)
-
--- what was held before a request is still held
-pub still_in : (e : Entry) (old came new : List Entry) → Trades old [] came new → In old e → In new e
-still_in e old came new t held = omega (arith, t.counts e.slot e.ty)
 
 -- without one of the parts, the others are there
 pub holds_fewer : (e : Entry) (old gone : List Entry) → HoldsAll old (e ∷ gone) → HoldsAll old gone

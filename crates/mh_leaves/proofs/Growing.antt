@@ -96,10 +96,3 @@ pub registered-declared : {T E : Type 0} (r : Result T E) (classes more new : Li
     AreRegistered (record { classes = new; leaves = leaves })
 registered-declared (Ok x) classes more new leaves h ok err = registered-class classes more new leaves h ok
 registered-declared (Err e) classes more new leaves h ok err = rw err h
-
--- the same where a leaf may not have been put after the others
-pub registered-pushed : {T E : Type 0} (r : Result T E) (classes : List Class) (leaves new : List Leaf) (leaf : Leaf) →
-    AreRegistered (record { classes = classes; leaves = leaves }) → IsLeafOf classes leaf → (length leaves ≡ most_leaves → ⊥) →
-    OnOk r (new ≡ leaves ++ leaf ∷ []) → OnErr r (new ≡ leaves) → AreRegistered (record { classes = classes; leaves = new })
-registered-pushed (Ok x) classes leaves new leaf h is fewer ok err = registered-leaf classes leaves new leaf h is fewer ok
-registered-pushed (Err e) classes leaves new leaf h is fewer ok err = rw err h

@@ -1,12 +1,9 @@
 -- A text that gets a number, and what the numbers of all texts then are.
-use Rattle.std.proofs.Common.{◌≡◌, refl, sym, ap, subst, ◌∙◌, ℕ, ◌+◌, ◌⊎◌, inl, inr, false, cond, List, length, None, Some, arith}
+use Rattle.std.proofs.Common.{◌≡◌, sym, subst, ◌∙◌, ℕ, ◌+◌, ◌⊎◌, inl, inr, false, List, None, Some, arith}
 use Rattle.std.proofs.lemmas.Bool.{cases_Bool}
 use Rattle.std.proofs.lemmas.Slice.Eq.{bytes_eq-Decides}
-use Rattle.std.specs.BTreeMap.{BTreeMap, is_at, btree_map_len, IsUnchanged}
-use Rattle.std.specs.Cmp.Lexicographic.{slice_cmp}
+use Rattle.std.specs.BTreeMap.{BTreeMap, btree_map_len}
 use Rattle.std.specs.Global.{Vec}
-use Rattle.std.specs.Map.{lookup}
-use Rattle.std.specs.Ordering.{nat_cmp}
 use Rattle.std.specs.Str.{bytes_eq}
 use Rattle.mh_base.specs.TextMaps.{WritesText}
 use Rattle.mh_base.proofs.TextMaps.{at_text-other}
@@ -27,16 +24,6 @@ number_at-other m n key text v h e = at_text-other m n key text (Some v) h e
 
 -- ---- a new text
 
-pub number_at-written : (m n : Texts) (key text : List ℕ) (v : ℕ) → Writes m n key v →
-    text_number n text ≡ cond (bytes_eq key text) (Some v) (text_number m text)
-number_at-written m n key text v h =
-    elim (cases_Bool (bytes_eq key text)) [
-      | inl e ↦
-          let is : key ≡ text = (bytes_eq-Decides key text).0 e in
-          subst (λ l. text_number n l ≡ Some v) is h.1 ∙ ap (λ b. cond b (Some v) (text_number m text)) (sym e)
-      | inr e ↦ number_at-other m n key text v h e ∙ ap (λ b. cond b (Some v) (text_number m text)) (sym e)
-    ]
-
 written-anew : (m n : Texts) (key text : List ℕ) (v : ℕ) → Writes m n key v → text_number m key ≡ None → v ≡ btree_map_len m → IsNumberedAnew m n text
 written-anew m n key text v h new here =
     elim (cases_Bool (bytes_eq key text)) [
@@ -54,15 +41,6 @@ grown-written m n key v h new here more = record {
 }
 
 -- ---- what holds of texts with numbers from 0 on
-
-pub grown-itself : (m : Texts) → AreGrown m m
-grown-itself m = record { numbers = λ text. inl refl; longer = omega arith }
-
-pub grown-unchanged : (m n : Texts) → IsUnchanged m n → AreGrown m n
-grown-unchanged m n same = record {
-  numbers = λ text. inl (ap (lookup (is_at (λ (k : Vec ℕ). slice_cmp nat_cmp text k.items))) same);
-  longer = let e : btree_map_len n ≡ btree_map_len m = ap length same in omega (arith, e);
-}
 
 -- the two ways in which a text has a number after the call
 written_cases : (m n : Texts) (key text : List ℕ) (v k : ℕ) → Writes m n key v →

@@ -1,5 +1,5 @@
 -- Stops at inputs that are reached after others.
-use Rattle.std.proofs.Common.{◌≡◌, refl, sym, subst, inl, inr, ℕ, ◌-◌, List, ◌∷◌, length, Result, Ok, Err, IfErr}
+use Rattle.std.proofs.Common.{◌≡◌, sym, subst, inr, ℕ, ◌-◌, List, ◌∷◌, length, Result, Ok, Err, IfErr}
 use Rattle.std.specs.Result.{IsErrAnd}
 use Rattle.mh_outside.specs.Told.{Told}
 use Rattle.mh_outside.specs.Causes.{Rose, AreSame}
@@ -8,8 +8,8 @@ use Rattle.mh_classfile.specs.File.{class_or_fault}
 use Rattle.mh_main.specs.declared.stop.Stop.{Stop}
 use Rattle.mh_main.specs.declared.stop.Stop.TheVariants.{NoMemory, ReadFault, TooLong, Fault, Place}
 use Rattle.mh_main.specs.Input.{HasMeaning, class_limit}
-use Rattle.mh_main.specs.Stops.{IsStopAmong, IsStopOf, ReachesClass, Refuses, StopsClass, StopsClasses}
-use Rattle.mh_main.proofs.ReadOn.{class-stopped, first-read, refuses-untold}
+use Rattle.mh_main.specs.Stops.{IsStopAmong, IsStopOf, ReachesClass, Refuses, StopsClasses}
+use Rattle.mh_main.proofs.ReadOn.{first-read, refuses-untold}
 
 -- a stop that is handed on
 pub handed : {T : Type 0} (r : Result T Stop) (stop : Stop) (P : Stop → Type 0) → IsErrAnd r (λ s. s ≡ stop) → P stop → IfErr r P
@@ -38,16 +38,6 @@ stops-later Reaches Reaches' before before' now (Fault at line kind) there same 
 stops-later Reaches Reaches' before before' now (Place at place kind) there same is = subst (λ (b : List ℕ → ℕ). AreSame b now) (λ i n. same n i) is
 
 -- ---- class files
-
--- the first class file stops the reading
-pub first-among : (room : ℕ) (name : List ℕ) (names : List (List ℕ)) (files : List ℕ → Told) (before now : List ℕ → ℕ) (stop : Stop) →
-    IsStopOf name before now stop → IsStopAmong (ReachesClass room (name ∷ names) files) before now stop
-first-among room name names files before now stop is = stops-at (ReachesClass room (name ∷ names) files) name before now stop (inl refl) is
-
--- and is what the class files say
-pub first-stops : (room : ℕ) (name : List ℕ) (names : List (List ℕ)) (files : List ℕ → Told) (before now : List ℕ → ℕ) (stop : Stop) →
-    IsStopOf name before now stop → StopsClass room (files name) stop → StopsClasses room (name ∷ names) files stop
-first-stops room name names files before now stop is stops next = class-stopped room name (files name) _ before now stop is stops
 
 -- one of the others stops the reading
 pub others-among : {T : Type 0} (r : Result T Stop) (room room' : ℕ) (name : List ℕ) (names : List (List ℕ)) (files files' : List ℕ → Told)

@@ -8,9 +8,8 @@ use Rattle.mh_classfile.specs.Class.{Class}
 use Rattle.mh_classfile.specs.File.{class_or_fault}
 use Rattle.mh_main.specs.declared.stop.Stop.{Stop}
 use Rattle.mh_main.specs.declared.stop.Stop.TheVariants.{NoMemory, ReadFault, TooLong, Fault, Place}
-use Rattle.mh_main.specs.Kinds.{class_word}
-use Rattle.mh_main.specs.Input.{HasMeaning, Input, class_limit, class_meant, classes_input, fault_line, meant, place_line, too_long_line, untold, within}
-use Rattle.mh_main.specs.Stops.{AreClassesOf, IsStopOf, Refuses, StopsClass, StopsText}
+use Rattle.mh_main.specs.Input.{HasMeaning, Input, class_limit, class_meant, classes_input, fault_line, meant, too_long_line, untold, within}
+use Rattle.mh_main.specs.Stops.{AreClassesOf, IsStopOf, Refuses, StopsText}
 
 small : (limit : ℕ) (bytes : List ℕ) → length bytes ≤ limit → nat_lt limit (length bytes) ≡ false
 small limit bytes h = grind (arith, nat_tests)
@@ -82,24 +81,6 @@ text-stopped limit name word meaning (file bytes) next before now (Fault at line
     let named : fault_line name fault.line (word fault.kind) ≡ fault_line at.now line kind.now = rw (is.0, stops.1.2, stops.1.3) refl in
     rw (small limit bytes stops.0, stops.1.1) named
 text-stopped limit name word meaning told next before now (Place at place kind) is stops = absurd stops
-
--- likewise of a class file
-pub class-stopped :
-    (room : ℕ) (name : List ℕ) (told : Told) (next : Class → Input) (before now : List ℕ → ℕ) (stop : Stop) →
-    IsStopOf name before now stop → StopsClass room told stop →
-    Refuses (within name class_limit told (λ bytes. class_meant name (class_or_fault room bytes) next)) stop
-class-stopped room name told next before now NoMemory is stops = tt
-class-stopped room name told next before now (ReadFault at) is stops = tt
-class-stopped room name nothing next before now (TooLong at) is stops = tt
-class-stopped room name absent next before now (TooLong at) is stops = absurd stops
-class-stopped room name (file bytes) next before now (TooLong at) is stops = rw (long class_limit bytes stops) (ap too_long_line (sym is.0))
-class-stopped room name told next before now (Fault at line kind) is stops = absurd stops
-class-stopped room name nothing next before now (Place at place kind) is stops = tt
-class-stopped room name absent next before now (Place at place kind) is stops = absurd stops
-class-stopped room name (file bytes) next before now (Place at place kind) is stops =
-    let fault = stops.1.0 in
-    let named : place_line name fault.at (class_word fault.kind) ≡ place_line at.now place kind.now = rw (is.0, stops.1.2, stops.1.3) refl in
-    rw (small class_limit bytes stops.0, stops.1.1) named
 
 -- a stop is what inputs say that are not told
 pub refuses-untold : (stop : Stop) → Refuses untold stop

@@ -1,9 +1,9 @@
 -- Bytes that were written or read a piece at a time.
 use Rattle.std.proofs.Common.{◌≡◌, ◌∙◌, ap, ℕ, ◌+◌, ◌-◌, ◌<◌, ◌≤◌, List, ◌++◌, length, take, drop, Option, Some, None, arith, append_assoc, length-append, length-drop}
-use Rattle.std.proofs.lemmas.List.{take_all, take-append-le, length-take, length-take-le}
+use Rattle.std.proofs.lemmas.List.{take_all, take-append-le, length-take-le}
 use Rattle.std.proofs.Math.Seq.{take-add}
-use Rattle.std.specs.Io.KnownBytes.{Appends, Keeps}
-use Rattle.mh_outside.specs.Told.{Told, nothing, absent, file, HasRead, IsFront, IsWhole, MayBeLonger}
+use Rattle.std.specs.Io.KnownBytes.{Appends}
+use Rattle.mh_outside.specs.Told.{Told, nothing, absent, file, HasRead, IsFront, IsWhole}
 
 -- a piece after a front part
 pub Appends-then : (old mid new : Option (List ℕ)) (bytes : List ℕ) (at n : ℕ) → Appends old mid (take at bytes) → Appends mid new (take n (drop at bytes)) →
@@ -17,13 +17,6 @@ Appends-then (Some x) (Some y) (Some z) bytes at n front piece =
 -- what the code calls the rest from a place on
 pub slice_from : (at : ℕ) (bytes : List ℕ) → take (length bytes - at) (drop at bytes) ≡ drop at bytes
 slice_from at bytes = take_all (length bytes - at) (drop at bytes) (omega (arith, length-drop at bytes))
-
--- nothing after a front part
-pub Appends-kept : (old mid new : Option (List ℕ)) (bytes : List ℕ) (at : ℕ) → Appends old mid (take at bytes) → Keeps mid new → Appends old new (take at bytes)
-Appends-kept None mid new bytes at front kept = tt
-Appends-kept (Some x) None new bytes at front kept = absurd front
-Appends-kept (Some x) (Some y) None bytes at front kept = absurd kept
-Appends-kept (Some x) (Some y) (Some z) bytes at front kept = kept ∙ front
 
 -- a piece that was read after the front
 pub IsFront-then : (told : Told) (got buf : List ℕ) (n : ℕ) → n ≤ length buf → IsFront told got → HasRead told (length got) n buf →
@@ -46,11 +39,3 @@ IsWhole-from_front nothing got buf new at n e room same read none front = tt
 IsWhole-from_front absent got buf new at n e room same read none front = read
 IsWhole-from_front (file bytes) got buf new at n e room same read none front =
     let all : length bytes ≤ length got = omega (arith, read.ends none room, e) in same ∙ front ∙ take_all (length got) bytes all
-
--- a front that is too long
-pub MayBeLonger-from_front : (told : Told) (got : List ℕ) (limit : ℕ) → limit < length got → IsFront told got → MayBeLonger told limit
-MayBeLonger-from_front nothing got limit long front = tt
-MayBeLonger-from_front absent got limit long front = let e : length got ≡ 0 = ap length front in absurd (omega arith)
-MayBeLonger-from_front (file bytes) got limit long front =
-    let e : length got ≡ length (take (length got) bytes) = ap length front in
-    omega (arith, length-take (length got) bytes, e)

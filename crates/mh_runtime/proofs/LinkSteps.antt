@@ -16,15 +16,6 @@ use Rattle.mh_runtime.proofs.ThreadSteps.{linked-on}
 
 -- ---- more is learnt
 
-pub goes-learns : (old new : LinkPass) → LearnsSites old new → GoesOnLinking 1 old new
-goes-learns old new learns = record {
-  linker = learns.linker;
-  thread = learns.thread;
-  linked = learns.linked;
-  room = omega (arith, ap (λ (s : SeatView). s.room) learns.seat);
-  whole = ap (λ (s : SeatView). s.room + length s.numbers) learns.seat;
-}
-
 -- nothing was learnt
 pub learns-none : (pass : LinkPass) → LearnsSites pass pass
 learns-none pass = record { linker = refl; thread = refl; linked = λ site serial is. is; attempts = refl; seat = refl }
@@ -42,16 +33,6 @@ run-learns sites old new learns run = record {
   apart = subst (AllPairs (λ (a b : Attempt). a.site ≢ b.site)) (sym learns.attempts) run.apart;
   reached = subst (All (λ (a : Attempt). Contains sites a.site)) (sym learns.attempts) run.reached;
   in_order = subst (λ all. sites_of all ≡ filter (is_in (sites_of all)) (first_places [] sites)) (sym learns.attempts) run.in_order;
-}
-
--- more is learnt first
-pub goes-learnt : (old mid new : LinkPass) → LearnsSites old mid → GoesOnLinking 1 mid new → GoesOnLinking 1 old new
-goes-learnt old mid new learns goes = record {
-  linker = goes.linker ∙ learns.linker;
-  thread = goes.thread ∙ learns.thread;
-  linked = λ site serial is. goes.linked site serial (learns.linked site serial is);
-  room = omega (arith, goes.room, ap (λ (s : SeatView). s.room) learns.seat);
-  whole = goes.whole ∙ ap (λ (s : SeatView). s.room + length s.numbers) learns.seat;
 }
 
 pub attempts-learnt : (more : List ℕ) (old mid new : LinkPass) → LearnsSites old mid → AttemptsMore more mid new → AttemptsMore more old new

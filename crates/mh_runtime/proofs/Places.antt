@@ -6,11 +6,6 @@ use Rattle.std.proofs.lemmas.Option.{get_or_from_slice_get, slice_get_within}
 
 -- ---- items
 
-pub at-front : {A : Type 0} (xs ys : List A) (i : ℕ) (z : A) → slice_get xs i ≡ Some z → slice_get (xs ++ ys) i ≡ Some z
-at-front [] ys i z is = cc
-at-front (x ∷ xs) ys zero z is = is
-at-front (x ∷ xs) ys (suc i) z is = at-front xs ys i z is
-
 pub place-Contains : {A : Type 0} (xs : List A) (i : ℕ) (x : A) → slice_get xs i ≡ Some x → Contains xs x
 place-Contains xs i x is = (i, slice_get_within xs i x is, get_or_from_slice_get xs i x x is)
 

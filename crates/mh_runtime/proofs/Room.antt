@@ -1,12 +1,12 @@
 -- The numbers that calls may draw one after the other.
 use Rattle.std.proofs.Common.{◌≡◌, sym, ◌∙◌, ap, subst, ℕ, ◌+◌, ◌<◌, ◌≤◌, List, [], ◌∷◌, ◌++◌, length, length-append, take, drop, get_or, refl, arith}
-use Rattle.std.proofs.lemmas.List.{take_more, take-append-drop, take_all}
+use Rattle.std.proofs.lemmas.List.{take_more, take-append-drop}
 use Rattle.mh_handle.specs.declared.work.Work.{Work}
 use Rattle.mh_handle.specs.Works.{GoesOn, IsReady}
-use Rattle.mh_handle.proofs.Going.{goes_on-both, goes_on-more}
+use Rattle.mh_handle.proofs.Going.{goes_on-both}
 use Rattle.mh_plan.specs.declared.call.Call.{Call}
 use Rattle.mh_plan.specs.Limits.{calls_in}
-use Rattle.mh_runtime.specs.Asking.{call_draws, plan_draws, thread_draws}
+use Rattle.mh_runtime.specs.Asking.{call_draws, thread_draws}
 
 -- the calls of all threads, and of more threads
 calls_in-append : (threads more : List (List Call)) → calls_in (threads ++ more) ≡ calls_in threads + calls_in more
@@ -17,9 +17,6 @@ calls_in-append (calls ∷ threads) more = let others : calls_in (threads ++ mor
 thread_draws-append : (calls more : List Call) → thread_draws (calls ++ more) ≡ thread_draws calls + thread_draws more
 thread_draws-append calls more = let all : length (calls ++ more) ≡ length calls + length more = length-append calls more in omega (arith, all)
 
-plan_draws-append : (threads more : List (List Call)) → plan_draws (threads ++ more) ≡ plan_draws threads + plan_draws more
-plan_draws-append threads more = let all : calls_in (threads ++ more) ≡ calls_in threads + calls_in more = calls_in-append threads more in omega (arith, all)
-
 -- ---- one item after the other, where items draw together as many numbers as each for itself
 
 -- items of which each may draw so many numbers, and all of them so many
@@ -29,9 +26,6 @@ pub record Draw {X : Type 0} (each : X → ℕ) (all : List X → ℕ) : Type 0 
 
 pub calls-draw : Draw {X = Call} (λ call. call_draws) thread_draws
 calls-draw = record { append = thread_draws-append; one = λ call. refl }
-
-pub threads-draw : Draw {X = List Call} thread_draws plan_draws
-threads-draw = record { append = plan_draws-append; one = λ calls. omega arith }
 
 module _ {X : Type 0} (each : X → ℕ) (all : List X → ℕ) (draw : Draw each all) where
   one-more : (xs : List X) (i : ℕ) (x : X) → i < length xs → x ≡ get_or xs i x → all (take (i + 1) xs) ≡ all (take i xs) + each x
@@ -62,13 +56,3 @@ module _ {X : Type 0} (each : X → ℕ) (all : List X → ℕ) (draw : Draw eac
       GoesOn (each x) mid new → GoesOn (all (take (i + 1) xs)) old new
   goes-next xs i x old mid new within is before next =
       subst (λ n. GoesOn n old new) (sym (one-more xs i x within is)) (goes_on-both (all (take i xs)) (each x) old mid new before next)
-
-  -- where the next item stopped
-  pub goes-early : (xs : List X) (i : ℕ) (x : X) (old mid new : Work) → i < length xs → x ≡ get_or xs i x → GoesOn (all (take i xs)) old mid →
-      GoesOn (each x) mid new → GoesOn (all xs) old new
-  goes-early xs i x old mid new within is before next =
-      goes_on-more (all (take (i + 1) xs)) (all xs) old new (front xs (i + 1)) (goes-next xs i x old mid new within is before next)
-
-  -- after all items
-  pub goes-all : (xs : List X) (i : ℕ) (old new : Work) → length xs ≤ i → GoesOn (all (take i xs)) old new → GoesOn (all xs) old new
-  goes-all xs i old new whole goes = subst (λ ys. GoesOn (all ys) old new) (take_all i xs whole) goes

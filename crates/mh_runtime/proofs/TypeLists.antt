@@ -97,10 +97,6 @@ once-one : (ts : List MethodTy) (t : MethodTy) → is_one (unique_keys is_same_m
 once-one [] t = refl
 once-one (u ∷ ts) t = cases (is_one ts u) refl (once-one ts t)
   where
-    or-true : (b : Bool) → (b || true) ≡ true
-    or-true true = refl
-    or-true false = refl
-
     there : (b : Bool) → is_same_method_type t u ≡ b → is_one ts u ≡ true → is_one ts t ≡ (b || is_one ts t)
     there true same among = ap (is_one ts) (same_method_type-is t u same) ∙ among
     there false other among = refl

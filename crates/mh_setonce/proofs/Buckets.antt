@@ -2,7 +2,7 @@
 use Rattle.std.proofs.Common.{◌≡◌, ℕ, zero, suc, ◌+◌, ◌<◌, ◌%◌, List, [], ◌∷◌, ◌++◌, length, set, sym, refl, ap, ◌∙◌, subst, arith, length-append, ◌*◌, ◌-◌, ⊎_elim, inr}
 use Rattle.std.specs.Prelude.{bit_and}
 use Rattle.std.specs.Prelude.{slice_index}
-use Rattle.std.proofs.lemmas.List.{length-map, map-append, length-replicate}
+use Rattle.std.proofs.lemmas.List.{length-map, map-append}
 use Rattle.std.proofs.lemmas.Option.{slice_get-map, get_or_from_slice_get, slice_get-get_or}
 use Rattle.std.proofs.Math.Nat.{mod-lt}
 use Rattle.std.proofs.lemmas.Nat.{and_mask, pow-add}
@@ -11,7 +11,7 @@ use Rattle.std.specs.Option.{option_map}
 use Rattle.std.specs.Prelude.{replicate, get_or}
 use lib.ListN.{length-set}
 use Rattle.mh_setonce.specs.Index.{IsIndex, AreIndexed, IsPower, IsSize, buckets_of}
-use Rattle.mh_setonce.proofs.Indexes.{is_index-empty, is_index-more}
+use Rattle.mh_setonce.proofs.Indexes.{is_index-more}
 
 -- the bucket at a place
 pub bucket-at : (count : ℕ) (hashes : List ℕ) (i : ℕ) → i < length hashes → slice_index (buckets_of count hashes) i ≡ slice_index hashes i % count
@@ -31,17 +31,6 @@ zeros (suc n) (suc i) = zeros n i
 -- what was read of a list of numbers
 pub read-is : (xs : List ℕ) (i x : ℕ) → x ≡ get_or xs i x → i < length xs → x ≡ slice_index xs i
 read-is xs i x e low = e ∙ get_or_default_zero xs i x low
-
--- no items
-pub indexed-empty : (hashes newest before : List ℕ) (count : ℕ) → hashes ≡ [] → newest ≡ replicate count 0 → before ≡ [] → IsSize count →
-    AreIndexed hashes newest before
-indexed-empty hashes newest before count h n b size =
-    subst (λ v. AreIndexed v newest before) (sym h) (subst (λ v. AreIndexed [] newest v) (sym b)
-    (record {
-      index = is_index-empty newest (λ i. ap (λ v. slice_index v i) n ∙ zeros count i);
-      fits = omega arith;
-      sized = subst IsSize (sym (ap length n ∙ length-replicate count 0)) size;
-    }))
 
 -- one item more
 pub indexed-add : (hashes newest before hashes' before' : List ℕ) (hash bucket place count : ℕ) → AreIndexed hashes newest before →

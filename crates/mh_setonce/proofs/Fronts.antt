@@ -1,7 +1,6 @@
 -- Lists that begin with others.
-use Rattle.std.proofs.Common.{◌≡◌, ℕ, ◌≤◌, List, [], ◌∷◌, ◌++◌, length, take, drop, map, sym, ap, ◌∙◌, arith, append_assoc, append-nil, length-append, take-append-drop, Some}
+use Rattle.std.proofs.Common.{◌≡◌, ℕ, ◌≤◌, List, [], ◌∷◌, ◌++◌, length, take, drop, sym, ap, ◌∙◌, arith, append_assoc, append-nil, take-append-drop, Some}
 use Rattle.std.specs.Prelude.{slice_get}
-use Rattle.std.proofs.lemmas.List.{map-append}
 use Rattle.std.proofs.lemmas.Option.{slice_get_within}
 use Rattle.std.proofs.Math.Seq.{take-length}
 use Rattle.std.proofs.Math.Nat.{min-eq_left, min-eq_right}
@@ -15,9 +14,6 @@ module _ {A : Type 0} where
 
   pub starts-trans : (xs ys zs : List A) → StartsWith xs ys → StartsWith ys zs → StartsWith xs zs
   starts-trans xs ys zs a b = (b.0 ++ a.0, a.1 ∙ (ap (λ v. v ++ a.0) b.1 ∙ append_assoc zs b.0 a.0))
-
-  pub starts-length : (xs ys : List A) → StartsWith xs ys → length ys ≤ length xs
-  starts-length xs ys a = omega (arith, ap length a.1, length-append ys a.0)
 
   -- an item of the front
   pub starts-at : (xs ys : List A) (i : ℕ) (y : A) → StartsWith xs ys → slice_get ys i ≡ Some y → slice_get xs i ≡ Some y
@@ -49,14 +45,6 @@ module _ {A : Type 0} where
       let count : n ≡ length ys = m.0 ∙ min-eq_right le in
       let all : ys ≡ take n xs = sym (take-length ys) ∙ (ap (λ k. take k ys) (sym count) ∙ sym m.1) in
       (drop n xs, sym (take-append-drop n xs) ∙ ap (λ v. v ++ drop n xs) (sym all))
-
-  -- what both of two lists begin, more shows
-  pub starts-map : {B : Type 0} (f : A → B) (xs ys : List A) → StartsWith xs ys → StartsWith (map f xs) (map f ys)
-  starts-map f xs ys a = (map f a.0, ap (map f) a.1 ∙ map-append f ys a.0)
-
--- the fronts of lists that share cells share them
-pub share-fronts : (a b c d : List ℕ) → Share a b → StartsWith a c → StartsWith b d → Share c d
-share-fronts a b c d s p q = (s.0, starts-trans s.0 a c s.1 p, starts-trans s.0 b d s.2 q)
 
 -- cells that are shared are the same at each place
 pub share-at : (a b : List ℕ) (i x y : ℕ) → Share a b → slice_get a i ≡ Some x → slice_get b i ≡ Some y → x ≡ y

@@ -1,5 +1,5 @@
 -- The index of items by their buckets, with one more item.
-use Rattle.std.proofs.Common.{◌≡◌, ◌≢◌, ℕ, suc, ◌+◌, ◌<◌, List, [], ◌∷◌, ◌++◌, length, set, sym, refl, ap, ◌∙◌, subst, arith, length-append}
+use Rattle.std.proofs.Common.{◌≡◌, ◌≢◌, ℕ, suc, ◌+◌, ◌<◌, List, [], ◌∷◌, ◌++◌, length, set, sym, ap, ◌∙◌, subst, arith, length-append}
 use Rattle.std.specs.Prelude.{slice_index}
 use native.Mathlib.Decide.{ℕ_discrete, dec_lt}
 use Rattle.std.proofs.lemmas.List.{get_or_append_left, get_or-append-add, get_or-set_same, get_or-set_other}
@@ -14,15 +14,6 @@ at-new xs y i e = let f : i ≡ length xs + 0 = omega arith in ap (λ k. slice_i
 
 pub longer : (xs : List ℕ) (y : ℕ) → length (xs ++ y ∷ []) ≡ length xs + 1
 longer xs y = length-append xs (y ∷ [])
-
-pub is_index-empty : (xs : List ℕ) → ((i : ℕ) → slice_index xs i ≡ 0) → IsIndex [] xs []
-is_index-empty xs none = record {
-  paired = refl;
-  newer = λ i low. absurd (omega arith);
-  newest_is = λ m k e. absurd (omega (arith, none m, e));
-  later = λ i j low. absurd (omega arith);
-  before_is = λ i k low. absurd (omega arith);
-}
 
 module _ (buckets newest before : List ℕ) (m place : ℕ) (old : IsIndex buckets newest before) (small : m < length newest)
     (is : place ≡ slice_index newest m) where

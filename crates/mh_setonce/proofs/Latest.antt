@@ -18,11 +18,6 @@ pub record Sought (hashes newest : List ℕ) (hash place bound : ℕ) : Type 0 w
   pub below : place ≤ bound
   pub lacks : LacksPast hashes hash place bound
 
--- a place is that of an item
-pub low-place : (hashes newest : List ℕ) (hash place : ℕ) → LeadsTo hashes newest hash place → 0 < place → place - 1 < length hashes
-low-place hashes newest hash zero leads some = omega arith
-low-place hashes newest hash (suc k) leads some = omega (arith, (leads k refl).0)
-
 -- the place before one of the bucket
 pub leads-before : (hashes newest before : List ℕ) (hash k place : ℕ) → AreIndexed hashes newest before → k < length hashes →
     slice_index hashes k % length newest ≡ hash % length newest → place ≡ slice_index before k → LeadsTo hashes newest hash place × (place < suc k)
@@ -99,10 +94,6 @@ next-read hashes newest before k hash place all low here is =
     let same = ap (λ v. v % length newest) (sym h) in
     let next = leads-before hashes newest before hash k place all low same at in
     (h, next.0, lacks-between hashes newest before hash k place all low same at, omega (arith, next.1))
-
--- the search at its first place
-pub sought-first : (hashes newest : List ℕ) (hash place : ℕ) → LeadsTo hashes newest hash place → Sought hashes newest hash place place
-sought-first hashes newest hash place leads = record { leads = leads; below = omega arith; lacks = λ i past low. absurd (omega arith) }
 
 -- the search at the next place
 pub sought-next : (hashes newest before : List ℕ) (hash here place bound : ℕ) → AreIndexed hashes newest before → Sought hashes newest hash here bound →

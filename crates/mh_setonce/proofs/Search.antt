@@ -3,8 +3,7 @@ use Rattle.std.proofs.Common.{◌≡◌, ◌≢◌, ℕ, ◌+◌, ◌<◌, ◌�
 use Rattle.std.specs.Prelude.{slice_get, slice_index}
 use Rattle.std.specs.Option.{option_map}
 use native.Mathlib.Decide.{dec_lt}
-use Rattle.std.proofs.lemmas.List.{length-map}
-use Rattle.std.proofs.lemmas.Option.{slice_get-map, get_or_from_slice_get, slice_get_within}
+use Rattle.std.proofs.lemmas.Option.{slice_get-map, get_or_from_slice_get}
 use Rattle.mh_setonce.specs.Places.{IsLatest, hashes_of}
 use Rattle.mh_setonce.specs.Walks.{Lacks}
 
@@ -25,16 +24,6 @@ module _ {V K : Type 0} (key : V → K) (hash : K → ℕ) where
   pub hash-at : (items : List V) (i : ℕ) (v : V) → slice_get items i ≡ Some v → slice_index (hashes_of key hash items) i ≡ hash (key v)
   hash-at items i v at =
       get_or_from_slice_get (hashes_of key hash items) i (hash (key v)) 0 (slice_get-map (λ w. hash (key w)) items i ∙ ap (option_map (λ w. hash (key w))) at)
-
-  -- the search begins
-  pub seeks-first : (items : List V) (hashes : List ℕ) (k : K) (n : ℕ) (here : Option ℕ) → hashes ≡ hashes_of key hash items → n ≡ hash k →
-      IsLatest hashes n (length hashes) here → Seeks items k here
-  seeks-first items hashes k n here all is latest = record {
-    bound = length items;
-    latest = rw (length-map items (λ v. hash (key v))) at (rw (all, is) at latest);
-    within = omega arith;
-    lacks = λ i v past at e. let w = slice_get_within items i v at in omega (arith, w, past);
-  }
 
   -- the place is that of an item
   pub seeks-place : (items : List V) (k : K) (place : ℕ) → Seeks items k (Some place) → place < length items
@@ -58,11 +47,6 @@ module _ {V K : Type 0} (key : V → K) (hash : K → ℕ) where
           let both : Some w ≡ Some v = sym at_i ∙ (ap (slice_get items) same ∙ at) in
           let is : w ≡ v = cc in
           other (ap key (sym is) ∙ e)
-
-  -- fewer places are left
-  pub seeks-fewer : (hashes : List ℕ) (n place : ℕ) (here : Option ℕ) → IsLatest hashes n place here → left_of here < left_of (Some place)
-  seeks-fewer hashes n place None latest = omega arith
-  seeks-fewer hashes n place (Some next) latest = omega (arith, latest.0)
 
   -- the search has ended
   pub seeks-none : (items : List V) (k : K) → Seeks items k None → Lacks key items k
