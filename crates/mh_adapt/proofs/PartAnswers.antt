@@ -1,5 +1,5 @@
 -- What the calls of adapters with a part need and answer, from what they add to the handle that they adapt.
-use Rattle.std.proofs.Common.{◌≡◌, sym, subst, ap, ◌∙◌, ◌+◌, ◌≤◌, [], ◌∷◌, ◌++◌, map, arith, Result, Ok, Err, IfOk}
+use Rattle.std.proofs.Common.{◌≡◌, sym, subst, ap, ◌∙◌, ◌+◌, [], ◌∷◌, ◌++◌, map, Result, Ok, Err, IfOk}
 use Rattle.std.specs.Prelude.{IsTrue}
 use Rattle.mh_values.specs.declared.types.MethodTy.{MethodTy}
 use Rattle.mh_leaf.specs.LeafTable.{LeafTable}

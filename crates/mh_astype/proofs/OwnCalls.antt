@@ -13,7 +13,7 @@ use Rattle.mh_leaf.specs.LeafTable.{LeafTable}
 use Rattle.mh_tree.specs.Tree.{Tree, AsType, weight}
 use Rattle.mh_tree.specs.Rows.{astype_row, mismatch}
 use Rattle.mh_tree.specs.Typing.{with_type, type_of}
-use Rattle.mh_tree.specs.Meaning.{Done, known, mean, or_throw, conv_all, conv_result, exact, exact_at, generic, generic_at}
+use Rattle.mh_tree.specs.Meaning.{Done, known, mean, exact, exact_at, generic, generic_at}
 use Rattle.mh_tree.specs.Meaning as meaning
 use Rattle.mh_handle.specs.Answers.{AnswerView, IsAnswer}
 use Rattle.mh_handle.specs.Recipe.{recipe}

@@ -1,6 +1,6 @@
 -- What the registers of a run hold is what those of the frame hold for which they stand.
-use Rattle.std.proofs.Common.{◌≡◌, arith, zero, suc, ◌+◌, ◌<◌, ◌≤◌, length, get_or, drop, length-drop, refl, sym, ◌∙◌, ap, ℕ, List, [], ◌∷◌, Option, Some, None, Ok, Err}
-use Rattle.std.specs.Prelude.{if◌then◌else◌, slice_get, option_map, ok_or}
+use Rattle.std.proofs.Common.{◌≡◌, arith, zero, suc, ◌<◌, ◌≤◌, length, get_or, drop, length-drop, refl, sym, ◌∙◌, ap, ℕ, List, [], ◌∷◌, Option, Some, None, Ok, Err}
+use Rattle.std.specs.Prelude.{slice_get, option_map, ok_or}
 use Rattle.std.proofs.lemmas.List.{nil_from_length}
 use Rattle.std.proofs.lemmas.Option.{slice_get_past}
 use Rattle.mh_leaf.specs.LeafTable.{LeafTable}

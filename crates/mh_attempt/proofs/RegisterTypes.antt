@@ -3,7 +3,6 @@ use denote.Ref.{Bor}
 use Rattle.std.proofs.Common.{◌≡◌, sym, ◌∙◌, ap, subst, arith, ℕ, ◌+◌, List, [], ◌∷◌, ◌++◌, append-nil, length, length-append, None, Some}
 use Rattle.std.proofs.lemmas.Grind.{flat_map-append}
 use Rattle.mh_intern.specs.Exchanges.{AreHeld, AreOf, Exchanges}
-use Rattle.mh_intern.specs.Held.{has}
 use Rattle.mh_intern.specs.Views.{HoldView, SeatView}
 use Rattle.mh_intern.proofs.Exchanging.{exchanges-still, exchanges-then}
 use Rattle.mh_intern.proofs.HeldLists.{held-first, held-second, of-both, of-first, of-second}

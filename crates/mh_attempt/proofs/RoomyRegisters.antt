@@ -9,9 +9,8 @@ use Rattle.mh_handle.specs.declared.work.Work.{Work}
 use Rattle.mh_handle.specs.Works.{GoesOn, HoldsTypes, IsUnchanged}
 use Rattle.mh_script.specs.declared.script.Operation.{Operation}
 use Rattle.mh_attempt.specs.declared.registers.Held.{Held}
-use Rattle.mh_attempt.specs.declared.registers.Held.TheVariants as held
 use Rattle.mh_attempt.specs.declared.registers.Registers.{Registers}
-use Rattle.mh_link.specs.Operands.{Frame, handle}
+use Rattle.mh_link.specs.Operands.{Frame}
 use Rattle.mh_attempt.specs.Operations.{MakesOperation}
 use Rattle.mh_attempt.specs.Registers.{AreHeldBy, Hold, HoldSame, HoldSome, assigned_to, holds_in, holds_of}
 use Rattle.mh_attempt.specs.Runs.{Replaces}

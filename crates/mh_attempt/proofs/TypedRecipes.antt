@@ -5,7 +5,7 @@ use Rattle.std.proofs.lemmas.List.Elements.{All-head, All-tail}
 use Rattle.mh_values.specs.declared.types.MethodTy.{MethodTy}
 use Rattle.mh_leaf.specs.LeafTable.{LeafTable}
 use Rattle.mh_tree.specs.Rows.{TypeOrRefusal}
-use Rattle.mh_tree.specs.Tree.{Tree, weight}
+use Rattle.mh_tree.specs.Tree.{Tree}
 use Rattle.mh_tree.specs.Tree as tree
 use Rattle.mh_tree.specs.Typing.{type_of, with_type}
 use Rattle.mh_tree.proofs.Provided.{provided_some-parts, with_type-parts}

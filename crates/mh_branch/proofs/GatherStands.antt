@@ -15,7 +15,7 @@ use Rattle.mh_values.specs.HasType.{has_type, HaveTypes, is_type_below}
 use Rattle.mh_values.proofs.BelowTypes.{value-below}
 use Rattle.mh_leaf.specs.LeafTable.{LeafTable}
 use Rattle.mh_tree.specs.Rows.{component_of, gather_row, taking}
-use Rattle.mh_tree.specs.Tree.{Tree, weight}
+use Rattle.mh_tree.specs.Tree.{Tree}
 use Rattle.mh_tree.specs.Tree as tree
 use Rattle.mh_tree.specs.Typing.{type_of, arity_of, with_type, sides}
 use Rattle.mh_tree.specs.Meaning.{Done, mean, or_throw, part_of}

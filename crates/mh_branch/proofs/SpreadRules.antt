@@ -13,7 +13,6 @@ use Rattle.mh_tree.specs.declared.error.CheckError.TheVariants as check
 use Rattle.mh_tree.specs.Check.{TellsRow}
 use Rattle.mh_tree.specs.Rows.{TypeOrRefusal, component_of, illegal, spread_row}
 use Rattle.mh_tree.specs.Tree.{Tree}
-use Rattle.mh_tree.specs.Tree as tree
 use Rattle.mh_tree.specs.Typing.{with_type}
 use Rattle.mh_tree.specs.Use.{items_used_as, spread_use_row, taking_items, use_row, use_weight, used_as}
 use Rattle.mh_handle.specs.declared.error.HandleError.{HandleError}

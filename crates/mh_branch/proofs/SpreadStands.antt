@@ -18,7 +18,7 @@ use Rattle.mh_values.specs.HasType.{HaveTypes}
 use Rattle.mh_values.specs.Same.{is_same_type}
 use Rattle.mh_leaf.specs.LeafTable.{LeafTable}
 use Rattle.mh_tree.specs.Rows.{component_of, spread_row, taking}
-use Rattle.mh_tree.specs.Tree.{Tree, weight}
+use Rattle.mh_tree.specs.Tree.{Tree}
 use Rattle.mh_tree.specs.Tree as tree
 use Rattle.mh_tree.specs.Typing.{type_of, arity_of, with_type, sides}
 use Rattle.mh_tree.specs.Meaning.{Done, mean}

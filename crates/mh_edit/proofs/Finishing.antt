@@ -1,5 +1,5 @@
 -- A body whose last name takes its result first runs the old names, and then that name.
-use Rattle.std.proofs.Common.{◌≡◌, refl, subst, Option, Some, None, ℕ, ◌+◌, List, [], ◌∷◌, ◌++◌, sym, ap, ◌∙◌, length, map}
+use Rattle.std.proofs.Common.{◌≡◌, refl, subst, Option, Some, None, ℕ, ◌+◌, List, [], ◌∷◌, ◌++◌, sym, ap, ◌∙◌, length}
 use Rattle.std.specs.Prelude.{slice_get}
 use Rattle.std.specs.Option.{option_map}
 use Rattle.std.proofs.lemmas.List.{append-nil, map-id}

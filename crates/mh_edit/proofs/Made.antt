@@ -1,5 +1,5 @@
 -- What a key that fits makes is not nothing, so that further keys can be applied to it.
-use Rattle.std.proofs.Common.{◌≡◌, refl, sym, ap, ◌∙◌, Bool, true, false, ◌&&◌, Option, Some, None, ℕ, suc, ◌+◌, List, [], ◌∷◌, length, map, length-append, arith}
+use Rattle.std.proofs.Common.{◌≡◌, refl, sym, ap, ◌∙◌, true, false, ◌&&◌, Option, Some, None, ℕ, suc, ◌+◌, List, [], ◌∷◌, length, map, length-append, arith}
 use Rattle.std.specs.Prelude.{IsTrue, is_some, not, ◌==◌}
 use Rattle.std.specs.Option.{option_map}
 use Rattle.std.proofs.lemmas.List.{length-map}

@@ -1,5 +1,5 @@
 -- Renaming the places of a list of names leaves its run as it was on the renamed slots.
-use Rattle.std.proofs.Common.{◌≡◌, refl, subst, ℕ, zero, suc, ◌+◌, List, [], ◌∷◌, ◌++◌, Some, ap, ◌∙◌, ◌⊎◌, inl, inr, length-append, map, length, arith}
+use Rattle.std.proofs.Common.{◌≡◌, subst, ℕ, zero, suc, ◌+◌, List, [], ◌∷◌, ◌++◌, Some, ap, ◌∙◌, inl, inr, length-append, map, length, arith}
 use Rattle.std.specs.Prelude.{slice_get, if◌then◌else◌}
 use Rattle.mh_base.proofs.Slices.{slice_get-push, slice_get-end}
 use Rattle.mh_values.specs.Computation.{Ran, Gave, Refines, found}

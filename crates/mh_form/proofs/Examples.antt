@@ -1,5 +1,5 @@
 -- Worked examples: what a body of one name gives, on one field and one argument.
-use Rattle.std.specs.Prelude.{◌≡◌, refl, ℕ, List, [], ◌∷◌, codes, pos, Option, Some}
+use Rattle.std.specs.Prelude.{◌≡◌, refl, [], ◌∷◌, codes, pos, Option, Some}
 use Rattle.mh_values.specs.declared.types.Comp.TheVariants as comp
 use Rattle.mh_values.specs.declared.types.Primitive.TheVariants as primitive
 use Rattle.mh_values.specs.declared.types.Ty.{Ty}

@@ -1,5 +1,5 @@
 -- The slots of the run under way, above those of the runs that wait.
-use Rattle.std.proofs.Common.{◌≡◌, ◌≤◌, ◌-◌, sym, ◌∙◌, ap, ℕ, ◌+◌, List, [], ◌∷◌, ◌++◌, take, drop, length, length-append, arith}
+use Rattle.std.proofs.Common.{◌≡◌, ◌≤◌, ◌-◌, sym, ◌∙◌, ap, ℕ, ◌+◌, List, ◌∷◌, ◌++◌, take, drop, length, length-append, arith}
 use Rattle.std.specs.List.{insert}
 use Rattle.std.proofs.Math.Seq.{drop-append_seam, take-add, take-append_seam}
 use Rattle.std.proofs.lemmas.List.{drop-take, length-take-le}

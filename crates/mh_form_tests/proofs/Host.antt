@@ -1,5 +1,5 @@
 -- The manifest of the tests, as the checker computes it.
-use Rattle.std.specs.Prelude.{◌≡◌, refl, codes, ◌++◌, Ok}
+use Rattle.std.specs.Prelude.{◌≡◌, refl, codes, Ok}
 use Rattle.mh_leaves.specs.Manifest.{manifest}
 use Rattle.mh_form_tests.specs.Host.{host}
 

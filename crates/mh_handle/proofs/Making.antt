@@ -1,5 +1,5 @@
 -- What an edit leaves of a pass, as what the making of a handle leaves of the work.
-use Rattle.std.proofs.Common.{◌≡◌, List, Err}
+use Rattle.std.proofs.Common.{List, Err}
 use Rattle.mh_edit.specs.declared.key.Key.{Key}
 use Rattle.mh_handle.specs.declared.error.EditError.{EditError}
 use Rattle.mh_handle.specs.declared.error.EditError.TheVariants as edit

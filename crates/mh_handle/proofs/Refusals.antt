@@ -1,5 +1,5 @@
 -- A call that answers with the error of a check, after which all but the seat of types is as it was.
-use Rattle.std.proofs.Common.{◌≡◌, refl, sym, subst, List, Result, Err, arith}
+use Rattle.std.proofs.Common.{◌≡◌, refl, sym, subst, List, Result, Err}
 use Rattle.std.specs.Prelude.{IsErrAnd}
 use Rattle.mh_tree.specs.declared.error.CheckError.{CheckError}
 use Rattle.mh_tree.specs.Check.{TellsRow}

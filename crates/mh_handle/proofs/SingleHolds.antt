@@ -9,7 +9,6 @@ use Rattle.mh_intern.specs.Seats.{Holds, Interns}
 use Rattle.mh_intern.proofs.Exchanging.{exchanges-both, exchanges-still, exchanges-then, held-still}
 use Rattle.mh_intern.proofs.SingleExchanges.{exchanges-hold, exchanges-interned, exchanges-released, no-slot}
 use Rattle.mh_intern.proofs.HeldLists.{has-append, held-second, hold-held, of-both, of-first, of-second}
-use Rattle.mh_handle.specs.declared.error.HandleError.TheVariants.{NoMemory, TypesFull}
 use Rattle.mh_handle.specs.Works.{TradesCopy, TradesHold}
 
 -- ---- single holds

@@ -8,7 +8,7 @@ use Rattle.mh_intern.proofs.Measures.{count_cons}
 use Rattle.mh_intern.specs.declared.error.InternError.{InternError}
 use Rattle.mh_intern.specs.declared.error.InternError.TheVariants as intern
 use Rattle.mh_intern.specs.Exchanges.{Exchanges}
-use Rattle.mh_intern.specs.Held.{has, times_type}
+use Rattle.mh_intern.specs.Held.{times_type}
 use Rattle.mh_intern.specs.Views.{HoldView}
 use Rattle.mh_intern.proofs.SingleExchanges.{no-slot-still}
 use Rattle.mh_tree.specs.declared.error.CheckError.{CheckError}

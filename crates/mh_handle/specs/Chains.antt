@@ -1,5 +1,5 @@
 -- The chains of a table of forms: which one has the form of a recipe, and what walks of all of them have learnt.
-use Rattle.std.specs.Prelude.{◌≡◌, ℕ, suc, ◌+◌, ◌*◌, ◌%◌, ◌<◌, ◌≤◌, ◌⊎◌, ◌==◌, List, [], ◌∷◌, ◌++◌, length, slice_get, Some}
+use Rattle.std.specs.Prelude.{◌≡◌, ℕ, suc, ◌+◌, ◌*◌, ◌%◌, ◌==◌, List, [], ◌∷◌, ◌++◌, length, slice_get, Some}
 use Rattle.std.specs.List.{filter}
 use Rattle.mh_setonce.specs.Views.{WalkView}
 use Rattle.mh_setonce.specs.Walks.{Distinct}

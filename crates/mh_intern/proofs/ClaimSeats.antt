@@ -1,7 +1,7 @@
 -- The splits, the joins and the start of the table of claims.
 use Rattle.std.proofs.Common.{◌≡◌, ℕ, zero, suc, ◌==◌, inl, List, [], ◌∷◌, map, length, slice_index, set, replicate, sym, refl, ap, ◌∙◌, subst, arith, Some, None}
-use Rattle.std.proofs.lemmas.List.{get_or-set_other, set-get_or, length-replicate, get_or-replicate, length-map}
-use mathlib.Core.Option.{some, none, some-injective, some-ne-none}
+use Rattle.std.proofs.lemmas.List.{length-replicate, length-map}
+use mathlib.Core.Option.{some, some-injective, some-ne-none}
 use mathlib.Core.Option as home
 use lib.ListN.{get_elem?}
 use Rattle.atomic_table.specs.Seated.{TableId}

@@ -17,7 +17,7 @@ use Rattle.mh_seats.specs.Room.{limit}
 use Rattle.mh_intern.specs.Lists.{Agrees}
 use Rattle.mh_intern.specs.Plays.{HMe, Looked}
 use Rattle.mh_seats.proofs.Totals.{at_most, alone}
-use Rattle.mh_intern.proofs.Entries.{bit, not_hit, removed_count, removed_length, has-on_slot, two_of_slot, two_of_type}
+use Rattle.mh_intern.proofs.Entries.{two_of_slot, two_of_type}
 
 -- the holds of one view agree
 pub agree : (s : State (Unit {0}) Holding) → Held s → (id : ℕ) (v : Holding) → get_elem? s.views id ≡ some v → Agrees v.holds

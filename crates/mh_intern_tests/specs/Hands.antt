@@ -1,5 +1,5 @@
 -- What a player of a table of types has in hand.
-use Rattle.std.specs.Prelude.{◌≡◌, ℕ, ◌≤◌, [], ◌∷◌}
+use Rattle.std.specs.Prelude.{◌≡◌, [], ◌∷◌}
 use Rattle.mh_intern.specs.Views.{TypesId, SeatView, HoldView}
 
 -- the seat is of the table, and has this one hold

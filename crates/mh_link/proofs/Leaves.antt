@@ -1,5 +1,5 @@
 -- The static arguments of a job that are leaves are leaves of the table.
-use Rattle.std.proofs.Common.{◌≡◌, refl, sym, subst, arith, ℕ, zero, suc, ◌<◌, List, [], ◌∷◌, length, Option, Some, None, Result, Ok, Err, codes}
+use Rattle.std.proofs.Common.{◌≡◌, refl, sym, subst, ℕ, zero, suc, ◌<◌, List, [], ◌∷◌, length, Option, Some, None, Result, Ok, Err, codes}
 use Rattle.std.specs.Prelude.{position, slice_get, IfSome, ok_or}
 use Rattle.mh_base.proofs.Inversion.{ok_is, some_is}
 use Rattle.mh_base.proofs.Slices.{slice_get-within}

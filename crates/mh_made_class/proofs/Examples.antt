@@ -1,5 +1,5 @@
 -- Made classes, by example.
-use Rattle.std.proofs.Common.{◌≡◌, List, [], ◌∷◌, codes, length, refl, arith}
+use Rattle.std.proofs.Common.{◌≡◌, [], ◌∷◌, codes, length, refl, arith}
 use Rattle.mh_values.proofs.Sound.{descriptor_sound}
 use Rattle.mh_classfile.specs.Class.{Class}
 use Rattle.mh_classfile.specs.File.{IsClassFile}

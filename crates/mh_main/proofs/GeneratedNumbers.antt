@@ -1,5 +1,5 @@
 -- Numbers as they are written in the plan that is made are read back.
-use Rattle.std.proofs.Common.{◌≡◌, ◌∙◌, ap, ℕ, ◌^◌, ◌<◌, ◌==◌, lit<, pos, neg_ℤ, ◌&&◌, ◌||◌, cond, if◌then◌else◌, List, [], ◌∷◌, ◌++◌, codes, drop, None, Some, option_and_then, arith}
+use Rattle.std.proofs.Common.{◌≡◌, ◌∙◌, ap, ℕ, ◌^◌, ◌<◌, lit<, pos, neg_ℤ, ◌&&◌, ◌||◌, cond, if◌then◌else◌, List, ◌++◌, codes, drop, None, Some, option_and_then, arith}
 use Rattle.std.proofs.lemmas.Bool.{and_from, lt-ltb, or_left}
 use Rattle.std.proofs.lemmas.Fmt.{decimal_is_IsNumeral}
 use Rattle.std.specs.Prelude.{option_map}

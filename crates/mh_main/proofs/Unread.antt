@@ -1,5 +1,5 @@
 -- What stops the reading of a file, or of the bytes in it, stops that of the text or the class.
-use Rattle.std.proofs.Common.{◌≡◌, ◌≤◌, ℕ, List, Result}
+use Rattle.std.proofs.Common.{ℕ, List, Result}
 use Rattle.mh_base.specs.declared.lines.LineFault.{LineFault}
 use Rattle.mh_outside.specs.Told.{Told}
 use Rattle.mh_main.specs.declared.stop.Stop.{Stop}

@@ -6,8 +6,6 @@ use Rattle.std.proofs.lemmas.List.{map_push}
 use Rattle.std.proofs.lemmas.List.Elements.{Contains-append_left, Contains-append_right}
 use Rattle.mh_handle.specs.declared.answer.Answer.{Answer}
 use Rattle.mh_handle.specs.Seats as forms
-use Rattle.mh_intern.specs.Views as types
-use Rattle.mh_tickets.specs.Seats as serials
 use Rattle.mh_jobs.specs.Given.{Given}
 use Rattle.mh_attempt.specs.Asked.{HasAsked, IsOver}
 use Rattle.mh_plan.specs.declared.call.Call.{Call}

@@ -9,7 +9,6 @@ use Rattle.mh_tickets.specs.Seats as serials
 use Rattle.mh_jobs.specs.Given.{Given}
 use Rattle.mh_plan.specs.declared.call.Call.{Call}
 use Rattle.mh_plan.specs.Types.{thread_types}
-use Rattle.mh_runtime.specs.declared.joining.Full.TheVariants as full
 use Rattle.mh_runtime.specs.declared.joining.Joined.{Joined}
 use Rattle.mh_runtime.specs.declared.lane.Lane.{Lane}
 use Rattle.mh_runtime.specs.Asking.{WasAsked, run_types}

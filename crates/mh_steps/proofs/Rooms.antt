@@ -1,5 +1,5 @@
 -- What calls leave of a thread's work for the calls after them: numbers that may still be drawn, and leaves that stayed.
-use Rattle.std.proofs.Common.{◌≡◌, sym, subst, ap, ◌∙◌, ℕ, ◌+◌, ◌≤◌, Result, Ok, Err, IfOk, arith}
+use Rattle.std.proofs.Common.{◌≡◌, sym, subst, ap, ℕ, ◌≤◌, Result, Ok, Err, IfOk, arith}
 use Rattle.mh_seats.specs.Room.{limit}
 use Rattle.mh_intern.specs.Views.{new_seat}
 use Rattle.mh_intern.specs.Views as types

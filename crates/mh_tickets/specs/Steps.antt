@@ -1,5 +1,5 @@
 -- Seats of a counter, and what a step leaves of them.
-use Rattle.std.specs.Prelude.{◌≡◌, []}
+use Rattle.std.specs.Prelude.{◌≡◌}
 use Rattle.atomic_table.specs.Seated.{TableId}
 
 -- a counter: one word

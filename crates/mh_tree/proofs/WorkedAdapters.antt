@@ -6,7 +6,7 @@ use Rattle.mh_values.specs.Class.{arithmetic_class, null_pointer_class}
 use Rattle.mh_values.specs.Computation.{Gave, Threw}
 use Rattle.mh_values.specs.Exception.{bare, saying}
 use Rattle.mh_leaf.specs.Outcome.{int_type, long_type}
-use Rattle.mh_tree.specs.Tree.{Tree, weight}
+use Rattle.mh_tree.specs.Tree.{Tree}
 use Rattle.mh_tree.specs.Tree as tree
 use Rattle.mh_tree.specs.Rows.{illegal}
 use Rattle.mh_tree.specs.Typing.{type_of, held}

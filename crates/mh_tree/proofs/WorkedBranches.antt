@@ -12,7 +12,7 @@ use Rattle.mh_values.specs.Class.{object_class, arithmetic_class, class_cast_cla
 use Rattle.mh_values.specs.Computation.{Ran, Gave, Threw}
 use Rattle.mh_values.specs.Exception.{bare, saying}
 use Rattle.mh_leaf.specs.Outcome.{int_type, long_type}
-use Rattle.mh_tree.specs.Tree.{Tree, weight}
+use Rattle.mh_tree.specs.Tree.{Tree}
 use Rattle.mh_tree.specs.Tree as tree
 use Rattle.mh_tree.specs.Rows.{illegal}
 use Rattle.mh_tree.specs.Typing.{type_of}

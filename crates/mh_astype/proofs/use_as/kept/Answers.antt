@@ -1,4 +1,4 @@
-use Rattle.std.proofs.Common.{ap, ◌∙◌, ◌+◌, ◌≤◌, [], ◌∷◌, arith}
+use Rattle.std.proofs.Common.{ap, ◌∙◌, ◌+◌, ◌≤◌, arith}
 use Rattle.std.proofs.lemmas.Bool.{and_parts}
 use Rattle.mh_convert.specs.Conversion.{is_trivial_ret}
 use Rattle.mh_handle.specs.Recipe.{are_trivial}

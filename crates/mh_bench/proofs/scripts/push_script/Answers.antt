@@ -1,4 +1,4 @@
-use Rattle.std.proofs.Common.{◌≡◌, ◌∙◌, ap, sym, ◌++◌, codes, append_assoc}
+use Rattle.std.proofs.Common.{◌∙◌, ap, sym, ◌++◌, codes, append_assoc}
 use Rattle.std.specs.Fmt.{decimal}
 use Rattle.std.specs.String.{string_bytes}
 use Rattle.mh_bench.specs.Scripts.{script_text}

@@ -7,7 +7,7 @@ use Rattle.mh_form.specs.declared.field.Bound.{the_lemmas}
 use Rattle.mh_form.specs.Guards.{guarded_on}
 use Rattle.mh_form.specs.Run.{result_at, run_field, senses_in}
 use Rattle.mh_form.specs.Slots.{filled, none_as_zero}
-use Rattle.mh_form.specs.Stack.{StackView, done, left, on_stack, run_slots, slots_on, step_on}
+use Rattle.mh_form.specs.Stack.{StackView, done, left, on_stack, run_slots, step_on}
 use Rattle.mh_form.proofs.Fields.{run_field-held, run_field-none}
 use Rattle.mh_form.proofs.Frames.{left-below}
 use Rattle.mh_form.proofs.Guarding.{after-stuck, again, guarded-gave, handled, threw-again}

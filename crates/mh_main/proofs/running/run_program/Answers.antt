@@ -1,4 +1,4 @@
-use Rattle.std.proofs.Common.{◌≢◌, rules, refl, inl, inr, arith}
+use Rattle.std.proofs.Common.{◌≢◌, rules, refl, inl, arith}
 use Rattle.mh_main.specs.Status.{write_failed}
 use Rattle.mh_main.specs.Due.{forms_line, types_line}
 use Rattle.mh_main.proofs.running.run_program.Goals as goal

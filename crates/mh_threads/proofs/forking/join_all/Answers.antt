@@ -1,4 +1,4 @@
-use Rattle.std.proofs.Common.{◌≡◌, sym, ◌∙◌, subst, List, length, map, map-id, rules}
+use Rattle.std.proofs.Common.{sym, ◌∙◌, subst, map-id, rules}
 use Rattle.std.proofs.lemmas.Iterator.Adapters.{YieldsList-from_vec}
 use Rattle.std.proofs.lemmas.Iterator.Consumers.{YieldsList-end, YieldsList-turn}
 use Rattle.mh_threads.proofs.Turns.{lane-done, lane-within}

@@ -1,4 +1,4 @@
-use Rattle.std.proofs.Common.{◌≡◌, ◌∷◌, ◌+◌, sym, ap, ap₂, ◌∙◌, List, take}
+use Rattle.std.proofs.Common.{◌≡◌, ◌∷◌, ◌+◌, ap, ap₂, ◌∙◌, List, take}
 use Rattle.std.specs.List.{insert}
 use Rattle.mh_values.specs.declared.value.Value.TheVariants.{Thrown}
 use Rattle.mh_form.specs.declared.slot.Slot.{Slot}

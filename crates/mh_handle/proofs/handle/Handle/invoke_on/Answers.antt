@@ -1,4 +1,4 @@
-use Rattle.std.proofs.Common.{◌≡◌, rules, subst, length, map, IfOk}
+use Rattle.std.proofs.Common.{rules, subst, length, map, IfOk}
 use Rattle.mh_form.specs.Erasure.{erased}
 use Rattle.mh_handle.specs.Answers.{IsAnswer, answer_in, typed_ran}
 use Rattle.mh_handle.specs.Stands.{handle_run}

@@ -1,5 +1,5 @@
-use Rattle.std.proofs.Common.{sym, subst, ◌<◌, ◌≤◌, List, [], length, rules}
-use Rattle.mh_intern.specs.Exchanges.{AreHeld, Exchanges}
+use Rattle.std.proofs.Common.{sym, subst, ◌<◌, ◌≤◌, [], length, rules}
+use Rattle.mh_intern.specs.Exchanges.{AreHeld}
 use Rattle.mh_intern.specs.Seats.{Holds}
 use Rattle.mh_intern.proofs.HoldLists.{copied-next, item-held, released-again, taken-more}
 use Rattle.mh_intern.proofs.Exchanging.{held-came}

@@ -1,8 +1,8 @@
-use Rattle.std.proofs.Common.{◌≡◌, sym, ◌∙◌, subst, List, [], ◌∷◌, length, take, map-id, rules}
+use Rattle.std.proofs.Common.{sym, ◌∙◌, subst, [], ◌∷◌, length, map-id, rules}
 use Rattle.std.proofs.lemmas.Iterator.Adapters.{YieldsList-from_vec}
 use Rattle.std.proofs.lemmas.Iterator.Consumers.{YieldsList-so_far, YieldsList-turn}
 use Rattle.mh_intern.specs.Exchanges.{Exchanges}
-use Rattle.mh_intern.proofs.Exchanging.{exchanges-still, exchanges-then}
+use Rattle.mh_intern.proofs.Exchanging.{exchanges-then}
 use Rattle.mh_intern.proofs.SingleExchanges.{exchanges-released}
 use Rattle.mh_intern.proofs.HoldLists.{next-held}
 use Rattle.mh_intern.proofs.table.TypeTable.release_all.Goals as goal
