@@ -22,13 +22,13 @@ pub struct Jobs {
 impl Model for Jobs {
     ghost use Rattle.std.specs.Prelude.{List};
     ghost use Rattle.mh_jobs.specs.declared.job.Job.{Job as OneJob};
-    ghost use Rattle.mh_jobs.specs.Jobs.{AreNumbered};
+    ghost use Rattle.mh_jobs.specs.Jobs.{AreInPlace};
 
     ghost Value = { List OneJob };
 
     ghost view = { λ j. j.jobs };
 
-    ghost invariant = { λ j. AreNumbered j.jobs };
+    ghost invariant = { λ j. AreInPlace j.jobs };
 }
 
 /// The number of a call site after so many others.

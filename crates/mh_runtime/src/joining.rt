@@ -131,7 +131,7 @@ impl<'s, 't, J: Run> Joined<'s, 't, J> {
 /// it leaves is joined.
 impl<'s, 't, J: Run + Send + Sync, G: Gate + Sync> ForkJoin for Context<'s, 't, J, G> {
     ghost use Rattle.std.specs.Prelude.{◌≡◌, length};
-    ghost use Rattle.mh_runtime.specs.Lanes.{CanRun, HasRun, tables_at};
+    ghost use Rattle.mh_runtime.specs.Lanes.{IsReadyLane, HasRun, tables_at};
     ghost use Rattle.mh_runtime.specs.Joining.{AreForked, AreJoinedTo};
 
     type Lane = Lane<'s, 't, J>;
@@ -145,7 +145,7 @@ impl<'s, 't, J: Run + Send + Sync, G: Gate + Sync> ForkJoin for Context<'s, 't, 
         lanes };
 
     ghost ready = { λ c lane. (c.leaves.now ≡ J.given.leaves)
-        × CanRun J.given c.linker.now (tables_at c.forms.now c.types.now) lane };
+        × IsReadyLane J.given c.linker.now (tables_at c.forms.now c.types.now) lane };
 
     ghost done = { λ c old new. (new.calls ≡ old.calls)
         × HasRun J.given c.linker.now (tables_at c.forms.now c.types.now) old.links.thread
