@@ -43,7 +43,7 @@ pub fn invoke_exact<'t>(
 /// A call as by `invoke_exact`, in a machine that is kept from call to call, out of which the answer
 /// takes the leaf calls.
 pub fn invoke_exact_with<'t>(
-    m: &mut Machine,
+    machine: &mut Machine,
     handle: &Handle<'t>,
     leaves: &Leaves,
     call: &MethodTy,
@@ -56,17 +56,17 @@ pub fn invoke_exact_with<'t>(
         (IsAnswer (exact leaves.now t call.now args.now n) (exact_keys leaves.now t call.now)) }
 {
     if is_same_method_type(handle.ty(), call) {
-        handle.invoke_with(m, leaves, args, n)
+        handle.invoke_with(machine, leaves, args, n)
     } else {
-        let exc = mismatch(m.alloc(), handle.ty(), call, leaves.classes())?;
-        Ok(Answer::thrown(m.alloc(), exc))
+        let exc = mismatch(machine.alloc(), handle.ty(), call, leaves.classes())?;
+        Ok(Answer::thrown(machine.alloc(), exc))
     }
 }
 
 /// A call as by `invoke_exact`, in a machine that is kept from call to call, which has its leaf
 /// calls until the next call.
 pub fn invoke_exact_on<'t>(
-    m: &mut Machine,
+    machine: &mut Machine,
     handle: &Handle<'t>,
     leaves: &Leaves,
     call: &MethodTy,
@@ -77,13 +77,13 @@ pub fn invoke_exact_on<'t>(
     requires stands { StandsForSome leaves.now handle.now }
     ensures { (t : Tree) → Stands leaves.now handle.now t → IfOk result (λ ended. IsAnswer
         (exact leaves.now t call.now args.now n) (exact_keys leaves.now t call.now)
-        (answer_in ended m.new)) }
+        (answer_in ended machine.new)) }
 {
     if is_same_method_type(handle.ty(), call) {
-        handle.invoke_on(m, leaves, args, n)
+        handle.invoke_on(machine, leaves, args, n)
     } else {
-        m.clear();
-        let exc = mismatch(m.alloc(), handle.ty(), call, leaves.classes())?;
+        machine.clear();
+        let exc = mismatch(machine.alloc(), handle.ty(), call, leaves.classes())?;
         Ok(Ended {
             outcome: Outcome::Throw(exc),
             keys: 0,
@@ -93,7 +93,7 @@ pub fn invoke_exact_on<'t>(
 
 /// A call through the conversions to the type, of which one changes something.
 fn invoke_converted<'t, R: Wait>(
-    m: &mut Machine,
+    machine: &mut Machine,
     w: &mut Work<'_, 't>,
     rt: &R,
     handle: &Handle<'t>,
@@ -121,12 +121,12 @@ fn invoke_converted<'t, R: Wait>(
     let more = convert_fields(w.alloc, call, handle.ty(), classes)?;
     let leaves = w.leaves;
     let form = w.edit(rt, handle.form(), key)?;
-    Ok(handle.invoke_edited_with(m, form, more, call.ret, leaves, args, n)?)
+    Ok(handle.invoke_edited_with(machine, form, more, call.ret, leaves, args, n)?)
 }
 
 /// A call through the conversions to the type, of which maybe none changes anything.
 fn invoke_used<'t, R: Wait>(
-    m: &mut Machine,
+    machine: &mut Machine,
     w: &mut Work<'_, 't>,
     rt: &R,
     handle: &Handle<'t>,
@@ -148,9 +148,9 @@ fn invoke_used<'t, R: Wait>(
         (length (recipe (leaves_of w.old) (AsType t call.now)))) }
 {
     if is_trivial(call, handle.ty(), w.classes()) {
-        Ok(handle.invoke_with(m, w.leaves, args, n)?)
+        Ok(handle.invoke_with(machine, w.leaves, args, n)?)
     } else {
-        invoke_converted(m, w, rt, handle, call, args, n)
+        invoke_converted(machine, w, rt, handle, call, args, n)
     }
 }
 
@@ -199,7 +199,7 @@ pub fn invoke_generic<'t, R: Wait>(
 /// A call as by `invoke_generic`, in a machine that is kept from call to call, out of which the
 /// answer takes the leaf calls.
 pub fn invoke_generic_with<'t, R: Wait>(
-    m: &mut Machine,
+    machine: &mut Machine,
     w: &mut Work<'_, 't>,
     rt: &R,
     handle: &Handle<'t>,
@@ -219,10 +219,10 @@ pub fn invoke_generic_with<'t, R: Wait>(
         (generic_keys (leaves_of w.old) t call.now)) }
 {
     if is_same_method_type(handle.ty(), call) {
-        return Ok(handle.invoke_with(m, w.leaves, args, n)?);
+        return Ok(handle.invoke_with(machine, w.leaves, args, n)?);
     }
     if let Some(exc) = refusal(w.alloc, handle, call, w.leaves.classes())? {
         return Ok(Answer::thrown(w.alloc, exc));
     }
-    invoke_used(m, w, rt, handle, call, args, n)
+    invoke_used(machine, w, rt, handle, call, args, n)
 }

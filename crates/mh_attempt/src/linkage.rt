@@ -110,7 +110,7 @@ impl<'t, J: Run> Linkage<'t, J> {
     /// answer takes the leaf calls.
     pub fn call_with(
         &self,
-        m: &mut Machine,
+        machine: &mut Machine,
         leaves: &Leaves,
         args: &Items,
     ) -> Result<Answer, NoMemory>
@@ -122,8 +122,8 @@ impl<'t, J: Run> Linkage<'t, J> {
             (site_keys J.given self.now.job.site self.now.serial)) }
     {
         match &self.linked {
-            Linked::Target(target) => target.invoke_with(m, leaves, args, 0),
-            Linked::Error(exc) => Ok(Answer::thrown(m.alloc(), exc.copy(m.alloc())?)),
+            Linked::Target(target) => target.invoke_with(machine, leaves, args, 0),
+            Linked::Error(exc) => Ok(Answer::thrown(machine.alloc(), exc.copy(machine.alloc())?)),
         }
     }
 

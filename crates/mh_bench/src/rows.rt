@@ -178,11 +178,11 @@ fn run_kept<'t>(
     requires typed { HaveTypes leaves.now.classes args.now handle.now.ty.params }
     requires stands { StandsForSome leaves.now handle.now }
 {
-    let mut m = Machine::new(alloc);
+    let mut machine = Machine::new(alloc);
     let mut calls: u64 = 0;
     for _ in 0..turns {
-        let _ended = invoke_exact_on(&mut m, handle, leaves, handle.ty(), args, 0)?;
-        calls = calls.wrapping_add(m.calls().len() as u64);
+        let _ended = invoke_exact_on(&mut machine, handle, leaves, handle.ty(), args, 0)?;
+        calls = calls.wrapping_add(machine.calls().len() as u64);
     }
     Ok(calls)
 }

@@ -34,26 +34,28 @@ struct Guard {
 /// has so many slots: it gets what the part gave, or stays as it is where the part threw.
 #[cycle(run)]
 fn run_part(
-    m: &mut Stack,
+    stack: &mut Stack,
     call: &Invocation<'_>,
     part: &Bound<'_>,
     count: usize,
 ) -> Result<Going, NoMemory>
-    requires waits { count ≤ length m.old.below }
-    requires well_formed { run_bound call.now.leaves.now part.now m.old.frame
-        (raised call.now.n m.old.calls) ≢ Stuck }
-    ensures done { IfOk result (λ g. done g m.new ≡ on_stack (left count m.old) (filled
-        (run_bound call.now.leaves.now part.now m.old.frame (raised call.now.n m.old.calls)))) }
-    ensures below { IfOk result (λ g. m.new.below ≡ (left count m.old).below) }
-    ensures threw { IfOk result (λ g. g ≡ Going.Threw → m.new.frame ≡ (left count m.old).frame) }
+    requires waits { count ≤ length stack.old.below }
+    requires well_formed { run_bound call.now.leaves.now part.now stack.old.frame
+        (raised call.now.n stack.old.calls) ≢ Stuck }
+    ensures done { IfOk result (λ g. done g stack.new ≡ on_stack (left count stack.old) (filled
+        (run_bound call.now.leaves.now part.now stack.old.frame
+        (raised call.now.n stack.old.calls)))) }
+    ensures below { IfOk result (λ g. stack.new.below ≡ (left count stack.old).below) }
+    ensures threw { IfOk result (λ g. g ≡ Going.Threw → stack.new.frame
+        ≡ (left count stack.old).frame) }
 {
-    match run_in(m, call, part)? {
+    match run_in(stack, call, part)? {
         Going::On => {
-            m.leave_with(part.body.out, count)?;
+            stack.leave_with(part.body.out, count)?;
             Ok(Going::On)
         }
         Going::Threw => {
-            m.leave(count);
+            stack.leave(count);
             Ok(Going::Threw)
         }
     }
@@ -62,27 +64,28 @@ fn run_part(
 /// Runs the part in a field on the slots of the run under way, in the same way.
 #[cycle(run)]
 fn run_entered(
-    m: &mut Stack,
+    stack: &mut Stack,
     call: &Invocation<'_>,
     bound: &Bound<'_>,
     field: u32,
     count: usize,
 ) -> Result<Going, NoMemory>
-    requires waits { count ≤ length m.old.below }
-    requires well_formed { run_field (senses_in call.now.leaves.now bound.now) field m.old.frame
-        (raised call.now.n m.old.calls) ≢ Stuck }
-    ensures done { IfOk result (λ g. done g m.new ≡ on_stack (left count m.old) (filled
-        (run_field (senses_in call.now.leaves.now bound.now) field m.old.frame
-        (raised call.now.n m.old.calls)))) }
-    ensures below { IfOk result (λ g. m.new.below ≡ (left count m.old).below) }
-    ensures threw { IfOk result (λ g. g ≡ Going.Threw → m.new.frame ≡ (left count m.old).frame) }
+    requires waits { count ≤ length stack.old.below }
+    requires well_formed { run_field (senses_in call.now.leaves.now bound.now) field stack.old.frame
+        (raised call.now.n stack.old.calls) ≢ Stuck }
+    ensures done { IfOk result (λ g. done g stack.new ≡ on_stack (left count stack.old) (filled
+        (run_field (senses_in call.now.leaves.now bound.now) field stack.old.frame
+        (raised call.now.n stack.old.calls)))) }
+    ensures below { IfOk result (λ g. stack.new.below ≡ (left count stack.old).below) }
+    ensures threw { IfOk result (λ g. g ≡ Going.Threw → stack.new.frame
+        ≡ (left count stack.old).frame) }
 {
     let at = field as usize;
     if at >= bound.fields.len() {
         unreachable!()
     }
     match &bound.fields[at] {
-        Field::Part(part) => run_part(m, call, part, count),
+        Field::Part(part) => run_part(stack, call, part, count),
         _ => unreachable!(),
     }
 }
@@ -90,95 +93,97 @@ fn run_entered(
 /// Runs the part in a field on the slots at these places.
 #[cycle(run)]
 fn step_link(
-    m: &mut Stack,
+    stack: &mut Stack,
     call: &Invocation<'_>,
     bound: &Bound<'_>,
     field: u32,
     args: &Operands,
 ) -> Result<Going, NoMemory>
     requires well_formed { step_on call.now.leaves.now call.now.n bound.now (Link field args.now)
-        m.old ≢ Stuck }
-    ensures done { IfOk result (λ g. done g m.new ≡ on_stack m.old
-        (step_on call.now.leaves.now call.now.n bound.now (Link field args.now) m.old)) }
-    ensures below { IfOk result (λ g. m.new.below ≡ m.old.below) }
+        stack.old ≢ Stuck }
+    ensures done { IfOk result (λ g. done g stack.new ≡ on_stack stack.old
+        (step_on call.now.leaves.now call.now.n bound.now (Link field args.now) stack.old)) }
+    ensures below { IfOk result (λ g. stack.new.below ≡ stack.old.below) }
 {
-    let count = m.enter(args)?;
-    run_entered(m, call, bound, field, count)
+    let count = stack.enter(args)?;
+    run_entered(stack, call, bound, field, count)
 }
 
 /// What a handler gives of the exception of a guarded part, on the arguments of that, which are the
 /// slots of the run under way. An exception of another class goes on.
 #[cycle(run)]
 fn handle(
-    m: &mut Stack,
+    stack: &mut Stack,
     call: &Invocation<'_>,
     bound: &Bound<'_>,
     guard: Guard,
     count: usize,
 ) -> Result<Going, NoMemory>
-    requires waits { count ≤ length m.old.below }
-    requires well_formed { caught_on call.now.leaves.now call.now.n bound.now guard m.old ≢ Stuck }
-    ensures done { IfOk result (λ g. done g m.new ≡ on_stack (left count m.old) (filled
-        (caught_on call.now.leaves.now call.now.n bound.now guard m.old))) }
-    ensures below { IfOk result (λ g. m.new.below ≡ (left count m.old).below) }
+    requires waits { count ≤ length stack.old.below }
+    requires well_formed { caught_on call.now.leaves.now call.now.n bound.now guard stack.old
+        ≢ Stuck }
+    ensures done { IfOk result (λ g. done g stack.new ≡ on_stack (left count stack.old) (filled
+        (caught_on call.now.leaves.now call.now.n bound.now guard stack.old))) }
+    ensures below { IfOk result (λ g. stack.new.below ≡ (left count stack.old).below) }
 {
     let classes = call.leaves.classes();
-    if !classes.subclass(m.thrown().class(), guard.class) {
-        m.leave(count);
+    if !classes.subclass(stack.thrown().class(), guard.class) {
+        stack.leave(count);
         return Ok(Going::Threw);
     }
-    m.hand_over(guard.kept)?;
-    run_entered(m, call, bound, guard.handler, count)
+    stack.hand_over(guard.kept)?;
+    run_entered(stack, call, bound, guard.handler, count)
 }
 
 /// Runs a guarded part on copies of the slots of the run under way, and its handler on those
 /// themselves.
 #[cycle(run)]
 fn run_guarded(
-    m: &mut Stack,
+    stack: &mut Stack,
     call: &Invocation<'_>,
     bound: &Bound<'_>,
     guard: Guard,
     count: usize,
 ) -> Result<Going, NoMemory>
-    requires waits { count ≤ length m.old.below }
-    requires well_formed { guarded_on call.now.leaves.now call.now.n bound.now guard m.old ≢ Stuck }
-    ensures done { IfOk result (λ g. done g m.new ≡ on_stack (left count m.old) (filled
-        (guarded_on call.now.leaves.now call.now.n bound.now guard m.old))) }
-    ensures below { IfOk result (λ g. m.new.below ≡ (left count m.old).below) }
+    requires waits { count ≤ length stack.old.below }
+    requires well_formed { guarded_on call.now.leaves.now call.now.n bound.now guard stack.old
+        ≢ Stuck }
+    ensures done { IfOk result (λ g. done g stack.new ≡ on_stack (left count stack.old) (filled
+        (guarded_on call.now.leaves.now call.now.n bound.now guard stack.old))) }
+    ensures below { IfOk result (λ g. stack.new.below ≡ (left count stack.old).below) }
 {
-    let kept = m.enter_again()?;
-    match run_entered(m, call, bound, guard.part, kept)? {
+    let kept = stack.enter_again()?;
+    match run_entered(stack, call, bound, guard.part, kept)? {
         Going::On => {
-            m.leave_with_last(kept, count)?;
+            stack.leave_with_last(kept, count)?;
             Ok(Going::On)
         }
-        Going::Threw => handle(m, call, bound, guard, count),
+        Going::Threw => handle(stack, call, bound, guard, count),
     }
 }
 
 /// Runs a guarded part on the slots at these places.
 #[cycle(run)]
 fn step_guarded(
-    m: &mut Stack,
+    stack: &mut Stack,
     call: &Invocation<'_>,
     bound: &Bound<'_>,
     guard: Guard,
     args: &Operands,
 ) -> Result<Going, NoMemory>
-    requires well_formed { found (picked m.old.frame args.now) (λ xs. filled
+    requires well_formed { found (picked stack.old.frame args.now) (λ xs. filled
         (guarded_field (senses_in call.now.leaves.now bound.now) guard.part
         (is_caught call.now.leaves.now.classes guard.class) guard.handler guard.kept xs
-        (raised call.now.n m.old.calls))) ≢ Stuck }
-    ensures done { IfOk result (λ g. done g m.new ≡ on_stack m.old
-        (found (picked m.old.frame args.now) (λ xs. filled
+        (raised call.now.n stack.old.calls))) ≢ Stuck }
+    ensures done { IfOk result (λ g. done g stack.new ≡ on_stack stack.old
+        (found (picked stack.old.frame args.now) (λ xs. filled
         (guarded_field (senses_in call.now.leaves.now bound.now) guard.part
         (is_caught call.now.leaves.now.classes guard.class) guard.handler guard.kept xs
-        (raised call.now.n m.old.calls))))) }
-    ensures below { IfOk result (λ g. m.new.below ≡ m.old.below) }
+        (raised call.now.n stack.old.calls))))) }
+    ensures below { IfOk result (λ g. stack.new.below ≡ stack.old.below) }
 {
-    let count = m.enter(args)?;
-    run_guarded(m, call, bound, guard, count)
+    let count = stack.enter(args)?;
+    run_guarded(stack, call, bound, guard, count)
 }
 
 /// The field of one of two parts: the first where the slot of the test is int 1.
@@ -191,23 +196,24 @@ fn chosen(test: &Slot, field: u32, other: u32) -> u32
 /// Runs a name on the slots of the run under way, which gets one slot more.
 #[cycle(run)]
 fn step(
-    m: &mut Stack,
+    stack: &mut Stack,
     call: &Invocation<'_>,
     bound: &Bound<'_>,
     name: &Name,
 ) -> Result<Going, NoMemory>
-    requires well_formed { step_on call.now.leaves.now call.now.n bound.now name.now m.old ≢ Stuck }
-    ensures done { IfOk result (λ g. done g m.new ≡ on_stack m.old
-        (step_on call.now.leaves.now call.now.n bound.now name.now m.old)) }
-    ensures below { IfOk result (λ g. m.new.below ≡ m.old.below) }
+    requires well_formed { step_on call.now.leaves.now call.now.n bound.now name.now stack.old
+        ≢ Stuck }
+    ensures done { IfOk result (λ g. done g stack.new ≡ on_stack stack.old
+        (step_on call.now.leaves.now call.now.n bound.now name.now stack.old)) }
+    ensures below { IfOk result (λ g. stack.new.below ≡ stack.old.below) }
 {
     match name {
-        Name::Get(field) => get(m, call, bound, *field),
-        Name::Call(field, args) => call_leaf(m, call, bound, *field, args),
-        Name::Link(field, args) => step_link(m, call, bound, *field, args),
+        Name::Get(field) => get(stack, call, bound, *field),
+        Name::Call(field, args) => call_leaf(stack, call, bound, *field, args),
+        Name::Link(field, args) => step_link(stack, call, bound, *field, args),
         Name::Select(test, field, other, args) => {
-            let part = chosen(m.at(*test), *field, *other);
-            step_link(m, call, bound, part, args)
+            let part = chosen(stack.at(*test), *field, *other);
+            step_link(stack, call, bound, part, args)
         }
         Name::Guarded(part, class, handler, args, kept) => {
             let Some(class) = class_in(bound, call.leaves, *class) else {
@@ -219,29 +225,29 @@ fn step(
                 handler: *handler,
                 kept: *kept,
             };
-            step_guarded(m, call, bound, guard, args)
+            step_guarded(stack, call, bound, guard, args)
         }
         Name::Conv(field, slot) | Name::Cast(field, slot) => {
-            convert(m, call, bound, *field, *slot)
+            convert(stack, call, bound, *field, *slot)
         }
-        Name::Ret(field, slot) => convert_returned(m, call, bound, *field, *slot),
-        Name::MakeArray(field, items) => array(m, call, bound, *field, items),
-        Name::CheckArray(slot, count) => check(m, *slot, *count),
-        Name::Elem(slot, at) => item(m, *slot, *at),
-        Name::Raise(slot) => throw(m, *slot),
+        Name::Ret(field, slot) => convert_returned(stack, call, bound, *field, *slot),
+        Name::MakeArray(field, items) => array(stack, call, bound, *field, items),
+        Name::CheckArray(slot, count) => check(stack, *slot, *count),
+        Name::Elem(slot, at) => item(stack, *slot, *at),
+        Name::Raise(slot) => throw(stack, *slot),
     }
 }
 
 /// Runs the names of a body in order on the slots of the run under way, until one throws.
 #[cycle(run)]
-fn run_in(m: &mut Stack, call: &Invocation<'_>, bound: &Bound<'_>) -> Result<Going, NoMemory>
-    requires well_formed { slots_on call.now.leaves.now call.now.n bound.now m.old ≢ Stuck }
-    ensures done { IfOk result (λ g. done g m.new ≡ after m.old.calls
-        (slots_on call.now.leaves.now call.now.n bound.now m.old)) }
-    ensures below { IfOk result (λ g. m.new.below ≡ m.old.below) }
+fn run_in(stack: &mut Stack, call: &Invocation<'_>, bound: &Bound<'_>) -> Result<Going, NoMemory>
+    requires well_formed { slots_on call.now.leaves.now call.now.n bound.now stack.old ≢ Stuck }
+    ensures done { IfOk result (λ g. done g stack.new ≡ after stack.old.calls
+        (slots_on call.now.leaves.now call.now.n bound.now stack.old)) }
+    ensures below { IfOk result (λ g. stack.new.below ≡ stack.old.below) }
 {
     for name in bound.body.names.as_slice() {
-        match step(m, call, bound, name)? {
+        match step(stack, call, bound, name)? {
             Going::On => {}
             Going::Threw => return Ok(Going::Threw),
         }
@@ -251,18 +257,19 @@ fn run_in(m: &mut Stack, call: &Invocation<'_>, bound: &Bound<'_>) -> Result<Goi
 
 /// Runs a body on the slots of the run under way, and takes its result.
 fn run_whole(
-    m: &mut Stack,
+    stack: &mut Stack,
     call: &Invocation<'_>,
     bound: &Bound<'_>,
 ) -> Result<SlotOutcome, NoMemory>
-    requires first { m.old.calls ≡ [] }
-    requires well_formed { run_bound call.now.leaves.now bound.now m.old.frame call.now.n ≢ Stuck }
-    ensures { IfOk result (λ outcome. ran_of_outcome outcome m.new.calls
-        ≡ run_bound call.now.leaves.now bound.now m.old.frame call.now.n) }
+    requires first { stack.old.calls ≡ [] }
+    requires well_formed { run_bound call.now.leaves.now bound.now stack.old.frame call.now.n
+        ≢ Stuck }
+    ensures { IfOk result (λ outcome. ran_of_outcome outcome stack.new.calls
+        ≡ run_bound call.now.leaves.now bound.now stack.old.frame call.now.n) }
 {
-    match run_in(m, call, bound)? {
-        Going::On => Ok(SlotOutcome::Return(m.take_result(bound.body.out))),
-        Going::Threw => Ok(SlotOutcome::Throw(m.take_thrown())),
+    match run_in(stack, call, bound)? {
+        Going::On => Ok(SlotOutcome::Return(stack.take_result(bound.body.out))),
+        Going::Threw => Ok(SlotOutcome::Throw(stack.take_thrown())),
     }
 }
 
@@ -280,11 +287,11 @@ pub fn run<'t>(
     requires well_formed { run_bound leaves.now bound.now args n ≢ Stuck }
     ensures { IfOk result (λ r. ran_of_run r ≡ run_bound leaves.now bound.now args n) }
 {
-    let mut m = Stack::on(alloc, args);
-    let outcome = run_whole(&mut m, &Invocation { leaves, n }, bound)?;
+    let mut stack = Stack::on(alloc, args);
+    let outcome = run_whole(&mut stack, &Invocation { leaves, n }, bound)?;
     Ok(Ran {
         outcome,
-        calls: m.into_calls(),
+        calls: stack.into_calls(),
     })
 }
 
@@ -292,18 +299,18 @@ pub fn run<'t>(
 /// its arguments when they are erased. Its leaf calls stay in the machine until the next run.
 /// Nothing of the run before is seen, also where that found no memory on its way.
 pub fn run_on(
-    m: &mut Machine,
+    machine: &mut Machine,
     bound: &Bound<'_>,
     args: &Items,
     n: u32,
     leaves: &Leaves,
 ) -> Result<SlotOutcome, NoMemory>
     requires { run_bound leaves.now bound.now (map erased args.now) n ≢ Stuck }
-    ensures { IfOk result (λ outcome. ran_of_outcome outcome m.new
+    ensures { IfOk result (λ outcome. ran_of_outcome outcome machine.new
         ≡ run_bound leaves.now bound.now (map erased args.now) n) }
 {
-    m.stack.begin_on(args)?;
-    let ended = run_whole(&mut m.stack, &Invocation { leaves, n }, bound);
-    m.stack.rest();
+    machine.stack.begin_on(args)?;
+    let ended = run_whole(&mut machine.stack, &Invocation { leaves, n }, bound);
+    machine.stack.rest();
     ended
 }

@@ -60,52 +60,53 @@ pub(crate) fn typed_at(
 }
 
 /// Notes a call of a leaf on the arguments that are loaded, if it runs.
-fn note(m: &mut Stack, call: &Invocation<'_>, id: LeafId) -> Result<(), NoMemory>
+fn note(stack: &mut Stack, call: &Invocation<'_>, id: LeafId) -> Result<(), NoMemory>
     requires leaf { id.0 < length call.now.leaves.now.leaves }
     ensures calls { (leaf : Leaf) → slice_get call.now.leaves.now.leaves id.0 ≡ Some leaf →
-        OnOk result (m.new.calls ≡ m.old.calls ++ calls_of id leaf m.old.args) }
-    ensures frame { OnOk result (m.new.frame ≡ m.old.frame) }
-    ensures below { OnOk result (m.new.below ≡ m.old.below) }
+        OnOk result (stack.new.calls ≡ stack.old.calls ++ calls_of id leaf stack.old.args) }
+    ensures frame { OnOk result (stack.new.frame ≡ stack.old.frame) }
+    ensures below { OnOk result (stack.new.below ≡ stack.old.below) }
 {
-    if lacks_receiver(call.leaves.is_virtual(id), m.args()) {
+    if lacks_receiver(call.leaves.is_virtual(id), stack.args()) {
         return Ok(());
     }
-    m.note(id)
+    stack.note(id)
 }
 
 /// Calls a leaf on the arguments that are loaded, which have its types.
-fn call_loaded(m: &mut Stack, call: &Invocation<'_>, id: LeafId) -> Result<Going, NoMemory>
+fn call_loaded(stack: &mut Stack, call: &Invocation<'_>, id: LeafId) -> Result<Going, NoMemory>
     requires leaf { id.0 < length call.now.leaves.now.leaves }
-    requires runs { leaf_mean call.now.leaves.now id m.old.args (raised call.now.n m.old.calls)
+    requires runs { leaf_mean call.now.leaves.now id stack.old.args
+        (raised call.now.n stack.old.calls)
         ≢ Stuck }
-    ensures done { IfOk result (λ g. done g m.new ≡ on_stack m.old (filled (erased_ran
-        (leaf_mean call.now.leaves.now id m.old.args (raised call.now.n m.old.calls))))) }
-    ensures below { IfOk result (λ g. m.new.below ≡ m.old.below) }
+    ensures done { IfOk result (λ g. done g stack.new ≡ on_stack stack.old (filled (erased_ran
+        (leaf_mean call.now.leaves.now id stack.old.args (raised call.now.n stack.old.calls))))) }
+    ensures below { IfOk result (λ g. stack.new.below ≡ stack.old.below) }
 {
-    let n = raised(call.n, m.calls());
-    let outcome = call.leaves.leaf_does(m.alloc(), id, m.args(), n)?;
-    note(m, call, id)?;
-    m.finish(outcome)
+    let n = raised(call.n, stack.calls());
+    let outcome = call.leaves.leaf_does(stack.alloc(), id, stack.args(), n)?;
+    note(stack, call, id)?;
+    stack.finish(outcome)
 }
 
 /// Calls a leaf on the slots at these places, which are the erasures of values of its types.
 pub(crate) fn call_at(
-    m: &mut Stack,
+    stack: &mut Stack,
     call: &Invocation<'_>,
     id: LeafId,
     places: &Operands,
 ) -> Result<Going, NoMemory>
-    requires { called_at call.now.leaves.now id m.old.frame places.now
-        (raised call.now.n m.old.calls) ≢ Stuck }
-    ensures done { IfOk result (λ g. done g m.new ≡ on_stack m.old (filled
-        (called_at call.now.leaves.now id m.old.frame places.now
-        (raised call.now.n m.old.calls)))) }
-    ensures below { IfOk result (λ g. m.new.below ≡ m.old.below) }
+    requires { called_at call.now.leaves.now id stack.old.frame places.now
+        (raised call.now.n stack.old.calls) ≢ Stuck }
+    ensures done { IfOk result (λ g. done g stack.new ≡ on_stack stack.old (filled
+        (called_at call.now.leaves.now id stack.old.frame places.now
+        (raised call.now.n stack.old.calls)))) }
+    ensures below { IfOk result (λ g. stack.new.below ≡ stack.old.below) }
 {
     let leaves = call.leaves;
     if id.0 >= leaves.count() {
         unreachable!()
     }
-    m.load(&leaves.ty(id).params, places, leaves.classes())?;
-    call_loaded(m, call, id)
+    stack.load(&leaves.ty(id).params, places, leaves.classes())?;
+    call_loaded(stack, call, id)
 }

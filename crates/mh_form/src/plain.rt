@@ -19,134 +19,136 @@ use mh_base::{Copied, NoMemory};
 
 /// A copy of the slot in a field.
 pub(crate) fn get(
-    m: &mut Stack,
+    stack: &mut Stack,
     call: &Invocation<'_>,
     bound: &Bound<'_>,
     field: u32,
 ) -> Result<Going, NoMemory>
-    requires { step_on call.now.leaves.now call.now.n bound.now (Get field) m.old ≢ Stuck }
-    ensures done { IfOk result (λ g. done g m.new ≡ on_stack m.old
-        (step_on call.now.leaves.now call.now.n bound.now (Get field) m.old)) }
-    ensures below { IfOk result (λ g. m.new.below ≡ m.old.below) }
+    requires { step_on call.now.leaves.now call.now.n bound.now (Get field) stack.old ≢ Stuck }
+    ensures done { IfOk result (λ g. done g stack.new ≡ on_stack stack.old
+        (step_on call.now.leaves.now call.now.n bound.now (Get field) stack.old)) }
+    ensures below { IfOk result (λ g. stack.new.below ≡ stack.old.below) }
 {
     let Some(slot) = slot_in(bound, call.leaves, field) else {
         unreachable!()
     };
-    let slot = slot.copy(m.alloc())?;
-    m.give(Ok(slot))
+    let slot = slot.copy(stack.alloc())?;
+    stack.give(Ok(slot))
 }
 
 /// Calls the leaf in a field.
 pub(crate) fn call_leaf(
-    m: &mut Stack,
+    stack: &mut Stack,
     call: &Invocation<'_>,
     bound: &Bound<'_>,
     field: u32,
     args: &Operands,
 ) -> Result<Going, NoMemory>
-    requires { step_on call.now.leaves.now call.now.n bound.now (Call field args.now) m.old
+    requires { step_on call.now.leaves.now call.now.n bound.now (Call field args.now) stack.old
         ≢ Stuck }
-    ensures done { IfOk result (λ g. done g m.new ≡ on_stack m.old
-        (step_on call.now.leaves.now call.now.n bound.now (Call field args.now) m.old)) }
-    ensures below { IfOk result (λ g. m.new.below ≡ m.old.below) }
+    ensures done { IfOk result (λ g. done g stack.new ≡ on_stack stack.old
+        (step_on call.now.leaves.now call.now.n bound.now (Call field args.now) stack.old)) }
+    ensures below { IfOk result (λ g. stack.new.below ≡ stack.old.below) }
 {
     let Some(leaf) = leaf_in(bound, call.leaves, field) else {
         unreachable!()
     };
-    call_at(m, call, leaf, args)
+    call_at(stack, call, leaf, args)
 }
 
 /// Converts the slot at a place by the conversion in a field.
 pub(crate) fn convert(
-    m: &mut Stack,
+    stack: &mut Stack,
     call: &Invocation<'_>,
     bound: &Bound<'_>,
     field: u32,
     slot: u32,
 ) -> Result<Going, NoMemory>
-    requires { step_on call.now.leaves.now call.now.n bound.now (Conv field slot) m.old ≢ Stuck }
-    ensures done { IfOk result (λ g. done g m.new ≡ on_stack m.old
-        (step_on call.now.leaves.now call.now.n bound.now (Conv field slot) m.old)) }
-    ensures below { IfOk result (λ g. m.new.below ≡ m.old.below) }
+    requires { step_on call.now.leaves.now call.now.n bound.now (Conv field slot) stack.old
+        ≢ Stuck }
+    ensures done { IfOk result (λ g. done g stack.new ≡ on_stack stack.old
+        (step_on call.now.leaves.now call.now.n bound.now (Conv field slot) stack.old)) }
+    ensures below { IfOk result (λ g. stack.new.below ≡ stack.old.below) }
 {
     let Some(conv) = conv_in(bound, call.leaves, field) else {
         unreachable!()
     };
-    let slot = m.at(slot).copy(m.alloc())?;
-    m.give(convert_slot(conv, slot, call.leaves.classes()))
+    let slot = stack.at(slot).copy(stack.alloc())?;
+    stack.give(convert_slot(conv, slot, call.leaves.classes()))
 }
 
 /// Converts a result by the return conversion in a field.
 pub(crate) fn convert_returned(
-    m: &mut Stack,
+    stack: &mut Stack,
     call: &Invocation<'_>,
     bound: &Bound<'_>,
     field: u32,
     slot: Option<u32>,
 ) -> Result<Going, NoMemory>
-    requires { step_on call.now.leaves.now call.now.n bound.now (Ret field slot) m.old ≢ Stuck }
-    ensures done { IfOk result (λ g. done g m.new ≡ on_stack m.old
-        (step_on call.now.leaves.now call.now.n bound.now (Ret field slot) m.old)) }
-    ensures below { IfOk result (λ g. m.new.below ≡ m.old.below) }
+    requires { step_on call.now.leaves.now call.now.n bound.now (Ret field slot) stack.old ≢ Stuck }
+    ensures done { IfOk result (λ g. done g stack.new ≡ on_stack stack.old
+        (step_on call.now.leaves.now call.now.n bound.now (Ret field slot) stack.old)) }
+    ensures below { IfOk result (λ g. stack.new.below ≡ stack.old.below) }
 {
     let Some(conv) = ret_in(bound, call.leaves, field) else {
         unreachable!()
     };
-    let given = result_in(m.alloc(), slot, m.frame())?;
-    m.give(convert_result(conv, given, call.leaves.classes()))
+    let given = result_in(stack.alloc(), slot, stack.frame())?;
+    stack.give(convert_result(conv, given, call.leaves.classes()))
 }
 
 /// Makes an array of the slots at these places, of the component type in a field.
 pub(crate) fn array(
-    m: &mut Stack,
+    stack: &mut Stack,
     call: &Invocation<'_>,
     bound: &Bound<'_>,
     field: u32,
     items: &Operands,
 ) -> Result<Going, NoMemory>
-    requires { step_on call.now.leaves.now call.now.n bound.now (MakeArray field items.now) m.old
+    requires { step_on call.now.leaves.now call.now.n bound.now
+        (MakeArray field items.now) stack.old
         ≢ Stuck }
-    ensures done { IfOk result (λ g. done g m.new ≡ on_stack m.old
-        (step_on call.now.leaves.now call.now.n bound.now (MakeArray field items.now) m.old)) }
-    ensures below { IfOk result (λ g. m.new.below ≡ m.old.below) }
+    ensures done { IfOk result (λ g. done g stack.new ≡ on_stack stack.old
+        (step_on call.now.leaves.now call.now.n bound.now (MakeArray field items.now) stack.old)) }
+    ensures below { IfOk result (λ g. stack.new.below ≡ stack.old.below) }
 {
-    let items = pick(m.alloc(), m.frame(), items)?;
+    let items = pick(stack.alloc(), stack.frame(), items)?;
     let Some(comp) = comp_in(bound, call.leaves, field) else {
         unreachable!()
     };
-    let array = make_array(m.alloc(), comp, items, call.leaves.classes())?;
-    m.give(array)
+    let array = make_array(stack.alloc(), comp, items, call.leaves.classes())?;
+    stack.give(array)
 }
 
 /// Checks that the slot at a place holds an array of so many items.
-pub(crate) fn check(m: &mut Stack, slot: u32, count: u32) -> Result<Going, NoMemory>
-    requires { step (CheckArray slot count) [] m.old.frame 0 ≢ Stuck }
-    ensures done { IfOk result (λ g. done g m.new ≡ on_stack m.old
-        (step (CheckArray slot count) [] m.old.frame 0)) }
-    ensures below { IfOk result (λ g. m.new.below ≡ m.old.below) }
+pub(crate) fn check(stack: &mut Stack, slot: u32, count: u32) -> Result<Going, NoMemory>
+    requires { step (CheckArray slot count) [] stack.old.frame 0 ≢ Stuck }
+    ensures done { IfOk result (λ g. done g stack.new ≡ on_stack stack.old
+        (step (CheckArray slot count) [] stack.old.frame 0)) }
+    ensures below { IfOk result (λ g. stack.new.below ≡ stack.old.below) }
 {
-    let checked = check_array(m.alloc(), m.at(slot), count)?;
-    m.give(checked)
+    let checked = check_array(stack.alloc(), stack.at(slot), count)?;
+    stack.give(checked)
 }
 
 /// An item of the array in the slot at a place.
-pub(crate) fn item(m: &mut Stack, slot: u32, item: u32) -> Result<Going, NoMemory>
-    requires { step (Elem slot item) [] m.old.frame 0 ≢ Stuck }
-    ensures done { IfOk result (λ g. done g m.new ≡ on_stack m.old
-        (step (Elem slot item) [] m.old.frame 0)) }
-    ensures below { IfOk result (λ g. m.new.below ≡ m.old.below) }
+pub(crate) fn item(stack: &mut Stack, slot: u32, item: u32) -> Result<Going, NoMemory>
+    requires { step (Elem slot item) [] stack.old.frame 0 ≢ Stuck }
+    ensures done { IfOk result (λ g. done g stack.new ≡ on_stack stack.old
+        (step (Elem slot item) [] stack.old.frame 0)) }
+    ensures below { IfOk result (λ g. stack.new.below ≡ stack.old.below) }
 {
-    let item = item_in(m.alloc(), m.at(slot), item)?;
-    m.give(Ok(item))
+    let item = item_in(stack.alloc(), stack.at(slot), item)?;
+    stack.give(Ok(item))
 }
 
 /// Throws the exception in the slot at a place.
-pub(crate) fn throw(m: &mut Stack, slot: u32) -> Result<Going, NoMemory>
-    requires { step (Raise slot) [] m.old.frame 0 ≢ Stuck }
-    ensures done { IfOk result (λ g. done g m.new ≡ on_stack m.old
-        (step (Raise slot) [] m.old.frame 0)) }
-    ensures below { IfOk result (λ g. m.new.below ≡ m.old.below) }
+pub(crate) fn throw(stack: &mut Stack, slot: u32) -> Result<Going, NoMemory>
+    requires { step (Raise slot) [] stack.old.frame 0 ≢ Stuck }
+    ensures done { IfOk result (λ g. done g stack.new ≡ on_stack stack.old
+        (step (Raise slot) [] stack.old.frame 0)) }
+    ensures below { IfOk result (λ g. stack.new.below ≡ stack.old.below) }
 {
-    let slot = m.at(slot).copy(m.alloc())?;
-    Ok(m.throw(raise(slot)))
+    let slot = stack.at(slot).copy(stack.alloc())?;
+    Ok(stack.throw(raise(slot)))
 }

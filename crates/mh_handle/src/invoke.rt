@@ -45,7 +45,7 @@ impl<'t> Handle<'t> {
     /// the answer takes the leaf calls.
     pub fn invoke_with(
         &self,
-        m: &mut Machine,
+        machine: &mut Machine,
         leaves: &Leaves,
         args: &Items,
         n: u32,
@@ -59,8 +59,8 @@ impl<'t> Handle<'t> {
         ensures tree { (t : Tree) → Stands leaves.now self.now t
             → IfOk result (IsAnswer (mean leaves.now t args.now n) (length self.now.form.recipe)) }
     {
-        let ended = self.invoke_on(m, leaves, args, n)?;
-        Ok(Answer::new(ended, m.take_calls()))
+        let ended = self.invoke_on(machine, leaves, args, n)?;
+        Ok(Answer::new(ended, machine.take_calls()))
     }
 
     /// Calls the handle as `invoke` does, in a machine that is kept from call to call. The leaf calls
@@ -68,7 +68,7 @@ impl<'t> Handle<'t> {
     /// or a conversion makes a text, an array or a message, or where the machine has too little room.
     pub fn invoke_on(
         &self,
-        m: &mut Machine,
+        machine: &mut Machine,
         leaves: &Leaves,
         args: &Items,
         n: u32,
@@ -78,12 +78,12 @@ impl<'t> Handle<'t> {
             (handle_run leaves.now self.now (map erased args.now) n) ≢ Stuck }
         ensures run { IfOk result (λ ended. IsAnswer (typed_ran leaves.now.classes self.now.ty.ret
             (handle_run leaves.now self.now (map erased args.now) n))
-            (length self.now.form.recipe) (answer_in ended m.new)) }
+            (length self.now.form.recipe) (answer_in ended machine.new)) }
         ensures tree { (t : Tree) → Stands leaves.now self.now t → IfOk result (λ ended.
             IsAnswer (mean leaves.now t args.now n) (length self.now.form.recipe)
-            (answer_in ended m.new)) }
+            (answer_in ended machine.new)) }
     {
-        let outcome = run_on(m, &self.bound, args, n, leaves)?;
+        let outcome = run_on(machine, &self.bound, args, n, leaves)?;
         let keys = self.form.recipe().len();
         end(outcome, self.ty().ret, keys, leaves.classes())
     }
@@ -114,7 +114,7 @@ impl<'t> Handle<'t> {
     /// kept from call to call, out of which the answer takes the leaf calls.
     pub fn invoke_edited_with(
         &self,
-        m: &mut Machine,
+        machine: &mut Machine,
         form: &'t Form,
         more: Fields<'t>,
         ret: Option<Ty>,
@@ -129,16 +129,16 @@ impl<'t> Handle<'t> {
             (run_on leaves.now (body_of form.entry.now.recipe) (self.now.fields ++ more.entry.items)
             (map erased args.now) n)) (length form.entry.now.recipe)) }
     {
-        let mut fields = copy_fields(m.alloc(), self.bound.fields.as_slice())?;
+        let mut fields = copy_fields(machine.alloc(), self.bound.fields.as_slice())?;
         let mut more = more;
         fields.append(&mut more)?;
         let bound = Bound {
             body: form.body(),
             fields,
         };
-        let outcome = run_on(m, &bound, args, n, leaves)?;
+        let outcome = run_on(machine, &bound, args, n, leaves)?;
         let ended = end(outcome, ret, form.recipe().len(), leaves.classes())?;
-        Ok(Answer::new(ended, m.take_calls()))
+        Ok(Answer::new(ended, machine.take_calls()))
     }
 }
 

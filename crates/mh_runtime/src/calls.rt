@@ -58,7 +58,7 @@ fn leaf_handle<'t, R: Wait>(
 
 // An exact call of a leaf.
 fn call_exact<'t, R: Wait>(
-    m: &mut Machine,
+    machine: &mut Machine,
     w: &mut Work<'_, 't>,
     rt: &R,
     id: LeafId,
@@ -77,14 +77,14 @@ fn call_exact<'t, R: Wait>(
     ensures asked { AsksTypes (types_of (leaves_of w.old) (tree.Leaf id ∷ [])) w.old w.new result }
 {
     let handle = leaf_handle(w, rt, id)?;
-    let answer = invoke_exact_with(m, &handle, w.leaves, ty, args, 0);
+    let answer = invoke_exact_with(machine, &handle, w.leaves, ty, args, 0);
     handle.give_back(w);
     Ok(answer?)
 }
 
 // A generic call of a leaf.
 fn call_generic<'t, R: Wait>(
-    m: &mut Machine,
+    machine: &mut Machine,
     w: &mut Work<'_, 't>,
     rt: &R,
     id: LeafId,
@@ -104,7 +104,7 @@ fn call_generic<'t, R: Wait>(
     ensures asked { AsksTypes (types_of (leaves_of w.old) (tree.Leaf id ∷ [])) w.old w.new result }
 {
     let handle = leaf_handle(w, rt, id)?;
-    let answer = invoke_generic_with(m, w, rt, &handle, ty, args, 0);
+    let answer = invoke_generic_with(machine, w, rt, &handle, ty, args, 0);
     handle.give_back(w);
     Ok(answer?)
 }
@@ -113,7 +113,7 @@ impl<'s, 't, J: Run, G: Gate> Context<'s, 't, J, G> {
     // Calls a site: its target is called, or the recorded error is thrown.
     fn call_site<R: Wait>(
         &self,
-        m: &mut Machine,
+        machine: &mut Machine,
         w: &mut Work<'_, 't>,
         rt: &R,
         pass: &mut Pass<'s, 't, J>,
@@ -137,7 +137,7 @@ impl<'s, 't, J: Run, G: Gate> Context<'s, 't, J, G> {
             [] w.old.seat.now w.new.seat.now result }
     {
         let linkage = self.linker.resolve(w, rt, pass, self.gate, site)?;
-        Ok(linkage.call_with(m, w.leaves, args)?)
+        Ok(linkage.call_with(machine, w.leaves, args)?)
     }
 
     /// Makes a call of a thread, in the machine that its calls have in common: of a leaf by a handle
@@ -147,7 +147,7 @@ impl<'s, 't, J: Run, G: Gate> Context<'s, 't, J, G> {
     /// targets.
     pub(crate) fn call<R: Wait>(
         &self,
-        m: &mut Machine,
+        machine: &mut Machine,
         w: &mut Work<'_, 't>,
         rt: &R,
         pass: &mut Pass<'s, 't, J>,
@@ -173,9 +173,9 @@ impl<'s, 't, J: Run, G: Gate> Context<'s, 't, J, G> {
             (call_types J.given.leaves call.now) w.old.seat.now w.new.seat.now result }
     {
         match call {
-            Call::Exact(id, ty, args) => call_exact(m, w, rt, *id, ty, args),
-            Call::Generic(id, ty, args) => call_generic(m, w, rt, *id, ty, args),
-            Call::Indy(site, args) => self.call_site(m, w, rt, pass, *site, args),
+            Call::Exact(id, ty, args) => call_exact(machine, w, rt, *id, ty, args),
+            Call::Generic(id, ty, args) => call_generic(machine, w, rt, *id, ty, args),
+            Call::Indy(site, args) => self.call_site(machine, w, rt, pass, *site, args),
         }
     }
 }

@@ -64,10 +64,10 @@ impl<'s, 't, J: Run, G: Gate> Context<'s, 't, J, G> {
         ensures asked { RunsOnTypes J.given pass.old.attempts pass.new.attempts
             (thread_types J.given.leaves calls.now) w.old.seat.now w.new.seat.now result }
     {
-        let mut m = Machine::new(w.alloc);
+        let mut machine = Machine::new(w.alloc);
         let mut answers = Seq::new(w.alloc);
         for next in calls.as_slice() {
-            answers.push(self.call(&mut m, w, rt, pass, next)?)?;
+            answers.push(self.call(&mut machine, w, rt, pass, next)?)?;
         }
         Ok(answers)
     }

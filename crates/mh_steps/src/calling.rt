@@ -47,7 +47,7 @@ pub fn call_typed<'t>(
     ) {
         return Err(NoMemory);
     }
-    let mut m = Machine::new(alloc);
-    let _first = invoke_exact_on(&mut m, handle, leaves, handle.ty(), args, 0)?;
-    invoke_exact_with(&mut m, handle, leaves, handle.ty(), args, 0)
+    let mut machine = Machine::new(alloc);
+    let _first = invoke_exact_on(&mut machine, handle, leaves, handle.ty(), args, 0)?;
+    invoke_exact_with(&mut machine, handle, leaves, handle.ty(), args, 0)
 }

@@ -9,19 +9,19 @@ use Rattle.mh_tree.specs.Tree as tree
 
 -- all values that a tree holds, its constants and those that are bound, are within their limits
 abbrev pub HasLimitedValues : Tree → Type 0
-HasLimitedValues (tree.Constant t v) = IsValueWithinLimits v
-HasLimitedValues (tree.Bind t place v) = IsValueWithinLimits v × HasLimitedValues t
-HasLimitedValues (tree.Drop t place types) = HasLimitedValues t
-HasLimitedValues (tree.Permute t asked reorder) = HasLimitedValues t
-HasLimitedValues (tree.FilterArg t place f) = HasLimitedValues t × HasLimitedValues f
-HasLimitedValues (tree.FilterRet t f) = HasLimitedValues t × HasLimitedValues f
-HasLimitedValues (tree.Fold t place c) = HasLimitedValues t × HasLimitedValues c
-HasLimitedValues (tree.Collect t place f) = HasLimitedValues t × HasLimitedValues f
-HasLimitedValues (tree.Spread t array count) = HasLimitedValues t
-HasLimitedValues (tree.Gather t array count) = HasLimitedValues t
-HasLimitedValues (tree.AsType t asked) = HasLimitedValues t
-HasLimitedValues (tree.Guard c t e) = HasLimitedValues c × HasLimitedValues t × HasLimitedValues e
-HasLimitedValues (tree.Catch t class h) = HasLimitedValues t × HasLimitedValues h
+HasLimitedValues (tree.Constant t value) = IsValueWithinLimits value
+HasLimitedValues (tree.Bind target place value) = IsValueWithinLimits value × HasLimitedValues target
+HasLimitedValues (tree.Drop target place types) = HasLimitedValues target
+HasLimitedValues (tree.Permute target asked reorder) = HasLimitedValues target
+HasLimitedValues (tree.FilterArg target place filter) = HasLimitedValues target × HasLimitedValues filter
+HasLimitedValues (tree.FilterRet target filter) = HasLimitedValues target × HasLimitedValues filter
+HasLimitedValues (tree.Fold target place combiner) = HasLimitedValues target × HasLimitedValues combiner
+HasLimitedValues (tree.Collect target place filter) = HasLimitedValues target × HasLimitedValues filter
+HasLimitedValues (tree.Spread target array count) = HasLimitedValues target
+HasLimitedValues (tree.Gather target array count) = HasLimitedValues target
+HasLimitedValues (tree.AsType target asked) = HasLimitedValues target
+HasLimitedValues (tree.Guard test target fallback) = HasLimitedValues test × HasLimitedValues target × HasLimitedValues fallback
+HasLimitedValues (tree.Catch target class handler) = HasLimitedValues target × HasLimitedValues handler
 HasLimitedValues _ = Unit {0}
 
 -- on arguments within their limits it gives a result within its limits, and calls leaves on such arguments

@@ -85,39 +85,39 @@ decided _ a b = Stuck
 
 -- what a tree does with these arguments, where n leaf calls were made before
 abbrev pub mean : LeafTable → Tree → List Value → ℕ → Done
-mean table (tree.Leaf l) args n = leaf_mean table l args n
-mean table (tree.Constant t v) args n = found t (λ r. fitted (fit table.classes v r) giving)
-mean table (tree.Identity t) args n = found (slice_get args 0) giving
+mean table (tree.Leaf leaf) args n = leaf_mean table leaf args n
+mean table (tree.Constant ty v) args n = found ty (λ ret. fitted (fit table.classes v ret) giving)
+mean table (tree.Identity ty) args n = found (slice_get args 0) giving
 mean table (tree.Throw ret class) args n = found (slice_get args 0) thrown
-mean table (tree.Bind t place v) args n =
-    known (type_of table t) (λ ty. found (slice_get ty.params place) (λ p. fitted (fit table.classes v p) (λ w.
-    mean table t (spliced place 0 (w ∷ []) args) n)))
-mean table (tree.Drop t place types) args n = mean table t (spliced place (length types) [] args) n
-mean table (tree.Permute t asked reorder) args n = mean table t (picked args reorder) n
-mean table (tree.FilterArg t place f) args n =
-    and_then (mean table f (part_of place 1 args) n) n (λ r k. mean table t (spliced place 1 (option_to_list r) args) k)
-mean table (tree.FilterRet t f) args n = and_then (mean table t args n) n (λ r k. mean table f (option_to_list r) k)
-mean table (tree.Fold t place c) args n =
-    and_then (mean table c (part_of place (arity table c) args) n) n (λ r k. mean table t (spliced place 0 (option_to_list r) args) k)
-mean table (tree.Collect t place f) args n =
-    and_then (mean table f (part_of place (arity table f) args) n) n
-    (λ r k. mean table t (spliced place (arity table f) (option_to_list r) args) k)
-mean table (tree.Spread t array count) args n =
-    found (slice_get args (arity table t - count)) (λ v.
-    and_then (spread_values count v) n (λ items k. mean table t (spliced (arity table t - count) 1 items args) k))
-mean table (tree.Gather t array count) args n =
+mean table (tree.Bind target place v) args n =
+    known (type_of table target) (λ ty. found (slice_get ty.params place) (λ parameter. fitted (fit table.classes v parameter) (λ bound.
+    mean table target (spliced place 0 (bound ∷ []) args) n)))
+mean table (tree.Drop target place types) args n = mean table target (spliced place (length types) [] args) n
+mean table (tree.Permute target asked reorder) args n = mean table target (picked args reorder) n
+mean table (tree.FilterArg target place filter) args n =
+    and_then (mean table filter (part_of place 1 args) n) n (λ r k. mean table target (spliced place 1 (option_to_list r) args) k)
+mean table (tree.FilterRet target filter) args n = and_then (mean table target args n) n (λ r k. mean table filter (option_to_list r) k)
+mean table (tree.Fold target place combiner) args n =
+    and_then (mean table combiner (part_of place (arity table combiner) args) n) n (λ r k. mean table target (spliced place 0 (option_to_list r) args) k)
+mean table (tree.Collect target place filter) args n =
+    and_then (mean table filter (part_of place (arity table filter) args) n) n
+    (λ r k. mean table target (spliced place (arity table filter) (option_to_list r) args) k)
+mean table (tree.Spread target array count) args n =
+    found (slice_get args (arity table target - count)) (λ v.
+    and_then (spread_values count v) n (λ items k. mean table target (spliced (arity table target - count) 1 items args) k))
+mean table (tree.Gather target array count) args n =
     found (component_of array) (λ c.
-    or_throw (array_of c (part_of (arity table t - 1) count args)) (λ v.
-    mean table t (spliced (arity table t - 1) count (v ∷ []) args) n))
-mean table (tree.AsType t asked) args n =
-    known (type_of table t) (λ ty.
+    or_throw (array_of c (part_of (arity table target - 1) count args)) (λ v.
+    mean table target (spliced (arity table target - 1) count (v ∷ []) args) n))
+mean table (tree.AsType target asked) args n =
+    known (type_of table target) (λ ty.
     or_throw (conv_all table.classes asked.params ty.params args) (λ converted.
-    and_then (mean table t converted n) n (λ r k. conv_result table.classes ty.ret asked.ret r)))
-mean table (tree.Guard c t e) args n =
-    and_then (mean table c (take (arity table c) args) n) n (λ r k. decided r (mean table t args k) (mean table e args k))
-mean table (tree.Catch t class h) args n =
-    guarded (mean table t args n) (is_caught table.classes class) n
-    (λ e k. mean table h (value.Thrown e ∷ take (arity table h - 1) args) k)
+    and_then (mean table target converted n) n (λ r k. conv_result table.classes ty.ret asked.ret r)))
+mean table (tree.Guard test target fallback) args n =
+    and_then (mean table test (take (arity table test) args) n) n (λ r k. decided r (mean table target args k) (mean table fallback args k))
+mean table (tree.Catch target class handler) args n =
+    guarded (mean table target args n) (is_caught table.classes class) n
+    (λ e k. mean table handler (value.Thrown e ∷ take (arity table handler - 1) args) k)
 
 -- a call by a type, at a tree of another one
 abbrev pub exact_at : LeafTable → Tree → MethodTy → MethodTy → List Value → ℕ → Done

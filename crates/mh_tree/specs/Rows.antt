@@ -72,14 +72,14 @@ leaf_row None = Err (bare illegal_argument_class)
 
 -- a constant takes nothing and gives a value that fits its type, which is not void
 abbrev pub constant_row : List Class → Option Ty → Value → TypeOrRefusal
-constant_row classes t v =
-    provided_some t (illegal (codes "constant")) (λ r.
-    provided_fit (fit classes v r) (codes "constant") (limited (codes "constant") 1 (record { params = []; ret = Some r })))
+constant_row classes ty value =
+    provided_some ty (illegal (codes "constant")) (λ ret.
+    provided_fit (fit classes value ret) (codes "constant") (limited (codes "constant") 1 (record { params = []; ret = Some ret })))
 
 -- an identity takes a value and gives it, so its type is not void
 abbrev pub identity_row : Option Ty → TypeOrRefusal
-identity_row t =
-    provided_some t (illegal (codes "identity")) (λ r. limited (codes "identity") 1 (record { params = r ∷ []; ret = Some r }))
+identity_row ty =
+    provided_some ty (illegal (codes "identity")) (λ ret. limited (codes "identity") 1 (record { params = ret ∷ []; ret = Some ret }))
 
 -- what throws takes an exception, of a class at or below Throwable, and may have any return type
 abbrev pub throw_row : List Class → Option Ty → ClassId → TypeOrRefusal
@@ -89,15 +89,15 @@ throw_row classes ret class =
 
 -- Bind takes out a parameter, which the value fits
 abbrev pub bind_row : List Class → MethodTy → ℕ → ℕ → Value → TypeOrRefusal
-bind_row classes t weight place v =
-    provided_some (slice_get t.params place) (illegal (codes "bind")) (λ p.
-    provided_fit (fit classes v p) (codes "bind") (limited (codes "bind") (1 + weight) (taking (spliced place 1 [] t.params) t)))
+bind_row classes target target_weight place value =
+    provided_some (slice_get target.params place) (illegal (codes "bind")) (λ parameter.
+    provided_fit (fit classes value parameter) (codes "bind") (limited (codes "bind") (1 + target_weight) (taking (spliced place 1 [] target.params) target)))
 
 -- Drop puts in parameters
 abbrev pub drop_row : MethodTy → ℕ → ℕ → List Ty → TypeOrRefusal
-drop_row t weight place types =
-    provided (nat_le place (length t.params)) (illegal (codes "drop"))
-    (limited (codes "drop") (1 + weight) (taking (spliced place 0 types t.params) t))
+drop_row target target_weight place types =
+    provided (nat_le place (length target.params)) (illegal (codes "drop"))
+    (limited (codes "drop") (1 + target_weight) (taking (spliced place 0 types target.params) target))
 
 -- each number names a parameter of the type that is wanted there
 abbrev pub names_types : List Ty → List ℕ → List Ty → Bool
@@ -107,37 +107,38 @@ names_types params _ _ = false
 
 -- Permute has the type that is asked for, whose named parameters are those of the part
 abbrev pub permute_row : MethodTy → ℕ → MethodTy → List ℕ → TypeOrRefusal
-permute_row t weight asked reorder =
-    provided (names_types asked.params reorder t.params && is_same_return asked.ret t.ret) (illegal (codes "permute"))
-    (limited (codes "permute") (1 + weight) asked)
+permute_row target target_weight asked reorder =
+    provided (names_types asked.params reorder target.params && is_same_return asked.ret target.ret) (illegal (codes "permute"))
+    (limited (codes "permute") (1 + target_weight) asked)
 
 -- FilterArg takes what the filter takes, in the place of the parameter for which the filter gives a value
 abbrev pub filter_row : MethodTy → ℕ → ℕ → MethodTy → ℕ → TypeOrRefusal
-filter_row t weight place f f_weight =
-    provided (length f.params == 1 && is_some f.ret && gives_at f.ret place t.params) (illegal (codes "filter"))
-    (limited (codes "filter") (1 + weight + f_weight) (taking (spliced place 1 f.params t.params) t))
+filter_row target target_weight place filter filter_weight =
+    provided (length filter.params == 1 && is_some filter.ret && gives_at filter.ret place target.params) (illegal (codes "filter"))
+    (limited (codes "filter") (1 + target_weight + filter_weight) (taking (spliced place 1 filter.params target.params) target))
 
 -- FilterRet returns what the filter makes of the result, if there is one
 abbrev pub filterret_row : MethodTy → ℕ → MethodTy → ℕ → TypeOrRefusal
-filterret_row t weight f f_weight =
-    provided (are_same_types f.params (option_to_list t.ret)) (illegal (codes "filterret"))
-    (limited (codes "filterret") (1 + weight + f_weight) (record { params = t.params; ret = f.ret }))
+filterret_row target target_weight filter filter_weight =
+    provided (are_same_types filter.params (option_to_list target.ret)) (illegal (codes "filterret"))
+    (limited (codes "filterret") (1 + target_weight + filter_weight) (record { params = target.params; ret = filter.ret }))
 
 -- the parameters of a fold: without the one for which the combiner gives a value
 abbrev pub folded : MethodTy → ℕ → MethodTy → List Ty
-folded t place c = spliced place (count_of c.ret) [] t.params
+folded target place combiner = spliced place (count_of combiner.ret) [] target.params
 
 -- Fold takes out the parameter that the combiner computes of those that follow
 abbrev pub fold_row : MethodTy → ℕ → ℕ → MethodTy → ℕ → TypeOrRefusal
-fold_row t weight place c c_weight =
-    provided (gives_at c.ret place t.params && begins_with_types (drop place (folded t place c)) c.params) (illegal (codes "fold"))
-    (limited (codes "fold") (1 + weight + c_weight) (taking (folded t place c) t))
+fold_row target target_weight place combiner combiner_weight =
+    provided (gives_at combiner.ret place target.params && begins_with_types (drop place (folded target place combiner)) combiner.params)
+    (illegal (codes "fold"))
+    (limited (codes "fold") (1 + target_weight + combiner_weight) (taking (folded target place combiner) target))
 
 -- Collect takes what the filter takes, in the place of the parameter for which the filter gives a value, if it gives one
 abbrev pub collect_row : MethodTy → ℕ → ℕ → MethodTy → ℕ → TypeOrRefusal
-collect_row t weight place f f_weight =
-    provided (gives_at f.ret place t.params) (illegal (codes "collect"))
-    (limited (codes "collect") (1 + weight + f_weight) (taking (spliced place (count_of f.ret) f.params t.params) t))
+collect_row target target_weight place filter filter_weight =
+    provided (gives_at filter.ret place target.params) (illegal (codes "collect"))
+    (limited (codes "collect") (1 + target_weight + filter_weight) (taking (spliced place (count_of filter.ret) filter.params target.params) target))
 
 -- the last parameters, so many, are all of one type
 abbrev pub ends_with : List Ty → ℕ → Ty → Bool
@@ -145,18 +146,18 @@ ends_with params count t = nat_le count (length params) && list_all (λ p. is_sa
 
 -- Spread takes an array in the place of the last parameters, which have its component's type
 abbrev pub spread_row : MethodTy → ℕ → Option Ty → ℕ → TypeOrRefusal
-spread_row t weight array count =
-    provided_some (component_of array) (illegal (codes "spread")) (λ c.
-    provided (ends_with t.params count (item_type c)) (illegal (codes "spread"))
-    (limited (codes "spread") (1 + weight) (taking (spliced (length t.params - count) count (ty.Array c ∷ []) t.params) t)))
+spread_row target target_weight array count =
+    provided_some (component_of array) (illegal (codes "spread")) (λ component.
+    provided (ends_with target.params count (item_type component)) (illegal (codes "spread"))
+    (limited (codes "spread") (1 + target_weight) (taking (spliced (length target.params - count) count (ty.Array component ∷ []) target.params) target)))
 
 -- Gather takes items, no more than an array may have, in the place of the last parameter, to which their array is passed
 abbrev pub gather_row : List Class → MethodTy → ℕ → Option Ty → ℕ → TypeOrRefusal
-gather_row classes t weight array count =
-    provided_some (component_of array) (illegal (codes "gather")) (λ c.
-    provided (nat_lt 0 (length t.params) && takes_array classes c (slice_get t.params (length t.params - 1)) && nat_le count most_items)
+gather_row classes target target_weight array count =
+    provided_some (component_of array) (illegal (codes "gather")) (λ component.
+    provided (nat_lt 0 (length target.params) && takes_array classes component (slice_get target.params (length target.params - 1)) && nat_le count most_items)
     (illegal (codes "gather"))
-    (limited (codes "gather") (1 + weight) (taking (spliced (length t.params - 1) 1 (replicate count (item_type c)) t.params) t)))
+    (limited (codes "gather") (1 + target_weight) (taking (spliced (length target.params - 1) 1 (replicate count (item_type component)) target.params) target)))
 
 -- each of these types may be converted to the other list's type at its place
 abbrev pub can_all : List Class → List Ty → List Ty → Bool
@@ -166,23 +167,24 @@ can_all classes _ _ = false
 
 -- a method type may be used as another one: its arguments are converted to what it takes, and its result to what is asked for
 abbrev pub can_be_used_as : List Class → MethodTy → MethodTy → Bool
-can_be_used_as classes t asked = can_all classes asked.params t.params && is_some (ret_conversion_of classes t.ret asked.ret)
+can_be_used_as classes own asked = can_all classes asked.params own.params && is_some (ret_conversion_of classes own.ret asked.ret)
 
 -- the exception of two types that do not agree
 abbrev pub mismatch : List Class → MethodTy → MethodTy → Exc
-mismatch classes t asked =
-    saying wrong_method_type_class (codes "have " ++ method_type_text classes t ++ codes " want " ++ method_type_text classes asked)
+mismatch classes own asked =
+    saying wrong_method_type_class (codes "have " ++ method_type_text classes own ++ codes " want " ++ method_type_text classes asked)
 
 -- AsType has the type that is asked for, where the part may be used as it
 abbrev pub astype_row : List Class → MethodTy → ℕ → MethodTy → TypeOrRefusal
-astype_row classes t weight asked =
-    provided (can_be_used_as classes t asked) (mismatch classes t asked) (limited (codes "astype") (1 + weight) asked)
+astype_row classes target target_weight asked =
+    provided (can_be_used_as classes target asked) (mismatch classes target asked) (limited (codes "astype") (1 + target_weight) asked)
 
 -- Guard has the type of both branches; the test gives a boolean, and takes the first parameters of that type
 abbrev pub guard_row : MethodTy → ℕ → MethodTy → ℕ → MethodTy → ℕ → TypeOrRefusal
-guard_row c c_weight t weight e e_weight =
-    provided (is_same_method_type e t && is_same_return c.ret (Some boolean_type) && begins_with_types t.params c.params) (illegal (codes "guard"))
-    (limited (codes "guard") (1 + c_weight + weight + e_weight) t)
+guard_row test test_weight target target_weight fallback fallback_weight =
+    provided (is_same_method_type fallback target && is_same_return test.ret (Some boolean_type) && begins_with_types target.params test.params)
+    (illegal (codes "guard"))
+    (limited (codes "guard") (1 + test_weight + target_weight + fallback_weight) target)
 
 -- the first parameter takes an exception of the class, and the others are the first of a list
 abbrev pub takes_exception : List Class → ClassId → List Ty → List Ty → Bool
@@ -191,10 +193,10 @@ takes_exception classes class (first ∷ others) types = is_type_below classes (
 
 -- a handler takes an exception of the class, then the first parameters of the target, and returns what it returns
 abbrev pub handles : List Class → ClassId → MethodTy → MethodTy → Bool
-handles classes class h t = takes_exception classes class h.params t.params && is_same_return h.ret t.ret
+handles classes class handler target = takes_exception classes class handler.params target.params && is_same_return handler.ret target.ret
 
 -- Catch has the type of its target; the class is at or below Throwable, and the handler takes its exceptions
 abbrev pub catch_row : List Class → MethodTy → ℕ → ClassId → MethodTy → ℕ → TypeOrRefusal
-catch_row classes t weight class h h_weight =
-    provided (is_subclass classes class throwable_class && handles classes class h t) (illegal (codes "catch"))
-    (limited (codes "catch") (1 + weight + h_weight) t)
+catch_row classes target target_weight class handler handler_weight =
+    provided (is_subclass classes class throwable_class && handles classes class handler target) (illegal (codes "catch"))
+    (limited (codes "catch") (1 + target_weight + handler_weight) target)

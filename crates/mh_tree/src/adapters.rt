@@ -46,53 +46,47 @@ fn takes_result(params: &[Ty], ret: Option<Ty>) -> bool
 /// Refused where there is no such parameter, and where the value does not fit it.
 pub fn check_bind(
     alloc: Global,
-    t: &MethodTy,
-    t_weight: u32,
-    pos: u8,
-    v: &Value,
+    target: &MethodTy,
+    target_weight: u32,
+    position: u8,
+    value: &Value,
     classes: &Classes,
 ) -> Result<MethodTy, CheckError>
-    ensures { TellsRow result (bind_row classes.now t.now t_weight pos v.now) }
+    ensures { TellsRow result (bind_row classes.now target.now target_weight position value.now) }
 {
-    let place = usize::from(pos);
-    let Some(parameter) = t.params.as_slice().get(place) else {
+    let place = usize::from(position);
+    let Some(parameter) = target.params.as_slice().get(place) else {
         return Err(refused(alloc, b"bind"));
     };
-    if let Some(exc) = misfit(v, *parameter, classes) {
+    if let Some(exc) = misfit(value, *parameter, classes) {
         return Err(CheckError::Refused(exc.with_message(alloc, b"bind")?));
     }
-    let params = spliced(alloc, t.params.as_slice(), place, 1, &[])?;
-    limited(
-        alloc,
-        b"bind",
-        1 + u64::from(t_weight),
-        MethodTy { params, ret: t.ret },
-    )
+    let params = spliced(alloc, target.params.as_slice(), place, 1, &[])?;
+    let weight = 1 + u64::from(target_weight);
+    let ret = target.ret;
+    limited(alloc, b"bind", weight, MethodTy { params, ret })
 }
 
 /// The type of a tree with parameters that are dropped (`MethodHandles.dropArguments`, SE 17).
 /// Refused where the place is after the end.
 pub fn check_drop(
     alloc: Global,
-    t: &MethodTy,
-    t_weight: u32,
-    pos: u8,
-    tys: &Tys,
+    target: &MethodTy,
+    target_weight: u32,
+    position: u8,
+    types: &Tys,
     _classes: &Classes,
 ) -> Result<MethodTy, CheckError>
-    ensures { TellsRow result (drop_row t.now t_weight pos tys.now) }
+    ensures { TellsRow result (drop_row target.now target_weight position types.now) }
 {
-    let place = usize::from(pos);
-    if place > t.params.len() {
+    let place = usize::from(position);
+    if place > target.params.len() {
         return Err(refused(alloc, b"drop"));
     }
-    let params = spliced(alloc, t.params.as_slice(), place, 0, tys.as_slice())?;
-    limited(
-        alloc,
-        b"drop",
-        1 + u64::from(t_weight),
-        MethodTy { params, ret: t.ret },
-    )
+    let params = spliced(alloc, target.params.as_slice(), place, 0, types.as_slice())?;
+    let weight = 1 + u64::from(target_weight);
+    let ret = target.ret;
+    limited(alloc, b"drop", weight, MethodTy { params, ret })
 }
 
 /// The type of a tree one of whose arguments a filter makes of its own
@@ -100,47 +94,58 @@ pub fn check_drop(
 /// the filter does not take one argument and give that parameter's type.
 pub fn check_filter(
     alloc: Global,
-    t: &MethodTy,
-    t_weight: u32,
-    pos: u8,
-    f: &MethodTy,
-    f_weight: u32,
+    target: &MethodTy,
+    target_weight: u32,
+    position: u8,
+    filter: &MethodTy,
+    filter_weight: u32,
     _classes: &Classes,
 ) -> Result<MethodTy, CheckError>
-    ensures { TellsRow result (filter_row t.now t_weight pos f.now f_weight) }
+    ensures { TellsRow result
+        (filter_row target.now target_weight position filter.now filter_weight) }
 {
-    let place = usize::from(pos);
-    if f.params.len() != 1 || f.ret.is_none() || !gives_at(f.ret, place, t.params.as_slice()) {
+    let place = usize::from(position);
+    if filter.params.len() != 1
+        || filter.ret.is_none()
+        || !gives_at(filter.ret, place, target.params.as_slice())
+    {
         return Err(refused(alloc, b"filter"));
     }
-    let params = spliced(alloc, t.params.as_slice(), place, 1, f.params.as_slice())?;
-    let weight = 1 + u64::from(t_weight) + u64::from(f_weight);
-    limited(alloc, b"filter", weight, MethodTy { params, ret: t.ret })
+    let params = spliced(
+        alloc,
+        target.params.as_slice(),
+        place,
+        1,
+        filter.params.as_slice(),
+    )?;
+    let weight = 1 + u64::from(target_weight) + u64::from(filter_weight);
+    let ret = target.ret;
+    limited(alloc, b"filter", weight, MethodTy { params, ret })
 }
 
 /// The type of a tree whose result a filter takes (`MethodHandles.filterReturnValue`, SE 17).
 /// Refused where the filter does not take just that result, or nothing where there is none.
 pub fn check_filterret(
     alloc: Global,
-    t: &MethodTy,
-    t_weight: u32,
-    f: &MethodTy,
-    f_weight: u32,
+    target: &MethodTy,
+    target_weight: u32,
+    filter: &MethodTy,
+    filter_weight: u32,
     _classes: &Classes,
 ) -> Result<MethodTy, CheckError>
-    ensures { TellsRow result (filterret_row t.now t_weight f.now f_weight) }
+    ensures { TellsRow result (filterret_row target.now target_weight filter.now filter_weight) }
 {
-    if !takes_result(f.params.as_slice(), t.ret) {
+    if !takes_result(filter.params.as_slice(), target.ret) {
         return Err(refused(alloc, b"filterret"));
     }
     let ty = MethodTy {
-        params: t.params.copy()?,
-        ret: f.ret,
+        params: target.params.copy()?,
+        ret: filter.ret,
     };
     limited(
         alloc,
         b"filterret",
-        1 + u64::from(t_weight) + u64::from(f_weight),
+        1 + u64::from(target_weight) + u64::from(filter_weight),
         ty,
     )
 }
@@ -150,25 +155,33 @@ pub fn check_filterret(
 /// the parameter's type, or does not take the first parameters that follow.
 pub fn check_fold(
     alloc: Global,
-    t: &MethodTy,
-    t_weight: u32,
-    pos: u8,
-    c: &MethodTy,
-    c_weight: u32,
+    target: &MethodTy,
+    target_weight: u32,
+    position: u8,
+    combiner: &MethodTy,
+    combiner_weight: u32,
     _classes: &Classes,
 ) -> Result<MethodTy, CheckError>
-    ensures { TellsRow result (fold_row t.now t_weight pos c.now c_weight) }
+    ensures { TellsRow result
+        (fold_row target.now target_weight position combiner.now combiner_weight) }
 {
-    let place = usize::from(pos);
-    if !gives_at(c.ret, place, t.params.as_slice()) {
+    let place = usize::from(position);
+    if !gives_at(combiner.ret, place, target.params.as_slice()) {
         return Err(refused(alloc, b"fold"));
     }
-    let params = spliced(alloc, t.params.as_slice(), place, count_of(c.ret), &[])?;
-    if !begins_with_types(&params.as_slice()[place..], c.params.as_slice()) {
+    let params = spliced(
+        alloc,
+        target.params.as_slice(),
+        place,
+        count_of(combiner.ret),
+        &[],
+    )?;
+    if !begins_with_types(&params.as_slice()[place..], combiner.params.as_slice()) {
         return Err(refused(alloc, b"fold"));
     }
-    let weight = 1 + u64::from(t_weight) + u64::from(c_weight);
-    limited(alloc, b"fold", weight, MethodTy { params, ret: t.ret })
+    let weight = 1 + u64::from(target_weight) + u64::from(combiner_weight);
+    let ret = target.ret;
+    limited(alloc, b"fold", weight, MethodTy { params, ret })
 }
 
 /// The type of a tree one of whose arguments a filter makes of any number of its own, or before
@@ -176,26 +189,28 @@ pub fn check_fold(
 /// gives a value that is not of the parameter's type, or none and the place is after the end.
 pub fn check_collect(
     alloc: Global,
-    t: &MethodTy,
-    t_weight: u32,
-    pos: u8,
-    f: &MethodTy,
-    f_weight: u32,
+    target: &MethodTy,
+    target_weight: u32,
+    position: u8,
+    filter: &MethodTy,
+    filter_weight: u32,
     _classes: &Classes,
 ) -> Result<MethodTy, CheckError>
-    ensures { TellsRow result (collect_row t.now t_weight pos f.now f_weight) }
+    ensures { TellsRow result
+        (collect_row target.now target_weight position filter.now filter_weight) }
 {
-    let place = usize::from(pos);
-    if !gives_at(f.ret, place, t.params.as_slice()) {
+    let place = usize::from(position);
+    if !gives_at(filter.ret, place, target.params.as_slice()) {
         return Err(refused(alloc, b"collect"));
     }
     let params = spliced(
         alloc,
-        t.params.as_slice(),
+        target.params.as_slice(),
         place,
-        count_of(f.ret),
-        f.params.as_slice(),
+        count_of(filter.ret),
+        filter.params.as_slice(),
     )?;
-    let weight = 1 + u64::from(t_weight) + u64::from(f_weight);
-    limited(alloc, b"collect", weight, MethodTy { params, ret: t.ret })
+    let weight = 1 + u64::from(target_weight) + u64::from(filter_weight);
+    let ret = target.ret;
+    limited(alloc, b"collect", weight, MethodTy { params, ret })
 }

@@ -40,19 +40,19 @@ fn ends_with(params: &[Ty], count: usize, ty: Ty) -> bool
 /// component's type.
 pub fn check_spread(
     alloc: Global,
-    t: &MethodTy,
-    t_weight: u32,
-    arr: Option<Ty>,
-    n: u8,
+    target: &MethodTy,
+    target_weight: u32,
+    array: Option<Ty>,
+    count: u8,
     _classes: &Classes,
 ) -> Result<MethodTy, CheckError>
-    ensures { TellsRow result (spread_row t.now t_weight arr n) }
+    ensures { TellsRow result (spread_row target.now target_weight array count) }
 {
-    let count = usize::from(n);
-    let Some(component) = component_of(arr) else {
+    let count = usize::from(count);
+    let Some(component) = component_of(array) else {
         return Err(refused(alloc, b"spread"));
     };
-    let params = t.params.as_slice();
+    let params = target.params.as_slice();
     if !ends_with(params, count, component.item_type()) {
         return Err(refused(alloc, b"spread"));
     }
@@ -63,12 +63,9 @@ pub fn check_spread(
         count,
         &[Ty::Array(component)],
     )?;
-    limited(
-        alloc,
-        b"spread",
-        1 + u64::from(t_weight),
-        MethodTy { params, ret: t.ret },
-    )
+    let weight = 1 + u64::from(target_weight);
+    let ret = target.ret;
+    limited(alloc, b"spread", weight, MethodTy { params, ret })
 }
 
 /// Whether an array of the component can be passed to the last parameter.
@@ -93,19 +90,19 @@ fn repeated(alloc: Global, ty: Ty, count: usize) -> Result<Tys, NoMemory>
 /// parameter, and for more items than an array may have.
 pub fn check_gather(
     alloc: Global,
-    t: &MethodTy,
-    t_weight: u32,
-    arr: Option<Ty>,
-    n: u8,
+    target: &MethodTy,
+    target_weight: u32,
+    array: Option<Ty>,
+    count: u8,
     classes: &Classes,
 ) -> Result<MethodTy, CheckError>
-    ensures { TellsRow result (gather_row classes.now t.now t_weight arr n) }
+    ensures { TellsRow result (gather_row classes.now target.now target_weight array count) }
 {
-    let count = usize::from(n);
-    let Some(component) = component_of(arr) else {
+    let count = usize::from(count);
+    let Some(component) = component_of(array) else {
         return Err(refused(alloc, b"gather"));
     };
-    let params = t.params.as_slice();
+    let params = target.params.as_slice();
     if params.is_empty()
         || !takes_array(component, params.last().copied(), classes)
         || count > MOST_ITEMS
@@ -114,10 +111,7 @@ pub fn check_gather(
     }
     let items = repeated(alloc, component.item_type(), count)?;
     let params = spliced(alloc, params, params.len() - 1, 1, items.as_slice())?;
-    limited(
-        alloc,
-        b"gather",
-        1 + u64::from(t_weight),
-        MethodTy { params, ret: t.ret },
-    )
+    let weight = 1 + u64::from(target_weight);
+    let ret = target.ret;
+    limited(alloc, b"gather", weight, MethodTy { params, ret })
 }

@@ -17,24 +17,25 @@ use std::alloc::Global;
 /// where the test does not give a boolean or does not take the first parameters of the target.
 pub fn check_guard(
     alloc: Global,
-    c: &MethodTy,
-    c_weight: u32,
-    t: &MethodTy,
-    t_weight: u32,
-    e: &MethodTy,
-    e_weight: u32,
+    test: &MethodTy,
+    test_weight: u32,
+    target: &MethodTy,
+    target_weight: u32,
+    fallback: &MethodTy,
+    fallback_weight: u32,
     _classes: &Classes,
 ) -> Result<MethodTy, CheckError>
-    ensures { TellsRow result (guard_row c.now c_weight t.now t_weight e.now e_weight) }
+    ensures { TellsRow result
+        (guard_row test.now test_weight target.now target_weight fallback.now fallback_weight) }
 {
-    if !is_same_method_type(e, t)
-        || !is_same_return(c.ret, Some(Ty::Prim(Primitive::Z)))
-        || !begins_with_types(t.params.as_slice(), c.params.as_slice())
+    if !is_same_method_type(fallback, target)
+        || !is_same_return(test.ret, Some(Ty::Prim(Primitive::Z)))
+        || !begins_with_types(target.params.as_slice(), test.params.as_slice())
     {
         return Err(refused(alloc, b"guard"));
     }
-    let weight = 1 + u64::from(c_weight) + u64::from(t_weight) + u64::from(e_weight);
-    limited(alloc, b"guard", weight, t.copy(alloc)?)
+    let weight = 1 + u64::from(test_weight) + u64::from(target_weight) + u64::from(fallback_weight);
+    limited(alloc, b"guard", weight, target.copy(alloc)?)
 }
 
 /// Whether the first parameter takes an exception of the class, and the others are the first of
@@ -52,11 +53,15 @@ fn takes_exception(class: ClassId, params: &[Ty], types: &[Ty], classes: &Classe
 
 /// Whether a handler takes an exception of the class, then the first parameters of the target, and
 /// returns what it returns.
-fn handles(class: ClassId, h: &MethodTy, t: &MethodTy, classes: &Classes) -> bool
-    ensures { result ≡ handles classes.now class h.now t.now }
+fn handles(class: ClassId, handler: &MethodTy, target: &MethodTy, classes: &Classes) -> bool
+    ensures { result ≡ handles classes.now class handler.now target.now }
 {
-    takes_exception(class, h.params.as_slice(), t.params.as_slice(), classes)
-        && is_same_return(h.ret, t.ret)
+    takes_exception(
+        class,
+        handler.params.as_slice(),
+        target.params.as_slice(),
+        classes,
+    ) && is_same_return(handler.ret, target.ret)
 }
 
 /// The type of a target whose exceptions of a class go to a handler
@@ -65,18 +70,19 @@ fn handles(class: ClassId, h: &MethodTy, t: &MethodTy, classes: &Classes) -> boo
 /// of the target, or returns another type.
 pub fn check_catch(
     alloc: Global,
-    t: &MethodTy,
-    t_weight: u32,
+    target: &MethodTy,
+    target_weight: u32,
     class: ClassId,
-    h: &MethodTy,
-    h_weight: u32,
+    handler: &MethodTy,
+    handler_weight: u32,
     classes: &Classes,
 ) -> Result<MethodTy, CheckError>
-    ensures { TellsRow result (catch_row classes.now t.now t_weight class h.now h_weight) }
+    ensures { TellsRow result
+        (catch_row classes.now target.now target_weight class handler.now handler_weight) }
 {
-    if !classes.subclass(class, ClassId::THROWABLE) || !handles(class, h, t, classes) {
+    if !classes.subclass(class, ClassId::THROWABLE) || !handles(class, handler, target, classes) {
         return Err(refused(alloc, b"catch"));
     }
-    let weight = 1 + u64::from(t_weight) + u64::from(h_weight);
-    limited(alloc, b"catch", weight, t.copy(alloc)?)
+    let weight = 1 + u64::from(target_weight) + u64::from(handler_weight);
+    limited(alloc, b"catch", weight, target.copy(alloc)?)
 }

@@ -27,11 +27,11 @@ fn can_all(from: &[Ty], to: &[Ty], classes: &Classes) -> bool
 
 /// Whether a method type may be used as another one: its arguments are converted to what it takes,
 /// and its result to what is asked for.
-fn can_be_used_as(t: &MethodTy, asked: &MethodTy, classes: &Classes) -> bool
-    ensures { result ≡ can_be_used_as classes.now t.now asked.now }
+fn can_be_used_as(own: &MethodTy, asked: &MethodTy, classes: &Classes) -> bool
+    ensures { result ≡ can_be_used_as classes.now own.now asked.now }
 {
-    can_all(asked.params.as_slice(), t.params.as_slice(), classes)
-        && ret_conversion(t.ret, asked.ret, classes).is_some()
+    can_all(asked.params.as_slice(), own.params.as_slice(), classes)
+        && ret_conversion(own.ret, asked.ret, classes).is_some()
 }
 
 /// The type of a tree that is used as another type (`MethodHandle.asType`, SE 17): the one that is
@@ -39,15 +39,20 @@ fn can_be_used_as(t: &MethodTy, asked: &MethodTy, classes: &Classes) -> bool
 /// converted, and where the numbers of parameters differ.
 pub fn check_astype(
     alloc: Global,
-    t: &MethodTy,
-    t_weight: u32,
+    target: &MethodTy,
+    target_weight: u32,
     ty: &MethodTy,
     classes: &Classes,
 ) -> Result<MethodTy, CheckError>
-    ensures { TellsRow result (astype_row classes.now t.now t_weight ty.now) }
+    ensures { TellsRow result (astype_row classes.now target.now target_weight ty.now) }
 {
-    if !can_be_used_as(t, ty, classes) {
-        return Err(CheckError::Refused(mismatch(alloc, t, ty, classes)?));
+    if !can_be_used_as(target, ty, classes) {
+        return Err(CheckError::Refused(mismatch(alloc, target, ty, classes)?));
     }
-    limited(alloc, b"astype", 1 + u64::from(t_weight), ty.copy(alloc)?)
+    limited(
+        alloc,
+        b"astype",
+        1 + u64::from(target_weight),
+        ty.copy(alloc)?,
+    )
 }

@@ -85,15 +85,15 @@ fn push_method_type(text: &mut Seq<char>, ty: &MethodTy, classes: &Classes) -> R
 /// The exception of two types that do not agree: `have A want B`, with the types as descriptors.
 pub fn mismatch(
     alloc: Global,
-    t: &MethodTy,
+    own: &MethodTy,
     asked: &MethodTy,
     classes: &Classes,
 ) -> Result<Exc, NoMemory>
-    ensures { IfOk result (λ exc. exc ≡ mismatch classes.now t.now asked.now) }
+    ensures { IfOk result (λ exc. exc ≡ mismatch classes.now own.now asked.now) }
 {
     let mut message = Seq::new(alloc);
     push_ascii(&mut message, b"have ")?;
-    push_method_type(&mut message, t, classes)?;
+    push_method_type(&mut message, own, classes)?;
     push_ascii(&mut message, b" want ")?;
     push_method_type(&mut message, asked, classes)?;
     let message = Frozen::of(alloc, message)?;

@@ -37,18 +37,23 @@ fn names_types(params: &[Ty], reorder: &[u8], types: &[Ty]) -> bool
 /// names one that is not there, or one of another type, and where the return types differ.
 pub fn check_permute(
     alloc: Global,
-    t: &MethodTy,
-    t_weight: u32,
+    target: &MethodTy,
+    target_weight: u32,
     ty: &MethodTy,
     reorder: &[u8],
     _classes: &Classes,
 ) -> Result<MethodTy, CheckError>
-    ensures { TellsRow result (permute_row t.now t_weight ty.now reorder.now) }
+    ensures { TellsRow result (permute_row target.now target_weight ty.now reorder.now) }
 {
-    if !names_types(ty.params.as_slice(), reorder, t.params.as_slice())
-        || !is_same_return(ty.ret, t.ret)
+    if !names_types(ty.params.as_slice(), reorder, target.params.as_slice())
+        || !is_same_return(ty.ret, target.ret)
     {
         return Err(refused(alloc, b"permute"));
     }
-    limited(alloc, b"permute", 1 + u64::from(t_weight), ty.copy(alloc)?)
+    limited(
+        alloc,
+        b"permute",
+        1 + u64::from(target_weight),
+        ty.copy(alloc)?,
+    )
 }

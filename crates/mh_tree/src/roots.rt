@@ -12,11 +12,11 @@ use mh_values::{ClassId, Classes, LeafId, MethodTy, Ty, Value};
 use std::alloc::Global;
 
 /// The type of a leaf: the one with which it is registered. Never refused.
-pub fn check_leaf(alloc: Global, l: LeafId, leaves: &Leaves) -> Result<MethodTy, CheckError>
-    requires { l.0 < length leaves.now.leaves }
-    ensures { TellsRow result (leaf_row (slice_get leaves.now.leaves l.0)) }
+pub fn check_leaf(alloc: Global, leaf: LeafId, leaves: &Leaves) -> Result<MethodTy, CheckError>
+    requires { leaf.0 < length leaves.now.leaves }
+    ensures { TellsRow result (leaf_row (slice_get leaves.now.leaves leaf.0)) }
 {
-    Ok(leaves.ty(l).copy(alloc)?)
+    Ok(leaves.ty(leaf).copy(alloc)?)
 }
 
 /// The type of a constant, which takes nothing (`MethodHandles.constant`, SE 17). Refused where the
@@ -24,15 +24,15 @@ pub fn check_leaf(alloc: Global, l: LeafId, leaves: &Leaves) -> Result<MethodTy,
 pub fn check_constant(
     alloc: Global,
     ty: Option<Ty>,
-    v: &Value,
+    value: &Value,
     classes: &Classes,
 ) -> Result<MethodTy, CheckError>
-    ensures { TellsRow result (constant_row classes.now ty v.now) }
+    ensures { TellsRow result (constant_row classes.now ty value.now) }
 {
     let Some(ret) = ty else {
         return Err(refused(alloc, b"constant"));
     };
-    if let Some(exc) = misfit(v, ret, classes) {
+    if let Some(exc) = misfit(value, ret, classes) {
         return Err(CheckError::Refused(exc.with_message(alloc, b"constant")?));
     }
     let params = Seq::new(alloc);

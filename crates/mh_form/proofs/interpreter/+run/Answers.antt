@@ -17,20 +17,20 @@ use Rattle.mh_form.proofs.interpreter.+run.Goals as goal
 
 pub run_part-run_in-requires : goal.run_part-run_in-requires
 run_part-run_in-requires t c =
-    let stuck = bound-stuck c.args.call.now.leaves.now c.args.part.now c.args.m.now.frame (raised c.args.call.now.n c.args.m.now.calls) in
+    let stuck = bound-stuck c.args.call.now.leaves.now c.args.part.now c.args.stack.now.frame (raised c.args.call.now.n c.args.stack.now.calls) in
     (search (rules, the_lemmas, get_or_read), λ h. c.requires.well_formed (stuck h))
 
 pub run_part-leave_with-requires-clause-out : goal.run_part-leave_with-requires-clause-out
 run_part-leave_with-requires-clause-out t c =
-    let ran = c.run_in.new.m in
+    let ran = c.run_in.new.stack in
     let gave = ap (λ g. done g ran) (sym c.in-On.is) ∙ c.in_ok-run_in.ensures.done in
-    λ none. c.requires.well_formed (bound-out c.args.call.now.leaves.now c.args.part.now c.args.m.now.frame ran.frame c.args.m.now.calls ran.calls
-    (raised c.args.call.now.n c.args.m.now.calls) gave none)
+    λ none. c.requires.well_formed (bound-out c.args.call.now.leaves.now c.args.part.now c.args.stack.now.frame ran.frame c.args.stack.now.calls ran.calls
+    (raised c.args.call.now.n c.args.stack.now.calls) gave none)
 
 pub run_part-returns-in_ok-leave_with-in-On-clause-done : goal.run_part-returns-in_ok-leave_with-in-On-clause-done
 run_part-returns-in_ok-leave_with-in-On-clause-done t c =
-    let old = c.args.m.now in
-    let ran = c.run_in.new.m in
+    let old = c.args.stack.now in
+    let ran = c.run_in.new.stack in
     let out = c.args.part.now.body.now.out in
     let F = (left c.args.count old).frame in
     let H = c.leave_with.new.self.frame in
@@ -43,8 +43,8 @@ run_part-returns-in_ok-leave_with-in-On-clause-done t c =
 
 pub run_part-returns-in-Threw-clause-done : goal.run_part-returns-in-Threw-clause-done
 run_part-returns-in-Threw-clause-done t c =
-    let old = c.args.m.now in
-    let ran = c.run_in.new.m in
+    let old = c.args.stack.now in
+    let ran = c.run_in.new.stack in
     let threw = ap (λ g. done g ran) (sym c.in-Threw.is) ∙ c.in_ok-run_in.ensures.done in
     ap (λ (m : StackView). Threw m.thrown m.calls) c.leave.ensures
     ∙ bound-threw c.args.call.now.leaves.now c.args.part.now old.frame (left c.args.count old).frame old.calls ran.calls
@@ -53,23 +53,23 @@ run_part-returns-in-Threw-clause-done t c =
 pub run_entered-unreachable-requires-in_default : goal.run_entered-unreachable-requires-in_default
 run_entered-unreachable-requires-in_default t c =
     let fields = c.args.bound.now.fields in
-    c.requires.well_formed (run_field-none c.args.call.now.leaves.now fields.items c.args.field c.index.result.now c.args.m.now.frame
-    (raised c.args.call.now.n c.args.m.now.calls) (omega (arith, fields.ok.0)) c.index.ensures c.in_default.not-Part)
+    c.requires.well_formed (run_field-none c.args.call.now.leaves.now fields.items c.args.field c.index.result.now c.args.stack.now.frame
+    (raised c.args.call.now.n c.args.stack.now.calls) (omega (arith, fields.ok.0)) c.index.ensures c.in_default.not-Part)
 
 pub run_entered-run_part-requires : goal.run_entered-run_part-requires
 run_entered-run_part-requires t c =
     let fields = c.args.bound.now.fields in
-    let is = run_field-held c.args.call.now.leaves.now fields.items c.args.field c.index.result.now c.in-Part.part c.deref.result.now c.args.m.now.frame
-    (raised c.args.call.now.n c.args.m.now.calls) (omega (arith, fields.ok.0)) c.index.ensures c.in-Part.is c.deref.ensures in
+    let is = run_field-held c.args.call.now.leaves.now fields.items c.args.field c.index.result.now c.in-Part.part c.deref.result.now c.args.stack.now.frame
+    (raised c.args.call.now.n c.args.stack.now.calls) (omega (arith, fields.ok.0)) c.index.ensures c.in-Part.is c.deref.ensures in
     (search (rules, the_lemmas, get_or_read), (c.requires.waits, λ h. c.requires.well_formed (is ∙ h)))
 
 pub run_entered-returns-clause-done : goal.run_entered-returns-clause-done
 run_entered-returns-clause-done t c =
     let fields = c.args.bound.now.fields in
-    let is = run_field-held c.args.call.now.leaves.now fields.items c.args.field c.index.result.now c.in-Part.part c.deref.result.now c.args.m.now.frame
-    (raised c.args.call.now.n c.args.m.now.calls) (omega (arith, fields.ok.0)) c.index.ensures c.in-Part.is c.deref.ensures in
+    let is = run_field-held c.args.call.now.leaves.now fields.items c.args.field c.index.result.now c.in-Part.part c.deref.result.now c.args.stack.now.frame
+    (raised c.args.call.now.n c.args.stack.now.calls) (omega (arith, fields.ok.0)) c.index.ensures c.in-Part.is c.deref.ensures in
     subst
-    (λ v. IfOk c.run_part.result (λ g. done g c.run_part.new.m ≡ on_stack (left c.args.count c.args.m.now) (filled v)))
+    (λ v. IfOk c.run_part.result (λ g. done g c.run_part.new.stack ≡ on_stack (left c.args.count c.args.stack.now) (filled v)))
     (sym is)
     c.run_part.ensures.done
 
@@ -77,8 +77,8 @@ pub run_guarded-handle-requires : goal.run_guarded-handle-requires
 run_guarded-handle-requires t c =
     let table = c.args.call.now.leaves.now in
     let n = c.args.call.now.n in
-    let old = c.args.m.now in
-    let m = c.run_entered.new.m in
+    let old = c.args.stack.now in
+    let m = c.run_entered.new.stack in
     let ok = c.in_ok-kept.ensures in
     let ran = c.in_ok-run_entered.ensures in
     let threw = threw-again table n c.args.bound.now c.args.guard old c.enter_again.new.self m c.in_ok-kept.kept (ok.frame, ok.below, ok.calls, ok.count)
@@ -91,14 +91,14 @@ pub run_guarded-returns-in-Threw-clause-done : goal.run_guarded-returns-in-Threw
 run_guarded-returns-in-Threw-clause-done t c =
     let table = c.args.call.now.leaves.now in
     let n = c.args.call.now.n in
-    let old = c.args.m.now in
-    let m = c.run_entered.new.m in
+    let old = c.args.stack.now in
+    let m = c.run_entered.new.stack in
     let ok = c.in_ok-kept.ensures in
     let ran = c.in_ok-run_entered.ensures in
     let threw = threw-again table n c.args.bound.now c.args.guard old c.enter_again.new.self m c.in_ok-kept.kept (ok.frame, ok.below, ok.calls, ok.count)
     ran.below (ran.threw c.in-Threw.is) (ap (λ g. done g m) (sym c.in-Threw.is) ∙ ran.done) in
     subst
-    (λ v. IfOk c.handle.result (λ g. done g c.handle.new.m ≡ v))
+    (λ v. IfOk c.handle.result (λ g. done g c.handle.new.stack ≡ v))
     (handled table n c.args.bound.now c.args.guard old m c.args.count threw.0 threw.1)
     c.handle.ensures.done
 
@@ -107,8 +107,8 @@ run_guarded-returns-in_ok-leave_with_last-in-On-clause-done t c =
     let table = c.args.call.now.leaves.now in
     let n = c.args.call.now.n in
     let part = run_field (senses_in table c.args.bound.now) c.args.guard.part in
-    let old = c.args.m.now in
-    let gave = c.run_entered.new.m in
+    let old = c.args.stack.now in
+    let gave = c.run_entered.new.stack in
     let last = c.leave_with_last.new.self in
     let ok = c.in_ok-kept.ensures in
     let below : gave.below ≡ old.below =
@@ -124,7 +124,7 @@ run_guarded-returns-in_ok-leave_with_last-in-On-clause-done t c =
 pub run_in-loop-name-preserved : goal.run_in-loop-name-preserved
 run_in-loop-name-preserved t c =
     let m = c.loop-name.m in
-    let next = c.step.new.m in
+    let next = c.step.new.stack in
     let table = c.args.call.now.leaves.now in
     let n = c.args.call.now.n in
     let items = c.as_slice-name-items.result.now in

@@ -10,7 +10,7 @@ pub run_in-requires : goal.run_in-requires
 run_in-requires c =
     let table = c.args.call.now.leaves.now in
     let b = c.args.bound.now in
-    let slots = c.args.m.now.frame in
+    let slots = c.args.stack.now.frame in
     let n = c.args.call.now.n in
     record {
       well_formed = λ h. c.requires.well_formed (bound-stuck table b slots n
@@ -21,9 +21,9 @@ pub take_result-requires : goal.take_result-requires
 take_result-requires c =
     let table = c.args.call.now.leaves.now in
     let b = c.args.bound.now in
-    let slots = c.args.m.now.frame in
+    let slots = c.args.stack.now.frame in
     let n = c.args.call.now.n in
-    let ran = c.run_in.new.m in
+    let ran = c.run_in.new.stack in
     let gave = ap (λ g. done g ran) (sym c.in-On.is) ∙ (c.in_ok-run_in.ensures.done
     ∙ ap (λ C. after C (run_slots b.body.now.names (senses_in table b) slots (raised n C))) c.requires.first) in
     λ none. c.requires.well_formed (bound-split table b slots n
@@ -33,9 +33,9 @@ pub returns-in-On : goal.returns-in-On
 returns-in-On c =
     let table = c.args.call.now.leaves.now in
     let b = c.args.bound.now in
-    let slots = c.args.m.now.frame in
+    let slots = c.args.stack.now.frame in
     let n = c.args.call.now.n in
-    let ran = c.run_in.new.m in
+    let ran = c.run_in.new.stack in
     let names = run_slots b.body.now.names (senses_in table b) slots n in
     let gave : Gave ran.frame ran.calls ≡ after [] names = ap (λ g. done g ran) (sym c.in-On.is) ∙ (c.in_ok-run_in.ensures.done
     ∙ ap (λ C. after C (run_slots b.body.now.names (senses_in table b) slots (raised n C))) c.requires.first) in
@@ -47,9 +47,9 @@ pub returns-in-Threw : goal.returns-in-Threw
 returns-in-Threw c =
     let table = c.args.call.now.leaves.now in
     let b = c.args.bound.now in
-    let slots = c.args.m.now.frame in
+    let slots = c.args.stack.now.frame in
     let n = c.args.call.now.n in
-    let ran = c.run_in.new.m in
+    let ran = c.run_in.new.stack in
     let names = run_slots b.body.now.names (senses_in table b) slots n in
     let threw : Threw ran.thrown ran.calls ≡ after [] names = ap (λ g. done g ran) (sym c.in-Threw.is) ∙ (c.in_ok-run_in.ensures.done
     ∙ ap (λ C. after C (run_slots b.body.now.names (senses_in table b) slots (raised n C))) c.requires.first) in

@@ -9,17 +9,17 @@ use Rattle.mh_form.proofs.plain.call_leaf.Goals as goal
 pub call_at-requires : goal.call_at-requires
 call_at-requires c =
     let table = c.args.call.now.leaves.now in
-    let n = raised c.args.call.now.n c.args.m.now.calls in
+    let n = raised c.args.call.now.n c.args.stack.now.calls in
     let senses = senses_in table c.args.bound.now in
-    λ none. c.requires (step-called table c.in-Some.leaf senses c.args.field c.args.m.now.frame c.args.args.now n (sym c.in-Some.ensures) c.requires
+    λ none. c.requires (step-called table c.in-Some.leaf senses c.args.field c.args.stack.now.frame c.args.args.now n (sym c.in-Some.ensures) c.requires
     ∙ ap filled none)
 
 pub returns-clause-done : goal.returns-clause-done
 returns-clause-done c =
     let table = c.args.call.now.leaves.now in
-    let n = raised c.args.call.now.n c.args.m.now.calls in
+    let n = raised c.args.call.now.n c.args.stack.now.calls in
     let senses = senses_in table c.args.bound.now in
     subst
-    (λ v. IfOk c.call_at.result (λ g. done g c.call_at.new.m ≡ on_stack c.args.m.now v))
-    (sym (step-called table c.in-Some.leaf senses c.args.field c.args.m.now.frame c.args.args.now n (sym c.in-Some.ensures) c.requires))
+    (λ v. IfOk c.call_at.result (λ g. done g c.call_at.new.stack ≡ on_stack c.args.stack.now v))
+    (sym (step-called table c.in-Some.leaf senses c.args.field c.args.stack.now.frame c.args.args.now n (sym c.in-Some.ensures) c.requires))
     c.call_at.ensures.done

@@ -11,7 +11,7 @@ returns-clause-tree c t st =
     let h = c.args.self.now in
     let run : IfOk c.end.result
     (λ e. IsAnswer (typed_ran table.classes h.ty.ret (handle_run table h (map erased c.args.args.now) c.args.n)) (length h.form.recipe)
-    (answer_in e c.run_on.new.m)) = search rules in
-    subst (λ r. IfOk c.end.result (λ e. IsAnswer r (length h.form.recipe) (answer_in e c.run_on.new.m)))
+    (answer_in e c.run_on.new.machine)) = search rules in
+    subst (λ r. IfOk c.end.result (λ e. IsAnswer r (length h.form.recipe) (answer_in e c.run_on.new.machine)))
     (typed_run-stands table h t c.args.args.now c.args.n st c.requires.typed c.ranges.n.fits)
     run
