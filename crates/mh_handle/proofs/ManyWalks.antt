@@ -3,7 +3,6 @@ use Rattle.std.proofs.Common.{◌≡◌, refl, sym, ap, ◌∙◌, subst, ℕ, z
 use Rattle.std.specs.Prelude.{slice_get}
 use Rattle.mh_setonce.specs.Views.{WalkView}
 use Rattle.mh_setonce.specs.Walks.{Distinct, FindsNode, Has, Lacks, StartsWith}
-use Rattle.mh_setonce.specs.ManyWalks.{chains_of}
 use Rattle.mh_edit.specs.declared.key.Key.{Key}
 use Rattle.mh_handle.specs.Form.{FormView}
 use Rattle.mh_handle.specs.Index.{recipe_of}
@@ -13,11 +12,10 @@ use denote.Ref.{Bor}
 use native.Mathlib.Decide.{ℕ_discrete}
 use Rattle.std.proofs.lemmas.Bool.{eq-eqb, eqb-true}
 use Rattle.std.proofs.lemmas.List.{length-set}
-use Rattle.std.proofs.lemmas.Option.{get_or_from_slice_get}
-use Rattle.std.proofs.Math.Seq.{map-set_same}
 use Rattle.mh_handle.specs.Chains.{AreWalks, chain_of, forms_of, learnt_by, learnt_from}
 use Rattle.mh_handle.specs.Passes.{AreLearnt, AreOneEach, IsPut}
-use Rattle.mh_handle.proofs.Members.{IsIn, in-either, in-left, in-passing, in-right, passing-in, set-either, set-here, set-there}
+use Rattle.mh_setonce.proofs.Replaced.{set-either, set-here, set-there}
+use Rattle.mh_handle.proofs.Members.{IsIn, in-either, in-left, in-passing, in-right, passing-in}
 
 -- the walk of a chain has learnt the form, which belongs to the chain
 pub record LearntAt (first : ℕ) (walks : List (WalkView FormView)) (form : FormView) : Type 0 where
@@ -119,10 +117,6 @@ module _ (walks : List (WalkView FormView)) (chain : ℕ) (old new : WalkView Fo
   set-learnt more i f at =
       let a = learnt-at 0 walks f (i, at) in
       kept-at (starts-in old.nodes new.nodes more) f a (ℕ_discrete a.chain chain)
-
-  pub set-chains : new.chain ≡ old.chain → chains_of (set walks chain new) ≡ chains_of walks
-  set-chains same = map-set_same (λ (w : WalkView FormView). w.chain) walks chain new old
-      (same ∙ ap (λ (w : WalkView FormView). w.chain) (sym (get_or_from_slice_get walks chain old old stands)))
 
   pub set-walks : Distinct recipe_of new.nodes → AreWalks walks → AreWalks (set walks chain new)
   set-walks once are = record {

@@ -1,45 +1,29 @@
 -- Walks of one table that meet, and the longer ones of them.
-use Rattle.std.proofs.Common.{◌≡◌, refl, sym, ap, ◌∙◌, subst, ℕ, ◌<◌, ◌≤◌, List, length, take, drop, Some, inl, inr, ⊎_elim, arith}
+use Rattle.std.proofs.Common.{◌≡◌, refl, sym, ap, ◌∙◌, subst, ℕ, ◌<◌, List, length, Some, inl, inr, arith}
 use Rattle.std.specs.Prelude.{slice_get}
 use native.Mathlib.Decide.{dec_lt}
 use Rattle.mh_setonce.specs.Views.{WalkView}
-use Rattle.mh_setonce.specs.Walks.{Distinct, Meet}
+use Rattle.mh_setonce.specs.Walks.{Distinct, Meet, StartsWith}
 use Rattle.mh_setonce.specs.ManyWalks.{DoMeet, IsLonger}
 use Rattle.mh_handle.specs.Form.{FormView}
 use Rattle.mh_handle.specs.Index.{recipe_of}
-use Rattle.std.proofs.lemmas.List.{take-append-drop, take_all}
 use Rattle.mh_handle.specs.Chains.{AreWalks, chain_of, learnt_by}
 use Rattle.mh_handle.specs.Passes.{DoMatch}
+use Rattle.mh_setonce.proofs.JoiningWalks.{longer-mine, longer-theirs}
 use Rattle.mh_handle.proofs.Members.{IsIn, in-left}
 use Rattle.mh_handle.proofs.ManyWalks.{learnt-at}
 
--- an item among the first of a list
-pub in-take : {X : Type 0} (n : ℕ) (xs : List X) (x : X) → IsIn (take n xs) x → IsIn xs x
-in-take n xs x at = subst (λ v. IsIn v x) (take-append-drop n xs) (in-left (take n xs) (drop n xs) x at)
-
--- all of a list that is no longer than n is in the first n
-whole : {X : Type 0} (n : ℕ) (xs : List X) → length xs ≤ n → take n xs ≡ xs
-whole n xs few = take_all n xs few
+-- what begins with nodes has each of them
+has-first : (more nodes : List FormView) (f : FormView) → StartsWith more nodes → IsIn nodes f → IsIn more f
+has-first more nodes f starts at = subst (λ v. IsIn v f) (sym starts.1) (in-left nodes starts.0 f at)
 
 -- the longer of two walks that meet has the nodes of both
 module _ (a b kept : WalkView FormView) (n : ℕ) (meet : Meet a.nodes b.nodes n) (longer : IsLonger a b kept) (f : FormView) where
-  pub longer-mine : IsIn a.nodes f → IsIn kept.nodes f
-  longer-mine at = ⊎_elim
-      (λ (same : (kept ≡ a) × (length b.nodes ≤ length a.nodes)). subst (λ (w : WalkView FormView). IsIn w.nodes f) (sym same.0) at)
-      (λ (other : (kept ≡ b) × (length a.nodes < length b.nodes)).
-      let few : length a.nodes ≤ n = omega (arith, meet.0, other.1) in
-      subst (λ (w : WalkView FormView). IsIn w.nodes f) (sym other.0)
-      (in-take n b.nodes f (subst (λ v. IsIn v f) (sym (whole n a.nodes few) ∙ meet.1) at)))
-      longer
+  pub has-mine : IsIn a.nodes f → IsIn kept.nodes f
+  has-mine at = has-first kept.nodes a.nodes f (longer-mine a b kept n meet longer) at
 
-  pub longer-theirs : IsIn b.nodes f → IsIn kept.nodes f
-  longer-theirs at = ⊎_elim
-      (λ (same : (kept ≡ a) × (length b.nodes ≤ length a.nodes)).
-      let few : length b.nodes ≤ n = omega (arith, meet.0, same.1) in
-      subst (λ (w : WalkView FormView). IsIn w.nodes f) (sym same.0)
-      (in-take n a.nodes f (subst (λ v. IsIn v f) (sym (whole n b.nodes few) ∙ sym meet.1) at)))
-      (λ (other : (kept ≡ b) × (length a.nodes < length b.nodes)). subst (λ (w : WalkView FormView). IsIn w.nodes f) (sym other.0) at)
-      longer
+  pub has-theirs : IsIn b.nodes f → IsIn kept.nodes f
+  has-theirs at = has-first kept.nodes b.nodes f (longer-theirs a b kept n meet longer) at
 
 -- ---- walks that meet have one form for a recipe
 
@@ -47,8 +31,8 @@ module _ (first second : List (WalkView FormView)) (mine : AreWalks first) (thei
   one-form : (a b kept : WalkView FormView) (n : ℕ) → Meet a.nodes b.nodes n → IsLonger a b kept → Distinct recipe_of kept.nodes → (f g : FormView) →
       IsIn a.nodes f → IsIn b.nodes g → f.recipe ≡ g.recipe → f ≡ g
   one-form a b kept n met longer once f g at_f at_g same =
-      let f' = longer-mine a b kept n met longer f at_f in
-      let g' = longer-theirs a b kept n met longer g at_g in
+      let f' = has-mine a b kept n met longer f at_f in
+      let g' = has-theirs a b kept n met longer g at_g in
       let place : f'.0 ≡ g'.0 = once f'.0 g'.0 f g f'.1 g'.1 same in
       let both : Some f ≡ Some g = sym f'.1 ∙ (ap (slice_get kept.nodes) place ∙ g'.1) in
       cc

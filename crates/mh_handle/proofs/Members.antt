@@ -1,5 +1,5 @@
 -- Which items lists have, by their places.
-use Rattle.std.proofs.Common.{◌≡◌, ◌≢◌, refl, ap, ◌∙◌, subst, ℕ, zero, suc, Bool, true, false, cond, List, [], ◌∷◌, ◌++◌, set, Some, inl, inr, ◌⊎◌, ⊎_elim}
+use Rattle.std.proofs.Common.{◌≡◌, refl, ap, ◌∙◌, subst, ℕ, zero, suc, Bool, true, false, cond, List, [], ◌∷◌, ◌++◌, Some, inl, inr, ◌⊎◌, ⊎_elim}
 use Rattle.std.specs.Prelude.{slice_get}
 use Rattle.std.specs.List.{filter}
 
@@ -67,26 +67,3 @@ module _ {X : Type 0} where
         cases true kept (suc i) there rest = in-later y (filter test xs) x (rest (i, there))
         cases false dropped zero here rest = let is : y ≡ x = cc in let e : test y ≡ true = ap test is ∙ passes in absurd cc
         cases false dropped (suc i) there rest = rest (i, there)
-
-  -- ---- after one item was replaced
-
-  pub set-here : (xs : List X) (c : ℕ) (old new : X) → slice_get xs c ≡ Some old → slice_get (set xs c new) c ≡ Some new
-  set-here [] c old new at = absurd cc
-  set-here (y ∷ xs) zero old new at = refl
-  set-here (y ∷ xs) (suc c) old new at = set-here xs c old new at
-
-  pub set-there : (xs : List X) (c k : ℕ) (new : X) → k ≢ c → slice_get (set xs c new) k ≡ slice_get xs k
-  set-there [] c k new other = refl
-  set-there (y ∷ xs) zero zero new other = absurd (other refl)
-  set-there (y ∷ xs) zero (suc k) new other = refl
-  set-there (y ∷ xs) (suc c) zero new other = refl
-  set-there (y ∷ xs) (suc c) (suc k) new other = set-there xs c k new (λ e. other (ap suc e))
-
-  -- what stands at a place then is the new item, or stood there before
-  pub set-either : (xs : List X) (c k : ℕ) (new x : X) → slice_get (set xs c new) k ≡ Some x → ((k ≡ c) × (new ≡ x)) ⊎ (slice_get xs k ≡ Some x)
-  set-either [] c k new x at = inr at
-  set-either (y ∷ xs) zero zero new x at = inl (refl, cc)
-  set-either (y ∷ xs) zero (suc k) new x at = inr at
-  set-either (y ∷ xs) (suc c) zero new x at = inr at
-  set-either (y ∷ xs) (suc c) (suc k) new x at = ⊎_elim (λ (h : (k ≡ c) × (new ≡ x)). inl (ap suc h.0, h.1)) (λ (t : slice_get xs k ≡ Some x). inr t)
-      (set-either xs c k new x at)

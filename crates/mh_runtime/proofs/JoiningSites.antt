@@ -1,130 +1,31 @@
--- The longer walks of the chains of all sites, one site after the other.
-use Rattle.std.proofs.Common.{◌≡◌, refl, sym, ap, ◌∙◌, subst, ℕ, ◌+◌, ◌<◌, ◌≤◌, List, [], ◌++◌, append-nil, length, set, get_or, take, drop, Some, ⊎_elim, arith}
-use Rattle.std.specs.Prelude.{slice_get}
-use Rattle.std.specs.Option.{option_map}
-use native.Mathlib.Decide.{ℕ_discrete}
-use Rattle.std.proofs.lemmas.List.{length-set, take-append-drop, take_all}
-use Rattle.std.proofs.lemmas.Option.{slice_get-get_or, slice_get-map, slice_get_within}
+-- The serials of the longer walks of the chains of all sites.
+use Rattle.std.proofs.Common.{◌≡◌, ℕ, ◌<◌, ◌≤◌, List, length, get_or, arith}
+use Rattle.std.proofs.lemmas.Option.{slice_get-get_or, slice_get_within}
 use Rattle.mh_setonce.specs.Views.{WalkView}
-use Rattle.mh_setonce.specs.Walks.{Meet, StartsWith}
-use Rattle.mh_setonce.specs.ManyWalks.{DoMeet, IsLonger, chains_of}
-use Rattle.mh_handle.proofs.Members.{set-here, set-there}
+use Rattle.mh_setonce.specs.ManyWalks.{DoMeet}
+use Rattle.mh_setonce.proofs.JoiningWalks.{Joining, longer-mine, longer-theirs}
 use Rattle.mh_attempt.specs.Linkage.{LinkageView}
 use Rattle.mh_runtime.specs.Passes.{HasSerials, linked_by}
-use Rattle.mh_runtime.proofs.ManySites.{set-chains}
 use Rattle.mh_runtime.proofs.SiteSerials.{more-serials}
 
--- ---- the longer of two walks that meet begins with the nodes of both
+module _ (first second walks others : List (WalkView LinkageView)) (place : ℕ) (so : Joining first second walks others place)
+    (end : length first ≤ place) (same : length first ≡ length second) (meet : DoMeet first second) where
+  pub joined-mine : HasSerials (linked_by first) (linked_by walks)
+  joined-mine = more-serials first walks (λ c a at.
+      let low : c < length first = slice_get_within first c a at in
+      let b = get_or second c a in
+      let k = get_or walks c a in
+      let at_b = slice_get-get_or second c a (omega (arith, low, same)) in
+      let at_k = slice_get-get_or walks c a (omega (arith, low, so.kept)) in
+      let m = meet c a b at at_b in
+      (k, at_k, longer-mine a b k m.0 m.1 (so.done c a b k (omega (arith, low, end)) at at_b at_k)))
 
--- a list begins with another one that is as long as their common front
-begins : (xs ys : List LinkageView) (n : ℕ) → length xs ≤ n → take n xs ≡ take n ys → StartsWith ys xs
-begins xs ys n few same = (drop n ys, sym (take-append-drop n ys) ∙ ap (λ v. v ++ drop n ys) (sym same ∙ take_all n xs few))
-
-module _ (a b kept : WalkView LinkageView) (n : ℕ) (meet : Meet a.nodes b.nodes n) (longer : IsLonger a b kept) where
-  longer-mine : StartsWith kept.nodes a.nodes
-  longer-mine = ⊎_elim
-      (λ (same : (kept ≡ a) × (length b.nodes ≤ length a.nodes)).
-      subst (λ (w : WalkView LinkageView). StartsWith w.nodes a.nodes) (sym same.0) ([], sym (append-nil a.nodes)))
-      (λ (other : (kept ≡ b) × (length a.nodes < length b.nodes)).
-      subst (λ (w : WalkView LinkageView). StartsWith w.nodes a.nodes) (sym other.0)
-      (begins a.nodes b.nodes n (omega (arith, meet.0, other.1)) meet.1))
-      longer
-
-  longer-theirs : StartsWith kept.nodes b.nodes
-  longer-theirs = ⊎_elim
-      (λ (same : (kept ≡ a) × (length b.nodes ≤ length a.nodes)).
-      subst (λ (w : WalkView LinkageView). StartsWith w.nodes b.nodes) (sym same.0)
-      (begins b.nodes a.nodes n (omega (arith, meet.0, same.1)) (sym meet.1)))
-      (λ (other : (kept ≡ b) × (length a.nodes < length b.nodes)).
-      subst (λ (w : WalkView LinkageView). StartsWith w.nodes b.nodes) (sym other.0) ([], sym (append-nil b.nodes)))
-      longer
-
--- ---- all walks
-
-module _ (first second : List (WalkView LinkageView)) where
-  -- the walks of the sites before this one are the longer ones, and the others are as they were
-  pub record Joining (walks others : List (WalkView LinkageView)) (place : ℕ) : Type 0 where
-    pub chains : chains_of walks ≡ chains_of first
-    pub kept : length walks ≡ length first
-    pub count : length others ≡ length second
-    pub done : (c : ℕ) (a b k : WalkView LinkageView) → c < place → slice_get first c ≡ Some a → slice_get second c ≡ Some b → slice_get walks c ≡ Some k →
-        IsLonger a b k
-    pub mine : (c : ℕ) → place ≤ c → slice_get walks c ≡ slice_get first c
-    pub theirs : (c : ℕ) → place ≤ c → slice_get others c ≡ slice_get second c
-
-  pub joining-first : Joining first second 0
-  joining-first = record {
-    chains = refl;
-    kept = refl;
-    count = refl;
-    done = λ c a b k low. absurd (omega (arith, low));
-    mine = λ c high. refl;
-    theirs = λ c high. refl;
-  }
-
-  module _ (walks others : List (WalkView LinkageView)) (place : ℕ) (a b k o : WalkView LinkageView) (so : Joining walks others place)
-      (chains : chains_of second ≡ chains_of first) (at_mine : slice_get walks place ≡ Some a) (at_theirs : slice_get others place ≡ Some b)
-      (longer : IsLonger a b k) where
-    mine-at : slice_get first place ≡ Some a
-    mine-at = sym (so.mine place (omega arith)) ∙ at_mine
-
-    theirs-at : slice_get second place ≡ Some b
-    theirs-at = sym (so.theirs place (omega arith)) ∙ at_theirs
-
-    chain-at : (ws : List (WalkView LinkageView)) (w : WalkView LinkageView) → slice_get ws place ≡ Some w → slice_get (chains_of ws) place ≡ Some w.chain
-    chain-at ws w at = slice_get-map (λ (v : WalkView LinkageView). v.chain) ws place ∙ ap (option_map (λ (v : WalkView LinkageView). v.chain)) at
-
-    one-chain : b.chain ≡ a.chain
-    one-chain =
-        let both : Some b.chain ≡ Some a.chain = sym (chain-at second b theirs-at) ∙ (ap (λ cs. slice_get cs place) chains ∙ chain-at first a mine-at) in
-        cc
-
-    kept-chain : k.chain ≡ a.chain
-    kept-chain = ⊎_elim
-        (λ (same : (k ≡ a) × (length b.nodes ≤ length a.nodes)). ap (λ (w : WalkView LinkageView). w.chain) same.0)
-        (λ (other : (k ≡ b) × (length a.nodes < length b.nodes)). ap (λ (w : WalkView LinkageView). w.chain) other.0 ∙ one-chain)
-        longer
-
-    done-next : (c : ℕ) (a' b' k' : WalkView LinkageView) → c < place + 1 → slice_get first c ≡ Some a' → slice_get second c ≡ Some b' →
-        slice_get (set walks place k) c ≡ Some k' → Dec (c ≡ place) → IsLonger a' b' k'
-    done-next c a' b' k' low mine theirs kept (yes here) =
-        let e : Some a ≡ Some a' = sym mine-at ∙ (ap (slice_get first) (sym here) ∙ mine) in
-        let f : Some b ≡ Some b' = sym theirs-at ∙ (ap (slice_get second) (sym here) ∙ theirs) in
-        let g : Some k ≡ Some k' = sym (set-here walks place a k at_mine) ∙ (ap (slice_get (set walks place k)) (sym here) ∙ kept) in
-        let e' : a ≡ a' = cc in let f' : b ≡ b' = cc in let g' : k ≡ k' = cc in
-        subst (λ v. IsLonger v b' k') e' (subst (λ v. IsLonger a v k') f' (subst (IsLonger a b) g' longer))
-    done-next c a' b' k' low mine theirs kept (no other) =
-        so.done c a' b' k' (omega (arith, low, other)) mine theirs (sym (set-there walks place c k other) ∙ kept)
-
-    pub joining-next : Joining (set walks place k) (set others place o) (place + 1)
-    joining-next = record {
-      chains = set-chains walks place a k at_mine kept-chain ∙ so.chains;
-      kept = length-set walks place k ∙ so.kept;
-      count = length-set others place o ∙ so.count;
-      done = λ c a' b' k' low mine theirs kept. done-next c a' b' k' low mine theirs kept (ℕ_discrete c place);
-      mine = λ c high. set-there walks place c k (omega (arith, high)) ∙ so.mine c (omega (arith, high));
-      theirs = λ c high. set-there others place c o (omega (arith, high)) ∙ so.theirs c (omega (arith, high));
-    }
-
-  -- at the end
-  module _ (walks others : List (WalkView LinkageView)) (place : ℕ) (so : Joining walks others place) (end : length first ≤ place)
-      (same : length first ≡ length second) (meet : DoMeet first second) where
-    pub joined-mine : HasSerials (linked_by first) (linked_by walks)
-    joined-mine = more-serials first walks (λ c a at.
-        let low : c < length first = slice_get_within first c a at in
-        let b = get_or second c a in
-        let k = get_or walks c a in
-        let at_b = slice_get-get_or second c a (omega (arith, low, same)) in
-        let at_k = slice_get-get_or walks c a (omega (arith, low, so.kept)) in
-        let m = meet c a b at at_b in
-        (k, at_k, longer-mine a b k m.0 m.1 (so.done c a b k (omega (arith, low, end)) at at_b at_k)))
-
-    pub joined-theirs : HasSerials (linked_by second) (linked_by walks)
-    joined-theirs = more-serials second walks (λ c b at.
-        let low : c < length second = slice_get_within second c b at in
-        let a = get_or first c b in
-        let k = get_or walks c b in
-        let at_a = slice_get-get_or first c b (omega (arith, low, same)) in
-        let at_k = slice_get-get_or walks c b (omega (arith, low, same, so.kept)) in
-        let m = meet c a b at_a at in
-        (k, at_k, longer-theirs a b k m.0 m.1 (so.done c a b k (omega (arith, low, same, end)) at_a at at_k)))
+  pub joined-theirs : HasSerials (linked_by second) (linked_by walks)
+  joined-theirs = more-serials second walks (λ c b at.
+      let low : c < length second = slice_get_within second c b at in
+      let a = get_or first c b in
+      let k = get_or walks c b in
+      let at_a = slice_get-get_or first c b (omega (arith, low, same)) in
+      let at_k = slice_get-get_or walks c b (omega (arith, low, same, so.kept)) in
+      let m = meet c a b at_a at in
+      (k, at_k, longer-theirs a b k m.0 m.1 (so.done c a b k (omega (arith, low, same, end)) at_a at at_k)))

@@ -3,16 +3,13 @@ use Rattle.std.proofs.Common.{◌≡◌, sym, ap, ◌∙◌, subst, ℕ, List, [
 use Rattle.std.specs.Prelude.{slice_get}
 use native.Mathlib.Decide.{ℕ_discrete}
 use denote.Ref.{Bor}
-use Rattle.std.proofs.lemmas.Option.{get_or_from_slice_get}
-use Rattle.std.proofs.Math.Seq.{map-set_same}
 use Rattle.mh_base.proofs.Slices.{slice_get-end}
 use Rattle.mh_setonce.specs.Views.{WalkView}
 use Rattle.mh_setonce.specs.Puts.{PutIn}
 use Rattle.mh_setonce.specs.Walks.{Distinct, FindsNode, StartsWith}
 use Rattle.mh_setonce.specs.declared.put.Put.{Put}
 use Rattle.mh_setonce.specs.declared.put.Put.TheVariants.{Mine, Theirs}
-use Rattle.mh_setonce.specs.ManyWalks.{chains_of}
-use Rattle.mh_handle.proofs.Members.{set-here, set-there}
+use Rattle.mh_setonce.proofs.Replaced.{set-here, set-there}
 use Rattle.mh_attempt.specs.Linkage.{LinkageView}
 use Rattle.mh_runtime.specs.Passes.{FindsLinkage, HasSerials, PutsLinkage, PutsNode, linked_by, site_of}
 use Rattle.mh_runtime.proofs.SiteSerials.{HaveMore, finds-linkage, more-serials, puts-linkage}
@@ -33,10 +30,6 @@ module _ (walks : List (WalkView LinkageView)) (site : ℕ) (old new : WalkView 
 
   pub set-serials : StartsWith new.nodes old.nodes → HasSerials (linked_by walks) (linked_by (set walks site new))
   set-serials starts = more-serials walks (set walks site new) (have-more starts)
-
-  pub set-chains : new.chain ≡ old.chain → chains_of (set walks site new) ≡ chains_of walks
-  set-chains same = map-set_same (λ (w : WalkView LinkageView). w.chain) walks site new old
-      (same ∙ ap (λ (w : WalkView LinkageView). w.chain) (sym (get_or_from_slice_get walks site old old stands)))
 
   pub set-finds : {E : Type 0} (r : Result (Option (Bor LinkageView)) E) → Distinct site_of new.nodes → IfOk r (FindsNode site_of new.nodes site) →
       IfOk r (FindsLinkage (linked_by (set walks site new)) site)

@@ -3,8 +3,11 @@ use Rattle.std.specs.Prelude.{slice_get}
 use Rattle.std.proofs.lemmas.Option.{slice_get_read}
 use Rattle.mh_handle.specs.Chains.{chain_count}
 use Rattle.mh_handle.proofs.ManyWalks.{one-each}
-use Rattle.mh_handle.proofs.JoiningWalks.{joined-mine, joined-theirs, joining-next}
+use Rattle.mh_handle.proofs.JoiningWalks.{joined-mine, joined-theirs, joining-first, joining-next}
 use Rattle.mh_handle.proofs.walks.FormWalks.join.Goals as goal
+
+pub loop-place-init : goal.loop-place-init
+loop-place-init c = joining-first c.self.inside.walks.items c.other.inside.walks.items c.self.invariant
 
 pub loop-place-preserved : goal.loop-place-preserved
 loop-place-preserved c =
@@ -16,11 +19,14 @@ loop-place-preserved c =
     let mine : slice_get walks place ≡ Some c.index_mut.result.now =
     slice_get_read walks 64 place c.index_mut.result.now (sym c.loop-place.invariant.walks_are.count) low c.index_mut.ensures.value in
     let theirs : slice_get others place ≡ Some c.index_mut-in-loop-place.result.now =
-    slice_get_read others (length c.other.inside.walks.items) place c.index_mut-in-loop-place.result.now (sym c.loop-place.invariant.count)
+    slice_get_read others (length c.other.inside.walks.items) place c.index_mut-in-loop-place.result.now (sym c.loop-place.invariant.joining.count)
     (omega (arith, low, c.other.invariant.count)) c.index_mut-in-loop-place.ensures.value in
     joining-next c.self.inside.walks.items c.other.inside.walks.items walks others place c.index_mut.result.now c.index_mut-in-loop-place.result.now
     c.keep_longer.new.walk c.keep_longer.new.other c.loop-place.invariant c.other.invariant
     (rw (← c.self.view_is) at chains) mine theirs c.keep_longer.ensures
+
+pub returns-clause-chains : goal.returns-clause-chains
+returns-clause-chains c = rw (← c.self.view_is) c.loop-place.invariant.joining.chains
 
 pub returns-clause-mine : goal.returns-clause-mine
 returns-clause-mine c =

@@ -1,7 +1,8 @@
 use Rattle.std.proofs.Common.{◌≡◌, sym, Some}
 use Rattle.std.specs.Prelude.{slice_get}
 use Rattle.std.proofs.lemmas.Option.{slice_get_read}
-use Rattle.mh_runtime.proofs.ManySites.{set-chains, set-finds, set-serials}
+use Rattle.mh_setonce.proofs.Replaced.{set-chains}
+use Rattle.mh_runtime.proofs.ManySites.{set-finds, set-serials}
 use Rattle.mh_runtime.proofs.SiteSerials.{lacks-linkage}
 use Rattle.mh_runtime.proofs.walks.SiteWalks.find.Given as given
 use Rattle.mh_runtime.proofs.walks.SiteWalks.find.Goals as goal

@@ -1,7 +1,8 @@
 use Rattle.std.proofs.Common.{◌≡◌, ◌<◌, ◌≤◌, ◌∙◌, sym, Some, length, arith}
 use Rattle.std.specs.Prelude.{slice_get}
 use Rattle.std.proofs.lemmas.Option.{slice_get_read}
-use Rattle.mh_runtime.proofs.JoiningSites.{joined-mine, joined-theirs, joining-first, joining-next}
+use Rattle.mh_setonce.proofs.JoiningWalks.{joining-first, joining-next}
+use Rattle.mh_runtime.proofs.JoiningSites.{joined-mine, joined-theirs}
 use Rattle.mh_runtime.proofs.walks.SiteWalks.join.Goals as goal
 
 pub loop-place-init : goal.loop-place-init

@@ -1,4 +1,4 @@
-use Rattle.mh_runtime.proofs.JoiningSites.{Joining}
+use Rattle.mh_setonce.proofs.JoiningWalks.{Joining}
 use Rattle.mh_runtime.proofs.walks.SiteWalks.join.Given as goal
 
 abbrev pub invariant-loop-place : goal.invariant-loop-place

@@ -1,6 +1,7 @@
 use Rattle.std.proofs.Common.{◌≡◌, ◌∙◌, ◌+◌, sym, ap, subst, length, take, replicate, None, ◌++◌, ◌∷◌, []}
 use Rattle.std.proofs.lemmas.List.{take_all, take_more}
-use Rattle.mh_runtime.proofs.NewSites.{AreNew, new-count, new-linked, new-push}
+use Rattle.mh_setonce.proofs.NewWalks.{AreNew, new-count, new-push}
+use Rattle.mh_runtime.proofs.NewSites.{new-linked}
 use Rattle.mh_runtime.proofs.walks.SiteWalks.new.Given as given
 use Rattle.mh_runtime.proofs.walks.SiteWalks.new.Goals as goal
 

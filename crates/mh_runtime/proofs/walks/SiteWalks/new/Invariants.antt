@@ -1,5 +1,5 @@
 use Rattle.std.proofs.Common.{take}
-use Rattle.mh_runtime.proofs.NewSites.{AreNew}
+use Rattle.mh_setonce.proofs.NewWalks.{AreNew}
 use Rattle.mh_runtime.proofs.walks.SiteWalks.new.Given as goal
 
 abbrev pub invariant-loop-chain : goal.invariant-loop-chain

@@ -2,7 +2,8 @@ use Rattle.std.proofs.Common.{◌≡◌, ◌<◌, ap, sym, subst, length, Some}
 use Rattle.std.specs.Prelude.{slice_get}
 use Rattle.std.proofs.lemmas.Option.{slice_get_read, slice_get_within}
 use Rattle.mh_jobs.specs.declared.job.Job.{Job}
-use Rattle.mh_runtime.proofs.ManySites.{set-chains, set-puts, set-serials}
+use Rattle.mh_setonce.proofs.Replaced.{set-chains}
+use Rattle.mh_runtime.proofs.ManySites.{set-puts, set-serials}
 use Rattle.mh_runtime.proofs.walks.SiteWalks.put.Given as given
 use Rattle.mh_runtime.proofs.walks.SiteWalks.put.Goals as goal
 
