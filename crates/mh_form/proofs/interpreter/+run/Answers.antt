@@ -123,7 +123,7 @@ run_guarded-returns-in_ok-leave_with_last-in-On-clause-done t c =
 
 pub run_in-loop-name-preserved : goal.run_in-loop-name-preserved
 run_in-loop-name-preserved t c =
-    let m = c.loop-name.m in
+    let m = c.loop-name.stack in
     let next = c.step.new.stack in
     let table = c.args.call.now.leaves.now in
     let n = c.args.call.now.n in

@@ -8,8 +8,8 @@ use Rattle.mh_form.proofs.interpreter.+run.Given as goal
 abbrev pub invariant-run_in-loop-name : goal.invariant-run_in-loop-name
 invariant-run_in-loop-name l =
     record {
-      same : after l.fn.m.calls (slots_on l.call.leaves.now l.call.n l.bound l.fn.m)
-          ≡ after l.m.calls
-          (run_slots (drop l.name-index l.name-items) (senses_in l.call.leaves.now l.bound) l.m.frame (raised l.call.n l.m.calls));
-      below : l.m.below ≡ l.fn.m.below;
+      same : after l.fn.stack.calls (slots_on l.call.leaves.now l.call.n l.bound l.fn.stack)
+          ≡ after l.stack.calls
+          (run_slots (drop l.name-index l.name-items) (senses_in l.call.leaves.now l.bound) l.stack.frame (raised l.call.n l.stack.calls));
+      below : l.stack.below ≡ l.fn.stack.below;
     }
