@@ -73,14 +73,6 @@ module _ (leaves : LeafTable) (frame : Frame) (op : Operation) (old new : Work) 
       subst (λ uses. AsksIfMade (map (recipe leaves) (uses ++ asked_itself leaves frame op n)) old new r) same
       (asks n (subst (λ t. m ≡ Ok t) (ok_is found.0 n own.2) found.1)))
 
-  -- of which a tree is made
-  pub line-makes : (operands : List HandleOperand) (t : Tree) → flat_map node_made operands ≡ nodes_of_uses frame (handles_of op) →
-      node_of leaves frame op ≡ typed leaves t → AsksIfMade (recipes_made leaves operands (asked_itself leaves frame op t)) old new r →
-      AsksOrThrows (line_recipes leaves frame op) old new r
-  line-makes operands t same is asks =
-      line-asks operands (Ok t) same is
-      (λ u h. subst (λ n. AsksIfMade (recipes_made leaves operands (asked_itself leaves frame op n)) old new r) (ok_is t u h) asks)
-
 -- ---- nodes that an operation makes itself
 
 -- a use of the operand

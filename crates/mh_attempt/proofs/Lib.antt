@@ -26,6 +26,7 @@ pub mod OperandTypes
 pub mod NodeTypes
 pub mod UseTypes
 pub mod LineTypes
+pub mod MadeOperations
 pub mod Outcomes
 pub mod RecipeBeginnings
 pub mod RecipeCounts
@@ -36,6 +37,7 @@ pub mod AssignedHolds
 pub mod RegisterTypes
 pub mod Replacing
 pub mod Rules
+pub mod MadeNodes
 pub mod RunCalls
 pub mod RunFails
 pub mod RunEnds

@@ -1,4 +1,4 @@
--- What a line makes and asks for, where its operation is known.
+-- Which types the operation of a line asks for.
 use Rattle.std.proofs.Common.{◌≡◌, sym, subst, List, ◌++◌, flat_map, Result}
 use Rattle.mh_leaf.specs.LeafTable.{LeafTable}
 use Rattle.mh_tree.specs.Tree.{Tree}
@@ -11,14 +11,8 @@ use Rattle.mh_link.specs.Made.{handles_of, nodes_of, nodes_of_uses, types_of, un
 use Rattle.mh_link.specs.Operands.{Frame}
 use Rattle.mh_link.specs.Operations.{node_of}
 use Rattle.mh_attempt.specs.declared.handle.HandleOperand.{HandleOperand}
-use Rattle.mh_attempt.specs.Asked.{AsksOrThrows}
 use Rattle.mh_attempt.specs.AskedTypes.{AsksTypesOrThrows, line_types, node_types}
-use Rattle.mh_attempt.specs.Lines.{MakesNode}
-use Rattle.mh_attempt.specs.Operations.{MakesOperation}
-use Rattle.mh_attempt.specs.Recipes.{line_recipes}
 use Rattle.mh_attempt.specs.Registers.{node_made}
-
--- ---- lines
 
 -- what is asked for where operands are found, and then a node of them is made or thrown
 pub line-types : (leaves : LeafTable) (frame : Frame) (op : Operation) (operands : List HandleOperand) (node : OrThrown Tree) (old new : Work)
@@ -27,10 +21,3 @@ pub line-types : (leaves : LeafTable) (frame : Frame) (op : Operation) (operands
 line-types leaves frame op operands node old new r uses is asked =
     subst (λ used. AsksTypesOrThrows (types_of leaves (unless_thrown (node_of leaves frame op) (λ u. used ++ nodes_of u))) old new r) uses
     (subst (λ m. AsksTypesOrThrows (node_types leaves operands m) old new r) (sym is) asked)
-
--- where the operation is known
-pub line-for : (old new : Work) (frame : Frame) (op made : Operation) (r : Result Handle HandleError) → op ≡ made →
-    MakesNode (node_of old.leaves.now frame made) old new r → AsksOrThrows (line_recipes old.leaves.now frame made) old new r →
-    AsksTypesOrThrows (line_types old.leaves.now frame made) old new r → MakesOperation frame op old new r
-line-for old new frame op made r is node asks asked =
-    subst (λ o. MakesOperation frame o old new r) (sym is) (record { node = node; asks = asks; asked = asked })

@@ -40,13 +40,9 @@ node-of-leaf old new node own (Err (Refused e)) is accepted stands = absurd acce
 -- ---- of one part
 
 module _ (rule : List Class → MethodTy → ℕ → TypeOrRefusal) where
-  rule-of : (leaves : LeafTable) (classes : List Class) (t : Tree) (ty : MethodTy) (n : ℕ) → classes ≡ leaves.classes → type_of leaves t ≡ Ok ty →
+  pub rule-of : (leaves : LeafTable) (classes : List Class) (t : Tree) (ty : MethodTy) (n : ℕ) → classes ≡ leaves.classes → type_of leaves t ≡ Ok ty →
       n ≡ weight t → with_type (type_of leaves t) (λ own. rule leaves.classes own (weight t)) ≡ rule classes ty n
   rule-of leaves classes t ty n same typed weighed = λ i. with_type (typed i) (λ own. rule (sym same i) own (sym weighed i))
-
-  pub checked-one : (leaves : LeafTable) (classes : List Class) (t : Tree) (ty own : MethodTy) (n : ℕ) → classes ≡ leaves.classes → type_of leaves t ≡ Ok ty →
-      n ≡ weight t → rule classes ty n ≡ Ok own → with_type (type_of leaves t) (λ o. rule leaves.classes o (weight t)) ≡ Ok own
-  checked-one leaves classes t ty own n same typed weighed is = rule-of leaves classes t ty n same typed weighed ∙ is
 
   pub node-of-one : (old mid new : Work) (t node : Tree) (h : Handle) (own : MethodTy) (r : Result Handle HandleError) → mid.leaves ≡ old.leaves →
       Stands old.leaves.now h t →
@@ -61,18 +57,12 @@ module _ (rule : List Class → MethodTy → ℕ → TypeOrRefusal) where
 -- ---- of two parts
 
 module _ (rule : List Class → MethodTy → ℕ → MethodTy → ℕ → TypeOrRefusal) where
-  rule-of-two : (leaves : LeafTable) (classes : List Class) (t p : Tree) (ty part : MethodTy) (n m : ℕ) → classes ≡ leaves.classes →
+  pub rule-of-two : (leaves : LeafTable) (classes : List Class) (t p : Tree) (ty part : MethodTy) (n m : ℕ) → classes ≡ leaves.classes →
       type_of leaves t ≡ Ok ty → n ≡ weight t → type_of leaves p ≡ Ok part → m ≡ weight p →
       with_type (type_of leaves t) (λ own. with_type (type_of leaves p) (λ other. rule leaves.classes own (weight t) other (weight p)))
       ≡ rule classes ty n part m
   rule-of-two leaves classes t p ty part n m same typed weighed typed' weighed' =
       λ i. with_type (typed i) (λ own. with_type (typed' i) (λ other. rule (sym same i) own (sym weighed i) other (sym weighed' i)))
-
-  pub checked-two : (leaves : LeafTable) (classes : List Class) (t p : Tree) (ty part own : MethodTy) (n m : ℕ) → classes ≡ leaves.classes →
-      type_of leaves t ≡ Ok ty → n ≡ weight t → type_of leaves p ≡ Ok part → m ≡ weight p → rule classes ty n part m ≡ Ok own →
-      with_type (type_of leaves t) (λ o. with_type (type_of leaves p) (λ other. rule leaves.classes o (weight t) other (weight p))) ≡ Ok own
-  checked-two leaves classes t p ty part own n m same typed weighed typed' weighed' is =
-      rule-of-two leaves classes t p ty part n m same typed weighed typed' weighed' ∙ is
 
   pub node-of-two : (old mid new : Work) (t p node : Tree) (h k : Handle) (own : MethodTy) (r : Result Handle HandleError) → mid.leaves ≡ old.leaves →
       Stands old.leaves.now h t → Stands old.leaves.now k p →

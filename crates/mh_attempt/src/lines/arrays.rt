@@ -5,12 +5,13 @@ ghost use Rattle.mh_tree.specs.Tree.{Tree};
 ghost use Rattle.mh_tree.specs.Tree as tree;
 ghost use Rattle.mh_script.specs.declared.script.Operation.TheVariants as operation;
 ghost use Rattle.mh_handle.specs.Works.{GoesOn, IsReady, leaves_of};
-ghost use Rattle.mh_attempt.specs.Asked.{AsksIfMade, AsksOrThrows};
-ghost use Rattle.mh_attempt.specs.AskedTypes.{AsksTypesOrThrows, line_types, node_types};
-ghost use Rattle.mh_attempt.specs.Lines.{MakesNode, typed};
+ghost use Rattle.mh_attempt.specs.Asked.{AsksIfMade};
+ghost use Rattle.mh_attempt.specs.Operations.{MakesOf, MakesOperation};
+ghost use Rattle.mh_attempt.specs.AskedTypes.{AsksTypesOrThrows, node_types};
+ghost use Rattle.mh_attempt.specs.Lines.{MakesNode};
 ghost use Rattle.mh_link.specs.Operands.{Frame};
-ghost use Rattle.mh_link.specs.Operations.{node_of, spread_of};
-ghost use Rattle.mh_attempt.specs.Recipes.{line_recipes, recipes_made, spread_asked};
+ghost use Rattle.mh_link.specs.Operations.{spread_of};
+ghost use Rattle.mh_attempt.specs.Recipes.{recipes_made, spread_asked};
 ghost use Rattle.mh_attempt.specs.Registers.{AreHeldBy, Hold, HoldSome, IsHeldIn, StandsFor, StandsForSome};
 ghost use Rattle.mh_attempt.specs.Uses.{typed_spread};
 ghost use Rattle.mh_attempt.specs.Several.{AddsTypes};
@@ -37,14 +38,8 @@ fn gathered<'t, R: Wait>(
     requires target_held { IsHeldIn w.old.seat.now target.now }
     ensures goes_on { GoesOn 4 w.old w.new }
     ensures types { AddsTypes w.old w.new result }
-    ensures node { (t : Tree) → StandsFor (leaves_of w.old) target.now t → MakesNode
-        (typed (leaves_of w.old) (tree.Gather t array count)) w.old w.new result }
-    ensures asks { (t : Tree) → StandsFor (leaves_of w.old) target.now t
-        → AsksIfMade (recipes_made (leaves_of w.old) (target.now ∷ [])
-        (tree.Gather t array count ∷ [])) w.old w.new result }
-    ensures asked { (t : Tree) → StandsFor (leaves_of w.old) target.now t
-        → AsksTypesOrThrows (node_types (leaves_of w.old) (target.now ∷ [])
-        (typed (leaves_of w.old) (tree.Gather t array count))) w.old w.new result }
+    ensures makes { (t : Tree) → StandsFor (leaves_of w.old) target.now t
+        → MakesOf (target.now ∷ []) (tree.Gather t array count) w.old w.new result }
 {
     let ty = target.ty(w.leaves);
     check_gather(w.alloc, ty, target.weight(), array, count, w.classes())?;
@@ -66,15 +61,8 @@ pub(crate) fn gather_line<'t, R: Wait>(
     requires kept { AreHeldBy w.old.seat.now registers.now }
     ensures goes_on { GoesOn 4 w.old w.new }
     ensures types { AddsTypes w.old w.new result }
-    ensures node { (frame : Frame) → Hold (leaves_of w.old) registers.now frame → MakesNode
-        (node_of (leaves_of w.old) frame (operation.Gather target.now array.now count))
-        w.old w.new result }
-    ensures asks { (frame : Frame) → Hold (leaves_of w.old) registers.now frame → AsksOrThrows
-        (line_recipes (leaves_of w.old) frame (operation.Gather target.now array.now count))
-        w.old w.new result }
-    ensures asked { (frame : Frame) → Hold (leaves_of w.old) registers.now frame → AsksTypesOrThrows
-        (line_types (leaves_of w.old) frame (operation.Gather target.now array.now count))
-        w.old w.new result }
+    ensures line { (frame : Frame) → Hold (leaves_of w.old) registers.now frame
+        → MakesOperation frame (operation.Gather target.now array.now count) w.old w.new result }
 {
     let target = registers.handle(w.alloc, target)?;
     let array = registers.ty(w.alloc, w.classes(), array)?;
@@ -124,15 +112,8 @@ pub(crate) fn spread_line<'t, R: Wait>(
     requires kept { AreHeldBy w.old.seat.now registers.now }
     ensures goes_on { GoesOn 4 w.old w.new }
     ensures types { AddsTypes w.old w.new result }
-    ensures node { (frame : Frame) → Hold (leaves_of w.old) registers.now frame → MakesNode
-        (node_of (leaves_of w.old) frame (operation.Spread target.now array.now count))
-        w.old w.new result }
-    ensures asks { (frame : Frame) → Hold (leaves_of w.old) registers.now frame → AsksOrThrows
-        (line_recipes (leaves_of w.old) frame (operation.Spread target.now array.now count))
-        w.old w.new result }
-    ensures asked { (frame : Frame) → Hold (leaves_of w.old) registers.now frame → AsksTypesOrThrows
-        (line_types (leaves_of w.old) frame (operation.Spread target.now array.now count))
-        w.old w.new result }
+    ensures line { (frame : Frame) → Hold (leaves_of w.old) registers.now frame
+        → MakesOperation frame (operation.Spread target.now array.now count) w.old w.new result }
 {
     let target = registers.handle(w.alloc, target)?;
     let array = registers.ty(w.alloc, w.classes(), array)?;

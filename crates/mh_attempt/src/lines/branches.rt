@@ -5,12 +5,8 @@ ghost use Rattle.mh_tree.specs.Tree.{Tree};
 ghost use Rattle.mh_tree.specs.Tree as tree;
 ghost use Rattle.mh_script.specs.declared.script.Operation.TheVariants as operation;
 ghost use Rattle.mh_handle.specs.Works.{GoesOn, IsReady, leaves_of};
-ghost use Rattle.mh_attempt.specs.Asked.{AsksIfMade, AsksOrThrows};
-ghost use Rattle.mh_attempt.specs.AskedTypes.{AsksTypesOrThrows, line_types, node_types};
-ghost use Rattle.mh_attempt.specs.Lines.{MakesNode, typed};
+ghost use Rattle.mh_attempt.specs.Operations.{MakesOf, MakesOperation};
 ghost use Rattle.mh_link.specs.Operands.{Frame};
-ghost use Rattle.mh_link.specs.Operations.{node_of};
-ghost use Rattle.mh_attempt.specs.Recipes.{line_recipes, recipes_made};
 ghost use Rattle.mh_attempt.specs.Registers.{AreHeldBy, Hold, HoldSome, IsHeldIn, StandsFor, StandsForSome};
 ghost use Rattle.mh_attempt.specs.Several.{AddsTypes};
 
@@ -42,18 +38,11 @@ fn guarded<'t, R: Wait>(
     requires fallback_held { IsHeldIn w.old.seat.now fallback.now }
     ensures goes_on { GoesOn 4 w.old w.new }
     ensures types { AddsTypes w.old w.new result }
-    ensures node { (c t e : Tree) → StandsFor (leaves_of w.old) test.now c
-        → StandsFor (leaves_of w.old) target.now t → StandsFor (leaves_of w.old) fallback.now e
-        → MakesNode (typed (leaves_of w.old) (tree.Guard c t e)) w.old w.new result }
-    ensures asks { (c t e : Tree) → StandsFor (leaves_of w.old) test.now c
-        → StandsFor (leaves_of w.old) target.now t → StandsFor (leaves_of w.old) fallback.now e
-        → AsksIfMade (recipes_made (leaves_of w.old) (test.now ∷ target.now ∷ fallback.now ∷ [])
-        (tree.Guard c t e ∷ [])) w.old w.new result }
-    ensures asked { (c t e : Tree) → StandsFor (leaves_of w.old) test.now c
-        → StandsFor (leaves_of w.old) target.now t → StandsFor (leaves_of w.old) fallback.now e
-        → AsksTypesOrThrows (node_types (leaves_of w.old)
-        (test.now ∷ target.now ∷ fallback.now ∷ [])
-        (typed (leaves_of w.old) (tree.Guard c t e))) w.old w.new result }
+    ensures makes { (c t e : Tree) → StandsFor (leaves_of w.old) test.now c
+        → StandsFor (leaves_of w.old) target.now t
+        → StandsFor (leaves_of w.old) fallback.now e
+        → MakesOf (test.now ∷ target.now ∷ fallback.now ∷ []) (tree.Guard c t e)
+        w.old w.new result }
 {
     let test_ty = test.ty(w.leaves);
     let ty = target.ty(w.leaves);
@@ -89,14 +78,8 @@ pub(crate) fn guard_line<'t, R: Wait>(
     requires kept { AreHeldBy w.old.seat.now registers.now }
     ensures goes_on { GoesOn 4 w.old w.new }
     ensures types { AddsTypes w.old w.new result }
-    ensures node { (frame : Frame) → Hold (leaves_of w.old) registers.now frame → MakesNode
-        (node_of (leaves_of w.old) frame (operation.Guard test.now target.now fallback.now))
-        w.old w.new result }
-    ensures asks { (frame : Frame) → Hold (leaves_of w.old) registers.now frame → AsksOrThrows
-        (line_recipes (leaves_of w.old) frame (operation.Guard test.now target.now fallback.now))
-        w.old w.new result }
-    ensures asked { (frame : Frame) → Hold (leaves_of w.old) registers.now frame → AsksTypesOrThrows
-        (line_types (leaves_of w.old) frame (operation.Guard test.now target.now fallback.now))
+    ensures line { (frame : Frame) → Hold (leaves_of w.old) registers.now frame
+        → MakesOperation frame (operation.Guard test.now target.now fallback.now)
         w.old w.new result }
 {
     let test = registers.handle(w.alloc, test)?;
@@ -120,29 +103,21 @@ fn caught<'t, R: Wait>(
     requires handler_held { IsHeldIn w.old.seat.now handler.now }
     ensures goes_on { GoesOn 4 w.old w.new }
     ensures types { AddsTypes w.old w.new result }
-    ensures node { (t p : Tree) → StandsFor (leaves_of w.old) target.now t
-        → StandsFor (leaves_of w.old) handler.now p → MakesNode
-        (typed (leaves_of w.old) (tree.Catch t class p)) w.old w.new result }
-    ensures asks { (t p : Tree) → StandsFor (leaves_of w.old) target.now t
+    ensures makes { (t p : Tree) → StandsFor (leaves_of w.old) target.now t
         → StandsFor (leaves_of w.old) handler.now p
-        → AsksIfMade (recipes_made (leaves_of w.old) (target.now ∷ handler.now ∷ [])
-        (tree.Catch t class p ∷ [])) w.old w.new result }
-    ensures asked { (t p : Tree) → StandsFor (leaves_of w.old) target.now t
-        → StandsFor (leaves_of w.old) handler.now p
-        → AsksTypesOrThrows (node_types (leaves_of w.old) (target.now ∷ handler.now ∷ [])
-        (typed (leaves_of w.old) (tree.Catch t class p))) w.old w.new result }
+        → MakesOf (target.now ∷ handler.now ∷ []) (tree.Catch t class p) w.old w.new result }
 {
     let ty = target.ty(w.leaves);
-    let part_ty = handler.ty(w.leaves);
+    let handler_ty = handler.ty(w.leaves);
     let weight = target.weight();
-    let part_weight = handler.weight();
+    let handler_weight = handler.weight();
     check_catch(
         w.alloc,
         ty,
         weight,
         class,
-        part_ty,
-        part_weight,
+        handler_ty,
+        handler_weight,
         w.classes(),
     )?;
     let made = both_made(w, rt, target, handler)?;
@@ -163,14 +138,8 @@ pub(crate) fn catch_line<'t, R: Wait>(
     requires kept { AreHeldBy w.old.seat.now registers.now }
     ensures goes_on { GoesOn 4 w.old w.new }
     ensures types { AddsTypes w.old w.new result }
-    ensures node { (frame : Frame) → Hold (leaves_of w.old) registers.now frame → MakesNode
-        (node_of (leaves_of w.old) frame (operation.Catch target.now class.now handler.now))
-        w.old w.new result }
-    ensures asks { (frame : Frame) → Hold (leaves_of w.old) registers.now frame → AsksOrThrows
-        (line_recipes (leaves_of w.old) frame (operation.Catch target.now class.now handler.now))
-        w.old w.new result }
-    ensures asked { (frame : Frame) → Hold (leaves_of w.old) registers.now frame → AsksTypesOrThrows
-        (line_types (leaves_of w.old) frame (operation.Catch target.now class.now handler.now))
+    ensures line { (frame : Frame) → Hold (leaves_of w.old) registers.now frame
+        → MakesOperation frame (operation.Catch target.now class.now handler.now)
         w.old w.new result }
 {
     let target = registers.handle(w.alloc, target)?;

@@ -5,12 +5,8 @@ ghost use Rattle.mh_tree.specs.Tree.{Tree};
 ghost use Rattle.mh_tree.specs.Tree as tree;
 ghost use Rattle.mh_script.specs.declared.script.Operation.TheVariants as operation;
 ghost use Rattle.mh_handle.specs.Works.{GoesOn, IsReady, leaves_of};
-ghost use Rattle.mh_attempt.specs.Asked.{AsksIfMade, AsksOrThrows};
-ghost use Rattle.mh_attempt.specs.AskedTypes.{AsksTypesOrThrows, line_types, node_types};
-ghost use Rattle.mh_attempt.specs.Lines.{MakesNode, typed};
+ghost use Rattle.mh_attempt.specs.Operations.{MakesOf, MakesOperation};
 ghost use Rattle.mh_link.specs.Operands.{Frame};
-ghost use Rattle.mh_link.specs.Operations.{node_of};
-ghost use Rattle.mh_attempt.specs.Recipes.{line_recipes, recipes_made};
 ghost use Rattle.mh_attempt.specs.Registers.{AreHeldBy, Hold, HoldSome, IsHeldIn, StandsFor, StandsForSome};
 ghost use Rattle.mh_attempt.specs.Several.{AddsTypes};
 
@@ -37,14 +33,8 @@ fn bound<'t, R: Wait>(
     requires target_held { IsHeldIn w.old.seat.now target.now }
     ensures goes_on { GoesOn 4 w.old w.new }
     ensures types { AddsTypes w.old w.new result }
-    ensures node { (t : Tree) → StandsFor (leaves_of w.old) target.now t → MakesNode
-        (typed (leaves_of w.old) (tree.Bind t position value)) w.old w.new result }
-    ensures asks { (t : Tree) → StandsFor (leaves_of w.old) target.now t
-        → AsksIfMade (recipes_made (leaves_of w.old) (target.now ∷ [])
-        (tree.Bind t position value ∷ [])) w.old w.new result }
-    ensures asked { (t : Tree) → StandsFor (leaves_of w.old) target.now t
-        → AsksTypesOrThrows (node_types (leaves_of w.old) (target.now ∷ [])
-        (typed (leaves_of w.old) (tree.Bind t position value))) w.old w.new result }
+    ensures makes { (t : Tree) → StandsFor (leaves_of w.old) target.now t
+        → MakesOf (target.now ∷ []) (tree.Bind t position value) w.old w.new result }
 {
     let ty = target.ty(w.leaves);
     check_bind(w.alloc, ty, target.weight(), position, &value, w.classes())?;
@@ -66,15 +56,8 @@ pub(crate) fn bind_line<'t, R: Wait>(
     requires kept { AreHeldBy w.old.seat.now registers.now }
     ensures goes_on { GoesOn 4 w.old w.new }
     ensures types { AddsTypes w.old w.new result }
-    ensures node { (frame : Frame) → Hold (leaves_of w.old) registers.now frame → MakesNode
-        (node_of (leaves_of w.old) frame (operation.Bind target.now position value.now))
-        w.old w.new result }
-    ensures asks { (frame : Frame) → Hold (leaves_of w.old) registers.now frame → AsksOrThrows
-        (line_recipes (leaves_of w.old) frame (operation.Bind target.now position value.now))
-        w.old w.new result }
-    ensures asked { (frame : Frame) → Hold (leaves_of w.old) registers.now frame → AsksTypesOrThrows
-        (line_types (leaves_of w.old) frame (operation.Bind target.now position value.now))
-        w.old w.new result }
+    ensures line { (frame : Frame) → Hold (leaves_of w.old) registers.now frame
+        → MakesOperation frame (operation.Bind target.now position value.now) w.old w.new result }
 {
     let target = registers.handle(w.alloc, target)?;
     let value = registers.value(w.alloc, value)?;
@@ -94,14 +77,8 @@ fn dropped<'t, R: Wait>(
     requires target_held { IsHeldIn w.old.seat.now target.now }
     ensures goes_on { GoesOn 4 w.old w.new }
     ensures types { AddsTypes w.old w.new result }
-    ensures node { (t : Tree) → StandsFor (leaves_of w.old) target.now t → MakesNode
-        (typed (leaves_of w.old) (tree.Drop t position types.now)) w.old w.new result }
-    ensures asks { (t : Tree) → StandsFor (leaves_of w.old) target.now t
-        → AsksIfMade (recipes_made (leaves_of w.old) (target.now ∷ [])
-        (tree.Drop t position types.now ∷ [])) w.old w.new result }
-    ensures asked { (t : Tree) → StandsFor (leaves_of w.old) target.now t
-        → AsksTypesOrThrows (node_types (leaves_of w.old) (target.now ∷ [])
-        (typed (leaves_of w.old) (tree.Drop t position types.now))) w.old w.new result }
+    ensures makes { (t : Tree) → StandsFor (leaves_of w.old) target.now t
+        → MakesOf (target.now ∷ []) (tree.Drop t position types.now) w.old w.new result }
 {
     let ty = target.ty(w.leaves);
     check_drop(w.alloc, ty, target.weight(), position, types, w.classes())?;
@@ -123,15 +100,8 @@ pub(crate) fn drop_line<'t, R: Wait>(
     requires kept { AreHeldBy w.old.seat.now registers.now }
     ensures goes_on { GoesOn 4 w.old w.new }
     ensures types { AddsTypes w.old w.new result }
-    ensures node { (frame : Frame) → Hold (leaves_of w.old) registers.now frame → MakesNode
-        (node_of (leaves_of w.old) frame (operation.Drop target.now position types.now))
-        w.old w.new result }
-    ensures asks { (frame : Frame) → Hold (leaves_of w.old) registers.now frame → AsksOrThrows
-        (line_recipes (leaves_of w.old) frame (operation.Drop target.now position types.now))
-        w.old w.new result }
-    ensures asked { (frame : Frame) → Hold (leaves_of w.old) registers.now frame → AsksTypesOrThrows
-        (line_types (leaves_of w.old) frame (operation.Drop target.now position types.now))
-        w.old w.new result }
+    ensures line { (frame : Frame) → Hold (leaves_of w.old) registers.now frame
+        → MakesOperation frame (operation.Drop target.now position types.now) w.old w.new result }
 {
     let target = registers.handle(w.alloc, target)?;
     let types = types_of_text(w.alloc, w.classes(), types)?;
@@ -151,14 +121,8 @@ fn permuted<'t, R: Wait>(
     requires target_held { IsHeldIn w.old.seat.now target.now }
     ensures goes_on { GoesOn 4 w.old w.new }
     ensures types { AddsTypes w.old w.new result }
-    ensures node { (t : Tree) → StandsFor (leaves_of w.old) target.now t → MakesNode
-        (typed (leaves_of w.old) (tree.Permute t asked.now order.now)) w.old w.new result }
-    ensures asks { (t : Tree) → StandsFor (leaves_of w.old) target.now t
-        → AsksIfMade (recipes_made (leaves_of w.old) (target.now ∷ [])
-        (tree.Permute t asked.now order.now ∷ [])) w.old w.new result }
-    ensures asked { (t : Tree) → StandsFor (leaves_of w.old) target.now t
-        → AsksTypesOrThrows (node_types (leaves_of w.old) (target.now ∷ [])
-        (typed (leaves_of w.old) (tree.Permute t asked.now order.now))) w.old w.new result }
+    ensures makes { (t : Tree) → StandsFor (leaves_of w.old) target.now t
+        → MakesOf (target.now ∷ []) (tree.Permute t asked.now order.now) w.old w.new result }
 {
     let ty = target.ty(w.leaves);
     check_permute(w.alloc, ty, target.weight(), asked, order, w.classes())?;
@@ -180,14 +144,8 @@ pub(crate) fn permute_line<'t, R: Wait>(
     requires kept { AreHeldBy w.old.seat.now registers.now }
     ensures goes_on { GoesOn 4 w.old w.new }
     ensures types { AddsTypes w.old w.new result }
-    ensures node { (frame : Frame) → Hold (leaves_of w.old) registers.now frame → MakesNode
-        (node_of (leaves_of w.old) frame (operation.Permute target.now asked.now order.now))
-        w.old w.new result }
-    ensures asks { (frame : Frame) → Hold (leaves_of w.old) registers.now frame → AsksOrThrows
-        (line_recipes (leaves_of w.old) frame (operation.Permute target.now asked.now order.now))
-        w.old w.new result }
-    ensures asked { (frame : Frame) → Hold (leaves_of w.old) registers.now frame → AsksTypesOrThrows
-        (line_types (leaves_of w.old) frame (operation.Permute target.now asked.now order.now))
+    ensures line { (frame : Frame) → Hold (leaves_of w.old) registers.now frame
+        → MakesOperation frame (operation.Permute target.now asked.now order.now)
         w.old w.new result }
 {
     let target = registers.handle(w.alloc, target)?;

@@ -2,12 +2,8 @@
 
 ghost use Rattle.mh_script.specs.declared.script.Operation.TheVariants as operation;
 ghost use Rattle.mh_handle.specs.Works.{GoesOn, IsReady, leaves_of};
-ghost use Rattle.mh_attempt.specs.Asked.{AsksOrThrows};
-ghost use Rattle.mh_attempt.specs.AskedTypes.{AsksTypesOrThrows, line_types};
-ghost use Rattle.mh_attempt.specs.Lines.{MakesNode};
+ghost use Rattle.mh_attempt.specs.Operations.{MakesOperation};
 ghost use Rattle.mh_link.specs.Operands.{Frame};
-ghost use Rattle.mh_link.specs.Operations.{node_of};
-ghost use Rattle.mh_attempt.specs.Recipes.{line_recipes};
 ghost use Rattle.mh_attempt.specs.Registers.{AreHeldBy, Hold, HoldSome};
 ghost use Rattle.mh_attempt.specs.Several.{AddsTypes};
 
@@ -27,14 +23,8 @@ pub(crate) fn leaf_line<'t, R: Wait>(
     requires ready { IsReady w.old 4 }
     ensures goes_on { GoesOn 4 w.old w.new }
     ensures types { AddsTypes w.old w.new result }
-    ensures node { (frame : Frame) → MakesNode
-        (node_of (leaves_of w.old) frame (operation.Leaf method.now)) w.old w.new result }
-    ensures asks { (frame : Frame) → AsksOrThrows
-        (line_recipes (leaves_of w.old) frame (operation.Leaf method.now))
-        w.old w.new result }
-    ensures asked { (frame : Frame) → AsksTypesOrThrows
-        (line_types (leaves_of w.old) frame (operation.Leaf method.now))
-        w.old w.new result }
+    ensures line { (frame : Frame)
+        → MakesOperation frame (operation.Leaf method.now) w.old w.new result }
 {
     let id = leaf_named(w.alloc, w.leaves, method)?;
     leaf(w, rt, id)
@@ -53,15 +43,8 @@ pub(crate) fn constant_line<'t, R: Wait>(
     requires kept { AreHeldBy w.old.seat.now registers.now }
     ensures goes_on { GoesOn 4 w.old w.new }
     ensures types { AddsTypes w.old w.new result }
-    ensures node { (frame : Frame) → Hold (leaves_of w.old) registers.now frame → MakesNode
-        (node_of (leaves_of w.old) frame (operation.Constant ty.now value.now))
-        w.old w.new result }
-    ensures asks { (frame : Frame) → Hold (leaves_of w.old) registers.now frame → AsksOrThrows
-        (line_recipes (leaves_of w.old) frame (operation.Constant ty.now value.now))
-        w.old w.new result }
-    ensures asked { (frame : Frame) → Hold (leaves_of w.old) registers.now frame → AsksTypesOrThrows
-        (line_types (leaves_of w.old) frame (operation.Constant ty.now value.now))
-        w.old w.new result }
+    ensures line { (frame : Frame) → Hold (leaves_of w.old) registers.now frame
+        → MakesOperation frame (operation.Constant ty.now value.now) w.old w.new result }
 {
     let ty = registers.ty(w.alloc, w.classes(), ty)?;
     let value = registers.value(w.alloc, value)?;
@@ -80,14 +63,8 @@ pub(crate) fn identity_line<'t, R: Wait>(
     requires kept { AreHeldBy w.old.seat.now registers.now }
     ensures goes_on { GoesOn 4 w.old w.new }
     ensures types { AddsTypes w.old w.new result }
-    ensures node { (frame : Frame) → Hold (leaves_of w.old) registers.now frame → MakesNode
-        (node_of (leaves_of w.old) frame (operation.Identity ty.now)) w.old w.new result }
-    ensures asks { (frame : Frame) → Hold (leaves_of w.old) registers.now frame → AsksOrThrows
-        (line_recipes (leaves_of w.old) frame (operation.Identity ty.now))
-        w.old w.new result }
-    ensures asked { (frame : Frame) → Hold (leaves_of w.old) registers.now frame → AsksTypesOrThrows
-        (line_types (leaves_of w.old) frame (operation.Identity ty.now))
-        w.old w.new result }
+    ensures line { (frame : Frame) → Hold (leaves_of w.old) registers.now frame
+        → MakesOperation frame (operation.Identity ty.now) w.old w.new result }
 {
     let ty = registers.ty(w.alloc, w.classes(), ty)?;
     identity(w, rt, ty)
@@ -106,14 +83,8 @@ pub(crate) fn throw_line<'t, R: Wait>(
     requires kept { AreHeldBy w.old.seat.now registers.now }
     ensures goes_on { GoesOn 4 w.old w.new }
     ensures types { AddsTypes w.old w.new result }
-    ensures node { (frame : Frame) → Hold (leaves_of w.old) registers.now frame → MakesNode
-        (node_of (leaves_of w.old) frame (operation.Throw ret.now class.now)) w.old w.new result }
-    ensures asks { (frame : Frame) → Hold (leaves_of w.old) registers.now frame → AsksOrThrows
-        (line_recipes (leaves_of w.old) frame (operation.Throw ret.now class.now))
-        w.old w.new result }
-    ensures asked { (frame : Frame) → Hold (leaves_of w.old) registers.now frame → AsksTypesOrThrows
-        (line_types (leaves_of w.old) frame (operation.Throw ret.now class.now))
-        w.old w.new result }
+    ensures line { (frame : Frame) → Hold (leaves_of w.old) registers.now frame
+        → MakesOperation frame (operation.Throw ret.now class.now) w.old w.new result }
 {
     let classes = w.classes();
     let ret = registers.ty(w.alloc, classes, ret)?;

@@ -6,12 +6,13 @@ ghost use Rattle.mh_tree.specs.Tree.{Tree};
 ghost use Rattle.mh_tree.specs.Use.{use_row};
 ghost use Rattle.mh_script.specs.declared.script.Operation.TheVariants as operation;
 ghost use Rattle.mh_handle.specs.Works.{GoesOn, IsReady, leaves_of};
-ghost use Rattle.mh_attempt.specs.Asked.{AsksIfMade, AsksOrThrows};
-ghost use Rattle.mh_attempt.specs.AskedTypes.{AsksTypesOrThrows, line_types, node_types};
+ghost use Rattle.mh_attempt.specs.Asked.{AsksIfMade};
+ghost use Rattle.mh_attempt.specs.Operations.{MakesOperation};
+ghost use Rattle.mh_attempt.specs.AskedTypes.{AsksTypesOrThrows, node_types};
 ghost use Rattle.mh_attempt.specs.Lines.{MakesNode};
 ghost use Rattle.mh_link.specs.Operands.{Frame};
-ghost use Rattle.mh_link.specs.Operations.{node_of, use_of};
-ghost use Rattle.mh_attempt.specs.Recipes.{line_recipes, recipes_made, use_asked};
+ghost use Rattle.mh_link.specs.Operations.{use_of};
+ghost use Rattle.mh_attempt.specs.Recipes.{recipes_made, use_asked};
 ghost use Rattle.mh_attempt.specs.Registers.{AreHeldBy, Hold, HoldSome, IsHeldIn, StandsFor, StandsForSome};
 ghost use Rattle.mh_attempt.specs.Uses.{typed_use};
 ghost use Rattle.mh_attempt.specs.Several.{AddsTypes};
@@ -85,15 +86,8 @@ pub(crate) fn astype_line<'t, R: Wait>(
     requires kept { AreHeldBy w.old.seat.now registers.now }
     ensures goes_on { GoesOn 4 w.old w.new }
     ensures types { AddsTypes w.old w.new result }
-    ensures node { (frame : Frame) → Hold (leaves_of w.old) registers.now frame → MakesNode
-        (node_of (leaves_of w.old) frame (operation.AsType target.now asked.now))
-        w.old w.new result }
-    ensures asks { (frame : Frame) → Hold (leaves_of w.old) registers.now frame → AsksOrThrows
-        (line_recipes (leaves_of w.old) frame (operation.AsType target.now asked.now))
-        w.old w.new result }
-    ensures asked { (frame : Frame) → Hold (leaves_of w.old) registers.now frame → AsksTypesOrThrows
-        (line_types (leaves_of w.old) frame (operation.AsType target.now asked.now))
-        w.old w.new result }
+    ensures line { (frame : Frame) → Hold (leaves_of w.old) registers.now frame
+        → MakesOperation frame (operation.AsType target.now asked.now) w.old w.new result }
 {
     let target = registers.handle(w.alloc, target)?;
     let asked = registers.method_type(w.alloc, w.classes(), asked)?;

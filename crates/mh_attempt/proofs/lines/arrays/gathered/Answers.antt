@@ -1,58 +1,43 @@
-use Rattle.std.proofs.Common.{refl, arith, [], ◌∷◌}
+use Rattle.std.proofs.Common.{◌∙◌, refl, arith, [], ◌∷◌}
 use Rattle.mh_tree.specs.Rows.{gather_row}
 use Rattle.mh_tree.specs.Tree as tree
 use Rattle.mh_handle.specs.declared.handle.Handle.{Handle}
 use Rattle.mh_handle.proofs.Rooms.{goes_on-sum, ready-after}
-use Rattle.mh_attempt.proofs.Asking.{error-node}
-use Rattle.mh_attempt.proofs.LineNodes.{unmade-node}
-use Rattle.mh_attempt.proofs.Rules.{checked-one, node-of-one}
-use Rattle.mh_attempt.proofs.AskedOperands.{asks-one, asks-unmade}
-use Rattle.mh_attempt.proofs.AskedNodes.{asks-refused}
 use Rattle.mh_attempt.proofs.Adding.{adds-none, adds-then, adds-unmade, holds-came}
-use Rattle.mh_attempt.specs.AskedTypes.{node_types}
-use Rattle.mh_attempt.specs.Lines.{typed}
-use Rattle.mh_attempt.proofs.AskingTypes.{types-refused}
-use Rattle.mh_attempt.proofs.NodeTypes.{types-one}
-use Rattle.mh_attempt.proofs.OperandTypes.{types-unmade}
+use Rattle.mh_attempt.proofs.MadeNodes.{of-refused, of-unmade, of-one}
+use Rattle.mh_attempt.proofs.Rules.{rule-of}
 use Rattle.mh_attempt.proofs.lines.arrays.gathered.Goals as goal
 
-pub returns-in_err-target-clause-node : goal.returns-in_err-target-clause-node
-returns-in_err-target-clause-node g c t stands =
-    let checked = checked-one (λ classes ty n. gather_row classes ty n c.args.array c.args.count) c.args.w.now.leaves.now c.classes.result.now t
-    c.ty-ty.result.now _ c.weight.result c.classes.ensures.classes (c.ty-ty.ensures t stands)
-    (c.weight.ensures.weight c.args.w.now.leaves.now t stands) c.in_ok-check_gather.ensures in
-    error-node _ c.args.w.now c.made.new.w c.in_err-target.field-0.0 c.from_residual-in_err-target.result c.from_residual-in_err-target.ensures.1
-    (unmade-node c.args.w.now c.made.new.w (tree.Gather t c.args.array c.args.count) _ c.in_err-target.field-0.0 checked c.in_err-target.ensures.accepted)
+pub returns-in_err-check_gather-clause-makes : goal.returns-in_err-check_gather-clause-makes
+returns-in_err-check_gather-clause-makes g c t stands =
+    let w = c.args.w.now in
+    let ruled = rule-of (λ classes ty n. gather_row classes ty n c.args.array c.args.count) w.leaves.now c.classes.result.now t
+    c.ty-ty.result.now c.weight.result c.classes.ensures.classes (c.ty-ty.ensures t stands) (c.weight.ensures.weight w.leaves.now t stands) in
+    of-refused (c.args.target.now ∷ []) w (tree.Gather t c.args.array c.args.count) _
+    c.in_err-check_gather.field-0.0 c.from_residual.result c.from_residual.ensures.1 ruled c.in_err-check_gather.ensures
+
+pub returns-in_err-target-clause-makes : goal.returns-in_err-target-clause-makes
+returns-in_err-target-clause-makes g c t stands =
+    let w = c.args.w.now in
+    let ruled = rule-of (λ classes ty n. gather_row classes ty n c.args.array c.args.count) w.leaves.now c.classes.result.now t
+    c.ty-ty.result.now c.weight.result c.classes.ensures.classes (c.ty-ty.ensures t stands) (c.weight.ensures.weight w.leaves.now t stands) in
+    of-unmade (c.args.target.now ∷ []) w (tree.Gather t c.args.array c.args.count) Handle c.made.new.w _
+    c.in_err-target.field-0.0 c.from_residual-in_err-target.result c.from_residual-in_err-target.ensures.1 (ruled ∙ c.in_ok-check_gather.ensures)
+    c.in_err-target.ensures.accepted c.in_err-target.ensures.asks c.in_err-target.ensures.asked
+
+pub returns-clause-makes : goal.returns-clause-makes
+returns-clause-makes g c t stands =
+    let w = c.args.w.now in
+    let ruled = rule-of (λ classes ty n. gather_row classes ty n c.args.array c.args.count) w.leaves.now c.classes.result.now t
+    c.ty-ty.result.now c.weight.result c.classes.ensures.classes (c.ty-ty.ensures t stands) (c.weight.ensures.weight w.leaves.now t stands) in
+    of-one (c.args.target.now ∷ []) w c.made.new.w c.gather.new.w _ _ c.gather.result
+    c.made.ensures.goes_on.leaves c.in_ok-target.ensures.asks c.in_ok-target.ensures.asked (λ classes ty n. gather_row classes ty n c.args.array c.args.count)
+    t (tree.Gather t c.args.array c.args.count) c.in_ok-target.target (c.in_ok-target.ensures.stands t stands) refl refl
+    (ruled ∙ c.in_ok-check_gather.ensures) c.gather.ensures.obeys (c.gather.ensures.makes t) (c.gather.ensures.stands t) c.gather.ensures.types
 
 pub returns-clause-goes_on : goal.returns-clause-goes_on
 returns-clause-goes_on g c =
     goes_on-sum 1 1 4 c.args.w.now c.made.new.w c.gather.new.w (omega arith) c.made.ensures.goes_on c.gather.ensures.goes_on
-
-pub returns-clause-node : goal.returns-clause-node
-returns-clause-node g c t stands =
-    let checked = checked-one (λ classes ty n. gather_row classes ty n c.args.array c.args.count) c.args.w.now.leaves.now c.classes.result.now t
-    c.ty-ty.result.now _ c.weight.result c.classes.ensures.classes (c.ty-ty.ensures t stands)
-    (c.weight.ensures.weight c.args.w.now.leaves.now t stands) c.in_ok-check_gather.ensures in
-    node-of-one (λ classes ty n. gather_row classes ty n c.args.array c.args.count) c.args.w.now c.made.new.w c.gather.new.w t
-    (tree.Gather t c.args.array c.args.count) c.in_ok-target.target _ c.gather.result
-    c.made.ensures.goes_on.leaves (c.in_ok-target.ensures.stands t stands) refl checked c.gather.ensures.obeys (c.gather.ensures.stands t)
-
--- ---- what is asked for
-
-pub returns-in_err-check_gather-clause-asks : goal.returns-in_err-check_gather-clause-asks
-returns-in_err-check_gather-clause-asks g c t stands =
-    asks-refused _ c.args.w.now c.args.w.now c.in_err-check_gather.field-0.0 c.from_residual.result c.from_residual.ensures.1
-
-pub returns-in_err-target-clause-asks : goal.returns-in_err-target-clause-asks
-returns-in_err-target-clause-asks g c t stands =
-    let w = c.args.w.now in
-    asks-unmade w.leaves.now (c.args.target.now ∷ []) (tree.Gather t c.args.array c.args.count ∷ []) w c.made.new.w
-    c.in_err-target.field-0.0 c.from_residual-in_err-target.result c.from_residual-in_err-target.ensures.1 c.in_err-target.ensures.asks
-
-pub returns-clause-asks : goal.returns-clause-asks
-returns-clause-asks g c t stands =
-    asks-one (c.args.target.now ∷ []) c.args.w.now c.made.new.w c.gather.new.w t (tree.Gather t c.args.array c.args.count) c.in_ok-target.target c.gather.result
-    c.made.ensures.goes_on.leaves c.in_ok-target.ensures.asks (c.in_ok-target.ensures.stands t stands) (c.gather.ensures.makes t)
 
 -- ---- the seat of types
 
@@ -74,30 +59,3 @@ gather-requires-clause-held g c =
 pub returns-clause-types : goal.returns-clause-types
 returns-clause-types g c =
     adds-then _ c.in_ok-target.target.held c.args.w.now c.made.new.w c.gather.new.w c.gather.result c.in_ok-target.ensures.types c.gather.ensures.types
-
--- ---- the types that are asked for
-
-pub returns-in_err-check_gather-clause-asked : goal.returns-in_err-check_gather-clause-asked
-returns-in_err-check_gather-clause-asked g c t stands =
-    let w = c.args.w.now in
-    types-refused (node_types w.leaves.now (c.args.target.now ∷ []) (typed w.leaves.now (tree.Gather t c.args.array c.args.count))) w
-    c.in_err-check_gather.field-0.0 c.from_residual.result c.from_residual.ensures.1
-
-pub returns-in_err-target-clause-asked : goal.returns-in_err-target-clause-asked
-returns-in_err-target-clause-asked g c t stands =
-    let checked = checked-one (λ classes ty n. gather_row classes ty n c.args.array c.args.count) c.args.w.now.leaves.now c.classes.result.now t
-    c.ty-ty.result.now _ c.weight.result c.classes.ensures.classes (c.ty-ty.ensures t stands)
-    (c.weight.ensures.weight c.args.w.now.leaves.now t stands) c.in_ok-check_gather.ensures in
-    let w = c.args.w.now in
-    types-unmade Handle w.leaves.now (c.args.target.now ∷ []) (tree.Gather t c.args.array c.args.count) _ w c.made.new.w c.in_err-target.field-0.0
-    c.from_residual-in_err-target.result checked c.from_residual-in_err-target.ensures.1 c.in_err-target.ensures.asked
-
-pub returns-clause-asked : goal.returns-clause-asked
-returns-clause-asked g c t stands =
-    let checked = checked-one (λ classes ty n. gather_row classes ty n c.args.array c.args.count) c.args.w.now.leaves.now c.classes.result.now t
-    c.ty-ty.result.now _ c.weight.result c.classes.ensures.classes (c.ty-ty.ensures t stands)
-    (c.weight.ensures.weight c.args.w.now.leaves.now t stands) c.in_ok-check_gather.ensures in
-    let w = c.args.w.now in
-    types-one (λ classes ty n. gather_row classes ty n c.args.array c.args.count) (c.args.target.now ∷ []) w c.made.new.w c.gather.new.w t
-    (tree.Gather t c.args.array c.args.count) c.in_ok-target.target _ _ c.gather.result c.made.ensures.goes_on.leaves
-    (c.in_ok-target.ensures.stands t stands) refl refl checked c.in_ok-target.ensures.asked c.gather.ensures.types

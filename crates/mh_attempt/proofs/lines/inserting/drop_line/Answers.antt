@@ -1,68 +1,47 @@
-use Rattle.std.proofs.Common.{sym, ap, ◌∙◌, subst, Err, [], ◌∷◌}
+use Rattle.std.proofs.Common.{refl, sym, ap, ◌∙◌, subst, Err, [], ◌∷◌}
 use Rattle.mh_tree.specs.Tree as tree
 use Rattle.mh_jobs.specs.Names.{types_of_text}
 use Rattle.mh_jobs.specs.Thrown.{plainly}
 use Rattle.mh_script.specs.declared.script.Operation.TheVariants as operation
 use Rattle.mh_attempt.specs.Registers.{StandsFor}
 use Rattle.mh_attempt.specs.Told.{Tells}
-use Rattle.mh_attempt.proofs.Asking.{asked-two, thrown-first, thrown-second, told-by}
-use Rattle.mh_attempt.proofs.LineNodes.{same-node}
-use Rattle.mh_attempt.proofs.AskedOperations.{line-makes, line-thrown, one-use}
+use Rattle.mh_attempt.proofs.Asking.{asked-two, told-by}
+use Rattle.mh_attempt.proofs.AskedOperations.{one-use}
 use Rattle.mh_attempt.proofs.Adding.{adds-none, adds-unmade}
-use Rattle.mh_attempt.specs.AskedTypes.{line_types}
-use Rattle.mh_attempt.proofs.AskingTypes.{types-refused}
-use Rattle.mh_attempt.proofs.LineTypes.{line-types}
+use Rattle.mh_attempt.proofs.MadeOperations.{refused-first, refused-second, operation-made}
 use Rattle.mh_attempt.proofs.lines.inserting.drop_line.Goals as goal
 
-pub returns-in_err-target-clause-node : goal.returns-in_err-target-clause-node
-returns-in_err-target-clause-node g c frame hold =
-    thrown-first c.args.w.now c.in_err-target.field-0.0 c.from_residual.result c.from_residual.ensures.1
-    _ _ (told-by (StandsFor c.args.w.now.leaves.now) c.in_err-target.field-0.0 _ (c.in_err-target.ensures.stands c.args.w.now.leaves.now frame hold))
+pub returns-in_err-target-clause-line : goal.returns-in_err-target-clause-line
+returns-in_err-target-clause-line g c frame hold =
+    let w = c.args.w.now in
+    refused-first frame (operation.Drop c.args.target.now c.args.position c.args.types.now) w
+    c.in_err-target.field-0.0 c.from_residual.result c.from_residual.ensures.1 _ _ refl
+    (told-by (StandsFor w.leaves.now) c.in_err-target.field-0.0 _ (c.in_err-target.ensures.stands w.leaves.now frame hold))
 
-pub returns-in_err-types-clause-node : goal.returns-in_err-types-clause-node
-returns-in_err-types-clause-node g c frame hold =
-    let target = c.in_ok-target.ensures.stands c.args.w.now.leaves.now frame hold in
-    thrown-second c.args.w.now c.in_err-types.field-0.0 c.from_residual-in_err-types.result c.from_residual-in_err-types.ensures.1
-    _ _ _ target.0 target.1 (subst (λ classes. Tells (Err c.in_err-types.field-0.0)
+pub returns-in_err-types-clause-line : goal.returns-in_err-types-clause-line
+returns-in_err-types-clause-line g c frame hold =
+    let w = c.args.w.now in
+    let target = c.in_ok-target.ensures.stands w.leaves.now frame hold in
+    refused-second frame (operation.Drop c.args.target.now c.args.position c.args.types.now) w
+    c.in_err-types.field-0.0 c.from_residual-in_err-types.result c.from_residual-in_err-types.ensures.1 _ _ _ target.0 refl
+    target.1 (subst (λ classes. Tells (Err c.in_err-types.field-0.0)
     (types_of_text plainly classes c.args.types.now)) c.classes.ensures.classes c.in_err-types.ensures)
 
 pub dropped-requires-clause-target : goal.dropped-requires-clause-target
 dropped-requires-clause-target g c =
     let found = c.in_ok-target.ensures.stands c.args.w.now.leaves.now c.requires.registers.0 c.requires.registers.1 in (found.0, found.2)
 
-pub returns-clause-node : goal.returns-clause-node
-returns-clause-node g c frame hold =
-    let target = c.in_ok-target.ensures.stands c.args.w.now.leaves.now frame hold in
-    let types = ap (λ classes. types_of_text plainly classes c.args.types.now) (sym c.classes.ensures.classes) ∙ c.in_ok-types.ensures in
-    same-node _ _ c.args.w.now c.dropped.new.w c.dropped.result
-    (asked-two c.args.w.now.leaves.now _ _ (λ t types. tree.Drop t c.args.position types) target.0 c.in_ok-types.types target.1 types)
-    (c.dropped.ensures.node target.0 target.2)
-
--- ---- what is asked for
-
-pub returns-in_err-target-clause-asks : goal.returns-in_err-target-clause-asks
-returns-in_err-target-clause-asks g c frame hold =
-    let w = c.args.w.now in
-    line-thrown w.leaves.now frame (operation.Drop c.args.target.now c.args.position c.args.types.now) w w c.from_residual.result
-    (returns-in_err-target-clause-node g c frame hold) c.in_err-target.field-0.0 c.from_residual.ensures.1
-
-pub returns-in_err-types-clause-asks : goal.returns-in_err-types-clause-asks
-returns-in_err-types-clause-asks g c frame hold =
-    let w = c.args.w.now in
-    line-thrown w.leaves.now frame (operation.Drop c.args.target.now c.args.position c.args.types.now) w w c.from_residual-in_err-types.result
-    (returns-in_err-types-clause-node g c frame hold) c.in_err-types.field-0.0 c.from_residual-in_err-types.ensures.1
-
-pub returns-clause-asks : goal.returns-clause-asks
-returns-clause-asks g c frame hold =
+pub returns-clause-line : goal.returns-clause-line
+returns-clause-line g c frame hold =
     let w = c.args.w.now in
     let target = c.in_ok-target.ensures.stands w.leaves.now frame hold in
     let types = ap (λ classes. types_of_text plainly classes c.args.types.now) (sym c.classes.ensures.classes) ∙ c.in_ok-types.ensures in
-    line-makes w.leaves.now frame (operation.Drop c.args.target.now c.args.position c.args.types.now) w c.dropped.new.w c.dropped.result
-    (returns-clause-node g c frame hold) (c.in_ok-target.target ∷ []) _
+    operation-made frame (operation.Drop c.args.target.now c.args.position c.args.types.now) w c.dropped.new.w c.dropped.result
+    (c.in_ok-target.target ∷ [])
     (one-use frame c.in_ok-target.target c.args.target.now
     (c.in_ok-target.ensures.makes w.leaves.now frame hold))
-    (asked-two w.leaves.now _ _ (λ t types. tree.Drop t c.args.position types) target.0 c.in_ok-types.types target.1 types)
-    (c.dropped.ensures.asks target.0 target.2)
+    _ (asked-two w.leaves.now _ _ (λ t types. tree.Drop t c.args.position types) target.0 c.in_ok-types.types target.1 types) refl
+    (c.dropped.ensures.makes target.0 target.2)
 
 -- ---- the seat of types
 
@@ -75,29 +54,3 @@ returns-in_err-types-clause-types g c =
 
 pub dropped-requires-clause-target_held : goal.dropped-requires-clause-target_held
 dropped-requires-clause-target_held g c = c.in_ok-target.ensures.kept c.args.w.now.seat.now c.requires.kept
-
--- ---- the types that are asked for
-
-pub returns-in_err-target-clause-asked : goal.returns-in_err-target-clause-asked
-returns-in_err-target-clause-asked g c frame hold =
-    let w = c.args.w.now in
-    types-refused (line_types w.leaves.now frame (operation.Drop c.args.target.now c.args.position c.args.types.now)) w c.in_err-target.field-0.0
-    c.from_residual.result c.from_residual.ensures.1
-
-pub returns-in_err-types-clause-asked : goal.returns-in_err-types-clause-asked
-returns-in_err-types-clause-asked g c frame hold =
-    let w = c.args.w.now in
-    types-refused (line_types w.leaves.now frame (operation.Drop c.args.target.now c.args.position c.args.types.now)) w c.in_err-types.field-0.0
-    c.from_residual-in_err-types.result c.from_residual-in_err-types.ensures.1
-
-pub returns-clause-asked : goal.returns-clause-asked
-returns-clause-asked g c frame hold =
-    let w = c.args.w.now in
-    let target = c.in_ok-target.ensures.stands w.leaves.now frame hold in
-    let types = ap (λ classes. types_of_text plainly classes c.args.types.now) (sym c.classes.ensures.classes) ∙ c.in_ok-types.ensures in
-    line-types w.leaves.now frame (operation.Drop c.args.target.now c.args.position c.args.types.now) (c.in_ok-target.target ∷ [])
-    _ w c.dropped.new.w c.dropped.result
-    (one-use frame c.in_ok-target.target c.args.target.now
-    (c.in_ok-target.ensures.makes w.leaves.now frame hold))
-    (asked-two w.leaves.now _ _ (λ t types. tree.Drop t c.args.position types) target.0 c.in_ok-types.types target.1 types)
-    (c.dropped.ensures.asked target.0 target.2)

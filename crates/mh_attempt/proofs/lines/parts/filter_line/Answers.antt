@@ -1,107 +1,60 @@
 use Rattle.mh_tree.specs.Tree as tree
 use Rattle.mh_script.specs.declared.script.Operation.TheVariants as operation
 use Rattle.mh_attempt.specs.Registers.{StandsFor}
-use Rattle.mh_attempt.proofs.Asking.{asked-two, thrown-first, thrown-second, told-by}
-use Rattle.mh_attempt.proofs.LineNodes.{same-node}
-use Rattle.std.proofs.Common.{[], ◌∷◌}
-use Rattle.mh_attempt.proofs.AskedOperations.{line-makes, line-thrown, two-uses}
+use Rattle.mh_attempt.proofs.Asking.{asked-two, told-by}
+use Rattle.std.proofs.Common.{refl, [], ◌∷◌}
+use Rattle.mh_attempt.proofs.AskedOperations.{two-uses}
 use Rattle.mh_attempt.proofs.Adding.{adds-none, adds-unmade}
-use Rattle.mh_attempt.specs.AskedTypes.{line_types}
-use Rattle.mh_attempt.proofs.AskingTypes.{types-refused}
-use Rattle.mh_attempt.proofs.LineTypes.{line-types}
+use Rattle.mh_attempt.proofs.MadeOperations.{refused-first, refused-second, operation-made}
 use Rattle.mh_attempt.proofs.lines.parts.filter_line.Goals as goal
 
-pub returns-in_err-target-clause-node : goal.returns-in_err-target-clause-node
-returns-in_err-target-clause-node g c frame hold =
-    thrown-first c.args.w.now c.in_err-target.field-0.0 c.from_residual.result c.from_residual.ensures.1
-    _ _ (told-by (StandsFor c.args.w.now.leaves.now) c.in_err-target.field-0.0 _ (c.in_err-target.ensures.stands c.args.w.now.leaves.now frame hold))
+pub returns-in_err-target-clause-line : goal.returns-in_err-target-clause-line
+returns-in_err-target-clause-line g c frame hold =
+    let w = c.args.w.now in
+    refused-first frame (operation.Filter c.args.target.now c.args.position c.args.filter.now) w
+    c.in_err-target.field-0.0 c.from_residual.result c.from_residual.ensures.1 _ _ refl
+    (told-by (StandsFor w.leaves.now) c.in_err-target.field-0.0 _ (c.in_err-target.ensures.stands w.leaves.now frame hold))
 
-pub returns-in_err-part-clause-node : goal.returns-in_err-part-clause-node
-returns-in_err-part-clause-node g c frame hold =
-    let target = c.in_ok-target.ensures.stands c.args.w.now.leaves.now frame hold in
-    thrown-second c.args.w.now c.in_err-part.field-0.0 c.from_residual-in_err-part.result c.from_residual-in_err-part.ensures.1
-    _ _ _ target.0 target.1 (told-by (StandsFor c.args.w.now.leaves.now) c.in_err-part.field-0.0 _
-    (c.in_err-part.ensures.stands c.args.w.now.leaves.now frame hold))
+pub returns-in_err-filter-clause-line : goal.returns-in_err-filter-clause-line
+returns-in_err-filter-clause-line g c frame hold =
+    let w = c.args.w.now in
+    let target = c.in_ok-target.ensures.stands w.leaves.now frame hold in
+    refused-second frame (operation.Filter c.args.target.now c.args.position c.args.filter.now) w
+    c.in_err-filter.field-0.0 c.from_residual-in_err-filter.result c.from_residual-in_err-filter.ensures.1 _ _ _ target.0 refl
+    target.1 (told-by (StandsFor w.leaves.now) c.in_err-filter.field-0.0 _
+    (c.in_err-filter.ensures.stands w.leaves.now frame hold))
 
 pub filtered-requires-clause-target : goal.filtered-requires-clause-target
 filtered-requires-clause-target g c =
     let found = c.in_ok-target.ensures.stands c.args.w.now.leaves.now c.requires.registers.0 c.requires.registers.1 in (found.0, found.2)
 
-pub filtered-requires-clause-part : goal.filtered-requires-clause-part
-filtered-requires-clause-part g c =
-    let found = c.in_ok-part.ensures.stands c.args.w.now.leaves.now c.requires.registers.0 c.requires.registers.1 in (found.0, found.2)
+pub filtered-requires-clause-filter : goal.filtered-requires-clause-filter
+filtered-requires-clause-filter g c =
+    let found = c.in_ok-filter.ensures.stands c.args.w.now.leaves.now c.requires.registers.0 c.requires.registers.1 in (found.0, found.2)
 
-pub returns-clause-node : goal.returns-clause-node
-returns-clause-node g c frame hold =
-    let target = c.in_ok-target.ensures.stands c.args.w.now.leaves.now frame hold in
-    let part = c.in_ok-part.ensures.stands c.args.w.now.leaves.now frame hold in
-    same-node _ _ c.args.w.now c.filtered.new.w c.filtered.result
-    (asked-two c.args.w.now.leaves.now _ _ (λ t p. tree.FilterArg t c.args.position p) target.0 part.0 target.1 part.1)
-    (c.filtered.ensures.node target.0 part.0 target.2 part.2)
-
--- ---- what is asked for
-
-pub returns-in_err-target-clause-asks : goal.returns-in_err-target-clause-asks
-returns-in_err-target-clause-asks g c frame hold =
-    let w = c.args.w.now in
-    line-thrown w.leaves.now frame (operation.Filter c.args.target.now c.args.position c.args.part.now) w w c.from_residual.result
-    (returns-in_err-target-clause-node g c frame hold) c.in_err-target.field-0.0 c.from_residual.ensures.1
-
-pub returns-in_err-part-clause-asks : goal.returns-in_err-part-clause-asks
-returns-in_err-part-clause-asks g c frame hold =
-    let w = c.args.w.now in
-    line-thrown w.leaves.now frame (operation.Filter c.args.target.now c.args.position c.args.part.now) w w c.from_residual-in_err-part.result
-    (returns-in_err-part-clause-node g c frame hold) c.in_err-part.field-0.0 c.from_residual-in_err-part.ensures.1
-
-pub returns-clause-asks : goal.returns-clause-asks
-returns-clause-asks g c frame hold =
+pub returns-clause-line : goal.returns-clause-line
+returns-clause-line g c frame hold =
     let w = c.args.w.now in
     let target = c.in_ok-target.ensures.stands w.leaves.now frame hold in
-    let part = c.in_ok-part.ensures.stands w.leaves.now frame hold in
-    line-makes w.leaves.now frame (operation.Filter c.args.target.now c.args.position c.args.part.now) w c.filtered.new.w c.filtered.result
-    (returns-clause-node g c frame hold) (c.in_ok-target.target ∷ c.in_ok-part.part ∷ []) _
-    (two-uses frame c.in_ok-target.target c.in_ok-part.part c.args.target.now c.args.part.now
-    (c.in_ok-target.ensures.makes w.leaves.now frame hold) (c.in_ok-part.ensures.makes w.leaves.now frame hold))
-    (asked-two w.leaves.now _ _ (λ t p. tree.FilterArg t c.args.position p) target.0 part.0 target.1 part.1)
-    (c.filtered.ensures.asks target.0 part.0 target.2 part.2)
+    let filter = c.in_ok-filter.ensures.stands w.leaves.now frame hold in
+    operation-made frame (operation.Filter c.args.target.now c.args.position c.args.filter.now) w c.filtered.new.w c.filtered.result
+    (c.in_ok-target.target ∷ c.in_ok-filter.filter ∷ [])
+    (two-uses frame c.in_ok-target.target c.in_ok-filter.filter c.args.target.now c.args.filter.now
+    (c.in_ok-target.ensures.makes w.leaves.now frame hold) (c.in_ok-filter.ensures.makes w.leaves.now frame hold))
+    _ (asked-two w.leaves.now _ _ (λ t p. tree.FilterArg t c.args.position p) target.0 filter.0 target.1 filter.1) refl
+    (c.filtered.ensures.makes target.0 filter.0 target.2 filter.2)
 
 -- ---- the seat of types
 
 pub returns-in_err-target-clause-types : goal.returns-in_err-target-clause-types
 returns-in_err-target-clause-types g c = adds-unmade c.args.w.now c.args.w.now c.from_residual.result _ c.from_residual.ensures.1 (adds-none c.args.w.now)
 
-pub returns-in_err-part-clause-types : goal.returns-in_err-part-clause-types
-returns-in_err-part-clause-types g c =
-    adds-unmade c.args.w.now c.args.w.now c.from_residual-in_err-part.result _ c.from_residual-in_err-part.ensures.1 (adds-none c.args.w.now)
+pub returns-in_err-filter-clause-types : goal.returns-in_err-filter-clause-types
+returns-in_err-filter-clause-types g c =
+    adds-unmade c.args.w.now c.args.w.now c.from_residual-in_err-filter.result _ c.from_residual-in_err-filter.ensures.1 (adds-none c.args.w.now)
 
 pub filtered-requires-clause-target_held : goal.filtered-requires-clause-target_held
 filtered-requires-clause-target_held g c = c.in_ok-target.ensures.kept c.args.w.now.seat.now c.requires.kept
 
-pub filtered-requires-clause-part_held : goal.filtered-requires-clause-part_held
-filtered-requires-clause-part_held g c = c.in_ok-part.ensures.kept c.args.w.now.seat.now c.requires.kept
-
--- ---- the types that are asked for
-
-pub returns-in_err-target-clause-asked : goal.returns-in_err-target-clause-asked
-returns-in_err-target-clause-asked g c frame hold =
-    let w = c.args.w.now in
-    types-refused (line_types w.leaves.now frame (operation.Filter c.args.target.now c.args.position c.args.part.now)) w c.in_err-target.field-0.0
-    c.from_residual.result c.from_residual.ensures.1
-
-pub returns-in_err-part-clause-asked : goal.returns-in_err-part-clause-asked
-returns-in_err-part-clause-asked g c frame hold =
-    let w = c.args.w.now in
-    types-refused (line_types w.leaves.now frame (operation.Filter c.args.target.now c.args.position c.args.part.now)) w c.in_err-part.field-0.0
-    c.from_residual-in_err-part.result c.from_residual-in_err-part.ensures.1
-
-pub returns-clause-asked : goal.returns-clause-asked
-returns-clause-asked g c frame hold =
-    let w = c.args.w.now in
-    let target = c.in_ok-target.ensures.stands w.leaves.now frame hold in
-    let part = c.in_ok-part.ensures.stands w.leaves.now frame hold in
-    line-types w.leaves.now frame (operation.Filter c.args.target.now c.args.position c.args.part.now)
-    (c.in_ok-target.target ∷ c.in_ok-part.part ∷ []) _ w c.filtered.new.w c.filtered.result
-    (two-uses frame c.in_ok-target.target c.in_ok-part.part c.args.target.now c.args.part.now
-    (c.in_ok-target.ensures.makes w.leaves.now frame hold) (c.in_ok-part.ensures.makes w.leaves.now frame hold))
-    (asked-two w.leaves.now _ _ (λ t p. tree.FilterArg t c.args.position p) target.0 part.0 target.1 part.1)
-    (c.filtered.ensures.asked target.0 part.0 target.2 part.2)
+pub filtered-requires-clause-filter_held : goal.filtered-requires-clause-filter_held
+filtered-requires-clause-filter_held g c = c.in_ok-filter.ensures.kept c.args.w.now.seat.now c.requires.kept

@@ -1,27 +1,28 @@
 use Rattle.mh_tree.specs.Tree as tree
 use Rattle.mh_script.specs.declared.script.Operation.TheVariants as operation
 use Rattle.mh_attempt.specs.Registers.{StandsFor}
-use Rattle.mh_attempt.proofs.Asking.{asked-two, thrown-first, thrown-second, told-by}
-use Rattle.mh_attempt.proofs.LineNodes.{same-node}
-use Rattle.std.proofs.Common.{[], ◌∷◌}
-use Rattle.mh_attempt.proofs.AskedOperations.{line-makes, line-thrown, two-uses}
+use Rattle.mh_attempt.proofs.Asking.{asked-two, told-by}
+use Rattle.std.proofs.Common.{refl, [], ◌∷◌}
+use Rattle.mh_attempt.proofs.AskedOperations.{two-uses}
 use Rattle.mh_attempt.proofs.Adding.{adds-none, adds-unmade}
-use Rattle.mh_attempt.specs.AskedTypes.{line_types}
-use Rattle.mh_attempt.proofs.AskingTypes.{types-refused}
-use Rattle.mh_attempt.proofs.LineTypes.{line-types}
+use Rattle.mh_attempt.proofs.MadeOperations.{refused-first, refused-second, operation-made}
 use Rattle.mh_attempt.proofs.lines.parts.fold_line.Goals as goal
 
-pub returns-in_err-target-clause-node : goal.returns-in_err-target-clause-node
-returns-in_err-target-clause-node g c frame hold =
-    thrown-first c.args.w.now c.in_err-target.field-0.0 c.from_residual.result c.from_residual.ensures.1
-    _ _ (told-by (StandsFor c.args.w.now.leaves.now) c.in_err-target.field-0.0 _ (c.in_err-target.ensures.stands c.args.w.now.leaves.now frame hold))
+pub returns-in_err-target-clause-line : goal.returns-in_err-target-clause-line
+returns-in_err-target-clause-line g c frame hold =
+    let w = c.args.w.now in
+    refused-first frame (operation.Fold c.args.target.now c.args.position c.args.combiner.now) w
+    c.in_err-target.field-0.0 c.from_residual.result c.from_residual.ensures.1 _ _ refl
+    (told-by (StandsFor w.leaves.now) c.in_err-target.field-0.0 _ (c.in_err-target.ensures.stands w.leaves.now frame hold))
 
-pub returns-in_err-combiner-clause-node : goal.returns-in_err-combiner-clause-node
-returns-in_err-combiner-clause-node g c frame hold =
-    let target = c.in_ok-target.ensures.stands c.args.w.now.leaves.now frame hold in
-    thrown-second c.args.w.now c.in_err-combiner.field-0.0 c.from_residual-in_err-combiner.result c.from_residual-in_err-combiner.ensures.1
-    _ _ _ target.0 target.1 (told-by (StandsFor c.args.w.now.leaves.now) c.in_err-combiner.field-0.0 _
-    (c.in_err-combiner.ensures.stands c.args.w.now.leaves.now frame hold))
+pub returns-in_err-combiner-clause-line : goal.returns-in_err-combiner-clause-line
+returns-in_err-combiner-clause-line g c frame hold =
+    let w = c.args.w.now in
+    let target = c.in_ok-target.ensures.stands w.leaves.now frame hold in
+    refused-second frame (operation.Fold c.args.target.now c.args.position c.args.combiner.now) w
+    c.in_err-combiner.field-0.0 c.from_residual-in_err-combiner.result c.from_residual-in_err-combiner.ensures.1 _ _ _ target.0 refl
+    target.1 (told-by (StandsFor w.leaves.now) c.in_err-combiner.field-0.0 _
+    (c.in_err-combiner.ensures.stands w.leaves.now frame hold))
 
 pub folded-requires-clause-target : goal.folded-requires-clause-target
 folded-requires-clause-target g c =
@@ -31,39 +32,17 @@ pub folded-requires-clause-combiner : goal.folded-requires-clause-combiner
 folded-requires-clause-combiner g c =
     let found = c.in_ok-combiner.ensures.stands c.args.w.now.leaves.now c.requires.registers.0 c.requires.registers.1 in (found.0, found.2)
 
-pub returns-clause-node : goal.returns-clause-node
-returns-clause-node g c frame hold =
-    let target = c.in_ok-target.ensures.stands c.args.w.now.leaves.now frame hold in
-    let combiner = c.in_ok-combiner.ensures.stands c.args.w.now.leaves.now frame hold in
-    same-node _ _ c.args.w.now c.folded.new.w c.folded.result
-    (asked-two c.args.w.now.leaves.now _ _ (λ t p. tree.Fold t c.args.position p) target.0 combiner.0 target.1 combiner.1)
-    (c.folded.ensures.node target.0 combiner.0 target.2 combiner.2)
-
--- ---- what is asked for
-
-pub returns-in_err-target-clause-asks : goal.returns-in_err-target-clause-asks
-returns-in_err-target-clause-asks g c frame hold =
-    let w = c.args.w.now in
-    line-thrown w.leaves.now frame (operation.Fold c.args.target.now c.args.position c.args.combiner.now) w w c.from_residual.result
-    (returns-in_err-target-clause-node g c frame hold) c.in_err-target.field-0.0 c.from_residual.ensures.1
-
-pub returns-in_err-combiner-clause-asks : goal.returns-in_err-combiner-clause-asks
-returns-in_err-combiner-clause-asks g c frame hold =
-    let w = c.args.w.now in
-    line-thrown w.leaves.now frame (operation.Fold c.args.target.now c.args.position c.args.combiner.now) w w c.from_residual-in_err-combiner.result
-    (returns-in_err-combiner-clause-node g c frame hold) c.in_err-combiner.field-0.0 c.from_residual-in_err-combiner.ensures.1
-
-pub returns-clause-asks : goal.returns-clause-asks
-returns-clause-asks g c frame hold =
+pub returns-clause-line : goal.returns-clause-line
+returns-clause-line g c frame hold =
     let w = c.args.w.now in
     let target = c.in_ok-target.ensures.stands w.leaves.now frame hold in
     let combiner = c.in_ok-combiner.ensures.stands w.leaves.now frame hold in
-    line-makes w.leaves.now frame (operation.Fold c.args.target.now c.args.position c.args.combiner.now) w c.folded.new.w c.folded.result
-    (returns-clause-node g c frame hold) (c.in_ok-target.target ∷ c.in_ok-combiner.combiner ∷ []) _
+    operation-made frame (operation.Fold c.args.target.now c.args.position c.args.combiner.now) w c.folded.new.w c.folded.result
+    (c.in_ok-target.target ∷ c.in_ok-combiner.combiner ∷ [])
     (two-uses frame c.in_ok-target.target c.in_ok-combiner.combiner c.args.target.now c.args.combiner.now
     (c.in_ok-target.ensures.makes w.leaves.now frame hold) (c.in_ok-combiner.ensures.makes w.leaves.now frame hold))
-    (asked-two w.leaves.now _ _ (λ t p. tree.Fold t c.args.position p) target.0 combiner.0 target.1 combiner.1)
-    (c.folded.ensures.asks target.0 combiner.0 target.2 combiner.2)
+    _ (asked-two w.leaves.now _ _ (λ t p. tree.Fold t c.args.position p) target.0 combiner.0 target.1 combiner.1) refl
+    (c.folded.ensures.makes target.0 combiner.0 target.2 combiner.2)
 
 -- ---- the seat of types
 
@@ -79,29 +58,3 @@ folded-requires-clause-target_held g c = c.in_ok-target.ensures.kept c.args.w.no
 
 pub folded-requires-clause-combiner_held : goal.folded-requires-clause-combiner_held
 folded-requires-clause-combiner_held g c = c.in_ok-combiner.ensures.kept c.args.w.now.seat.now c.requires.kept
-
--- ---- the types that are asked for
-
-pub returns-in_err-target-clause-asked : goal.returns-in_err-target-clause-asked
-returns-in_err-target-clause-asked g c frame hold =
-    let w = c.args.w.now in
-    types-refused (line_types w.leaves.now frame (operation.Fold c.args.target.now c.args.position c.args.combiner.now)) w c.in_err-target.field-0.0
-    c.from_residual.result c.from_residual.ensures.1
-
-pub returns-in_err-combiner-clause-asked : goal.returns-in_err-combiner-clause-asked
-returns-in_err-combiner-clause-asked g c frame hold =
-    let w = c.args.w.now in
-    types-refused (line_types w.leaves.now frame (operation.Fold c.args.target.now c.args.position c.args.combiner.now)) w c.in_err-combiner.field-0.0
-    c.from_residual-in_err-combiner.result c.from_residual-in_err-combiner.ensures.1
-
-pub returns-clause-asked : goal.returns-clause-asked
-returns-clause-asked g c frame hold =
-    let w = c.args.w.now in
-    let target = c.in_ok-target.ensures.stands w.leaves.now frame hold in
-    let combiner = c.in_ok-combiner.ensures.stands w.leaves.now frame hold in
-    line-types w.leaves.now frame (operation.Fold c.args.target.now c.args.position c.args.combiner.now)
-    (c.in_ok-target.target ∷ c.in_ok-combiner.combiner ∷ []) _ w c.folded.new.w c.folded.result
-    (two-uses frame c.in_ok-target.target c.in_ok-combiner.combiner c.args.target.now c.args.combiner.now
-    (c.in_ok-target.ensures.makes w.leaves.now frame hold) (c.in_ok-combiner.ensures.makes w.leaves.now frame hold))
-    (asked-two w.leaves.now _ _ (λ t p. tree.Fold t c.args.position p) target.0 combiner.0 target.1 combiner.1)
-    (c.folded.ensures.asked target.0 combiner.0 target.2 combiner.2)

@@ -4,65 +4,39 @@ use Rattle.mh_handle.proofs.Going.{goes_on-more}
 use Rattle.mh_link.specs.Operands.{type_in}
 use Rattle.mh_script.specs.declared.script.Operation.TheVariants as operation
 use Rattle.mh_attempt.specs.Told.{Tells}
-use Rattle.mh_attempt.proofs.Asking.{asked-two, thrown-first, thrown-second}
-use Rattle.mh_attempt.proofs.LineNodes.{same-node}
-use Rattle.mh_attempt.proofs.Rules.{node-of-root}
-use Rattle.mh_attempt.proofs.AskedNodes.{asks-made}
-use Rattle.mh_attempt.proofs.AskedOperations.{line-makes, line-thrown}
+use Rattle.mh_attempt.proofs.Asking.{asked-two}
 use Rattle.mh_attempt.proofs.Adding.{adds-made, adds-none, adds-unmade}
-use Rattle.mh_attempt.specs.AskedTypes.{line_types}
-use Rattle.mh_attempt.proofs.AskingTypes.{types-refused}
-use Rattle.mh_attempt.proofs.LineTypes.{line-types}
-use Rattle.mh_attempt.proofs.NodeTypes.{types-root}
+use Rattle.mh_attempt.proofs.MadeOperations.{refused-first, refused-second, operation-made}
+use Rattle.mh_attempt.proofs.MadeNodes.{of-root}
 use Rattle.mh_attempt.proofs.lines.roots.constant_line.Goals as goal
 
-pub returns-in_err-ty-clause-node : goal.returns-in_err-ty-clause-node
-returns-in_err-ty-clause-node g c frame hold =
-    thrown-first c.args.w.now c.in_err-ty.field-0.0 c.from_residual.result c.from_residual.ensures.1
-    _ _ (subst (λ classes. Tells (Err c.in_err-ty.field-0.0) (type_in classes frame c.args.ty.now)) c.classes.ensures.classes
-    (c.in_err-ty.ensures c.args.w.now.leaves.now frame hold))
+pub returns-in_err-ty-clause-line : goal.returns-in_err-ty-clause-line
+returns-in_err-ty-clause-line g c frame hold =
+    let w = c.args.w.now in
+    refused-first frame (operation.Constant c.args.ty.now c.args.value.now) w
+    c.in_err-ty.field-0.0 c.from_residual.result c.from_residual.ensures.1 _ _ refl
+    (subst (λ classes. Tells (Err c.in_err-ty.field-0.0) (type_in classes frame c.args.ty.now)) c.classes.ensures.classes
+    (c.in_err-ty.ensures w.leaves.now frame hold))
 
-pub returns-in_err-value-clause-node : goal.returns-in_err-value-clause-node
-returns-in_err-value-clause-node g c frame hold =
-    let ty = ap (λ classes. type_in classes frame c.args.ty.now) (sym c.classes.ensures.classes) ∙ c.in_ok-ty.ensures c.args.w.now.leaves.now frame hold in
-    thrown-second c.args.w.now c.in_err-value.field-0.0 c.from_residual-in_err-value.result c.from_residual-in_err-value.ensures.1
-    _ _ _ c.in_ok-ty.ty ty (c.in_err-value.ensures c.args.w.now.leaves.now frame hold)
+pub returns-in_err-value-clause-line : goal.returns-in_err-value-clause-line
+returns-in_err-value-clause-line g c frame hold =
+    let w = c.args.w.now in
+    let ty = ap (λ classes. type_in classes frame c.args.ty.now) (sym c.classes.ensures.classes) ∙ c.in_ok-ty.ensures w.leaves.now frame hold in
+    refused-second frame (operation.Constant c.args.ty.now c.args.value.now) w
+    c.in_err-value.field-0.0 c.from_residual-in_err-value.result c.from_residual-in_err-value.ensures.1 _ _ _ c.in_ok-ty.ty refl
+    ty (c.in_err-value.ensures w.leaves.now frame hold)
 
 pub returns-clause-goes_on : goal.returns-clause-goes_on
 returns-clause-goes_on g c = goes_on-more 1 4 c.args.w.now c.constant.new.w (omega arith) c.constant.ensures.goes_on
 
-pub returns-clause-node : goal.returns-clause-node
-returns-clause-node g c frame hold =
-    let ty = ap (λ classes. type_in classes frame c.args.ty.now) (sym c.classes.ensures.classes) ∙ c.in_ok-ty.ensures c.args.w.now.leaves.now frame hold in
-    let value = c.in_ok-value.ensures c.args.w.now.leaves.now frame hold in
-    same-node _ _ c.args.w.now c.constant.new.w c.constant.result
-    (asked-two c.args.w.now.leaves.now _ _ (λ t v. tree.Constant t v) c.in_ok-ty.ty c.in_ok-value.value ty value)
-    (node-of-root c.args.w.now c.constant.new.w _ _ c.constant.result c.constant.ensures.obeys c.constant.ensures.makes c.constant.ensures.stands)
-
--- ---- what is asked for
-
-pub returns-in_err-ty-clause-asks : goal.returns-in_err-ty-clause-asks
-returns-in_err-ty-clause-asks g c frame hold =
-    let w = c.args.w.now in
-    line-thrown w.leaves.now frame (operation.Constant c.args.ty.now c.args.value.now) w w c.from_residual.result
-    (returns-in_err-ty-clause-node g c frame hold) c.in_err-ty.field-0.0 c.from_residual.ensures.1
-
-pub returns-in_err-value-clause-asks : goal.returns-in_err-value-clause-asks
-returns-in_err-value-clause-asks g c frame hold =
-    let w = c.args.w.now in
-    line-thrown w.leaves.now frame (operation.Constant c.args.ty.now c.args.value.now) w w c.from_residual-in_err-value.result
-    (returns-in_err-value-clause-node g c frame hold) c.in_err-value.field-0.0 c.from_residual-in_err-value.ensures.1
-
-pub returns-clause-asks : goal.returns-clause-asks
-returns-clause-asks g c frame hold =
+pub returns-clause-line : goal.returns-clause-line
+returns-clause-line g c frame hold =
     let w = c.args.w.now in
     let ty = ap (λ classes. type_in classes frame c.args.ty.now) (sym c.classes.ensures.classes) ∙ c.in_ok-ty.ensures w.leaves.now frame hold in
     let value = c.in_ok-value.ensures w.leaves.now frame hold in
-    line-makes w.leaves.now frame (operation.Constant c.args.ty.now c.args.value.now) w c.constant.new.w c.constant.result
-    (returns-clause-node g c frame hold) []
-    (tree.Constant c.in_ok-ty.ty c.in_ok-value.value) refl
-    (asked-two w.leaves.now _ _ (λ t v. tree.Constant t v) c.in_ok-ty.ty c.in_ok-value.value ty value)
-    (asks-made _ w c.constant.new.w c.constant.result c.constant.ensures.makes)
+    operation-made frame (operation.Constant c.args.ty.now c.args.value.now) w c.constant.new.w c.constant.result [] refl
+    _ (asked-two w.leaves.now _ _ (λ t v. tree.Constant t v) c.in_ok-ty.ty c.in_ok-value.value ty value) refl
+    (of-root w c.constant.new.w _ c.constant.result refl c.constant.ensures.obeys c.constant.ensures.makes c.constant.ensures.stands c.constant.ensures.types)
 
 -- ---- the seat of types
 
@@ -75,27 +49,3 @@ returns-in_err-value-clause-types g c =
 
 pub returns-clause-types : goal.returns-clause-types
 returns-clause-types g c = adds-made _ c.args.w.now c.constant.new.w c.constant.result c.constant.ensures.types
-
--- ---- the types that are asked for
-
-pub returns-in_err-ty-clause-asked : goal.returns-in_err-ty-clause-asked
-returns-in_err-ty-clause-asked g c frame hold =
-    let w = c.args.w.now in
-    types-refused (line_types w.leaves.now frame (operation.Constant c.args.ty.now c.args.value.now)) w c.in_err-ty.field-0.0
-    c.from_residual.result c.from_residual.ensures.1
-
-pub returns-in_err-value-clause-asked : goal.returns-in_err-value-clause-asked
-returns-in_err-value-clause-asked g c frame hold =
-    let w = c.args.w.now in
-    types-refused (line_types w.leaves.now frame (operation.Constant c.args.ty.now c.args.value.now)) w c.in_err-value.field-0.0
-    c.from_residual-in_err-value.result c.from_residual-in_err-value.ensures.1
-
-pub returns-clause-asked : goal.returns-clause-asked
-returns-clause-asked g c frame hold =
-    let w = c.args.w.now in
-    let ty = ap (λ classes. type_in classes frame c.args.ty.now) (sym c.classes.ensures.classes) ∙ c.in_ok-ty.ensures w.leaves.now frame hold in
-    let value = c.in_ok-value.ensures w.leaves.now frame hold in
-    line-types w.leaves.now frame (operation.Constant c.args.ty.now c.args.value.now) [] _ w c.constant.new.w c.constant.result
-    refl
-    (asked-two w.leaves.now _ _ (λ t v. tree.Constant t v) c.in_ok-ty.ty c.in_ok-value.value ty value)
-    (types-root w c.constant.new.w (tree.Constant c.in_ok-ty.ty c.in_ok-value.value) c.constant.result refl c.constant.ensures.types)
