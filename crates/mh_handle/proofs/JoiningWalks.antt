@@ -1,5 +1,5 @@
 -- What the longer walks of all chains have learnt.
-use Rattle.std.proofs.Common.{◌≡◌, subst, sym, ap, ℕ, ◌+◌, ◌<◌, ◌≤◌, List, length, set, get_or, Some, ⊎_elim, arith}
+use Rattle.std.proofs.Common.{◌≡◌, subst, sym, ℕ, ◌+◌, ◌<◌, ◌≤◌, List, length, set, get_or, Some, ⊎_elim, arith}
 use Rattle.std.specs.Prelude.{slice_get}
 use Rattle.std.proofs.lemmas.Option.{slice_get-get_or, slice_get_within}
 use Rattle.mh_setonce.specs.Views.{WalkView}
