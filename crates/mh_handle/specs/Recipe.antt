@@ -49,29 +49,29 @@ convert_keys classes asked t =
 
 -- the key of a part that runs on its own arguments, with its result in their place
 abbrev pub collect_keys : ℕ → MethodTy → List Key
-collect_keys place f = key.Collect place (map basic_of f.params) (basic_ret_of f.ret) ∷ []
+collect_keys place part = key.Collect place (map basic_of part.params) (basic_ret_of part.ret) ∷ []
 
 -- the keys of a tree: those of what it was made from, and then its own
 abbrev pub recipe : LeafTable → Tree → List Key
 recipe table (tree.Leaf l) = at_type (type_of table (tree.Leaf l)) (λ ty. key.LeafRoot (shape_of ty) ∷ [])
-recipe table (tree.Constant t v) = at_some t (λ r. key.ConstRoot (basic_of r))
-recipe table (tree.Identity t) = at_some t (λ r. key.IdentityRoot (basic_of r))
+recipe table (tree.Constant ty v) = at_some ty (λ r. key.ConstRoot (basic_of r))
+recipe table (tree.Identity ty) = at_some ty (λ r. key.IdentityRoot (basic_of r))
 recipe table (tree.Throw ret class) = key.ThrowRoot (basic_ret_of ret) ∷ []
-recipe table (tree.Bind t place v) = recipe table t ++ key.Bind place ∷ []
-recipe table (tree.Drop t place types) = recipe table t ++ key.Add place (map basic_of types) ∷ []
-recipe table (tree.Permute t asked reorder) = recipe table t ++ key.Permute (map basic_of asked.params) reorder ∷ []
-recipe table (tree.FilterArg t place f) = recipe table t ++ at_type (type_of table f) (collect_keys place)
-recipe table (tree.FilterRet t f) =
-    recipe table t ++ at_type (type_of table f) (λ part. key.FilterReturn (basic_ret_of part.ret) ∷ [])
-recipe table (tree.Fold t place c) =
-    recipe table t ++ at_type (type_of table c) (λ part. key.Fold place (length part.params) (basic_ret_of part.ret) ∷ [])
-recipe table (tree.Collect t place f) = recipe table t ++ at_type (type_of table f) (collect_keys place)
-recipe table (tree.Spread t array count) =
-    recipe table t ++ at_some (component_of array) (λ c. key.Spread count (basic_of (item_type c)))
-recipe table (tree.Gather t array count) =
-    recipe table t ++ at_some (component_of array) (λ c. key.Gather count (basic_of (item_type c)))
-recipe table (tree.AsType t asked) = recipe table t ++ at_type (type_of table t) (convert_keys table.classes asked)
-recipe table (tree.Guard c t e) =
-    at_type (type_of table t) (λ ty. at_type (type_of table c) (λ test. key.GuardRoot (shape_of ty) (length test.params) ∷ []))
-recipe table (tree.Catch t class h) =
-    at_type (type_of table t) (λ ty. at_type (type_of table h) (λ handler. key.CatchRoot (shape_of ty) (length handler.params - 1) ∷ []))
+recipe table (tree.Bind target place v) = recipe table target ++ key.Bind place ∷ []
+recipe table (tree.Drop target place types) = recipe table target ++ key.Add place (map basic_of types) ∷ []
+recipe table (tree.Permute target asked reorder) = recipe table target ++ key.Permute (map basic_of asked.params) reorder ∷ []
+recipe table (tree.FilterArg target place filter) = recipe table target ++ at_type (type_of table filter) (collect_keys place)
+recipe table (tree.FilterRet target filter) =
+    recipe table target ++ at_type (type_of table filter) (λ part. key.FilterReturn (basic_ret_of part.ret) ∷ [])
+recipe table (tree.Fold target place combiner) =
+    recipe table target ++ at_type (type_of table combiner) (λ part. key.Fold place (length part.params) (basic_ret_of part.ret) ∷ [])
+recipe table (tree.Collect target place filter) = recipe table target ++ at_type (type_of table filter) (collect_keys place)
+recipe table (tree.Spread target array count) =
+    recipe table target ++ at_some (component_of array) (λ component. key.Spread count (basic_of (item_type component)))
+recipe table (tree.Gather target array count) =
+    recipe table target ++ at_some (component_of array) (λ component. key.Gather count (basic_of (item_type component)))
+recipe table (tree.AsType target asked) = recipe table target ++ at_type (type_of table target) (convert_keys table.classes asked)
+recipe table (tree.Guard test target fallback) =
+    at_type (type_of table target) (λ ty. at_type (type_of table test) (λ test_ty. key.GuardRoot (shape_of ty) (length test_ty.params) ∷ []))
+recipe table (tree.Catch target class handler) =
+    at_type (type_of table target) (λ ty. at_type (type_of table handler) (λ handler_ty. key.CatchRoot (shape_of ty) (length handler_ty.params - 1) ∷ []))

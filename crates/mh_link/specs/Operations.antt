@@ -45,45 +45,45 @@ asked_by leaves frame (operation.Throw ret class) = do
   c ← class_of plainly leaves.classes class
   Ok (tree.Throw t c)
 asked_by leaves frame (operation.Bind h place v) = do
-  t ← handle_in frame h
+  target ← handle_in frame h
   w ← value_in frame v
-  Ok (tree.Bind t place w)
+  Ok (tree.Bind target place w)
 asked_by leaves frame (operation.Drop h place types) = do
-  t ← handle_in frame h
+  target ← handle_in frame h
   ts ← types_of_text plainly leaves.classes types
-  Ok (tree.Drop t place ts)
+  Ok (tree.Drop target place ts)
 asked_by leaves frame (operation.Permute h ty order) = do
-  t ← handle_in frame h
+  target ← handle_in frame h
   asked ← method_type_in leaves.classes frame ty
-  Ok (tree.Permute t asked order)
+  Ok (tree.Permute target asked order)
 asked_by leaves frame (operation.Filter h place f) = do
-  t ← handle_in frame h
+  target ← handle_in frame h
   filter ← handle_in frame f
-  Ok (tree.FilterArg t place filter)
+  Ok (tree.FilterArg target place filter)
 asked_by leaves frame (operation.FilterReturn h f) = do
-  t ← handle_in frame h
+  target ← handle_in frame h
   filter ← handle_in frame f
-  Ok (tree.FilterRet t filter)
+  Ok (tree.FilterRet target filter)
 asked_by leaves frame (operation.Fold h place f) = do
-  t ← handle_in frame h
+  target ← handle_in frame h
   combiner ← handle_in frame f
-  Ok (tree.Fold t place combiner)
+  Ok (tree.Fold target place combiner)
 asked_by leaves frame (operation.Collect h place f) = do
-  t ← handle_in frame h
+  target ← handle_in frame h
   filter ← handle_in frame f
-  Ok (tree.Collect t place filter)
+  Ok (tree.Collect target place filter)
 asked_by leaves frame (operation.Spread h ty count) = do
-  t ← handle_in frame h
+  target ← handle_in frame h
   array ← type_in leaves.classes frame ty
-  spread_of leaves t array count
+  spread_of leaves target array count
 asked_by leaves frame (operation.Gather h ty count) = do
-  t ← handle_in frame h
+  target ← handle_in frame h
   array ← type_in leaves.classes frame ty
-  Ok (tree.Gather t array count)
+  Ok (tree.Gather target array count)
 asked_by leaves frame (operation.AsType h ty) = do
-  t ← handle_in frame h
+  target ← handle_in frame h
   asked ← method_type_in leaves.classes frame ty
-  use_of leaves t asked
+  use_of leaves target asked
 asked_by leaves frame (operation.Guard c h e) = do
   test ← handle_in frame c
   target ← handle_in frame h
