@@ -105,6 +105,10 @@ low_line = 95
 abbrev pub small_a : ℕ
 small_a = 97
 
+-- `b`
+abbrev pub small_b : ℕ
+small_b = 98
+
 -- `c`
 abbrev pub small_c : ℕ
 small_c = 99
@@ -112,6 +116,10 @@ small_c = 99
 -- `f`
 abbrev pub small_f : ℕ
 small_f = 102
+
+-- `h`
+abbrev pub small_h : ℕ
+small_h = 104
 
 -- `i`
 abbrev pub small_i : ℕ

@@ -1,8 +1,7 @@
 -- Conversions of values within their limits give values within their limits.
-use Rattle.std.proofs.Common.{Bool, true, false, cond, List, Result, Ok, Err}
+use Rattle.std.proofs.Common.{Bool, true, false, ◌&&◌, cond, List, Result, Ok, Err}
 use Rattle.mh_values.specs.declared.class.Class.{Class}
 use Rattle.mh_values.specs.declared.types.Primitive.{Primitive}
-use Rattle.mh_values.specs.declared.types.Primitive.TheVariants as primitive
 use Rattle.mh_values.specs.declared.types.Ty.{Ty}
 use Rattle.mh_values.specs.declared.types.Ty.TheVariants as ty
 use Rattle.mh_values.specs.declared.value.Exc.{Exc}
@@ -10,7 +9,8 @@ use Rattle.mh_values.specs.declared.value.Value.{Value}
 use Rattle.mh_values.specs.declared.value.Value.TheVariants as value
 use Rattle.mh_values.specs.Class.{class_cast_class}
 use Rattle.mh_values.specs.Exception.{bare}
-use Rattle.mh_values.specs.HasType.{primitive_of, has_type}
+use Rattle.mh_values.specs.HasType.{has_type}
+use Rattle.mh_values.specs.Primitives.{primitive_of, is_within}
 use Rattle.mh_values.specs.ValueLimits.{IsValueWithinLimits}
 use Rattle.mh_convert.specs.Conversion.{serves_as, widened, widened_value, boxed, cast, unboxed, conv, fit, default_of}
 
@@ -33,7 +33,7 @@ boxed-limits v h = h
 
 unboxed-limits : (v : Value) (q : Primitive) → ConvertsWithinLimits (unboxed v q)
 unboxed-limits value.Null q = tt
-unboxed-limits (value.Boxed n) q = chosen (serves_as (primitive_of n) q) (value.Prim (widened n q)) (bare class_cast_class) tt
+unboxed-limits (value.Boxed n) q = chosen (serves_as (primitive_of n) q && is_within n) (value.Prim (widened n q)) (bare class_cast_class) tt
 unboxed-limits v q = tt
 
 cast-limits : (classes : List Class) (v : Value) (t : Ty) → IsValueWithinLimits v → ConvertsWithinLimits (cast classes v t)
@@ -55,8 +55,6 @@ fit-limits classes v t h = cast-limits classes v t h
 
 -- the default of a type
 pub default-limits : (t : Ty) → IsValueWithinLimits (default_of t)
-default-limits (ty.Prim primitive.Z) = tt
-default-limits (ty.Prim primitive.I) = tt
-default-limits (ty.Prim primitive.J) = tt
+default-limits (ty.Prim p) = tt
 default-limits (ty.Class c) = tt
 default-limits (ty.Array c) = tt

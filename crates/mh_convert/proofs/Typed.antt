@@ -1,19 +1,20 @@
 -- What conversions give has the type that was asked for, and what they throw is an exception.
-use Rattle.std.proofs.Common.{◌≡◌, refl, ap, subst, Bool, true, ◌||◌, cond, List, Ok, Err}
+use Rattle.std.proofs.Common.{◌≡◌, refl, ap, subst, Bool, true, false, ◌||◌, if◌then◌else◌, cond, List, Ok, Err}
+use Rattle.std.proofs.lemmas.Bool.{and_parts}
 use Rattle.mh_values.specs.declared.class.Class.{Class}
 use Rattle.mh_values.specs.declared.types.Primitive.{Primitive}
 use Rattle.mh_values.specs.declared.types.Primitive.TheVariants as primitive
 use Rattle.mh_values.specs.declared.types.Ty.{Ty}
 use Rattle.mh_values.specs.declared.types.Ty.TheVariants as ty
 use Rattle.mh_values.specs.declared.value.Num.{Num}
-use Rattle.mh_values.specs.declared.value.Num.TheVariants as num
 use Rattle.mh_values.specs.declared.value.Value.{Value}
 use Rattle.mh_values.specs.declared.value.Value.TheVariants as value
 use Rattle.mh_values.specs.Class.{class_cast_class}
 use Rattle.mh_values.specs.Classes.{AreClasses}
 use Rattle.mh_values.specs.Exception.{bare}
-use Rattle.mh_values.specs.HasType.{primitive_of, is_same_primitive, has_type, is_type_below}
-use Rattle.mh_values.proofs.SameTypes.{same_primitive-is}
+use Rattle.mh_values.specs.HasType.{has_type, is_type_below}
+use Rattle.mh_values.specs.Primitives.{is_same_primitive, primitive_of, whole, is_within, number_of}
+use Rattle.mh_values.proofs.PrimitiveLaws.{same_primitive-is}
 use Rattle.mh_values.proofs.BelowTypes.{value-below, type_below-itself}
 use Rattle.mh_convert.specs.Conversion.{widens, can, widened, widened_value, cast, conv, is_trivial}
 pub use Rattle.mh_convert.proofs.TypedConversions.{
@@ -38,16 +39,25 @@ trivial-allowed classes (ty.Array c) (ty.Class d) h = refl
 trivial-allowed classes (ty.Array c) (ty.Array d) h = refl
 trivial-allowed classes s t h = absurd cc
 
+-- no type widens to itself
+widens-itself : (p : Primitive) → widens p p ≡ false
+widens-itself primitive.Z = refl
+widens-itself primitive.B = refl
+widens-itself primitive.C = refl
+widens-itself primitive.S = refl
+widens-itself primitive.I = refl
+widens-itself primitive.J = refl
+
 same_number : (n : Num) (q : Primitive) → is_same_primitive (primitive_of n) q ≡ true → widened n q ≡ n
-same_number (num.Z b) primitive.Z h = refl
-same_number (num.I n) primitive.I h = refl
-same_number (num.J n) primitive.J h = refl
-same_number n q h = absurd cc
+same_number n q h =
+    let P : Primitive → Type 0 = λ r. widens (primitive_of n) r ≡ false in
+    ap (λ t. if t then number_of q (whole n) else n) (subst P (same_primitive-is (primitive_of n) q h) (widens-itself (primitive_of n)))
 
 same_prim : (classes : List Class) (p q : Primitive) (v : Value) → is_same_primitive p q ≡ true → has_type classes v (ty.Prim p) ≡ true → widened_value v q ≡ v
 same_prim classes p q (value.Prim n) h k =
     let P : Primitive → Type 0 = λ r. is_same_primitive (primitive_of n) r ≡ true in
-    ap value.Prim (same_number n q (subst P (same_primitive-is p q h) k))
+    let parts = and_parts (is_same_primitive (primitive_of n) p) (is_within n) k in
+    ap value.Prim (same_number n q (subst P (same_primitive-is p q h) parts.0))
 same_prim classes p q v h k = absurd cc
 
 kept : (classes : List Class) → AreClasses classes → (s t : Ty) (v : Value) → is_type_below classes s t ≡ true → has_type classes v s ≡ true →

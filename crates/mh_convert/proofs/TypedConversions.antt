@@ -1,5 +1,6 @@
 -- Casts, unboxing and conversions give values of the type that is asked for, or throw exceptions.
-use Rattle.std.proofs.Common.{◌≡◌, refl, sym, subst, Bool, true, false, cond, List, Result, Ok, Err}
+use Rattle.std.proofs.Common.{◌≡◌, refl, sym, ap, subst, ◌∙◌, inl, inr, ℤ, Bool, true, false, ◌&&◌, ◌||◌, if◌then◌else◌, cond, List, Result, Ok, Err, arith}
+use Rattle.std.proofs.lemmas.Bool.{cases_Bool, and_parts, and_from}
 use Rattle.mh_base.proofs.Inversion.{ok_is, err_is}
 use Rattle.mh_values.specs.declared.class.Class.{Class}
 use Rattle.mh_values.specs.declared.class.ClassId.{ClassId}
@@ -8,31 +9,48 @@ use Rattle.mh_values.specs.declared.types.Primitive.TheVariants as primitive
 use Rattle.mh_values.specs.declared.types.Ty.{Ty}
 use Rattle.mh_values.specs.declared.types.Ty.TheVariants as ty
 use Rattle.mh_values.specs.declared.value.Num.{Num}
-use Rattle.mh_values.specs.declared.value.Num.TheVariants as num
 use Rattle.mh_values.specs.declared.value.Exc.{Exc}
 use Rattle.mh_values.specs.declared.value.Value.{Value}
 use Rattle.mh_values.specs.declared.value.Value.TheVariants as value
 use Rattle.mh_values.specs.Class.{is_subclass, throwable_class, class_cast_class, null_pointer_class}
 use Rattle.mh_values.specs.Classes.{AreClasses}
 use Rattle.mh_values.specs.Exception.{bare}
-use Rattle.mh_values.specs.HasType.{primitive_of, wrapper_of, has_type}
-use Rattle.mh_values.proofs.SameTypes.{same_primitive-is}
+use Rattle.mh_values.specs.HasType.{has_type}
+use Rattle.mh_values.specs.Primitives.{wrapper_of, is_same_primitive, primitive_of, whole, lies_in, is_within, is_number, number_of}
+use Rattle.mh_values.proofs.PrimitiveLaws.{same_primitive-is}
+use Rattle.mh_values.proofs.PrimitiveNumbers.{signed-wider, unsigned-wider, number-is}
 use Rattle.mh_values.proofs.BelowTypes.{class_cast-below, null_pointer-below}
-use Rattle.mh_convert.specs.Conversion.{serves_as, can, widened, widened_value, boxed, cast, unboxed, conv, fit}
+use Rattle.mh_convert.specs.Conversion.{widens, serves_as, can, widened, widened_value, boxed, cast, unboxed, conv, fit}
 
 -- the two cases of a choice
 chosen : (b : Bool) (r s : Result Value Exc) (P : Result Value Exc → Type 0) → (b ≡ true → P r) → (b ≡ false → P s) → P (cond b r s)
 chosen true r s P f g = f refl
 chosen false r s P f g = g refl
 
+-- what lies in the range of a type lies in that of each type to which it widens
+widens-lies : (p q : Primitive) (z : ℤ) → widens p q ≡ true → lies_in p z ≡ true → lies_in q z ≡ true
+widens-lies primitive.B primitive.S z h lies = signed-wider 7 15 z (omega arith) lies
+widens-lies primitive.B primitive.I z h lies = signed-wider 7 31 z (omega arith) lies
+widens-lies primitive.B primitive.J z h lies = signed-wider 7 63 z (omega arith) lies
+widens-lies primitive.C primitive.I z h lies = unsigned-wider 16 31 z (omega arith) lies
+widens-lies primitive.C primitive.J z h lies = unsigned-wider 16 63 z (omega arith) lies
+widens-lies primitive.S primitive.I z h lies = signed-wider 15 31 z (omega arith) lies
+widens-lies primitive.S primitive.J z h lies = signed-wider 15 63 z (omega arith) lies
+widens-lies primitive.I primitive.J z h lies = signed-wider 31 63 z (omega arith) lies
+widens-lies p q z h lies = absurd cc
+
 -- a widened number has the type that it was widened to
-pub widened-typed : (classes : List Class) (n : Num) (q : Primitive) → serves_as (primitive_of n) q ≡ true →
+pub widened-typed : (classes : List Class) (n : Num) (q : Primitive) → serves_as (primitive_of n) q ≡ true → is_within n ≡ true →
     has_type classes (value.Prim (widened n q)) (ty.Prim q) ≡ true
-widened-typed classes (num.I n) primitive.J h = refl
-widened-typed classes (num.Z b) primitive.Z h = refl
-widened-typed classes (num.I n) primitive.I h = refl
-widened-typed classes (num.J n) primitive.J h = refl
-widened-typed classes n q h = absurd cc
+widened-typed classes n q h within = elim (cases_Bool (widens (primitive_of n) q)) [
+  | inl e ↦ ap (λ t. is_number (if t then number_of q (whole n) else n) q) e ∙ number-is q (whole n) (widens-lies (primitive_of n) q (whole n) e within)
+  | inr e ↦ ap (λ t. is_number (if t then number_of q (whole n) else n) q) e ∙
+      and_from (is_same_primitive (primitive_of n) q) (is_within n) (or_false_left (is_same_primitive (primitive_of n) q) e h) within
+]
+  where
+    or_false_left : (a : Bool) → widens (primitive_of n) q ≡ false → (a || widens (primitive_of n) q) ≡ true → a ≡ true
+    or_false_left true e h = refl
+    or_false_left false e h = absurd cc
 
 -- what a choice with an exception gives
 pub if_ok : (b : Bool) (v w : Value) (e : Exc) → ◌≡◌ {A = Result Value Exc} (cond b (Ok v) (Err e)) (Ok w) → (b ≡ true) × (v ≡ w)
@@ -59,8 +77,9 @@ cast-throws classes are v t e h =
 
 pub unboxed-typed : (classes : List Class) (v w : Value) (q : Primitive) → unboxed v q ≡ Ok w → has_type classes w (ty.Prim q) ≡ true
 unboxed-typed classes (value.Boxed n) w q h =
-    let r = if_ok (serves_as (primitive_of n) q) (value.Prim (widened n q)) w (bare class_cast_class) h in
-    subst (λ x. has_type classes x (ty.Prim q) ≡ true) r.1 (widened-typed classes n q r.0)
+    let r = if_ok (serves_as (primitive_of n) q && is_within n) (value.Prim (widened n q)) w (bare class_cast_class) h in
+    let parts = and_parts (serves_as (primitive_of n) q) (is_within n) r.0 in
+    subst (λ x. has_type classes x (ty.Prim q) ≡ true) r.1 (widened-typed classes n q parts.0 parts.1)
 unboxed-typed classes v w q h = absurd cc
 
 thrown_is : (classes : List Class) (d e : Exc) → is_subclass classes d.class throwable_class ≡ true → ◌≡◌ {A = Result Value Exc} (Err d) (Err e) →
@@ -71,7 +90,7 @@ pub unboxed-throws : (classes : List Class) → AreClasses classes → (v : Valu
     is_subclass classes e.class throwable_class ≡ true
 unboxed-throws classes are value.Null q e h = thrown_is classes (bare null_pointer_class) e (null_pointer-below classes are) h
 unboxed-throws classes are (value.Boxed n) q e h =
-    let d = if_err (serves_as (primitive_of n) q) (value.Prim (widened n q)) (bare class_cast_class) e h in
+    let d = if_err (serves_as (primitive_of n) q && is_within n) (value.Prim (widened n q)) (bare class_cast_class) e h in
     subst (λ (x : Exc). is_subclass classes x.class throwable_class ≡ true) d (class_cast-below classes are)
 unboxed-throws classes are v q e h = thrown_is classes (bare class_cast_class) e (class_cast-below classes are) h
 
@@ -87,16 +106,19 @@ prim-typed : (classes : List Class) (v w : Value) (p q : Primitive) → serves_a
     ◌≡◌ {A = Result Value Exc} (Ok (widened_value v q)) (Ok w) → has_type classes w (ty.Prim q) ≡ true
 prim-typed classes (value.Prim n) w p q allowed typed h =
     let P : Primitive → Type 0 = λ r. serves_as r q ≡ true in
+    let parts = and_parts (is_same_primitive (primitive_of n) p) (is_within n) typed in
     subst (λ x. has_type classes x (ty.Prim q) ≡ true) (ok_is (value.Prim (widened n q)) w h)
-    (widened-typed classes n q (subst P (sym (same_primitive-is (primitive_of n) p typed)) allowed))
+    (widened-typed classes n q (subst P (sym (same_primitive-is (primitive_of n) p parts.0)) allowed) parts.1)
 prim-typed classes v w p q allowed typed h = absurd cc
 
 boxed-typed : (classes : List Class) (v w : Value) (p : Primitive) (c : ClassId) → is_subclass classes (wrapper_of p) c ≡ true →
     has_type classes v (ty.Prim p) ≡ true → ◌≡◌ {A = Result Value Exc} (Ok (boxed v)) (Ok w) → has_type classes w (ty.Class c) ≡ true
 boxed-typed classes (value.Prim n) w p c allowed typed h =
     let P : Primitive → Type 0 = λ r. is_subclass classes (wrapper_of r) c ≡ true in
+    let parts = and_parts (is_same_primitive (primitive_of n) p) (is_within n) typed in
     subst (λ x. has_type classes x (ty.Class c) ≡ true) (ok_is (value.Boxed n) w h)
-    (subst P (sym (same_primitive-is (primitive_of n) p typed)) allowed)
+    (and_from (is_subclass classes (wrapper_of (primitive_of n)) c) (is_within n)
+    (subst P (sym (same_primitive-is (primitive_of n) p parts.0)) allowed) parts.1)
 boxed-typed classes v w p c allowed typed h = absurd cc
 
 pub conv-typed : (classes : List Class) (s t : Ty) (v w : Value) → can classes s t ≡ true → has_type classes v s ≡ true → conv classes s t v ≡ Ok w →

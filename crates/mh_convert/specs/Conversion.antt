@@ -9,21 +9,25 @@ use Rattle.mh_values.specs.declared.types.Primitive.TheVariants as primitive
 use Rattle.mh_values.specs.declared.types.Ty.{Ty}
 use Rattle.mh_values.specs.declared.types.Ty.TheVariants as ty
 use Rattle.mh_values.specs.declared.value.Num.{Num}
-use Rattle.mh_values.specs.declared.value.Num.TheVariants as num
 use Rattle.mh_values.specs.declared.value.Value.{Value}
 use Rattle.mh_values.specs.declared.value.Value.TheVariants as value
 use Rattle.mh_values.specs.declared.value.Exc.{Exc}
 use Rattle.mh_values.specs.Class.{is_subclass, class_cast_class, null_pointer_class}
 use Rattle.mh_values.specs.Exception.{bare}
-use Rattle.mh_values.specs.HasType.{primitive_of, wrapper_of, is_same_primitive, has_type, is_type_below}
+use Rattle.mh_values.specs.HasType.{has_type, is_type_below}
+use Rattle.mh_values.specs.Primitives.{wrapper_of, is_same_primitive, primitive_of, whole, is_within, number_of}
 use Rattle.mh_convert.specs.declared.conv.Conv.{Conv}
 use Rattle.mh_convert.specs.declared.conv.RetConv.{RetConv}
 use Rattle.mh_convert.specs.declared.conv.RetConv.TheVariants as ret
 
--- a primitive type widens to another one: int to long
+-- a primitive type widens to another one: byte to short, int and long, short and char to int and long, int to long (JLS SE 17, 5.1.2)
 abbrev pub widens : Primitive → Primitive → Bool
-widens primitive.I primitive.J = true
-widens _ _ = false
+widens primitive.Z q = false
+widens primitive.B q = is_same_primitive q primitive.S || is_same_primitive q primitive.I || is_same_primitive q primitive.J
+widens primitive.C q = is_same_primitive q primitive.I || is_same_primitive q primitive.J
+widens primitive.S q = is_same_primitive q primitive.I || is_same_primitive q primitive.J
+widens primitive.I q = is_same_primitive q primitive.J
+widens primitive.J q = false
 
 -- a number of the first primitive type serves as one of the second: they are one, or the first widens to the second
 abbrev pub serves_as : Primitive → Primitive → Bool
@@ -31,11 +35,11 @@ serves_as p q = is_same_primitive p q || widens p q
 
 -- the primitive types
 abbrev pub primitives : List Primitive
-primitives = primitive.Z ∷ primitive.I ∷ primitive.J ∷ []
+primitives = primitive.Z ∷ primitive.B ∷ primitive.C ∷ primitive.S ∷ primitive.I ∷ primitive.J ∷ []
 
--- a value of the class may be a boxed number that serves as the primitive type: some wrapper is at or below the class, and its primitive serves
+-- a value of the class may be a boxed number that serves as the primitive type: some primitive type serves, and its wrapper is at or below the class
 abbrev pub may_unbox : List Class → ClassId → Primitive → Bool
-may_unbox classes s q = list_any (λ p. is_subclass classes (wrapper_of p) s && serves_as p q) primitives
+may_unbox classes s q = list_any (λ p. serves_as p q && is_subclass classes (wrapper_of p) s) primitives
 
 -- whether a value of the first type may be converted to the second
 abbrev pub can : List Class → Ty → Ty → Bool
@@ -48,8 +52,7 @@ can classes _ _ = true
 
 -- a number as one of a primitive type that it serves as
 abbrev pub widened : Num → Primitive → Num
-widened (num.I n) primitive.J = num.J n
-widened n q = n
+widened n q = if widens (primitive_of n) q then number_of q (whole n) else n
 
 -- a primitive value, widened
 abbrev pub widened_value : Value → Primitive → Value
@@ -65,10 +68,10 @@ boxed v = v
 abbrev pub cast : List Class → Value → Ty → Result Value Exc
 cast classes v t = if has_type classes v t then Ok v else Err (bare class_cast_class)
 
--- a reference as a number of a primitive type: a boxed number that serves as one, widened
+-- a reference as a number of a primitive type: a boxed number in its range that serves as one, widened
 abbrev pub unboxed : Value → Primitive → Result Value Exc
 unboxed value.Null q = Err (bare null_pointer_class)
-unboxed (value.Boxed n) q = if serves_as (primitive_of n) q then Ok (value.Prim (widened n q)) else Err (bare class_cast_class)
+unboxed (value.Boxed n) q = if serves_as (primitive_of n) q && is_within n then Ok (value.Prim (widened n q)) else Err (bare class_cast_class)
 unboxed v q = Err (bare class_cast_class)
 
 -- what the conversion of a value of the first type to the second gives, or the exception that it throws
@@ -101,10 +104,9 @@ ret_conversion_of classes (Some s) (Some t) = value_conversion (conversion_of cl
 
 -- the default of a type: false, zero or null
 abbrev pub default_of : Ty → Value
-default_of (ty.Prim primitive.Z) = value.Prim (num.Z false)
-default_of (ty.Prim primitive.I) = value.Prim (num.I (pos 0))
-default_of (ty.Prim primitive.J) = value.Prim (num.J (pos 0))
-default_of t = value.Null
+default_of (ty.Prim p) = value.Prim (number_of p (pos 0))
+default_of (ty.Class c) = value.Null
+default_of (ty.Array c) = value.Null
 
 -- what a return conversion gives of what was returned
 abbrev pub ret_conv : List Class → RetConv → Option Value → Result (Option Value) Exc

@@ -5,25 +5,41 @@ use crate::{Conv, RetConv};
 use mh_values::{ClassId, Classes, Primitive, Ty};
 
 /// The primitive types.
-const PRIMITIVES: [Primitive; 3] = [Primitive::Z, Primitive::I, Primitive::J];
+const PRIMITIVES: [Primitive; 6] = [
+    Primitive::Z,
+    Primitive::B,
+    Primitive::C,
+    Primitive::S,
+    Primitive::I,
+    Primitive::J,
+];
+
+/// Whether a primitive type widens to another one (JLS SE 17, 5.1.2).
+fn widens(from: Primitive, to: Primitive) -> bool
+    ensures { result ≡ widens from to }
+{
+    match from {
+        Primitive::B => matches!(to, Primitive::S | Primitive::I | Primitive::J),
+        Primitive::C | Primitive::S => matches!(to, Primitive::I | Primitive::J),
+        Primitive::I => to == Primitive::J,
+        Primitive::Z | Primitive::J => false,
+    }
+}
 
 /// Whether a number of the first primitive type serves as one of the second: the types are one, or
-/// the first widens to the second (JLS SE 17, 5.1.2).
+/// the first widens to the second.
 pub(crate) fn serves_as(from: Primitive, to: Primitive) -> bool
     ensures { result ≡ serves_as from to }
 {
-    match (from, to) {
-        (Primitive::I, Primitive::J) => true,
-        _ => from == to,
-    }
+    from == to || widens(from, to)
 }
 
 /// Whether a value of the class may be a boxed number that serves as the primitive type.
 fn may_unbox(from: ClassId, to: Primitive, classes: &Classes) -> bool
     ensures { result ≡ may_unbox classes.now from to }
 {
-    PRIMITIVES.iter().any(|primitive| classes.subclass(primitive.wrapper(), from)
-        && serves_as(*primitive, to))
+    PRIMITIVES.iter().any(|primitive| serves_as(*primitive, to)
+        && classes.subclass(primitive.wrapper(), from))
 }
 
 /// Whether a value of the first type may be converted to the second.

@@ -1,5 +1,6 @@
-ghost use Rattle.std.specs.Prelude.{◌≡◌, IsTrue};
+ghost use Rattle.std.specs.Prelude.{◌≡◌, pos, IsTrue};
 ghost use Rattle.mh_values.specs.HasType.{has_type};
+ghost use Rattle.mh_values.specs.Primitives.{number_of};
 ghost use Rattle.mh_convert.specs.Conversion.{can, widened, widened_value, boxed, cast, unboxed, conv, fit, default_of};
 
 use crate::Conv;
@@ -11,6 +12,13 @@ fn widened(number: Num, to: Primitive) -> Num
     ensures { result ≡ widened number to }
 {
     match (number, to) {
+        (Num::B(n), Primitive::S) => Num::S(i16::from(n)),
+        (Num::B(n), Primitive::I) => Num::I(i32::from(n)),
+        (Num::B(n), Primitive::J) => Num::J(i64::from(n)),
+        (Num::C(n), Primitive::I) => Num::I(i32::from(n)),
+        (Num::C(n), Primitive::J) => Num::J(i64::from(n)),
+        (Num::S(n), Primitive::I) => Num::I(i32::from(n)),
+        (Num::S(n), Primitive::J) => Num::J(i64::from(n)),
         (Num::I(n), Primitive::J) => Num::J(i64::from(n)),
         _ => number,
     }
@@ -71,6 +79,30 @@ pub fn convert(by: Conv, v: Value, classes: &Classes) -> Result<Value, Exc>
         (Ty::Prim(_), _) => Ok(boxed(v)),
         (_, Ty::Prim(to)) => unboxed(v, to),
         (_, to) => cast(v, to, classes),
+    }
+}
+
+/// The zero of a primitive type; of `boolean` it is false.
+fn zero(primitive: Primitive) -> Num
+    ensures { result ≡ number_of primitive (pos 0) }
+{
+    match primitive {
+        Primitive::Z => Num::Z(false),
+        Primitive::B => Num::B(0),
+        Primitive::C => Num::C(0),
+        Primitive::S => Num::S(0),
+        Primitive::I => Num::I(0),
+        Primitive::J => Num::J(0),
+    }
+}
+
+/// The default of a type: null, false or zero.
+pub fn default_value(ty: Ty) -> Value
+    ensures { result ≡ default_of ty }
+{
+    match ty {
+        Ty::Prim(primitive) => Value::Prim(zero(primitive)),
+        Ty::Class(_) | Ty::Array(_) => Value::Null,
     }
 }
 

@@ -8,5 +8,5 @@ mod misfits;
 
 pub use allowed::{conversion, ret_conversion};
 pub use conv::{Conv, RetConv};
-pub use giving::{convert, fit};
+pub use giving::{convert, default_value, fit};
 pub use misfits::misfit;

@@ -8,7 +8,6 @@ use Rattle.std.specs.List.{All, slice_split}
 use Rattle.mh_values.specs.declared.class.Class.{Class}
 use Rattle.mh_values.specs.declared.types.Comp.{Comp}
 use Rattle.mh_values.specs.declared.types.Comp.TheVariants as comp
-use Rattle.mh_values.specs.declared.value.Num.TheVariants as num
 use Rattle.mh_values.specs.declared.value.Cell.{Cell}
 use Rattle.mh_values.specs.declared.value.Cell.TheVariants as cell
 use Rattle.mh_values.specs.Classes.{AreClasses}
@@ -75,12 +74,8 @@ items_trip classes c sound (item ∷ items) each typed =
 
 -- an item's literal is not empty
 item_some : (classes : List Class) (item : Cell) → 0 < length (item_text classes item)
-item_some classes (cell.Prim (num.Z b)) = omega arith
-item_some classes (cell.Prim (num.I n)) = omega arith
-item_some classes (cell.Prim (num.J n)) = omega arith
-item_some classes (cell.Boxed (num.Z b)) = omega arith
-item_some classes (cell.Boxed (num.I n)) = omega arith
-item_some classes (cell.Boxed (num.J n)) = omega arith
+item_some classes (cell.Prim n) = omega arith
+item_some classes (cell.Boxed n) = omega arith
 item_some classes (cell.Text s) = omega arith
 item_some classes (cell.Object c k) = omega arith
 item_some classes (cell.Thrown e) = omega arith

@@ -8,13 +8,14 @@ use Rattle.mh_values.specs.declared.class.ClassId.{ClassId}
 use Rattle.mh_values.specs.declared.descriptor.DescriptorError.TheVariants as descriptor
 use Rattle.mh_values.specs.declared.types.Comp.{Comp}
 use Rattle.mh_values.specs.declared.types.Comp.TheVariants as comp
-use Rattle.mh_values.specs.declared.types.Primitive.TheVariants as primitive
 use Rattle.mh_values.specs.declared.types.Ty.TheVariants as ty
 use Rattle.mh_values.specs.Array.{item_type}
 use Rattle.mh_values.specs.Classes.{AreClasses, name_of}
 use Rattle.mh_values.specs.Descriptor.{found_then, class_meant, type_meant, unless_bad, type_desc}
 use Rattle.mh_values.specs.Grammar.{type_fault}
 use Rattle.mh_values.proofs.NamedType as named
+use Rattle.mh_values.proofs.PrimitiveLaws.{letter-apart}
+use Rattle.mh_values.proofs.ReadBack.{letter-desc}
 use Rattle.mh_values.proofs.TypeSpelling.{is_name, is_name_byte}
 use Rattle.mh_texts.specs.Literal.{component_of}
 use Rattle.mh_texts.specs.Printed.{name_text, printed_component}
@@ -47,15 +48,11 @@ named_type classes c sound is =
 
 pub component_trip : (classes : List Class) (c : Comp) → AreClasses classes → IsWritableComponent classes c →
     component_of (type_desc classes (printed_component classes c)) ≡ Some c
-component_trip classes (comp.Prim primitive.Z) sound is = refl
-component_trip classes (comp.Prim primitive.I) sound is = refl
-component_trip classes (comp.Prim primitive.J) sound is = refl
+component_trip classes (comp.Prim p) sound is = ap component_of (letter-desc classes p)
 component_trip classes (comp.Class c) sound is =
     ap (λ name. component_of (type_desc classes (76 ∷ (name ++ 59 ∷ [])))) (class_text_is classes c is) ∙ ap component_of (named_type classes c sound is)
 
 pub no_bracket : (classes : List Class) (c : Comp) → IsWritableComponent classes c → Lacks 91 (printed_component classes c)
-no_bracket classes (comp.Prim primitive.Z) is = (refl, tt)
-no_bracket classes (comp.Prim primitive.I) is = (refl, tt)
-no_bracket classes (comp.Prim primitive.J) is = (refl, tt)
+no_bracket classes (comp.Prim p) is = (letter-apart p 91 refl, tt)
 no_bracket classes (comp.Class c) is =
     (refl, Lacks-append 91 (name_text classes c) (codes ";") (subst (Lacks 91) (sym (class_text_is classes c is)) (plain_lacks _ is.plain).brackets) (refl, tt))

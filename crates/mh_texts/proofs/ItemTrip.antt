@@ -1,5 +1,5 @@
 -- The printed literal of an item reads back, and has no comma.
-use Rattle.std.proofs.Common.{◌≡◌, refl, sym, ap, subst, ◌∙◌, suc, codes, ℕ, ◌^◌, ◌<◌, ◌==◌, ℤ, pos, negsuc, Bool, true, false, if◌then◌else◌, List, [], ◌∷◌, ◌++◌, None, Some, option_map, option_and_then, append_assoc, arith}
+use Rattle.std.proofs.Common.{◌≡◌, refl, sym, ap, subst, ◌∙◌, suc, codes, ℕ, ◌-◌, ◌^◌, ◌<◌, ◌==◌, ℤ, pos, negsuc, Bool, true, false, if◌then◌else◌, List, [], ◌∷◌, ◌++◌, None, Some, option_map, option_and_then, append_assoc, arith}
 use Rattle.std.proofs.lemmas.Bool.{ne_eqb, ltb-true}
 use Rattle.std.proofs.lemmas.Fmt.{decimal_is_IsNumeral}
 use Rattle.std.proofs.lemmas.List.Concat.{flat_map-cons}
@@ -7,22 +7,25 @@ use Rattle.std.proofs.lemmas.Str.Parse.{digit_from_value}
 use Rattle.std.specs.Fmt.{decimal, digits, signed_decimal}
 use Rattle.std.specs.Str.Parse.{AllDigits}
 use Rattle.mh_values.specs.declared.class.Class.{Class}
+use Rattle.mh_values.specs.declared.value.Num.{Num}
 use Rattle.mh_values.specs.declared.value.Num.TheVariants as num
 use Rattle.mh_values.specs.declared.value.Cell.{Cell}
 use Rattle.mh_values.specs.declared.value.Cell.TheVariants as cell
 use Rattle.mh_values.specs.Classes.{AreClasses, class_named}
 use Rattle.mh_values.specs.Exception.{bare}
+use Rattle.mh_values.specs.Primitives.{primitive_of, is_within}
 use Rattle.mh_texts.specs.Literal.{has_own_literal, if_object, object_of, if_exception, item_of}
 use Rattle.mh_texts.specs.Number.{is_long, unsigned_of}
-use Rattle.mh_texts.specs.LiteralText.{bool_text}
+use Rattle.mh_texts.specs.LiteralText.{bool_text, mark_of, number_text}
 use Rattle.mh_texts.specs.Printed.{name_text, item_text}
 use Rattle.mh_texts.specs.Characters.{is_graphic}
 use Rattle.mh_texts.specs.Escapes.{hex_value}
 use Rattle.mh_texts.specs.Text.{escaped_char, escaped}
 use Rattle.mh_texts.specs.Writable.{IsPlainClass, IsWritableItem, bare_item}
 use Rattle.mh_base.proofs.Cuts.{Lacks, Lacks-append, cut_found}
+use Rattle.mh_texts.proofs.Marks.{mark-low, mark-tagged, boxed-tagged}
 use Rattle.mh_texts.proofs.NameTrip.{plain_lacks, class_text_is, class_found}
-use Rattle.mh_texts.proofs.NumberTrip.{unsigned_trip, long_trip, int_trip, int_long, bool_trip}
+use Rattle.mh_texts.proofs.NumberTrip.{unsigned_trip, within_long, number_trip}
 use Rattle.mh_texts.proofs.HexTrip.{AreHexDigits, digits-hex}
 use Rattle.mh_texts.proofs.TextTrip.{text_trip, printed_by}
 
@@ -48,12 +51,8 @@ object_trip classes c k sound is own small =
 -- what is printed of an item is read as the item, an exception as its class alone
 pub item_trip : (classes : List Class) → AreClasses classes → (item : Cell) → IsWritableItem classes item →
     item_of classes (item_text classes item) ≡ Some (bare_item item)
-item_trip classes sound (cell.Prim (num.Z b)) is = ap (λ o. option_map cell.Prim (option_map num.Z o)) (bool_trip b)
-item_trip classes sound (cell.Prim (num.I n)) is = ap (λ o. option_map cell.Prim (option_map num.I o)) (int_trip n is)
-item_trip classes sound (cell.Prim (num.J n)) is = ap (λ o. option_map cell.Prim (option_map num.J o)) (long_trip n is)
-item_trip classes sound (cell.Boxed (num.Z b)) is = ap (λ o. option_map cell.Boxed (option_map num.Z o)) (bool_trip b)
-item_trip classes sound (cell.Boxed (num.I n)) is = ap (λ o. option_map cell.Boxed (option_map num.I o)) (int_trip n is)
-item_trip classes sound (cell.Boxed (num.J n)) is = ap (λ o. option_map cell.Boxed (option_map num.J o)) (long_trip n is)
+item_trip classes sound (cell.Prim n) is = mark-tagged classes (primitive_of n) (number_text n) ∙ ap (option_map cell.Prim) (number_trip n is)
+item_trip classes sound (cell.Boxed n) is = boxed-tagged classes (primitive_of n) (number_text n) ∙ ap (option_map cell.Boxed) (number_trip n is)
 item_trip classes sound (cell.Text s) is = ap (option_map cell.Text) (text_trip s is.0 is.1)
 item_trip classes sound (cell.Object c k) is = object_trip classes c k sound is.0 is.1 is.2
 item_trip classes sound (cell.Thrown e) is =
@@ -77,6 +76,14 @@ no_comma_in_signed (negsuc n) long = let small : n < 2 ^ 63 = ltb-true n (2 ^ 63
 no_comma_in_bool : (b : Bool) → Lacks 44 (bool_text b)
 no_comma_in_bool true = (refl, (refl, (refl, (refl, tt))))
 no_comma_in_bool false = (refl, (refl, (refl, (refl, (refl, tt)))))
+
+no_comma_in_number : (n : Num) → is_within n ≡ true → Lacks 44 (number_text n)
+no_comma_in_number (num.Z b) is = no_comma_in_bool b
+no_comma_in_number (num.B n) is = no_comma_in_signed n (within_long (num.B n) is)
+no_comma_in_number (num.C n) is = no_comma_in_signed (pos n) (within_long (num.C n) is)
+no_comma_in_number (num.S n) is = no_comma_in_signed n (within_long (num.S n) is)
+no_comma_in_number (num.I n) is = no_comma_in_signed n (within_long (num.I n) is)
+no_comma_in_number (num.J n) is = no_comma_in_signed n is
 
 no_comma_in_hex : (ds : List ℕ) → AreHexDigits ds → Lacks 44 ds
 no_comma_in_hex [] hex = tt
@@ -104,12 +111,10 @@ no_comma_in_name : (classes : List Class) (c : _) → IsPlainClass classes c →
 no_comma_in_name classes c is = subst (Lacks 44) (sym (class_text_is classes c is)) (plain_lacks _ is.plain).commas
 
 pub no_comma_in_item : (classes : List Class) (item : Cell) → IsWritableItem classes item → Lacks 44 (item_text classes item)
-no_comma_in_item classes (cell.Prim (num.Z b)) is = (refl, (refl, no_comma_in_bool b))
-no_comma_in_item classes (cell.Prim (num.I n)) is = (refl, (refl, no_comma_in_signed n (int_long n is)))
-no_comma_in_item classes (cell.Prim (num.J n)) is = (refl, (refl, no_comma_in_signed n is))
-no_comma_in_item classes (cell.Boxed (num.Z b)) is = (refl, (refl, no_comma_in_bool b))
-no_comma_in_item classes (cell.Boxed (num.I n)) is = (refl, (refl, no_comma_in_signed n (int_long n is)))
-no_comma_in_item classes (cell.Boxed (num.J n)) is = (refl, (refl, no_comma_in_signed n is))
+no_comma_in_item classes (cell.Prim n) is =
+    (ne_eqb (mark_of (primitive_of n)) 44 (λ e. omega (arith, mark-low (primitive_of n), e)), (refl, no_comma_in_number n is))
+no_comma_in_item classes (cell.Boxed n) is =
+    (ne_eqb (mark_of (primitive_of n) - 32) 44 (λ e. omega (arith, mark-low (primitive_of n), e)), (refl, no_comma_in_number n is))
 no_comma_in_item classes (cell.Text s) is = (refl, (refl, no_comma_in_text s))
 no_comma_in_item classes (cell.Object c k) is = (
   refl,

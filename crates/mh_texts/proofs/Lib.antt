@@ -3,11 +3,14 @@ mod CommaCuts
 mod ComponentTrip
 pub mod Cuts
 mod HexTrip
+mod ItemAgain
+mod ItemBytes
 mod ItemTrip
 mod Literals
 pub mod LiteralAgain
 mod LiteralBytes
 pub mod LiteralGraphic
+mod Marks
 mod NameTrip
 pub mod NumberTrip
 mod Numbers

@@ -6,7 +6,6 @@ use Rattle.std.proofs.lemmas.List.Folds.{list_all-append}
 use Rattle.std.specs.List.{list_all}
 use Rattle.mh_values.specs.declared.class.Class.{Class}
 use Rattle.mh_values.specs.declared.types.Comp.{Comp}
-use Rattle.mh_values.specs.declared.value.Num.TheVariants as num
 use Rattle.mh_values.specs.declared.value.Cell.{Cell}
 use Rattle.mh_values.specs.declared.value.Cell.TheVariants as cell
 use Rattle.mh_values.specs.declared.value.Value.{Value}
@@ -80,12 +79,8 @@ literal_text-graphic classes token v told all = value_graphic classes v token (v
 
 -- the literal of a value is not empty
 pub literal_text-some : (classes : List Class) (v : Value) → 0 < length (literal_text classes v)
-literal_text-some classes (value.Prim (num.Z b)) = omega arith
-literal_text-some classes (value.Prim (num.I n)) = omega arith
-literal_text-some classes (value.Prim (num.J n)) = omega arith
-literal_text-some classes (value.Boxed (num.Z b)) = omega arith
-literal_text-some classes (value.Boxed (num.I n)) = omega arith
-literal_text-some classes (value.Boxed (num.J n)) = omega arith
+literal_text-some classes (value.Prim n) = omega arith
+literal_text-some classes (value.Boxed n) = omega arith
 literal_text-some classes (value.Text s) = omega arith
 literal_text-some classes (value.Object c k) = omega arith
 literal_text-some classes (value.Thrown e) = omega arith

@@ -1,5 +1,5 @@
 -- A printed number reads back.
-use Rattle.std.proofs.Common.{◌≡◌, refl, ap, ◌∙◌, suc, codes, lit<, nat_lt, ℕ, ◌^◌, ◌<◌, ◌==◌, ℤ, pos, negsuc, neg_ℤ, Bool, true, false, ◌&&◌, ◌||◌, cond, if◌then◌else◌, List, [], ◌∷◌, length, drop, get_or, None, Some, option_and_then, arith}
+use Rattle.std.proofs.Common.{◌≡◌, refl, ap, ◌∙◌, suc, codes, lit<, nat_lt, ℕ, ◌^◌, ◌<◌, ◌==◌, ℤ, pos, negsuc, neg_ℤ, Bool, true, false, ◌&&◌, ◌||◌, cond, if◌then◌else◌, List, [], ◌∷◌, length, drop, get_or, None, Some, option_map, option_and_then, arith}
 use Rattle.std.proofs.lemmas.Bool.{and_from, or_left, ltb-true, lt-ltb, ne_eqb}
 use Rattle.std.proofs.lemmas.Fmt.{decimal_is_IsNumeral}
 use Rattle.std.proofs.lemmas.Str.Parse.{digit_from_value}
@@ -7,9 +7,13 @@ use Rattle.std.specs.Fmt.{decimal, signed_decimal}
 use Rattle.std.specs.Str.{bytes_eq}
 use Rattle.std.specs.Str.Parse.{AllDigits, digits_value, signed_digits_value, without_leading_plus}
 use Rattle.mh_base.proofs.Tests.{text_itself}
-use Rattle.mh_texts.specs.Literal.{bool_of}
-use Rattle.mh_texts.specs.Number.{is_long, is_int, long_of, if_int, int_of, unsigned_of}
-use Rattle.mh_texts.specs.LiteralText.{bool_text}
+use Rattle.mh_values.specs.declared.value.Num.{Num}
+use Rattle.mh_values.specs.declared.value.Num.TheVariants as num
+use Rattle.mh_values.specs.Primitives.{primitive_of, whole, is_within, number_as}
+use Rattle.mh_values.proofs.PrimitiveNumbers.{lies-long, number_as-law}
+use Rattle.mh_texts.specs.Literal.{bool_of, integer_meant, number_meant}
+use Rattle.mh_texts.specs.Number.{is_long, long_of, unsigned_of}
+use Rattle.mh_texts.specs.LiteralText.{bool_text, number_text}
 
 -- digits begin neither with a plus nor with a minus
 pub no_sign : (ds : List ℕ) (sign : ℕ) → sign < 48 → 0 < length ds → AllDigits 10 ds → (get_or ds 0 0 == sign) ≡ false
@@ -45,13 +49,23 @@ long_trip z long =
     (signed_value z long)
     ∙ ap (λ t. if t then Some z else None) (and_from _ _ long (or_left _ _ (text_itself (signed_decimal z))))
 
-pub int_long : (z : ℤ) → is_int z ≡ true → is_long z ≡ true
-int_long (pos n) h = lt-ltb n (2 ^ 63) (omega (arith, ltb-true n (2 ^ 31) h))
-int_long (negsuc n) h = lt-ltb n (2 ^ 63) (omega (arith, ltb-true n (2 ^ 31) h))
-
-pub int_trip : (z : ℤ) → is_int z ≡ true → int_of (signed_decimal z) ≡ Some z
-int_trip z int = ap (option_and_then if_int) (long_trip z (int_long z int)) ∙ ap (λ t. if t then Some z else None) int
-
 pub bool_trip : (b : Bool) → bool_of (bool_text b) ≡ Some b
 bool_trip true = refl
 bool_trip false = refl
+
+-- a number in the range of its type has 64 bits
+pub within_long : (n : Num) → is_within n ≡ true → is_long (whole n) ≡ true
+within_long n h = lies-long (primitive_of n) (whole n) h
+
+integer_trip : (n : Num) → is_within n ≡ true → integer_meant (primitive_of n) (signed_decimal (whole n)) ≡ Some n
+integer_trip n is =
+    ap (option_and_then (number_as (primitive_of n))) (long_trip (whole n) (within_long n is))
+    ∙ (number_as-law (primitive_of n) (whole n) n).1 (refl, refl, is)
+
+pub number_trip : (n : Num) → is_within n ≡ true → number_meant (primitive_of n) (number_text n) ≡ Some n
+number_trip (num.Z b) is = ap (option_map num.Z) (bool_trip b)
+number_trip (num.B n) is = integer_trip (num.B n) is
+number_trip (num.C n) is = integer_trip (num.C n) is
+number_trip (num.S n) is = integer_trip (num.S n) is
+number_trip (num.I n) is = integer_trip (num.I n) is
+number_trip (num.J n) is = integer_trip (num.J n) is

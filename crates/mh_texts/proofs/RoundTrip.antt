@@ -1,11 +1,13 @@
 -- The printed literal of a value reads back, where it was not cut.
-use Rattle.std.proofs.Common.{◌≡◌, refl, sym, ap, subst, ◌∙◌, codes, ℕ, ◌-◌, ◌≤◌, true, if◌then◌else◌, nat_le, List, [], ◌∷◌, ◌++◌, length, take, drop, map, None, Some, option_map, option_and_then, append_assoc, length-append, arith}
-use Rattle.std.proofs.lemmas.Bool.{le-leb}
+use Rattle.std.proofs.Common.{◌≡◌, refl, sym, ap, subst, ◌∙◌, codes, ℕ, ◌-◌, ◌≤◌, inl, inr, true, if◌then◌else◌, nat_le, List, [], ◌∷◌, ◌++◌, length, take, drop, map, None, Some, option_map, option_and_then, append_assoc, length-append, arith}
+use Rattle.std.proofs.lemmas.Bool.{cases_Bool, le-leb}
 use Rattle.std.proofs.lemmas.List.{length-map}
+use Rattle.std.proofs.lemmas.List.{take-append-drop}
+use Rattle.std.proofs.lemmas.Slice.Eq.{bytes_eq-Decides}
 use Rattle.std.specs.Str.{bytes_eq}
+use Rattle.mh_base.proofs.Inversion.{none_is_not}
 use Rattle.mh_values.specs.declared.class.Class.{Class}
 use Rattle.mh_values.specs.declared.types.Comp.{Comp}
-use Rattle.mh_values.specs.declared.value.Num.TheVariants as num
 use Rattle.mh_values.specs.declared.value.Cell.{Cell}
 use Rattle.mh_values.specs.declared.value.Cell.TheVariants as cell
 use Rattle.mh_values.specs.declared.value.Value.{Value}
@@ -13,7 +15,8 @@ use Rattle.mh_values.specs.declared.value.Value.TheVariants as value
 use Rattle.mh_values.specs.Array.{value_of_item}
 use Rattle.mh_values.specs.Classes.{AreClasses}
 use Rattle.mh_values.specs.Descriptor.{type_desc}
-use Rattle.mh_texts.specs.Literal.{component_of, listed, if_few, unclosed, array_of_literal, literal_of}
+use Rattle.mh_texts.specs.Literal.{component_of, item_of, listed, if_few, unclosed, array_of_literal, literal_of}
+use Rattle.mh_texts.specs.LiteralText.{prim_text, boxed_text}
 use Rattle.mh_texts.specs.Printed.{printed_component, items_text, value_text, shown_value}
 use Rattle.mh_texts.specs.Writable.{IsWritableArray, IsWritable, bare_item, bare_value}
 use Rattle.mh_texts.proofs.ItemTrip.{item_trip}
@@ -51,15 +54,26 @@ array_trip classes c items sound is =
 
 -- ---- values
 
+-- what begins as an array is no item
+no_item : (classes : List Class) (text : List ℕ) → item_of classes (97 ∷ 58 ∷ text) ≡ None
+no_item classes text = refl
+
+pub item_literal : (classes : List Class) (token : List ℕ) (item : Cell) → item_of classes token ≡ Some item →
+    literal_of classes token ≡ Some (value_of_item item)
+item_literal classes token item told =
+    elim (cases_Bool (bytes_eq (take 2 token) (codes "a:"))) [
+      | inl e ↦
+          let array : token ≡ 97 ∷ 58 ∷ drop 2 token = sym (take-append-drop 2 token) ∙ ap (λ t. t ++ drop 2 token) ((bytes_eq-Decides _ _).0 e) in
+          none_is_not item (sym (no_item classes (drop 2 token)) ∙ sym (ap (item_of classes) array) ∙ told)
+      | inr e ↦ ap (λ t. if t then array_of_literal classes (drop 2 token) else option_map value_of_item (item_of classes token)) e
+          ∙ ap (option_map value_of_item) told
+    ]
+
 -- the literal of a value is read as the value, with each exception as its class alone
 pub value_trip : (classes : List Class) → AreClasses classes → (v : Value) → IsWritable classes v →
     literal_of classes (value_text classes v) ≡ Some (bare_value v)
-value_trip classes sound (value.Prim (num.Z b)) is = ap (option_map value_of_item) (item_trip classes sound (cell.Prim (num.Z b)) is)
-value_trip classes sound (value.Prim (num.I n)) is = ap (option_map value_of_item) (item_trip classes sound (cell.Prim (num.I n)) is)
-value_trip classes sound (value.Prim (num.J n)) is = ap (option_map value_of_item) (item_trip classes sound (cell.Prim (num.J n)) is)
-value_trip classes sound (value.Boxed (num.Z b)) is = ap (option_map value_of_item) (item_trip classes sound (cell.Boxed (num.Z b)) is)
-value_trip classes sound (value.Boxed (num.I n)) is = ap (option_map value_of_item) (item_trip classes sound (cell.Boxed (num.I n)) is)
-value_trip classes sound (value.Boxed (num.J n)) is = ap (option_map value_of_item) (item_trip classes sound (cell.Boxed (num.J n)) is)
+value_trip classes sound (value.Prim n) is = item_literal classes (prim_text n) (cell.Prim n) (item_trip classes sound (cell.Prim n) is)
+value_trip classes sound (value.Boxed n) is = item_literal classes (boxed_text n) (cell.Boxed n) (item_trip classes sound (cell.Boxed n) is)
 value_trip classes sound (value.Text s) is = ap (option_map value_of_item) (item_trip classes sound (cell.Text s) is)
 value_trip classes sound (value.Object c k) is = ap (option_map value_of_item) (item_trip classes sound (cell.Object c k) is)
 value_trip classes sound (value.Thrown e) is = ap (option_map value_of_item) (item_trip classes sound (cell.Thrown e) is)

@@ -1,5 +1,5 @@
 -- Component types: what is read is what the descriptor spells.
-use Rattle.std.proofs.Common.{◌≡◌, refl, sym, ap, subst, ◌∙◌, zero, suc, ℕ, ◌-◌, ◌==◌, Bool, true, false, not, ◌||◌, List, [], ◌∷◌, ◌++◌, length, take, replicate, Option, None, Some, Result, Ok, Err, length-append, arith}
+use Rattle.std.proofs.Common.{◌≡◌, refl, sym, ap, subst, ◌∙◌, zero, suc, ℕ, ◌-◌, ◌==◌, Bool, true, false, not, ◌&&◌, ◌||◌, List, [], ◌∷◌, ◌++◌, length, take, replicate, Option, None, Some, Result, Ok, Err, length-append, arith}
 use Rattle.std.proofs.lemmas.Bool.{and_parts, and_from, or_parts, not-true, not_from_false}
 use Rattle.std.specs.List.{list_all}
 use Rattle.std.specs.Option.{option_map_or}
@@ -9,7 +9,6 @@ use Rattle.mh_values.specs.declared.descriptor.DescriptorError.{DescriptorError}
 use Rattle.mh_values.specs.declared.descriptor.DescriptorError.TheVariants as descriptor
 use Rattle.mh_values.specs.declared.types.Comp.{Comp}
 use Rattle.mh_values.specs.declared.types.Comp.TheVariants as comp
-use Rattle.mh_values.specs.declared.types.Primitive.TheVariants as primitive
 use Rattle.mh_values.specs.declared.types.Ty.{Ty}
 use Rattle.mh_values.specs.declared.types.Ty.TheVariants as ty
 use Rattle.mh_values.specs.Array.{item_type}
@@ -18,6 +17,8 @@ use Rattle.mh_values.specs.Descriptor.{found_then, class_meant, type_meant, unle
 use Rattle.mh_values.specs.ReadAs.{IsTypeRead}
 use Rattle.mh_values.specs.Spelling.{Element, letter, named, element_text, is_name_byte, IsElement, IsTypeText}
 use Rattle.mh_values.proofs.Complete.{type_complete}
+use Rattle.mh_values.proofs.PrimitiveLaws.{letter-apart}
+use Rattle.mh_values.proofs.ReadBack.{letter-desc}
 use Rattle.mh_values.proofs.ReadBy.{type_read}
 use Rattle.mh_texts.specs.Literal.{component_of}
 use Rattle.mh_texts.specs.Spells.{LacksByte, SpellsClass, SpellsComponent}
@@ -78,9 +79,7 @@ pub component_spelled : (classes : List Class) (text : List ℕ) (c : Comp) → 
 component_spelled classes text c told = component_by classes text c (type_desc classes text) refl (type_read classes text) told
 
 pub component_read : (classes : List Class) (text : List ℕ) (c : Comp) → SpellsComponent classes text c → component_of (type_desc classes text) ≡ Some c
-component_read classes text (comp.Prim primitive.Z) is = ap (λ t. component_of (type_desc classes t)) is
-component_read classes text (comp.Prim primitive.I) is = ap (λ t. component_of (type_desc classes t)) is
-component_read classes text (comp.Prim primitive.J) is = ap (λ t. component_of (type_desc classes t)) is
+component_read classes text (comp.Prim p) is = ap (λ t. component_of (type_desc classes t)) is ∙ ap component_of (letter-desc classes p)
 component_read classes text (comp.Class c) is =
     let type : IsTypeText (76 ∷ (is.name ++ 59 ∷ [])) =
     record { type = record { dimensions = 0; element = named is.name }; spelled = (omega arith, (is.some, is.good)); is = refl } in
@@ -99,7 +98,5 @@ no_bracket_in_name (b ∷ bs) good =
     (no_bracket_in_name bs parts.1)
 
 pub no_bracket_in : (classes : List Class) (text : List ℕ) (c : Comp) → SpellsComponent classes text c → LacksByte 91 text
-no_bracket_in classes text (comp.Prim primitive.Z) is = ap (list_all (λ b. not (b == 91))) is
-no_bracket_in classes text (comp.Prim primitive.I) is = ap (list_all (λ b. not (b == 91))) is
-no_bracket_in classes text (comp.Prim primitive.J) is = ap (list_all (λ b. not (b == 91))) is
+no_bracket_in classes text (comp.Prim p) is = ap (list_all (λ b. not (b == 91))) is ∙ ap (λ t. not t && true) (letter-apart p 91 refl)
 no_bracket_in classes text (comp.Class c) is = ap (list_all (λ b. not (b == 91))) is.is ∙ no_bracket_in_name is.name is.good

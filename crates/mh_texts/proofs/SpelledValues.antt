@@ -1,6 +1,6 @@
 -- Literals: a value is read exactly where the token spells it.
-use Rattle.std.proofs.Common.{◌≡◌, refl, sym, ap, subst, ◌∙◌, ℕ, ◌-◌, inl, inr, if◌then◌else◌, nat_le, List, [], ◌∷◌, ◌++◌, codes, length, take, drop, None, Some, Result, Ok, Err, option_map, option_and_then}
-use Rattle.std.proofs.lemmas.Bool.{cases_Bool, leb-true, le-leb}
+use Rattle.std.proofs.Common.{◌≡◌, sym, ap, subst, ◌∙◌, ℕ, ◌-◌, if◌then◌else◌, nat_le, List, [], ◌∷◌, ◌++◌, codes, length, take, drop, None, Some, Result, Ok, Err, option_and_then}
+use Rattle.std.proofs.lemmas.Bool.{leb-true, le-leb}
 use Rattle.std.proofs.lemmas.List.{take-append-drop}
 use Rattle.std.proofs.lemmas.Slice.Eq.{bytes_eq-Decides}
 use Rattle.std.specs.Str.{bytes_eq}
@@ -19,7 +19,7 @@ use Rattle.mh_texts.specs.Literal.{item_of, component_of, listed, if_few, unclos
 use Rattle.mh_texts.specs.Spells.{SpellsArray, SpellsItem, Spells, TellsSpelling}
 use Rattle.mh_texts.proofs.Cuts.{cut_is, cut_read}
 use Rattle.mh_base.proofs.Inversion.{by_test, some_is, none_is_not, map_some, then_some}
-use Rattle.mh_texts.proofs.RoundTrip.{unclosed_trip}
+use Rattle.mh_texts.proofs.RoundTrip.{unclosed_trip, item_literal}
 use Rattle.mh_texts.proofs.SpelledArrays.{listed_spelled, listed_read}
 use Rattle.mh_texts.proofs.SpelledComponents.{component_spelled, component_read, no_bracket_in}
 use Rattle.mh_texts.proofs.SpelledItems.{item_spelled, item_read}
@@ -95,20 +95,6 @@ value_spelled classes token v told =
     (λ e is.
     let read = map_some value_of_item (item_of classes token) v is in
     subst (λ w. Spells classes w token) read.2 (item_value classes read.0 token (item_spelled classes token read.0 read.1)))
-
--- what begins as an array is no item
-no_item : (classes : List Class) (text : List ℕ) → item_of classes (97 ∷ 58 ∷ text) ≡ None
-no_item classes text = refl
-
-item_literal : (classes : List Class) (token : List ℕ) (item : Cell) → item_of classes token ≡ Some item → literal_of classes token ≡ Some (value_of_item item)
-item_literal classes token item told =
-    elim (cases_Bool (bytes_eq (take 2 token) (codes "a:"))) [
-      | inl e ↦
-          let array : token ≡ 97 ∷ 58 ∷ drop 2 token = sym (take-append-drop 2 token) ∙ ap (λ t. t ++ drop 2 token) ((bytes_eq-Decides _ _).0 e) in
-          none_is_not item (sym (no_item classes (drop 2 token)) ∙ sym (ap (item_of classes) array) ∙ told)
-      | inr e ↦ ap (λ t. if t then array_of_literal classes (drop 2 token) else option_map value_of_item (item_of classes token)) e
-          ∙ ap (option_map value_of_item) told
-    ]
 
 item_of_value_read : (classes : List Class) (item : Cell) (token : List ℕ) → SpellsItem classes item token →
     literal_of classes token ≡ Some (value_of_item item)

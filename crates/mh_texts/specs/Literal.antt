@@ -2,11 +2,13 @@
 use Rattle.std.specs.Prelude.{◌≡◌, ℕ, ◌+◌, ◌-◌, ◌==◌, nat_le, Bool, true, false, ◌&&◌, ◌||◌, if◌then◌else◌, List, [], ◌∷◌, codes, length, take, drop, Option, None, Some, Result, Ok, Err, option_map, option_and_then}
 use Rattle.std.specs.List.{slice_split}
 use Rattle.std.specs.Str.{bytes_eq}
-use Rattle.mh_base.specs.Ascii.{colon, comma, left_bracket, number_sign, small_a, small_i, small_j, small_o, small_s, small_x, small_z}
+use Rattle.mh_base.specs.Ascii.{colon, comma, left_bracket, number_sign, small_a, small_b, small_c, small_h, small_i, small_j, small_o, small_s, small_x, small_z}
 use Rattle.mh_base.specs.Lines.{cut_at}
 use Rattle.mh_values.specs.declared.class.Class.{Class}
 use Rattle.mh_values.specs.declared.class.ClassId.{ClassId}
 use Rattle.mh_values.specs.declared.descriptor.DescriptorError.{DescriptorError}
+use Rattle.mh_values.specs.declared.types.Primitive.{Primitive}
+use Rattle.mh_values.specs.declared.types.Primitive.TheVariants as primitive
 use Rattle.mh_values.specs.declared.types.Comp.{Comp}
 use Rattle.mh_values.specs.declared.types.Comp.TheVariants as comp
 use Rattle.mh_values.specs.declared.types.Ty.{Ty}
@@ -23,10 +25,11 @@ use Rattle.mh_values.specs.Classes.{class_named}
 use Rattle.mh_values.specs.Descriptor.{type_desc}
 use Rattle.mh_values.specs.Exception.{bare}
 use Rattle.mh_values.specs.HasType.{is_item_of}
+use Rattle.mh_values.specs.Primitives.{number_as}
 use Rattle.mh_values.specs.ValueLimits.{most_items}
 use Rattle.mh_texts.specs.declared.literal.LiteralError.{LiteralError}
 use Rattle.mh_texts.specs.declared.literal.LiteralError.TheVariants as literal_error
-use Rattle.mh_texts.specs.Number.{int_of, long_of, unsigned_of}
+use Rattle.mh_texts.specs.Number.{long_of, unsigned_of}
 use Rattle.mh_texts.specs.Escapes.{text_of}
 
 -- ---- numbers
@@ -35,12 +38,32 @@ use Rattle.mh_texts.specs.Escapes.{text_of}
 abbrev pub bool_of : List ℕ → Option Bool
 bool_of text = if bytes_eq text (codes "true") then Some true else (if bytes_eq text (codes "false") then Some false else None)
 
--- a number of the primitive type whose letter, in lower case, stands before it
-abbrev pub number_of : ℕ → List ℕ → Option Num
-number_of letter text =
-    if letter == small_z then option_map num.Z (bool_of text)
-    else (if letter == small_i then option_map num.I (int_of text)
-    else (if letter == small_j then option_map num.J (long_of text) else None))
+-- the primitive type before whose numbers a letter stands
+abbrev pub primitive_marked : ℕ → Option Primitive
+primitive_marked letter =
+    if letter == small_z then Some primitive.Z
+    else (if letter == small_b then Some primitive.B
+    else (if letter == small_c then Some primitive.C
+    else (if letter == small_h then Some primitive.S
+    else (if letter == small_i then Some primitive.I
+    else (if letter == small_j then Some primitive.J else None)))))
+
+-- a number of a primitive type in decimal, if it is in the range
+abbrev pub integer_meant : Primitive → List ℕ → Option Num
+integer_meant p text = option_and_then (number_as p) (long_of text)
+
+-- a number of a primitive type: of boolean by its word, of any other type in decimal
+abbrev pub number_meant : Primitive → List ℕ → Option Num
+number_meant primitive.Z text = option_map num.Z (bool_of text)
+number_meant primitive.B text = integer_meant primitive.B text
+number_meant primitive.C text = integer_meant primitive.C text
+number_meant primitive.S text = integer_meant primitive.S text
+number_meant primitive.I text = integer_meant primitive.I text
+number_meant primitive.J text = integer_meant primitive.J text
+
+-- a number of the primitive type before whose numbers the letter stands
+abbrev pub marked_number : ℕ → List ℕ → Option Num
+marked_number letter text = option_and_then (λ p. number_meant p text) (primitive_marked letter)
 
 -- ---- objects and exceptions
 
@@ -68,14 +91,14 @@ exception_of classes text = option_and_then (if_exception classes) (class_named 
 
 -- ---- items
 
--- what stands after a letter and a colon: `z i j` are numbers, `Z I J` boxed ones, `s` is a text, `o` an object, `x` an exception
+-- what stands after a letter and a colon: `z b c h i j` are numbers, `Z B C H I J` boxed ones, `s` is a text, `o` an object, `x` an exception
 abbrev pub tagged : List Class → ℕ → List ℕ → Option Cell
 tagged classes letter text =
     if letter == small_s then option_map cell.Text (text_of text)
     else (if letter == small_o then object_of classes text
     else (if letter == small_x then exception_of classes text
-    else (if nat_le small_a letter then option_map cell.Prim (number_of letter text)
-    else option_map cell.Boxed (number_of (letter + 32) text))))
+    else (if nat_le small_a letter then option_map cell.Prim (marked_number letter text)
+    else option_map cell.Boxed (marked_number (letter + 32) text))))
 
 -- a literal that is no array
 abbrev pub item_of : List Class → List ℕ → Option Cell

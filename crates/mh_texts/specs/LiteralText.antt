@@ -1,8 +1,11 @@
 -- Values as literals, also where the names of classes are written in another way.
-use Rattle.std.specs.Prelude.{ℕ, List, [], ◌∷◌, ◌++◌, codes, flat_map, Bool, true, false}
+use Rattle.std.specs.Prelude.{ℕ, ◌-◌, List, [], ◌∷◌, ◌++◌, codes, flat_map, Bool, true, false}
 use Rattle.std.specs.Fmt.{decimal, signed_decimal}
+use Rattle.mh_base.specs.Ascii.{colon, small_b, small_c, small_h, small_i, small_j, small_z}
 use Rattle.mh_values.specs.declared.class.Class.{Class}
 use Rattle.mh_values.specs.declared.class.ClassId.{ClassId}
+use Rattle.mh_values.specs.declared.types.Primitive.{Primitive}
+use Rattle.mh_values.specs.declared.types.Primitive.TheVariants as primitive
 use Rattle.mh_values.specs.declared.types.Comp.{Comp}
 use Rattle.mh_values.specs.declared.value.Num.{Num}
 use Rattle.mh_values.specs.declared.value.Num.TheVariants as num
@@ -12,6 +15,7 @@ use Rattle.mh_values.specs.declared.value.Cell.TheVariants as cell
 use Rattle.mh_values.specs.declared.value.Value.{Value}
 use Rattle.mh_values.specs.declared.value.Value.TheVariants as value
 use Rattle.mh_values.specs.Classes.{name_of}
+use Rattle.mh_values.specs.Primitives.{primitive_of}
 use Rattle.mh_values.specs.TypeText.{component_written}
 use Rattle.mh_texts.specs.Text.{escaped}
 
@@ -22,17 +26,39 @@ abbrev pub bool_text : Bool → List ℕ
 bool_text true = codes "true"
 bool_text false = codes "false"
 
+-- the letter before the numbers of a primitive type: that of the descriptor, but small, and `h` for short, since `s` stands before texts
+abbrev pub mark_of : Primitive → ℕ
+mark_of primitive.Z = small_z
+mark_of primitive.B = small_b
+mark_of primitive.C = small_c
+mark_of primitive.S = small_h
+mark_of primitive.I = small_i
+mark_of primitive.J = small_j
+
+-- what stands before a number
+abbrev pub number_mark : Num → List ℕ
+number_mark n = mark_of (primitive_of n) ∷ colon ∷ []
+
+-- what stands before a boxed number: the letter is a capital one
+abbrev pub boxed_mark : Num → List ℕ
+boxed_mark n = (mark_of (primitive_of n) - 32) ∷ colon ∷ []
+
+-- a number without what stands before it
+abbrev pub number_text : Num → List ℕ
+number_text (num.Z b) = bool_text b
+number_text (num.B n) = signed_decimal n
+number_text (num.C n) = decimal n
+number_text (num.S n) = signed_decimal n
+number_text (num.I n) = signed_decimal n
+number_text (num.J n) = signed_decimal n
+
 -- a number of a primitive type
 abbrev pub prim_text : Num → List ℕ
-prim_text (num.Z b) = codes "z:" ++ bool_text b
-prim_text (num.I n) = codes "i:" ++ signed_decimal n
-prim_text (num.J n) = codes "j:" ++ signed_decimal n
+prim_text n = number_mark n ++ number_text n
 
 -- a boxed number
 abbrev pub boxed_text : Num → List ℕ
-boxed_text (num.Z b) = codes "Z:" ++ bool_text b
-boxed_text (num.I n) = codes "I:" ++ signed_decimal n
-boxed_text (num.J n) = codes "J:" ++ signed_decimal n
+boxed_text n = boxed_mark n ++ number_text n
 
 -- a text
 abbrev pub string_text : List ℕ → List ℕ

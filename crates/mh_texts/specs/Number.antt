@@ -1,18 +1,13 @@
 -- Numbers in literals: what their digits are read as.
-use Rattle.std.specs.Prelude.{ℕ, ◌^◌, ℤ, pos, negsuc, nat_lt, Bool, ◌&&◌, ◌||◌, if◌then◌else◌, List, codes, Option, None, Some, option_and_then}
+use Rattle.std.specs.Prelude.{ℕ, ◌^◌, ℤ, nat_lt, Bool, ◌&&◌, ◌||◌, if◌then◌else◌, List, codes, Option, None, Some}
 use Rattle.std.specs.Fmt.{decimal, signed_decimal}
 use Rattle.std.specs.Str.{bytes_eq}
 use Rattle.std.specs.Str.Parse.{digits_value, signed_digits_value, without_leading_plus}
+use Rattle.mh_values.specs.Primitives.{is_signed}
 
 -- of 64 bits
 abbrev pub is_long : ℤ → Bool
-is_long (pos n) = nat_lt n (2 ^ 63)
-is_long (negsuc n) = nat_lt n (2 ^ 63)
-
--- of 32 bits
-abbrev pub is_int : ℤ → Bool
-is_int (pos n) = nat_lt n (2 ^ 31)
-is_int (negsuc n) = nat_lt n (2 ^ 31)
+is_long = is_signed 63
 
 -- whether a text writes a number: in decimal, without a needless zero; 0 may have a sign
 abbrev pub writes : ℤ → List ℕ → Bool
@@ -21,14 +16,6 @@ writes n text = bytes_eq (signed_decimal n) text || bytes_eq (codes "-0") text
 -- the number of 64 bits that is written so
 abbrev pub long_of : List ℕ → Option ℤ
 long_of text = let n = signed_digits_value 10 text in if is_long n && writes n text then Some n else None
-
--- a number, if it has 32 bits
-abbrev pub if_int : ℤ → Option ℤ
-if_int n = if is_int n then Some n else None
-
--- the number of 32 bits that is written so
-abbrev pub int_of : List ℕ → Option ℤ
-int_of text = option_and_then if_int (long_of text)
 
 -- the number from 0 to 4294967295 that is written so, without a sign
 abbrev pub unsigned_of : List ℕ → Option ℕ

@@ -17,6 +17,7 @@ use Rattle.mh_values.specs.Class.{is_subclass, throwable_class}
 use Rattle.mh_values.specs.Classes.{class_named}
 use Rattle.mh_values.specs.Exception.{bare}
 use Rattle.mh_values.specs.HasType.{is_item_of}
+use Rattle.mh_values.specs.Primitives.{is_within}
 use Rattle.mh_values.specs.Spelling.{is_name_byte}
 use Rattle.mh_values.specs.TypeText.{primitive_text}
 use Rattle.mh_values.specs.ValueLimits.{most_items}
@@ -24,8 +25,7 @@ use Rattle.mh_texts.specs.declared.literal.LiteralError.{LiteralError}
 use Rattle.mh_texts.specs.declared.literal.LiteralError.TheVariants as literal_error
 use Rattle.mh_texts.specs.Characters.{SpellsText}
 use Rattle.mh_texts.specs.Literal.{has_own_literal}
-use Rattle.mh_texts.specs.Number.{is_int, is_long}
-use Rattle.mh_texts.specs.LiteralText.{bool_text}
+use Rattle.mh_texts.specs.LiteralText.{bool_text, number_mark, boxed_mark}
 
 -- a text without a byte
 abbrev pub LacksByte : ℕ → List ℕ → Type 0
@@ -44,20 +44,11 @@ SpellsUnsigned text n = (n < 2 ^ 32) × (text ≡ decimal n)
 -- a number of a primitive type, within its range
 abbrev pub SpellsNumber : List ℕ → Num → Type 0
 SpellsNumber text (num.Z b) = text ≡ bool_text b
-SpellsNumber text (num.I n) = IsTrue (is_int n) × SpellsInteger text n
-SpellsNumber text (num.J n) = IsTrue (is_long n) × SpellsInteger text n
-
--- what stands before a number
-abbrev pub number_mark : Num → List ℕ
-number_mark (num.Z b) = codes "z:"
-number_mark (num.I n) = codes "i:"
-number_mark (num.J n) = codes "j:"
-
--- what stands before a boxed number
-abbrev pub boxed_mark : Num → List ℕ
-boxed_mark (num.Z b) = codes "Z:"
-boxed_mark (num.I n) = codes "I:"
-boxed_mark (num.J n) = codes "J:"
+SpellsNumber text (num.B n) = IsTrue (is_within (num.B n)) × SpellsInteger text n
+SpellsNumber text (num.C n) = IsTrue (is_within (num.C n)) × SpellsInteger text (pos n)
+SpellsNumber text (num.S n) = IsTrue (is_within (num.S n)) × SpellsInteger text n
+SpellsNumber text (num.I n) = IsTrue (is_within (num.I n)) × SpellsInteger text n
+SpellsNumber text (num.J n) = IsTrue (is_within (num.J n)) × SpellsInteger text n
 
 -- ---- objects and exceptions
 

@@ -6,8 +6,6 @@ use Rattle.mh_values.specs.declared.class.Class.{Class}
 use Rattle.mh_values.specs.declared.class.ClassId.{ClassId}
 use Rattle.mh_values.specs.declared.types.Comp.{Comp}
 use Rattle.mh_values.specs.declared.types.Comp.TheVariants as comp
-use Rattle.mh_values.specs.declared.value.Num.{Num}
-use Rattle.mh_values.specs.declared.value.Num.TheVariants as num
 use Rattle.mh_values.specs.declared.value.Cell.{Cell}
 use Rattle.mh_values.specs.declared.value.Cell.TheVariants as cell
 use Rattle.mh_values.specs.declared.value.Value.{Value}
@@ -16,9 +14,9 @@ use Rattle.mh_values.specs.Class.{is_subclass, throwable_class}
 use Rattle.mh_values.specs.Classes.{name_of}
 use Rattle.mh_values.specs.Exception.{bare}
 use Rattle.mh_values.specs.HasType.{are_items_of}
+use Rattle.mh_values.specs.Primitives.{is_within}
 use Rattle.mh_values.specs.ValueLimits.{most_characters, most_items}
 use Rattle.mh_texts.specs.Literal.{has_own_literal}
-use Rattle.mh_texts.specs.Number.{is_int, is_long}
 use Rattle.mh_texts.specs.Characters.{is_graphic}
 use Rattle.mh_texts.specs.Escapes.{scalar}
 
@@ -32,12 +30,6 @@ pub record IsPlainClass (classes : List Class) (c : ClassId) : Type 0 where
   pub named : 0 < length (name_of classes c)
   pub plain : IsTrue (list_all is_unescaped (name_of classes c))
 
--- a number within its type
-abbrev pub IsWithinType : Num → Type 0
-IsWithinType (num.Z b) = Unit {0}
-IsWithinType (num.I n) = IsTrue (is_int n)
-IsWithinType (num.J n) = IsTrue (is_long n)
-
 -- characters, each of them a number that is one
 abbrev pub AreScalars : List ℕ → Type 0
 AreScalars [] = Unit {0}
@@ -45,8 +37,8 @@ AreScalars (c ∷ cs) = (scalar c ≡ Some c) × AreScalars cs
 
 -- an item that a literal can write
 abbrev pub IsWritableItem : List Class → Cell → Type 0
-IsWritableItem classes (cell.Prim n) = IsWithinType n
-IsWritableItem classes (cell.Boxed n) = IsWithinType n
+IsWritableItem classes (cell.Prim n) = IsTrue (is_within n)
+IsWritableItem classes (cell.Boxed n) = IsTrue (is_within n)
 IsWritableItem classes (cell.Text s) = AreScalars s × (length s ≤ most_characters)
 IsWritableItem classes (cell.Object c k) = IsPlainClass classes c × (has_own_literal classes c ≡ false) × (k < 2 ^ 32)
 IsWritableItem classes (cell.Thrown e) = IsPlainClass classes e.class × IsTrue (is_subclass classes e.class throwable_class)

@@ -3,15 +3,16 @@ ghost use Rattle.std.specs.Option.{option_copied};
 ghost use Rattle.mh_values.specs.Array.{value_of_item};
 ghost use Rattle.mh_values.specs.Descriptor.{type_desc};
 ghost use Rattle.mh_values.specs.ValueLimits.{IsValueWithinLimits};
-ghost use Rattle.mh_texts.specs.Literal.{bool_of, number_of, has_own_literal, object_of, exception_of, tagged, item_of, component_of, items_of, listed, unclosed, array_of_literal, literal_of, TellsLiteral};
+ghost use Rattle.mh_texts.specs.Literal.{bool_of, primitive_marked, integer_meant, number_meant, marked_number, has_own_literal, object_of, exception_of, tagged, item_of, component_of, items_of, listed, unclosed, array_of_literal, literal_of, TellsLiteral};
 ghost use Rattle.mh_texts.specs.LiteralText.{literal_text};
 ghost use Rattle.mh_texts.specs.Spells.{TellsSpelling};
 
 use crate::escape::read_text;
-use crate::number::{read_int, read_long, read_unsigned};
+use crate::number::{read_long, read_unsigned};
 use mh_base::{Frozen, NoMemory, Seq, split_at_byte, split_once};
 use mh_values::{
-    Cell, Cells, ClassId, Classes, Comp, Exc, MOST_ITEMS, Num, Ty, Value, is_item_of, read_type,
+    Cell, Cells, ClassId, Classes, Comp, Exc, MOST_ITEMS, Num, Primitive, Ty, Value, is_item_of,
+    read_type,
 };
 use std::alloc::{AllocError, Global};
 use std::error::Error;
@@ -69,16 +70,45 @@ fn read_bool(text: &[u8]) -> Option<bool>
     }
 }
 
-/// The number that stands after a primitive type's letter in lower case.
-fn read_number(letter: u8, text: &[u8]) -> Option<Num>
-    ensures { result ≡ number_of letter text.now }
+/// The primitive type before whose numbers a letter stands.
+fn marked(letter: u8) -> Option<Primitive>
+    ensures { result ≡ primitive_marked letter }
 {
     match letter {
-        b'z' => Some(Num::Z(read_bool(text)?)),
-        b'i' => Some(Num::I(read_int(text)?)),
-        b'j' => Some(Num::J(read_long(text)?)),
+        b'z' => Some(Primitive::Z),
+        b'b' => Some(Primitive::B),
+        b'c' => Some(Primitive::C),
+        b'h' => Some(Primitive::S),
+        b'i' => Some(Primitive::I),
+        b'j' => Some(Primitive::J),
         _ => None,
     }
+}
+
+/// The number of a primitive type that a text writes in decimal.
+fn read_integer(primitive: Primitive, text: &[u8]) -> Option<Num>
+    ensures { result ≡ integer_meant primitive text.now }
+{
+    primitive.number(read_long(text)?)
+}
+
+/// The number of a primitive type that a text writes.
+fn read_number(primitive: Primitive, text: &[u8]) -> Option<Num>
+    ensures { result ≡ number_meant primitive text.now }
+{
+    match primitive {
+        Primitive::Z => read_bool(text).map(Num::Z),
+        Primitive::B | Primitive::C | Primitive::S | Primitive::I | Primitive::J => {
+            read_integer(primitive, text)
+        }
+    }
+}
+
+/// The number that stands after a letter, which tells its type.
+fn read_marked(letter: u8, text: &[u8]) -> Option<Num>
+    ensures { result ≡ marked_number letter text.now }
+{
+    read_number(marked(letter)?, text)
 }
 
 /// Whether values of a class have literals of their own: those of String and of the wrappers, and
@@ -128,8 +158,8 @@ fn read_tagged(
         b's' => Some(Cell::Text(read_text(alloc, text)?)),
         b'o' => read_object(classes, text),
         b'x' => read_exception(classes, text),
-        b'a'..=u8::MAX => read_number(letter, text).map(Cell::Prim),
-        _ => read_number(letter + 32, text).map(Cell::Boxed),
+        b'a'..=u8::MAX => read_marked(letter, text).map(Cell::Prim),
+        _ => read_marked(letter + 32, text).map(Cell::Boxed),
     };
     read.ok_or(LiteralError::Bad)
 }
@@ -247,10 +277,11 @@ fn read_value(alloc: Global, classes: &Classes, token: &[u8]) -> Result<Value, L
     }
 }
 
-/// Reads the literal of a value: `z:`, `i:` and `j:` a number of a primitive type, `Z:`, `I:` and
-/// `J:` a boxed one, `s:` a text, `null`, `o:CLASS#N` an object, `x:CLASS` an exception with an empty
-/// message, `a:COMP[ITEM,ITEM]` an array. In a text `\s` is a space, `\c` a comma, `\n` LF, `\\` a
-/// backslash, and `\u{H}` the character of a hexadecimal number.
+/// Reads the literal of a value: `z:`, `b:`, `c:`, `h:`, `i:` and `j:` a number of a primitive type
+/// (`h` is `short`, and a `char` is written as its number), the same letters as capitals a boxed one,
+/// `s:` a text, `null`, `o:CLASS#N` an object, `x:CLASS` an exception with an empty message,
+/// `a:COMP[ITEM,ITEM]` an array. In a text `\s` is a space, `\c` a comma, `\n` LF, `\\` a backslash,
+/// and `\u{H}` the character of a hexadecimal number.
 pub fn read_literal(alloc: Global, token: &[u8], classes: &Classes) -> Result<Value, LiteralError>
     ensures spelled { TellsSpelling classes.now token.now result }
     ensures tells { TellsLiteral result (literal_of classes.now token.now) }

@@ -1,5 +1,5 @@
 ghost use Rattle.std.specs.Prelude.{◌≡◌, ◌↔◌, ℕ, Some};
-ghost use Rattle.mh_texts.specs.Number.{long_of, int_of, unsigned_of};
+ghost use Rattle.mh_texts.specs.Number.{long_of, unsigned_of};
 ghost use Rattle.mh_texts.specs.Spells.{SpellsUnsigned};
 
 use itoa::Buffer;
@@ -20,14 +20,6 @@ pub(crate) fn read_long(bytes: &[u8]) -> Option<i64>
     } else {
         None
     }
-}
-
-/// The number of 32 bits that a text writes.
-pub(crate) fn read_int(bytes: &[u8]) -> Option<i32>
-    ensures { result ≡ int_of bytes.now }
-{
-    let number = read_long(bytes)?;
-    i32::try_from(number).ok()
 }
 
 /// The number of 32 bits that a text writes without a sign.

@@ -1,8 +1,8 @@
-ghost use Rattle.std.specs.Prelude.{◌≡◌, ◌++◌, codes, flat_map, IfOk, OnOk};
+ghost use Rattle.std.specs.Prelude.{◌≡◌, ◌++◌, ◌≤◌, codes, flat_map, IfOk, OnOk};
 ghost use Rattle.std.specs.Fmt.{signed_decimal, decimal};
 ghost use Rattle.mh_values.specs.TypeText.{primitive_text};
 ghost use Rattle.mh_texts.specs.Text.{numbered_char, escaped_char, escaped, cut};
-ghost use Rattle.mh_texts.specs.LiteralText.{bool_text, prim_text, boxed_text, string_text};
+ghost use Rattle.mh_texts.specs.LiteralText.{bool_text, mark_of, number_text, prim_text, boxed_text, string_text};
 ghost use Rattle.mh_texts.specs.Printed.{name_text, printed_class, printed_component, printed_type, printed_return, printed_method_type, object_text, exception_text, item_text, items_text, array_text, value_text};
 
 use itoa::Buffer;
@@ -109,44 +109,49 @@ fn push_bool(bytes: &mut Vec<u8>, truth: bool) -> Result<(), NoMemory>
     }
 }
 
+/// Writes a number without what stands before it.
+fn push_number(bytes: &mut Vec<u8>, number: Num) -> Result<(), NoMemory>
+    ensures { OnOk result (bytes.new.items ≡ bytes.old.items ++ number_text number) }
+{
+    match number {
+        Num::Z(truth) => push_bool(bytes, truth),
+        Num::B(number) => push_int(bytes, i32::from(number)),
+        Num::C(number) => push_unsigned(bytes, u32::from(number)),
+        Num::S(number) => push_int(bytes, i32::from(number)),
+        Num::I(number) => push_int(bytes, number),
+        Num::J(number) => push_long(bytes, number),
+    }
+}
+
+/// The letter before the numbers of a primitive type.
+fn mark(primitive: Primitive) -> u8
+    ensures is { result ≡ mark_of primitive }
+    ensures low { 32 ≤ result }
+{
+    match primitive {
+        Primitive::Z => b'z',
+        Primitive::B => b'b',
+        Primitive::C => b'c',
+        Primitive::S => b'h',
+        Primitive::I => b'i',
+        Primitive::J => b'j',
+    }
+}
+
 /// Writes a number of a primitive type.
 fn push_prim(bytes: &mut Vec<u8>, number: Num) -> Result<(), NoMemory>
     ensures { OnOk result (bytes.new.items ≡ bytes.old.items ++ prim_text number) }
 {
-    match number {
-        Num::Z(truth) => {
-            push(bytes, b"z:")?;
-            push_bool(bytes, truth)
-        }
-        Num::I(number) => {
-            push(bytes, b"i:")?;
-            push_int(bytes, number)
-        }
-        Num::J(number) => {
-            push(bytes, b"j:")?;
-            push_long(bytes, number)
-        }
-    }
+    push(bytes, &[mark(number.primitive()), b':'])?;
+    push_number(bytes, number)
 }
 
 /// Writes a boxed number.
 fn push_boxed(bytes: &mut Vec<u8>, number: Num) -> Result<(), NoMemory>
     ensures { OnOk result (bytes.new.items ≡ bytes.old.items ++ boxed_text number) }
 {
-    match number {
-        Num::Z(truth) => {
-            push(bytes, b"Z:")?;
-            push_bool(bytes, truth)
-        }
-        Num::I(number) => {
-            push(bytes, b"I:")?;
-            push_int(bytes, number)
-        }
-        Num::J(number) => {
-            push(bytes, b"J:")?;
-            push_long(bytes, number)
-        }
-    }
+    push(bytes, &[mark(number.primitive()) - 32, b':'])?;
+    push_number(bytes, number)
 }
 
 /// Writes a text.
@@ -232,11 +237,7 @@ fn push_items(bytes: &mut Vec<u8>, classes: &Classes, items: &[Cell]) -> Result<
 fn push_primitive(bytes: &mut Vec<u8>, primitive: Primitive) -> Result<(), NoMemory>
     ensures { OnOk result (bytes.new.items ≡ bytes.old.items ++ primitive_text primitive) }
 {
-    match primitive {
-        Primitive::Z => push(bytes, b"Z"),
-        Primitive::I => push(bytes, b"I"),
-        Primitive::J => push(bytes, b"J"),
-    }
+    push(bytes, &[primitive.letter()])
 }
 
 /// Writes a class as a type.

@@ -4,8 +4,9 @@ use Rattle.mh_values.specs.declared.class.TheConstants.ClassId as known
 use Rattle.mh_values.specs.Class.{builtin_classes}
 use Rattle.mh_values.specs.Classes.{class_named}
 
-values : map (class_named builtin_classes) (codes "java/lang/Object" ∷ codes "java/lang/Integer" ∷ codes "java/lang/Long" ∷ codes "java/lang/Boolean" ∷ codes
-    "java/lang/String" ∷ []) ≡ Some known.OBJECT ∷ Some known.INTEGER ∷ Some known.LONG ∷ Some known.BOOLEAN ∷ Some known.STRING ∷ []
+values : map (class_named builtin_classes) (codes "java/lang/Object" ∷ codes "java/lang/Integer" ∷ codes "java/lang/Long" ∷ codes "java/lang/Byte" ∷ codes
+    "java/lang/Short" ∷ codes "java/lang/Boolean" ∷ codes "java/lang/Character" ∷ codes "java/lang/String" ∷ []) ≡ Some known.OBJECT ∷ Some known.INTEGER ∷
+    Some known.LONG ∷ Some known.BYTE ∷ Some known.SHORT ∷ Some known.BOOLEAN ∷ Some known.CHARACTER ∷ Some known.STRING ∷ []
 values = refl
 
 throwables : map (class_named builtin_classes) (codes "java/lang/Throwable" ∷ codes "java/lang/Exception" ∷ codes "java/lang/RuntimeException" ∷ codes

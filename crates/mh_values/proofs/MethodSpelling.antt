@@ -9,7 +9,6 @@ use Rattle.std.proofs.lemmas.List.{append-nil}
 use Rattle.mh_values.specs.declared.descriptor.Standing.TheVariants as standing
 use Rattle.mh_values.specs.Grammar.{first_bad, descriptor_fault}
 use Rattle.mh_values.specs.declared.class.Class.{Class}
-use Rattle.mh_values.specs.declared.types.Primitive.TheVariants as primitive
 use Rattle.mh_values.specs.declared.types.Ty.{Ty}
 use Rattle.mh_values.specs.declared.types.Ty.TheVariants as ty
 use Rattle.mh_values.specs.Classes.{name_of}
@@ -17,14 +16,13 @@ use Rattle.mh_values.specs.declared.descriptor.Place.TheVariants as place
 use Rattle.mh_values.specs.Slots.{slots_of, slots_of_all}
 use Rattle.mh_values.specs.declared.types.MethodTy.{MethodTy}
 use Rattle.mh_values.specs.TypeText.{type_text, return_text, method_type_text}
+use Rattle.mh_values.proofs.PrimitiveLaws.{letter-apart, letter-slots}
 use Rattle.mh_values.proofs.TypeSpelling.{is_type_named, begun_bad, class-joined, type-read}
 
 -- where the first byte of a type leads after parameters that take so many slots
 param-begun : (classes : List Class) (at s : ℕ) (t : Ty) (rest : List ℕ) → nat_le (s + slots_of t) 255 ≡ true →
     first_bad at (standing.Parameters s) (type_text classes t ++ rest) ≡ begun_bad at (place.Parameter (s + slots_of t)) (type_text classes t ++ rest)
-param-begun classes at s (ty.Prim primitive.Z) rest few = rw few refl
-param-begun classes at s (ty.Prim primitive.I) rest few = rw few refl
-param-begun classes at s (ty.Prim primitive.J) rest few = rw few refl
+param-begun classes at s (ty.Prim p) rest few = rw (letter-apart p 41 refl, letter-slots p, few) refl
 param-begun classes at s (ty.Class c) rest few =
     let P : List ℕ → Type 0 = λ text. first_bad at (standing.Parameters s) text ≡ begun_bad at (place.Parameter (s + 1)) text in
     subst P (sym (class-joined (name_of classes c) rest)) (rw few refl)
@@ -63,9 +61,7 @@ is_return_named classes (Some t) = is_type_named classes t
 -- where the first byte of a type leads after the parameters
 close-begun : (classes : List Class) (at : ℕ) (t : Ty) (rest : List ℕ) → first_bad at standing.Close (type_text classes t ++ rest) ≡ begun_bad at place.Last
     (type_text classes t ++ rest)
-close-begun classes at (ty.Prim primitive.Z) rest = refl
-close-begun classes at (ty.Prim primitive.I) rest = refl
-close-begun classes at (ty.Prim primitive.J) rest = refl
+close-begun classes at (ty.Prim p) rest = rw (letter-apart p 86 refl) refl
 close-begun classes at (ty.Class c) rest =
     let P : List ℕ → Type 0 = λ text. first_bad at standing.Close text ≡ begun_bad at place.Last text in
     subst P (sym (class-joined (name_of classes c) rest)) refl

@@ -2,30 +2,17 @@
 use Rattle.std.proofs.Common.{◌≡◌, refl, ap, ap₂, ◌==◌, true, List, [], ◌∷◌, ◌++◌, Option, Some, None}
 use Rattle.std.proofs.lemmas.Bool.{eqb-true, eq-eqb, and_parts, and_from}
 use Rattle.mh_values.specs.declared.class.ClassId.{ClassId}
-use Rattle.mh_values.specs.declared.types.Primitive.{Primitive}
-use Rattle.mh_values.specs.declared.types.Primitive.TheVariants as primitive
 use Rattle.mh_values.specs.declared.types.Comp.{Comp}
 use Rattle.mh_values.specs.declared.types.Comp.TheVariants as comp
 use Rattle.mh_values.specs.declared.types.Ty.{Ty}
 use Rattle.mh_values.specs.declared.types.Ty.TheVariants as ty
 use Rattle.mh_values.specs.declared.types.MethodTy.{MethodTy}
 use Rattle.mh_values.specs.Class.{class_at}
-use Rattle.mh_values.specs.HasType.{is_same_primitive}
 use Rattle.mh_values.specs.Same.{is_same_component, is_same_type, is_same_return, are_same_types, begins_with_types, is_same_method_type}
+use Rattle.mh_values.proofs.PrimitiveLaws.{same_primitive-is, same_primitive-itself}
 
 pub same_class-is : (c d : ClassId) → (c.0 == d.0) ≡ true → c ≡ d
 same_class-is c d h = ap class_at (eqb-true c.0 d.0 h)
-
-pub same_primitive-is : (p q : Primitive) → is_same_primitive p q ≡ true → p ≡ q
-same_primitive-is primitive.Z primitive.Z h = refl
-same_primitive-is primitive.I primitive.I h = refl
-same_primitive-is primitive.J primitive.J h = refl
-same_primitive-is p q h = absurd cc
-
-pub same_primitive-itself : (p : Primitive) → is_same_primitive p p ≡ true
-same_primitive-itself primitive.Z = refl
-same_primitive-itself primitive.I = refl
-same_primitive-itself primitive.J = refl
 
 pub same_component-is : (c d : Comp) → is_same_component c d ≡ true → c ≡ d
 same_component-is (comp.Prim p) (comp.Prim q) h = ap comp.Prim (same_primitive-is p q h)

@@ -7,7 +7,7 @@ use Rattle.mh_values.specs.declared.types.Comp.{Comp}
 use Rattle.mh_values.specs.declared.types.Comp.TheVariants as comp
 use Rattle.mh_values.specs.declared.types.Ty.{Ty}
 use Rattle.mh_values.specs.declared.types.Ty.TheVariants as ty
-use Rattle.mh_values.specs.HasType.{is_same_primitive}
+use Rattle.mh_values.specs.Primitives.{is_same_primitive}
 use Rattle.mh_values.specs.Same.{is_same_component, is_same_type, are_same_types, begins_with_types}
 use Rattle.mh_values.proofs.SameTypes.{same_type-is, same_type-itself}
 use Rattle.mh_values.specs.contracts.types.TyPartialEq.TheImpl as equality
@@ -15,6 +15,9 @@ use Rattle.mh_values.specs.contracts.types.TyPartialEq.TheImpl as equality
 -- of two types of one sort
 primitives : (p q : Primitive) → equality.eq-value.it (ty.Prim p) (ty.Prim q) ≡ is_same_primitive p q
 primitives primitive.Z primitive.Z = refl
+primitives primitive.B primitive.B = refl
+primitives primitive.C primitive.C = refl
+primitives primitive.S primitive.S = refl
 primitives primitive.I primitive.I = refl
 primitives primitive.J primitive.J = refl
 primitives p q = refl

@@ -7,12 +7,12 @@ use Rattle.mh_values.specs.declared.descriptor.Place.{Place}
 use Rattle.mh_values.specs.declared.descriptor.Standing.TheVariants as standing
 use Rattle.mh_values.specs.Grammar.{after_type, begun, first_bad, within_name}
 use Rattle.mh_values.specs.declared.class.Class.{Class}
-use Rattle.mh_values.specs.declared.types.Primitive.TheVariants as primitive
 use Rattle.mh_values.specs.declared.types.Comp.{Comp}
 use Rattle.mh_values.specs.declared.types.Comp.TheVariants as comp
 use Rattle.mh_values.specs.declared.types.Ty.{Ty}
 use Rattle.mh_values.specs.declared.types.Ty.TheVariants as ty
 use Rattle.mh_values.specs.Classes.{name_of}
+use Rattle.mh_values.proofs.PrimitiveLaws.{letter-apart, letter-element, letter-begun}
 use Rattle.mh_values.specs.TypeText.{type_text, component_text}
 
 -- a byte that may stand in a class name of a descriptor
@@ -70,9 +70,7 @@ class-joined name rest = ap (λ xs. 76 ∷ xs) (append_assoc name (59 ∷ []) re
 
 component-read : (classes : List Class) (at : ℕ) (p : Place) (c : Comp) (rest : List ℕ) → is_component_named classes c ≡ true →
     first_bad at (standing.Dimensions p 1) (component_text classes c ++ rest) ≡ first_bad (at + length (component_text classes c)) (after_type p) rest
-component-read classes at p (comp.Prim primitive.Z) rest good = refl
-component-read classes at p (comp.Prim primitive.I) rest good = refl
-component-read classes at p (comp.Prim primitive.J) rest good = refl
+component-read classes at p (comp.Prim q) rest good = rw (letter-apart q 91 refl, letter-element q p) refl
 component-read classes at p (comp.Class c) rest good =
     ap (first_bad at (standing.Dimensions p 1)) (class-joined (name_of classes c) rest)
     ∙ class-read (at + 1) p (name_of classes c) rest good
@@ -80,9 +78,7 @@ component-read classes at p (comp.Class c) rest good =
 
 pub type-read : (classes : List Class) (at : ℕ) (p : Place) (t : Ty) (rest : List ℕ) → is_type_named classes t ≡ true →
     begun_bad at p (type_text classes t ++ rest) ≡ first_bad (at + length (type_text classes t)) (after_type p) rest
-type-read classes at p (ty.Prim primitive.Z) rest good = refl
-type-read classes at p (ty.Prim primitive.I) rest good = refl
-type-read classes at p (ty.Prim primitive.J) rest good = refl
+type-read classes at p (ty.Prim q) rest good = ap (λ s. option_map_or (λ n. first_bad (at + 1) n rest) s (Some at)) (letter-begun q p)
 type-read classes at p (ty.Class c) rest good =
     ap (begun_bad at p) (class-joined (name_of classes c) rest)
     ∙ class-read (at + 1) p (name_of classes c) rest good

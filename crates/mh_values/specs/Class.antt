@@ -38,9 +38,21 @@ integer_class = class_at 2
 abbrev pub long_class : ClassId
 long_class = class_at 3
 
+-- `java/lang/Byte`
+abbrev pub byte_class : ClassId
+byte_class = class_at 4
+
+-- `java/lang/Short`
+abbrev pub short_class : ClassId
+short_class = class_at 5
+
 -- `java/lang/Boolean`
 abbrev pub boolean_class : ClassId
 boolean_class = class_at 6
+
+-- `java/lang/Character`
+abbrev pub character_class : ClassId
+character_class = class_at 7
 
 -- `java/lang/String`
 abbrev pub string_class : ClassId

@@ -1,11 +1,10 @@
 -- What descriptors mean among classes: their types, or the first place that has none.
 use Rattle.std.specs.Prelude.{◌≡◌, ℕ, ◌+◌, ◌-◌, ◌==◌, Bool, false, not, ◌||◌, if◌then◌else◌, List, [], ◌∷◌, length, take, drop, Option, None, Some, slice_get, sum_by, unwrap_or, Result, Ok, Err}
 use Rattle.std.specs.Option.{option_map_or}
-use Rattle.mh_base.specs.Ascii.{capital_I, capital_J, capital_L, capital_V, capital_Z, left_bracket, semicolon}
+use Rattle.mh_base.specs.Ascii.{capital_L, capital_V, left_bracket, semicolon}
 use Rattle.mh_values.specs.declared.class.Class.{Class}
 use Rattle.mh_values.specs.declared.descriptor.DescriptorError.{DescriptorError}
 use Rattle.mh_values.specs.declared.descriptor.DescriptorError.TheVariants as descriptor
-use Rattle.mh_values.specs.declared.types.Primitive.TheVariants as primitive
 use Rattle.mh_values.specs.declared.types.Comp.{Comp}
 use Rattle.mh_values.specs.declared.types.Comp.TheVariants as comp
 use Rattle.mh_values.specs.declared.types.Ty.{Ty}
@@ -14,6 +13,7 @@ use Rattle.mh_values.specs.declared.types.MethodTy.{MethodTy}
 use Rattle.mh_values.specs.Array.{item_type}
 use Rattle.mh_values.specs.Classes.{class_named}
 use Rattle.mh_values.specs.Grammar.{descriptor_fault, type_fault, types_fault}
+use Rattle.mh_values.specs.Primitives.{primitive_named}
 
 -- ---- texts of types, type by type
 
@@ -40,10 +40,7 @@ found_then (Err error) next = Err error
 
 -- the primitive type of a letter; the others are left out, at the place of the whole type
 abbrev pub primitive_meant : ℕ → ℕ → Result Comp DescriptorError
-primitive_meant whole b =
-    if b == capital_Z then Ok (comp.Prim primitive.Z)
-    else (if b == capital_I then Ok (comp.Prim primitive.I)
-    else (if b == capital_J then Ok (comp.Prim primitive.J) else Err (descriptor.Unsupported whole)))
+primitive_meant whole b = option_map_or (λ p. Ok (comp.Prim p)) (primitive_named b) (Err (descriptor.Unsupported whole))
 
 -- the class of a name, or the place of a name that no class has
 abbrev pub class_meant : List Class → ℕ → List ℕ → Result Comp DescriptorError

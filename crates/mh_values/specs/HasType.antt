@@ -4,37 +4,16 @@ use Rattle.std.specs.List.{list_all}
 use Rattle.mh_values.specs.declared.class.Class.{Class}
 use Rattle.mh_values.specs.declared.class.ClassId.{ClassId}
 use Rattle.mh_values.specs.declared.types.Primitive.{Primitive}
-use Rattle.mh_values.specs.declared.types.Primitive.TheVariants as primitive
 use Rattle.mh_values.specs.declared.types.Comp.{Comp}
 use Rattle.mh_values.specs.declared.types.Comp.TheVariants as comp
 use Rattle.mh_values.specs.declared.types.Ty.{Ty}
 use Rattle.mh_values.specs.declared.types.Ty.TheVariants as ty
 use Rattle.mh_values.specs.declared.value.Cell.{Cell}
 use Rattle.mh_values.specs.declared.value.Cell.TheVariants as cell
-use Rattle.mh_values.specs.declared.value.Num.{Num}
-use Rattle.mh_values.specs.declared.value.Num.TheVariants as num
 use Rattle.mh_values.specs.declared.value.Value.{Value}
 use Rattle.mh_values.specs.declared.value.Value.TheVariants as value
-use Rattle.mh_values.specs.Class.{is_subclass, object_class, string_class, integer_class, long_class, boolean_class}
-
--- the primitive type of a number
-abbrev pub primitive_of : Num → Primitive
-primitive_of (num.Z b) = primitive.Z
-primitive_of (num.I n) = primitive.I
-primitive_of (num.J n) = primitive.J
-
--- the class of the boxed values of a primitive type
-abbrev pub wrapper_of : Primitive → ClassId
-wrapper_of primitive.Z = boolean_class
-wrapper_of primitive.I = integer_class
-wrapper_of primitive.J = long_class
-
--- whether two primitive types are one
-abbrev pub is_same_primitive : Primitive → Primitive → Bool
-is_same_primitive primitive.Z primitive.Z = true
-is_same_primitive primitive.I primitive.I = true
-is_same_primitive primitive.J primitive.J = true
-is_same_primitive _ _ = false
+use Rattle.mh_values.specs.Class.{is_subclass, object_class, string_class}
+use Rattle.mh_values.specs.Primitives.{wrapper_of, is_same_primitive, primitive_of, is_within, is_number}
 
 -- whether arrays of one component are arrays of the other: the same primitive type, or a class at or below it
 abbrev pub is_component_below : List Class → Comp → Comp → Bool
@@ -44,10 +23,10 @@ is_component_below classes _ _ = false
 
 -- an item that an array of the component may have: a number of the primitive type, or a value of the class
 abbrev pub is_item_of : List Class → Comp → Cell → Bool
-is_item_of classes (comp.Prim p) (cell.Prim n) = is_same_primitive (primitive_of n) p
+is_item_of classes (comp.Prim p) (cell.Prim n) = is_number n p
 is_item_of classes (comp.Prim p) _ = false
 is_item_of classes (comp.Class t) (cell.Prim n) = false
-is_item_of classes (comp.Class t) (cell.Boxed n) = is_subclass classes (wrapper_of (primitive_of n)) t
+is_item_of classes (comp.Class t) (cell.Boxed n) = is_subclass classes (wrapper_of (primitive_of n)) t && is_within n
 is_item_of classes (comp.Class t) (cell.Text s) = is_subclass classes string_class t
 is_item_of classes (comp.Class t) (cell.Object c k) = is_subclass classes c t
 is_item_of classes (comp.Class t) (cell.Thrown e) = is_subclass classes e.class t
@@ -60,16 +39,16 @@ are_items_of classes c items = list_all (is_item_of classes c) items
 -- a class that is at or above the class of the value
 abbrev pub has_class : List Class → Value → ClassId → Bool
 has_class classes (value.Prim n) t = false
-has_class classes (value.Boxed n) t = is_subclass classes (wrapper_of (primitive_of n)) t
+has_class classes (value.Boxed n) t = is_subclass classes (wrapper_of (primitive_of n)) t && is_within n
 has_class classes (value.Text s) t = is_subclass classes string_class t
 has_class classes (value.Object c k) t = is_subclass classes c t
 has_class classes (value.Thrown e) t = is_subclass classes e.class t
 has_class classes (value.Array c items) t = t.0 == object_class.0 && are_items_of classes c items
 has_class classes value.Null t = true
 
--- a number of the primitive type
+-- a number of the primitive type, in its range
 abbrev pub has_primitive : Value → Primitive → Bool
-has_primitive (value.Prim n) p = is_same_primitive (primitive_of n) p
+has_primitive (value.Prim n) p = is_number n p
 has_primitive _ p = false
 
 -- an array of such components, or null

@@ -1,6 +1,5 @@
 pub mod Array
 pub mod Builtin
-pub mod Calls
 pub mod Class
 pub mod ClassNumbers
 pub mod Classes
@@ -9,6 +8,7 @@ pub mod Descriptor
 pub mod Exception
 pub mod Grammar
 pub mod HasType
+pub mod Primitives
 pub mod ReadAs
 pub mod Returns
 pub mod Same

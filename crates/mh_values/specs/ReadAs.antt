@@ -1,6 +1,6 @@
 -- What is said of a text of types that was read among classes, by the grammar alone: it is the text of the types, or what has none stands at the place.
-use Rattle.std.specs.Prelude.{◌≡◌, ℕ, ◌+◌, ◌≤◌, ◌==◌, nat_lt, Bool, false, not, ◌||◌, List, [], ◌++◌, codes, length, flat_map, None, Result, Ok, Err, IsTrue}
-use Rattle.mh_base.specs.Ascii.{capital_I, capital_J, capital_Z}
+use Rattle.std.specs.Prelude.{◌≡◌, ℕ, ◌+◌, ◌≤◌, ◌==◌, nat_lt, Bool, false, ◌||◌, List, [], ◌++◌, codes, length, flat_map, None, Result, Ok, Err, IsTrue}
+use Rattle.mh_base.specs.Ascii.{capital_D, capital_F}
 use Rattle.mh_values.specs.declared.class.Class.{Class}
 use Rattle.mh_values.specs.declared.descriptor.DescriptorError.{DescriptorError}
 use Rattle.mh_values.specs.declared.descriptor.DescriptorError.TheVariants as descriptor
@@ -12,9 +12,9 @@ use Rattle.mh_values.specs.TypeText.{type_text, method_type_text}
 
 -- ---- a type of the grammar that is no type among the classes
 
--- a primitive type other than `boolean`, `int` and `long`
+-- `double` or `float`
 abbrev pub is_left_out_element : Element → Bool
-is_left_out_element (letter b) = not (b == capital_Z || b == capital_I || b == capital_J)
+is_left_out_element (letter b) = b == capital_D || b == capital_F
 is_left_out_element (named name) = false
 
 -- a type that is left out: such a primitive type, an array of one, or an array of more than one dimension

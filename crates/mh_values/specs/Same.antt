@@ -5,7 +5,7 @@ use Rattle.mh_values.specs.declared.types.Comp.TheVariants as comp
 use Rattle.mh_values.specs.declared.types.Ty.{Ty}
 use Rattle.mh_values.specs.declared.types.Ty.TheVariants as ty
 use Rattle.mh_values.specs.declared.types.MethodTy.{MethodTy}
-use Rattle.mh_values.specs.HasType.{is_same_primitive}
+use Rattle.mh_values.specs.Primitives.{is_same_primitive}
 
 -- whether two component types are one
 abbrev pub is_same_component : Comp → Comp → Bool

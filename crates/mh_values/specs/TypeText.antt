@@ -1,21 +1,19 @@
 -- Types as descriptors (JVMS SE 17, 4.3.2 and 4.3.3), also where the names of classes are written in another way.
-use Rattle.std.specs.Prelude.{ℕ, List, ◌++◌, codes, flat_map, Option, Some, None}
+use Rattle.std.specs.Prelude.{ℕ, List, [], ◌∷◌, ◌++◌, codes, flat_map, Option, Some, None}
 use Rattle.mh_values.specs.declared.class.Class.{Class}
 use Rattle.mh_values.specs.declared.class.ClassId.{ClassId}
 use Rattle.mh_values.specs.declared.types.Primitive.{Primitive}
-use Rattle.mh_values.specs.declared.types.Primitive.TheVariants as primitive
 use Rattle.mh_values.specs.declared.types.Comp.{Comp}
 use Rattle.mh_values.specs.declared.types.Comp.TheVariants as comp
 use Rattle.mh_values.specs.declared.types.Ty.{Ty}
 use Rattle.mh_values.specs.declared.types.Ty.TheVariants as ty
 use Rattle.mh_values.specs.declared.types.MethodTy.{MethodTy}
 use Rattle.mh_values.specs.Classes.{name_of}
+use Rattle.mh_values.specs.Primitives.{letter_of}
 
--- the letter of a primitive type
+-- a primitive type, by its letter
 abbrev pub primitive_text : Primitive → List ℕ
-primitive_text primitive.Z = codes "Z"
-primitive_text primitive.I = codes "I"
-primitive_text primitive.J = codes "J"
+primitive_text p = letter_of p ∷ []
 
 -- ---- by what is written as the name of a class
 

@@ -33,8 +33,8 @@ pub enum DescriptorError {
     Bad { at: usize },
     /// No class has the name that begins at the place and has so many bytes.
     NoClass { at: usize, len: usize },
-    /// The type that begins at the place is left out: `float`, `double`, `byte`, `short`, `char`, or
-    /// an array of one of these or of more than one dimension.
+    /// The type that begins at the place is left out: `float`, `double`, or an array of one of these
+    /// or of more than one dimension.
     Unsupported { at: usize },
 }
 
@@ -296,11 +296,9 @@ fn type_pieces(alloc: Global, bytes: &[u8]) -> Result<Vec<&[u8]>, NoMemory>
 fn primitive_of(whole: usize, letter: u8) -> Result<Comp, DescriptorError>
     ensures { result ≡ primitive_meant whole letter }
 {
-    match letter {
-        b'Z' => Ok(Comp::Prim(Primitive::Z)),
-        b'I' => Ok(Comp::Prim(Primitive::I)),
-        b'J' => Ok(Comp::Prim(Primitive::J)),
-        _ => Err(DescriptorError::Unsupported { at: whole }),
+    match Primitive::of_letter(letter) {
+        Some(primitive) => Ok(Comp::Prim(primitive)),
+        None => Err(DescriptorError::Unsupported { at: whole }),
     }
 }
 

@@ -8,7 +8,13 @@ impl ClassId {
 
     pub const LONG: ClassId = ClassId(3);
 
+    pub const BYTE: ClassId = ClassId(4);
+
+    pub const SHORT: ClassId = ClassId(5);
+
     pub const BOOLEAN: ClassId = ClassId(6);
+
+    pub const CHARACTER: ClassId = ClassId(7);
 
     pub const STRING: ClassId = ClassId(8);
 

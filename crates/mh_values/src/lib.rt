@@ -9,13 +9,14 @@ mod copy;
 mod descriptor;
 mod exception;
 mod known;
+mod primitives;
 mod registry;
 mod same;
 mod types;
 mod typing;
 mod value;
 
-pub use calls::{Calls, LeafCall};
+pub use calls::LeafCall;
 pub use class::{Class, ClassId};
 pub use classes::{Classes, DeclareError, MOST_CLASSES};
 pub use descriptor::{

@@ -1,38 +1,12 @@
 ghost use Rattle.std.specs.Prelude.{◌≡◌, ◌-◌, ◌^◌, min};
-ghost use Rattle.mh_values.specs.HasType.{primitive_of, wrapper_of, is_component_below, is_item_of, are_items_of, has_class, has_primitive, has_component, has_type, is_type_below};
+ghost use Rattle.mh_values.specs.HasType.{is_component_below, is_item_of, are_items_of, has_class, has_primitive, has_component, has_type, is_type_below};
 ghost use Rattle.mh_values.specs.Slots.{slots_of, slots_of_all};
 
-use crate::{Cell, ClassId, Classes, Comp, MethodTy, Num, Primitive, Ty, Value};
+use crate::{Cell, ClassId, Classes, Comp, MethodTy, Primitive, Ty, Value};
 
 /// The most slots that the parameters of a method handle take: one of the 255 of a method (JVMS
 /// SE 17, 4.3.3) is the handle's own.
 pub const MOST_SLOTS: u64 = 254;
-
-impl Num {
-    /// The primitive type of the number.
-    pub fn primitive(self) -> Primitive
-        ensures { result ≡ primitive_of self }
-    {
-        match self {
-            Num::Z(_) => Primitive::Z,
-            Num::I(_) => Primitive::I,
-            Num::J(_) => Primitive::J,
-        }
-    }
-}
-
-impl Primitive {
-    /// The class of the boxed values of the type, as `java/lang/Integer` of `int`.
-    pub fn wrapper(self) -> ClassId
-        ensures { result ≡ wrapper_of self }
-    {
-        match self {
-            Primitive::Z => ClassId::BOOLEAN,
-            Primitive::I => ClassId::INTEGER,
-            Primitive::J => ClassId::LONG,
-        }
-    }
-}
 
 impl Ty {
     /// The slots that a parameter of the type takes: a `long` takes two.

@@ -6,6 +6,9 @@ use std::marker::Model;
 #[derive(Clone, Copy, Debug, PartialEq, Eq)]
 pub enum Num {
     Z(bool),
+    B(i8),
+    C(u16),
+    S(i16),
     I(i32),
     J(i64),
 }
