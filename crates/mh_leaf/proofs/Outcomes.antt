@@ -1,5 +1,5 @@
 -- A leaf of a kind that allows its type gives, on arguments of that type, values of its return type or an exception.
-use Rattle.std.proofs.Common.{◌≡◌, refl, sym, subst, ℕ, ◌==◌, true, false, cond, List, length, Some, None, nat_le}
+use Rattle.std.proofs.Common.{◌≡◌, refl, sym, subst, ℕ, ◌==◌, ◌+ℤ◌, ◌-ℤ◌, ◌*ℤ◌, true, false, not, cond, List, length, Some, None, nat_le}
 use Rattle.std.specs.Int.{w32, cast_signed}
 use Rattle.std.proofs.lemmas.Bool.{and_parts}
 use Rattle.mh_values.specs.declared.class.Class.{Class}
@@ -14,6 +14,7 @@ use Rattle.mh_values.specs.Exception.{bare}
 use Rattle.mh_values.specs.HasType.{HaveTypes}
 use Rattle.mh_values.specs.Returns.{Returns}
 use Rattle.mh_values.proofs.BelowTypes.{null_pointer-below}
+use Rattle.mh_values.proofs.PrimitiveNumbers.{boolean-within}
 use Rattle.mh_values.proofs.SameTypes.{same_return-is}
 use Rattle.mh_leaf.specs.declared.leaf.Kind.{Kind}
 use Rattle.mh_leaf.specs.declared.leaf.Kind.TheVariants as kind
@@ -25,8 +26,11 @@ pub use Rattle.mh_leaf.proofs.SingleOutcomes.{
   divided-returns,
   first_of_more-ends,
   fixed,
+  int-cast,
+  int-wrapped,
   ints-end,
   joined-returns,
+  long-wrapped,
   mapped-ends,
   measured-returns,
   pick-ends,
@@ -35,19 +39,22 @@ pub use Rattle.mh_leaf.proofs.SingleOutcomes.{
 
 pub kind-ends : (classes : List Class) → AreClasses classes → (k : Kind) (t : MethodTy) (args : List Value) (n : ℕ) → is_kind_type k t ≡ true →
     throws_exceptions classes k ≡ true → HaveTypes classes args t.params → Ends classes (kind_on k args n) t.ret
-kind-ends classes are kind.Iadd t args n is throws have = fixed classes t _ _ args _ is have (ints-end classes _ int_type args (λ p calls. refl))
-kind-ends classes are kind.Isub t args n is throws have = fixed classes t _ _ args _ is have (ints-end classes _ int_type args (λ p calls. refl))
-kind-ends classes are kind.Imul t args n is throws have = fixed classes t _ _ args _ is have (ints-end classes _ int_type args (λ p calls. refl))
+kind-ends classes are kind.Iadd t args n is throws have =
+    fixed classes t _ _ args _ is have (ints-end classes _ int_type args (λ p calls. int-wrapped (p.0 +ℤ p.1)))
+kind-ends classes are kind.Isub t args n is throws have =
+    fixed classes t _ _ args _ is have (ints-end classes _ int_type args (λ p calls. int-wrapped (p.0 -ℤ p.1)))
+kind-ends classes are kind.Imul t args n is throws have =
+    fixed classes t _ _ args _ is have (ints-end classes _ int_type args (λ p calls. int-wrapped (p.0 *ℤ p.1)))
 kind-ends classes are kind.Idiv t args n is throws have =
     fixed classes t _ _ args _ is have (ints-end classes _ int_type args (λ p calls. divided-returns classes are p.0 p.1 calls))
 kind-ends classes are kind.Ladd t args n is throws have =
     fixed classes t _ _ args _ is have (λ longs. let q = longs_there classes args longs in mapped-ends classes _ (two_longs args) q.0 (Some long_type) q.1
-    (λ calls. refl))
-kind-ends classes are kind.Ieq t args n is throws have = fixed classes t _ _ args _ is have (ints-end classes _ boolean_type args (λ p calls. refl))
-kind-ends classes are kind.Ilt t args n is throws have = fixed classes t _ _ args _ is have (ints-end classes _ boolean_type args (λ p calls. refl))
+    (λ calls. long-wrapped (q.0.0 +ℤ q.0.1)))
+kind-ends classes are kind.Ieq t args n is throws have = fixed classes t _ _ args _ is have (ints-end classes _ boolean_type args (λ p calls. boolean-within _))
+kind-ends classes are kind.Ilt t args n is throws have = fixed classes t _ _ args _ is have (ints-end classes _ boolean_type args (λ p calls. boolean-within _))
 kind-ends classes are kind.Not t args n is throws have =
     fixed classes t _ _ args _ is have (λ one. let q = boolean_there classes args one in mapped-ends classes _ (one_boolean args) q.0 (Some boolean_type) q.1
-    (λ calls. refl))
+    (λ calls. boolean-within (not q.0)))
 kind-ends classes are kind.Concat t args n is throws have =
     fixed classes t _ _ args _ is have (λ two.
     let q = two_there classes args string_type string_type two in
@@ -65,7 +72,7 @@ kind-ends classes are kind.Tick t args n is throws have = (
   int (cast_signed w32 n),
   refl,
   λ calls. subst (λ r. Returns classes (ran_of (int (cast_signed w32 n)) calls) r)
-      (sym (same_return-is t.ret (Some int_type) is)) refl,
+      (sym (same_return-is t.ret (Some int_type) is)) (int-cast n),
 )
 kind-ends classes are kind.Note t args n is throws have =
     (Return None, refl, λ calls. subst (λ r. Returns classes (Gave None calls) r) (sym (same_return-is t.ret None is)) tt)

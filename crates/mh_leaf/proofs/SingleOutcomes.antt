@@ -1,7 +1,9 @@
 -- How the kinds of leaves end on arguments of their types, kind by kind.
-use Rattle.std.proofs.Common.{◌≡◌, refl, sym, ap, subst, ℕ, zero, suc, ◌==◌, ℤ, pos, negsuc, Bool, true, false, ◌&&◌, cond, List, [], ◌∷◌, ◌++◌, length, Option, Some, None, nat_lt, nat_le, codes, arith}
-use Rattle.std.proofs.lemmas.Bool.{eqb-true, and_parts}
-use Rattle.std.specs.Prelude.{option_map, slice_get}
+use Rattle.std.proofs.Common.{◌≡◌, refl, sym, ap, subst, ℕ, zero, suc, ◌==◌, ℤ, pos, negsuc, Bool, true, false, ◌&&◌, cond, List, [], ◌∷◌, ◌++◌, length, Option, Some, None, nat_lt, nat_le, codes, FitsSigned, rules, ◌^◌, arith}
+use Rattle.std.proofs.lemmas.Bool.{eqb-true, and_parts, lt-ltb}
+use Rattle.std.proofs.lemmas.Int.{SFits-int_wrap}
+use Rattle.std.specs.Int.{w32, w64, cast_signed, cast_unsigned, int_wrap}
+use Rattle.std.specs.Prelude.{option_map, slice_get, sum_by, int_div}
 use Rattle.mh_values.specs.declared.class.Class.{Class}
 use Rattle.mh_values.specs.declared.types.Ty.{Ty}
 use Rattle.mh_values.specs.declared.types.MethodTy.{MethodTy}
@@ -16,6 +18,7 @@ use Rattle.mh_values.specs.Classes.{AreClasses}
 use Rattle.mh_values.specs.Computation.{Gave}
 use Rattle.mh_values.specs.Exception.{saying}
 use Rattle.mh_values.specs.HasType.{has_type, HaveTypes}
+use Rattle.mh_values.specs.Primitives.{is_signed}
 use Rattle.mh_values.specs.Returns.{Returns}
 use Rattle.mh_values.specs.Same.{is_same_type, is_same_return}
 use Rattle.mh_values.specs.ValueLimits.{most_characters}
@@ -23,15 +26,37 @@ use Rattle.mh_values.proofs.BelowTypes.{arithmetic-below, class_cast-below, inte
 use Rattle.mh_values.proofs.SameTypes.{same_type-is, same_return-is, same_method_type-is, method_type}
 use Rattle.mh_values.proofs.Subclasses.{is_subclass-itself}
 use Rattle.mh_leaf.proofs.ArgumentTypes.{is_boolean, ints_there, one_there}
-use Rattle.mh_leaf.specs.Outcome.{returned, divided, text, joined, measured, two_ints, one_value, first_value, picked_value, ran_of, int_type, boolean_type, string_type, is_type, chooses}
+use Rattle.mh_leaf.specs.Outcome.{units_of, returned, divided, text, joined, measured, two_ints, one_value, first_value, picked_value, ran_of, int_type, boolean_type, string_type, is_type, chooses}
+
+-- ---- machine numbers
+
+-- a machine number is in the range of its type
+int-fits : (z : ℤ) → FitsSigned w32 z → is_signed 31 z ≡ true
+int-fits (pos n) fits = lt-ltb n (2 ^ 31) (omega (arith, fits.sfits))
+int-fits (negsuc n) fits = lt-ltb n (2 ^ 31) (omega (arith, fits.sfits))
+
+long-fits : (z : ℤ) → FitsSigned w64 z → is_signed 63 z ≡ true
+long-fits (pos n) fits = lt-ltb n (2 ^ 63) (omega (arith, fits.sfits))
+long-fits (negsuc n) fits = lt-ltb n (2 ^ 63) (omega (arith, fits.sfits))
+
+-- and so is a wrapped one
+pub int-wrapped : (z : ℤ) → is_signed 31 (int_wrap w32 z) ≡ true
+int-wrapped z = int-fits (int_wrap w32 z) (SFits-int_wrap w32 z)
+
+pub long-wrapped : (z : ℤ) → is_signed 63 (int_wrap w64 z) ≡ true
+long-wrapped z = long-fits (int_wrap w64 z) (SFits-int_wrap w64 z)
+
+-- and one of the bits of an unsigned one
+pub int-cast : (n : ℕ) → is_signed 31 (cast_signed w32 n) ≡ true
+int-cast n = let fits : FitsSigned w32 (cast_signed w32 n) = search rules in int-fits (cast_signed w32 n) fits
 
 -- ---- what single outcomes return
 
 pub divided-returns : (classes : List Class) → AreClasses classes → (a b : ℤ) (calls : List LeafCall) →
     Returns classes (ran_of (divided a b) calls) (Some int_type)
 divided-returns classes are a (pos zero) calls = arithmetic-below classes are
-divided-returns classes are a (pos (suc b)) calls = refl
-divided-returns classes are a (negsuc b) calls = refl
+divided-returns classes are a (pos (suc b)) calls = int-cast (cast_unsigned w32 (int_div a (pos (suc b))))
+divided-returns classes are a (negsuc b) calls = int-cast (cast_unsigned w32 (int_div a (negsuc b)))
 
 text-returns : (classes : List Class) → AreClasses classes → (s : List ℕ) (calls : List LeafCall) → Returns classes (ran_of (text s) calls) (Some string_type)
 text-returns classes are s calls =
@@ -50,7 +75,7 @@ joined-returns classes are None t calls = class_cast-below classes are
 
 pub measured-returns : (classes : List Class) → AreClasses classes → (v : Value) (calls : List LeafCall) →
     Returns classes (ran_of (measured v) calls) (Some int_type)
-measured-returns classes are (value.Text s) calls = refl
+measured-returns classes are (value.Text s) calls = int-wrapped (pos (sum_by units_of s))
 measured-returns classes are value.Null calls = null_pointer-below classes are
 measured-returns classes are v calls = class_cast-below classes are
 

@@ -27,7 +27,8 @@ fn text(alloc: Global, front: &[char], back: &[char]) -> Result<Outcome, NoMemor
         let refusal = Exc::saying(alloc, ClassId::INTERNAL_ERROR, b"string too long")?;
         return Ok(Outcome::Throw(refusal));
     }
-    let mut chars = Vec::from_slice(alloc, front)?;
+    let mut chars = Vec::with_capacity(alloc, front.len() + back.len())?;
+    chars.extend_from_slice(front)?;
     chars.extend_from_slice(back)?;
     let text = Frozen::of(alloc, Seq::from_vec(chars))?;
     Ok(Outcome::Return(Some(Value::Text(text))))

@@ -1,10 +1,9 @@
 -- What is used as another type ends as that type says, where its part ends as its own type says.
-use Rattle.std.proofs.Common.{◌≡◌, refl, sym, subst, ℕ, true, false, Bool, cond, List, [], ◌∷◌, Option, Some, None, is_some, Result, Ok, Err}
+use Rattle.std.proofs.Common.{◌≡◌, refl, sym, subst, ℕ, true, false, Bool, cond, List, [], ◌∷◌, Option, Some, None, is_some, Result, Ok, Err, pos}
 use Rattle.std.specs.Prelude.{option_to_list}
 use Rattle.std.specs.Result.{result_map_both}
 use Rattle.std.proofs.lemmas.Bool.{and_parts}
 use Rattle.mh_values.specs.declared.class.Class.{Class}
-use Rattle.mh_values.specs.declared.types.Primitive.TheVariants as primitive
 use Rattle.mh_values.specs.declared.types.Ty.{Ty}
 use Rattle.mh_values.specs.declared.types.Ty.TheVariants as ty
 use Rattle.mh_values.specs.declared.types.MethodTy.{MethodTy}
@@ -15,6 +14,7 @@ use Rattle.mh_values.specs.Classes.{AreClasses}
 use Rattle.mh_values.specs.Computation.{Gave, found, and_then}
 use Rattle.mh_values.specs.HasType.{has_type, HaveTypes}
 use Rattle.mh_values.specs.Returns.{Returns}
+use Rattle.mh_values.proofs.PrimitiveNumbers.{number-is, zero-lies}
 use Rattle.mh_convert.specs.declared.conv.Conv.{Conv}
 use Rattle.mh_convert.specs.Conversion.{can, conv, default_of, value_conversion, ret_conversion_of, ret_conv}
 use Rattle.mh_convert.proofs.Typed.{conv-typed, conv-throws}
@@ -68,9 +68,7 @@ throw-returns classes (Err e) ts ret next h more = h
 -- ---- results
 
 default-typed : (classes : List Class) (t : Ty) → has_type classes (default_of t) t ≡ true
-default-typed classes (ty.Prim primitive.Z) = refl
-default-typed classes (ty.Prim primitive.I) = refl
-default-typed classes (ty.Prim primitive.J) = refl
+default-typed classes (ty.Prim p) = number-is p (pos 0) (zero-lies p)
 default-typed classes (ty.Class c) = refl
 default-typed classes (ty.Array c) = refl
 

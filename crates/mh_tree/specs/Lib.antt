@@ -1,4 +1,6 @@
+pub mod Adapters
 pub mod Check
+pub mod Joints
 pub mod Limited
 pub mod Meaning
 pub mod Rows

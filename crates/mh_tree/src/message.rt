@@ -18,11 +18,7 @@ fn push_ascii(text: &mut Seq<char>, bytes: &[u8]) -> Result<(), NoMemory>
 fn push_primitive(text: &mut Seq<char>, primitive: Primitive) -> Result<(), NoMemory>
     ensures { OnOk result (text.new ≡ text.old ++ primitive_text primitive) }
 {
-    match primitive {
-        Primitive::Z => push_ascii(text, b"Z"),
-        Primitive::I => push_ascii(text, b"I"),
-        Primitive::J => push_ascii(text, b"J"),
-    }
+    push_ascii(text, &[primitive.letter()])
 }
 
 fn push_class(text: &mut Seq<char>, class: ClassId, classes: &Classes) -> Result<(), NoMemory>
