@@ -1,44 +1,27 @@
 -- Erasing the type of a value and typing the slot again gives the value, and the other way round.
-use Rattle.std.proofs.Common.{◌≡◌, refl, sym, ap, ap₂, subst, ◌∙◌, zero, suc, true, false, if◌then◌else◌, Option, Some, None, List, [], ◌∷◌, ℤ, pos, negsuc, map}
-use Rattle.mh_base.proofs.Inversion.{if_some}
+use Rattle.std.proofs.Common.{◌≡◌, refl, sym, ap, ap₂, subst, ◌∙◌, true, false, if◌then◌else◌, Option, Some, None, List, [], ◌∷◌, map}
+use Rattle.std.specs.Option.{option_map_or}
+use Rattle.mh_base.proofs.Inversion.{map_some, then_some, if_some}
 use Rattle.mh_values.specs.declared.class.Class.{Class}
 use Rattle.mh_values.specs.declared.types.Primitive.{Primitive}
-use Rattle.mh_values.specs.declared.types.Primitive.TheVariants as primitive
 use Rattle.mh_values.specs.declared.types.Ty.{Ty}
 use Rattle.mh_values.specs.declared.types.Ty.TheVariants as ty
-use Rattle.mh_values.specs.declared.value.Num.TheVariants as num
 use Rattle.mh_values.specs.declared.value.Value.{Value}
 use Rattle.mh_values.specs.declared.value.Value.TheVariants as value
 use Rattle.mh_values.specs.HasType.{has_type, HaveTypes}
+use Rattle.mh_values.specs.Primitives.{lies_in, number_of, number_as}
 use Rattle.mh_form.specs.declared.slot.Slot.{Slot}
 use Rattle.mh_form.specs.declared.slot.Slot.TheVariants as slot
-use Rattle.mh_form.specs.Erasure.{all_typed, boolean_of, erased, typed, value_and_more, where_typed}
+use Rattle.mh_form.specs.Erasure.{all_typed, erased, lies_within, number_in, typed, value_and_more, where_typed, whole_in}
+use Rattle.mh_form.proofs.NumberSlots.{number-typed, erased-number}
 
--- a value that a slot has is of the type
-boolean-typed : (n : ℤ) (v : Value) (classes : List Class) → boolean_of n ≡ Some v → (has_type classes v (ty.Prim primitive.Z) ≡ true) × (erased v ≡ slot.I n)
-boolean-typed (pos zero) v classes h =
-    let e : value.Prim (num.Z false) ≡ v = cc in
-    subst (λ u. (has_type classes u (ty.Prim primitive.Z) ≡ true) × (erased u ≡ slot.I (pos zero))) e (refl, refl)
-boolean-typed (pos (suc zero)) v classes h =
-    let e : value.Prim (num.Z true) ≡ v = cc in
-    subst (λ u. (has_type classes u (ty.Prim primitive.Z) ≡ true) × (erased u ≡ slot.I (pos (suc zero)))) e (refl, refl)
-boolean-typed (pos (suc (suc n))) v classes h = absurd cc
-boolean-typed (negsuc n) v classes h = absurd cc
+-- ---- references
 
 -- a reference that has a class or is an array is its own slot
 class-erased : (classes : List Class) (v : Value) (t : Ty) → has_type classes v t ≡ true → ((p : Primitive) → t ≡ ty.Prim p → ⊥) → erased v ≡ slot.L v
-class-erased classes (value.Prim (num.Z true)) (ty.Prim p) h other = absurd (other p refl)
-class-erased classes (value.Prim (num.Z true)) (ty.Class c) h other = absurd cc
-class-erased classes (value.Prim (num.Z true)) (ty.Array c) h other = absurd cc
-class-erased classes (value.Prim (num.Z false)) (ty.Prim p) h other = absurd (other p refl)
-class-erased classes (value.Prim (num.Z false)) (ty.Class c) h other = absurd cc
-class-erased classes (value.Prim (num.Z false)) (ty.Array c) h other = absurd cc
-class-erased classes (value.Prim (num.I n)) (ty.Prim p) h other = absurd (other p refl)
-class-erased classes (value.Prim (num.I n)) (ty.Class c) h other = absurd cc
-class-erased classes (value.Prim (num.I n)) (ty.Array c) h other = absurd cc
-class-erased classes (value.Prim (num.J n)) (ty.Prim p) h other = absurd (other p refl)
-class-erased classes (value.Prim (num.J n)) (ty.Class c) h other = absurd cc
-class-erased classes (value.Prim (num.J n)) (ty.Array c) h other = absurd cc
+class-erased classes (value.Prim n) (ty.Prim p) h other = absurd (other p refl)
+class-erased classes (value.Prim n) (ty.Class c) h other = absurd cc
+class-erased classes (value.Prim n) (ty.Array c) h other = absurd cc
 class-erased classes (value.Boxed n) t h other = refl
 class-erased classes (value.Text s) t h other = refl
 class-erased classes (value.Object c k) t h other = refl
@@ -54,19 +37,7 @@ reference-typed classes t u v other h =
     subst (λ w. (has_type classes w t ≡ true) × (erased w ≡ slot.L u)) q.1 (q.0, class-erased classes u t q.0 other)
 
 typed-both : (classes : List Class) (t : Ty) (s : Slot) (v : Value) → typed classes t s ≡ Some v → (has_type classes v t ≡ true) × (erased v ≡ s)
-typed-both classes (ty.Prim primitive.Z) (slot.I n) v h = boolean-typed n v classes h
-typed-both classes (ty.Prim primitive.Z) (slot.J n) v h = absurd cc
-typed-both classes (ty.Prim primitive.Z) (slot.L u) v h = absurd cc
-typed-both classes (ty.Prim primitive.I) (slot.I n) v h =
-    let e : value.Prim (num.I n) ≡ v = cc in
-    subst (λ u. (has_type classes u (ty.Prim primitive.I) ≡ true) × (erased u ≡ slot.I n)) e (refl, refl)
-typed-both classes (ty.Prim primitive.I) (slot.J n) v h = absurd cc
-typed-both classes (ty.Prim primitive.I) (slot.L u) v h = absurd cc
-typed-both classes (ty.Prim primitive.J) (slot.I n) v h = absurd cc
-typed-both classes (ty.Prim primitive.J) (slot.J n) v h =
-    let e : value.Prim (num.J n) ≡ v = cc in
-    subst (λ u. (has_type classes u (ty.Prim primitive.J) ≡ true) × (erased u ≡ slot.J n)) e (refl, refl)
-typed-both classes (ty.Prim primitive.J) (slot.L u) v h = absurd cc
+typed-both classes (ty.Prim p) s v h = number-typed classes p s v h
 typed-both classes (ty.Class c) (slot.I n) v h = absurd cc
 typed-both classes (ty.Class c) (slot.J n) v h = absurd cc
 typed-both classes (ty.Class c) (slot.L u) v h = reference-typed classes (ty.Class c) u v (λ p e. cc) h
@@ -80,21 +51,21 @@ typed-has_type classes t s v h = (typed-both classes t s v h).0
 pub typed-erased : (classes : List Class) (t : Ty) (s : Slot) (v : Value) → typed classes t s ≡ Some v → erased v ≡ s
 typed-erased classes t s v h = (typed-both classes t s v h).1
 
+-- a slot that is typed lies in the range of the type
+pub typed-range : (classes : List Class) (t : Ty) (s : Slot) (v : Value) → typed classes t s ≡ Some v → lies_within t s ≡ true
+typed-range classes (ty.Prim p) s v h =
+    let made = map_some value.Prim (number_in p s) v h in
+    let read = then_some (number_as p) (whole_in p s) made.0 made.1 in
+    ap (λ o. option_map_or (lies_in p) o false) read.1 ∙ (if_some (lies_in p read.0) (number_of p read.0) made.0 read.2).0
+typed-range classes (ty.Class c) s v h = refl
+typed-range classes (ty.Array c) s v h = refl
+
 -- a value of a type is what its erasure is typed as
 erased-reference : (classes : List Class) (t : Ty) (v : Value) → has_type classes v t ≡ true → where_typed classes t v ≡ Some v
 erased-reference classes t v h = ap (λ b. if b then Some v else None) h
 
 pub erased-typed : (classes : List Class) (t : Ty) (v : Value) → has_type classes v t ≡ true → typed classes t (erased v) ≡ Some v
-erased-typed classes (ty.Prim primitive.Z) (value.Prim (num.Z true)) h = refl
-erased-typed classes (ty.Prim primitive.Z) (value.Prim (num.Z false)) h = refl
-erased-typed classes (ty.Prim primitive.Z) (value.Prim (num.I n)) h = absurd cc
-erased-typed classes (ty.Prim primitive.Z) (value.Prim (num.J n)) h = absurd cc
-erased-typed classes (ty.Prim primitive.I) (value.Prim (num.Z b)) h = absurd cc
-erased-typed classes (ty.Prim primitive.I) (value.Prim (num.I n)) h = refl
-erased-typed classes (ty.Prim primitive.I) (value.Prim (num.J n)) h = absurd cc
-erased-typed classes (ty.Prim primitive.J) (value.Prim (num.Z b)) h = absurd cc
-erased-typed classes (ty.Prim primitive.J) (value.Prim (num.I n)) h = absurd cc
-erased-typed classes (ty.Prim primitive.J) (value.Prim (num.J n)) h = refl
+erased-typed classes (ty.Prim p) (value.Prim n) h = erased-number classes p n h
 erased-typed classes (ty.Prim p) (value.Boxed n) h = absurd cc
 erased-typed classes (ty.Prim p) (value.Text s) h = absurd cc
 erased-typed classes (ty.Prim p) (value.Object c k) h = absurd cc

@@ -1,15 +1,18 @@
 -- Erasure: what types and values become where a form no longer tells them apart, and back.
-use Rattle.std.specs.Prelude.{ℕ, true, false, zero, suc, List, [], ◌∷◌, map, slice_get, Option, None, Some, ℤ, pos, if◌then◌else◌}
+use Rattle.std.specs.Prelude.{ℕ, Bool, true, false, List, [], ◌∷◌, map, slice_get, Option, None, Some, option_map, option_and_then, ℤ, if◌then◌else◌}
+use Rattle.std.specs.Option.{option_map_or}
 use Rattle.mh_values.specs.declared.class.Class.{Class}
 use Rattle.mh_values.specs.declared.types.MethodTy.{MethodTy}
+use Rattle.mh_values.specs.declared.types.Primitive.{Primitive}
 use Rattle.mh_values.specs.declared.types.Primitive.TheVariants as primitive
 use Rattle.mh_values.specs.declared.types.Ty.{Ty}
 use Rattle.mh_values.specs.declared.types.Ty.TheVariants as ty
-use Rattle.mh_values.specs.declared.value.Num.TheVariants as num
+use Rattle.mh_values.specs.declared.value.Num.{Num}
 use Rattle.mh_values.specs.declared.value.Value.{Value}
 use Rattle.mh_values.specs.declared.value.Value.TheVariants as value
 use Rattle.mh_values.specs.Computation.{Ran, mapped}
 use Rattle.mh_values.specs.HasType.{has_type}
+use Rattle.mh_values.specs.Primitives.{primitive_of, whole, lies_in, number_as}
 use Rattle.mh_form.specs.declared.basic.Basic.{Basic}
 use Rattle.mh_form.specs.declared.basic.Basic.TheVariants as basic
 use Rattle.mh_form.specs.declared.basic.BasicRet.{BasicRet}
@@ -33,12 +36,18 @@ basic_ret_of (Some t) = basic_ret.Is (basic_of t)
 abbrev pub shape_of : MethodTy → Shape
 shape_of t = record { params = map basic_of t.params; ret = basic_ret_of t.ret }
 
--- a value with its type erased: a boolean is int 0 or 1
+-- the slot of a number of a primitive type: long has a slot of its own, any other type that of int
+abbrev pub number_slot : Primitive → ℤ → Slot
+number_slot primitive.Z z = slot.I z
+number_slot primitive.B z = slot.I z
+number_slot primitive.C z = slot.I z
+number_slot primitive.S z = slot.I z
+number_slot primitive.I z = slot.I z
+number_slot primitive.J z = slot.J z
+
+-- a value with its type erased: a number is the whole number that it is
 abbrev pub erased : Value → Slot
-erased (value.Prim (num.Z true)) = slot.I (pos 1)
-erased (value.Prim (num.Z false)) = slot.I (pos 0)
-erased (value.Prim (num.I n)) = slot.I n
-erased (value.Prim (num.J n)) = slot.J n
+erased (value.Prim n) = number_slot (primitive_of n) (whole n)
 erased v = slot.L v
 
 -- a result with its type erased
@@ -50,11 +59,30 @@ erased_option (Some v) = Some (erased v)
 abbrev pub erased_ran : Ran (Option Value) → Ran (Option Slot)
 erased_ran r = mapped erased_option r
 
--- the boolean that an int stands for
-abbrev pub boolean_of : ℤ → Option Value
-boolean_of (pos zero) = Some (value.Prim (num.Z false))
-boolean_of (pos (suc zero)) = Some (value.Prim (num.Z true))
-boolean_of n = None
+-- the int in a slot
+abbrev pub int_in : Slot → Option ℤ
+int_in (slot.I n) = Some n
+int_in (slot.J n) = None
+int_in (slot.L v) = None
+
+-- the long in a slot
+abbrev pub long_in : Slot → Option ℤ
+long_in (slot.I n) = None
+long_in (slot.J n) = Some n
+long_in (slot.L v) = None
+
+-- the whole number that a slot of a primitive type has
+abbrev pub whole_in : Primitive → Slot → Option ℤ
+whole_in primitive.Z s = int_in s
+whole_in primitive.B s = int_in s
+whole_in primitive.C s = int_in s
+whole_in primitive.S s = int_in s
+whole_in primitive.I s = int_in s
+whole_in primitive.J s = long_in s
+
+-- the number of a primitive type of which a slot is the erasure: the slot lies in the range of the type
+abbrev pub number_in : Primitive → Slot → Option Num
+number_in p s = option_and_then (number_as p) (whole_in p s)
 
 -- a value, where it has the type
 abbrev pub where_typed : List Class → Ty → Value → Option Value
@@ -62,12 +90,16 @@ where_typed classes t v = if has_type classes v t then Some v else None
 
 -- the value of a type of which a slot is the erasure
 abbrev pub typed : List Class → Ty → Slot → Option Value
-typed classes (ty.Prim primitive.Z) (slot.I n) = boolean_of n
-typed classes (ty.Prim primitive.I) (slot.I n) = Some (value.Prim (num.I n))
-typed classes (ty.Prim primitive.J) (slot.J n) = Some (value.Prim (num.J n))
+typed classes (ty.Prim p) s = option_map value.Prim (number_in p s)
 typed classes (ty.Class c) (slot.L v) = where_typed classes (ty.Class c) v
 typed classes (ty.Array c) (slot.L v) = where_typed classes (ty.Array c) v
-typed classes _ _ = None
+typed classes t s = None
+
+-- whether a slot lies in the range of a type, as the slot of each value of the type does
+abbrev pub lies_within : Ty → Slot → Bool
+lies_within (ty.Prim p) s = option_map_or (lies_in p) (whole_in p s) false
+lies_within (ty.Class c) s = true
+lies_within (ty.Array c) s = true
 
 -- a value before values, where all are there
 abbrev pub value_and_more : Option Value → Option (List Value) → Option (List Value)

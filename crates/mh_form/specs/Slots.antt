@@ -1,5 +1,5 @@
 -- What is done on slots: conversions, arrays and exceptions.
-use Rattle.std.specs.Prelude.{ℕ, ℤ, pos, ◌==◌, Bool, false, List, [], Option, None, Some, Result, Ok, Err, map, slice_get, if◌then◌else◌}
+use Rattle.std.specs.Prelude.{ℕ, pos, Bool, false, List, [], Option, None, Some, Result, Ok, Err, map, slice_get, if◌then◌else◌}
 use Rattle.mh_values.specs.declared.class.Class.{Class}
 use Rattle.mh_values.specs.declared.types.Comp.{Comp}
 use Rattle.mh_values.specs.declared.value.Exc.{Exc}
@@ -10,6 +10,7 @@ use Rattle.mh_values.specs.Array.{array_of, item_type, spread_values, values_of_
 use Rattle.mh_values.specs.Class.{null_pointer_class, class_cast_class}
 use Rattle.mh_values.specs.Computation.{Ran, Gave, Threw, Stuck, found, mapped}
 use Rattle.mh_values.specs.Exception.{bare}
+use Rattle.mh_values.specs.Primitives.{is_one}
 use Rattle.mh_convert.specs.declared.conv.Conv.{Conv}
 use Rattle.mh_convert.specs.declared.conv.RetConv.{RetConv}
 use Rattle.mh_convert.specs.declared.conv.RetConv.TheVariants as ret
@@ -19,11 +20,6 @@ use Rattle.mh_leaf.specs.Outcome.{leaf_mean}
 use Rattle.mh_form.specs.declared.slot.Slot.{Slot}
 use Rattle.mh_form.specs.declared.slot.Slot.TheVariants as slot
 use Rattle.mh_form.specs.Erasure.{erased, erased_ran, typed, all_typed, typed_at}
-
--- the number is 1
-abbrev pub is_one : ℤ → Bool
-is_one (pos n) = n == 1
-is_one n = false
 
 -- the slot holds int 1, as the result of a test that is true does
 abbrev pub holds_one : Slot → Bool

@@ -1,12 +1,12 @@
 use mh_base::Seq;
 
 /// What a type becomes when it is erased, so that forms can be shared between types that differ:
-/// references, the numbers of 32 bits and `boolean`, and the numbers of 64 bits.
+/// references, numbers that 32 bits hold, and numbers of 64 bits.
 #[derive(Clone, Copy, Debug, PartialEq, Eq)]
 pub enum Basic {
     /// A reference.
     L,
-    /// 32 bits: an `int`, or a `boolean` as 1 or 0.
+    /// 32 bits: an `int`, a `byte`, `char` or `short` as its number, or a `boolean` as 1 or 0.
     I,
     /// 64 bits: a `long`.
     J,

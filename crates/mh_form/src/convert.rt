@@ -2,13 +2,12 @@
 
 ghost use Rattle.std.specs.Prelude.{◌≡◌, ◌≢◌};
 ghost use Rattle.mh_values.specs.Computation.{Stuck};
-ghost use Rattle.mh_convert.specs.Conversion.{default_of};
 ghost use Rattle.mh_form.specs.Slots.{converted, filled, ret_converted, slot_or_throw};
 ghost use Rattle.mh_form.specs.Stack.{slot_or_exc};
 
 use crate::{Slot, erase, typed};
-use mh_convert::{Conv, RetConv, convert};
-use mh_values::{Classes, Exc, Num, Primitive, Ty, Value};
+use mh_convert::{Conv, RetConv, convert, default_value};
+use mh_values::{Classes, Exc, Value};
 
 /// A value that was given as a slot, or the exception.
 pub(crate) fn slot_or_throw(given: Result<Value, Exc>) -> Result<Slot, Exc>
@@ -26,18 +25,6 @@ pub(crate) fn convert_slot(conv: Conv, slot: Slot, classes: &Classes) -> Result<
 {
     let value = typed(conv.from, slot, classes);
     slot_or_throw(convert(conv, value, classes))
-}
-
-/// Null, false or zero.
-fn default_value(ty: Ty) -> Value
-    ensures { result ≡ default_of ty }
-{
-    match ty {
-        Ty::Prim(Primitive::Z) => Value::Prim(Num::Z(false)),
-        Ty::Prim(Primitive::I) => Value::Prim(Num::I(0)),
-        Ty::Prim(Primitive::J) => Value::Prim(Num::J(0)),
-        _ => Value::Null,
-    }
 }
 
 pub(crate) fn convert_result(

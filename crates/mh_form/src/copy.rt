@@ -1,8 +1,8 @@
 ghost use Rattle.std.specs.Prelude.{◌≡◌, IfOk, map};
 ghost use Rattle.mh_leaf.specs.LeafTable.{LeafTable};
-ghost use Rattle.mh_form.specs.Run.{run_bound, sense};
+ghost use Rattle.mh_form.specs.Run.{sense};
 
-use crate::{Basic, BasicRet, Bound, Field, Fields, FormBody, Name, Shape, Slot};
+use crate::{Basic, BasicRet, Field, Fields, FormBody, Name, Shape, Slot};
 use mh_base::{Copied, NoMemory};
 use std::alloc::Global;
 use std::sync::Arc;
@@ -20,20 +20,6 @@ pub fn copy_field<'t>(alloc: Global, field: &Field<'t>) -> Result<Field<'t>, NoM
         Field::Ret(conv) => Ok(Field::Ret(*conv)),
         Field::Comp(comp) => Ok(Field::Comp(*comp)),
     }
-}
-
-/// A copy of a body with its fields: the same body, and copies of the fields.
-pub fn copy_bound<'t>(alloc: Global, bound: &Bound<'t>) -> Result<Bound<'t>, NoMemory>
-    ensures same { (table : LeafTable) →
-        IfOk result (λ copy. run_bound table copy ≡ run_bound table bound.now) }
-    ensures body { IfOk result (λ copy. copy.body.now ≡ bound.now.body.now) }
-    ensures fields { (table : LeafTable) → IfOk result
-        (λ copy. map (sense table) copy.fields.items ≡ map (sense table) bound.now.fields.items) }
-{
-    Ok(Bound {
-        body: bound.body,
-        fields: copy_fields(alloc, bound.fields.as_slice())?,
-    })
 }
 
 /// Copies of fields, in their order.

@@ -1,8 +1,10 @@
-ghost use Rattle.std.specs.Prelude.{◌≡◌, ◌≢◌, ◌++◌, ◌∷◌, [], IfOk, OnOk, None, Some, map};
-ghost use Rattle.mh_form.specs.Erasure.{all_typed, basic_of, basic_ret_of, erased, shape_of, typed};
+ghost use Rattle.std.specs.Prelude.{◌≡◌, ◌≢◌, IfOk, None, Some, pos, IsTrue};
+ghost use Rattle.mh_values.specs.Primitives.{lies_in, primitive_of, whole};
+ghost use Rattle.mh_values.specs.declared.types.Primitive.TheVariants as primitive;
+ghost use Rattle.mh_form.specs.Erasure.{all_typed, basic_of, basic_ret_of, erased, lies_within, number_in, number_slot, shape_of, typed};
 
 use crate::{Basic, BasicRet, Shape, Slot, Slots};
-use mh_base::{Copied, NoMemory, Seq};
+use mh_base::{NoMemory, Seq};
 use mh_values::{Classes, Items, MethodTy, Num, Primitive, Ty, Tys, Value};
 use std::alloc::Global;
 use std::mem;
@@ -41,54 +43,90 @@ pub fn shape(alloc: Global, ty: &MethodTy) -> Result<Shape, NoMemory>
     })
 }
 
+/// A number as a slot.
+fn number_slot(number: Num) -> Slot
+    ensures { result ≡ number_slot (primitive_of number) (whole number) }
+{
+    match number {
+        Num::Z(true) => Slot::I(1),
+        Num::Z(false) => Slot::I(0),
+        Num::B(number) => Slot::I(i32::from(number)),
+        Num::C(number) => Slot::I(i32::from(number)),
+        Num::S(number) => Slot::I(i32::from(number)),
+        Num::I(number) => Slot::I(number),
+        Num::J(number) => Slot::J(number),
+    }
+}
+
 /// A value as a slot.
 pub fn erase(value: Value) -> Slot
     ensures { result ≡ erased value }
 {
     match value {
-        Value::Prim(Num::Z(true)) => Slot::I(1),
-        Value::Prim(Num::Z(false)) => Slot::I(0),
-        Value::Prim(Num::I(number)) => Slot::I(number),
-        Value::Prim(Num::J(number)) => Slot::J(number),
+        Value::Prim(number) => number_slot(number),
         _ => Slot::L(value),
     }
 }
 
-/// How many slots a run mostly puts after its arguments, at most.
-const ROOM_FOR_NAMES: usize = 8;
-
-/// Puts a copy of a value at the end of slots, as a slot.
-fn push_erased(alloc: Global, slots: &mut Slots, value: &Value) -> Result<(), NoMemory>
-    ensures { OnOk result (slots.new ≡ slots.old ++ erased value.now ∷ []) }
+/// An int in the range of `byte`.
+fn byte(number: i32) -> i8
+    requires { IsTrue (lies_in primitive.B number) }
+    ensures { result ≡ number }
 {
-    let copy = value.copy(alloc)?;
-    slots.push(erase(copy))
+    number as i8
 }
 
-/// Copies of values as slots, with room for those of a few names.
-pub fn erase_all(alloc: Global, values: &Items) -> Result<Slots, NoMemory>
-    ensures { IfOk result (λ slots. slots ≡ map erased values.now) }
+/// An int in the range of `char`.
+fn character(number: i32) -> u16
+    requires { IsTrue (lies_in primitive.C number) }
+    ensures { pos result ≡ number }
 {
-    let room = values.len().saturating_add(ROOM_FOR_NAMES);
-    let mut slots = Seq::from_vec(Vec::with_capacity(alloc, room)?);
-    for value in values.as_slice() {
-        push_erased(alloc, &mut slots, value)?;
+    number as u16
+}
+
+/// An int in the range of `short`.
+fn short(number: i32) -> i16
+    requires { IsTrue (lies_in primitive.S number) }
+    ensures { result ≡ number }
+{
+    number as i16
+}
+
+/// The number of a primitive type of which a slot is the erasure.
+fn number_in(primitive: Primitive, slot: Slot) -> Num
+    requires { number_in primitive slot ≢ None }
+    ensures { number_in primitive slot ≡ Some result }
+{
+    match (primitive, slot) {
+        (Primitive::Z, Slot::I(number)) => Num::Z(number == 1),
+        (Primitive::B, Slot::I(number)) => Num::B(byte(number)),
+        (Primitive::C, Slot::I(number)) => Num::C(character(number)),
+        (Primitive::S, Slot::I(number)) => Num::S(short(number)),
+        (Primitive::I, Slot::I(number)) => Num::I(number),
+        (Primitive::J, Slot::J(number)) => Num::J(number),
+        _ => unreachable!(),
     }
-    Ok(slots)
 }
 
-/// A slot as the value of a type of which it is the erasure.
-pub fn typed(ty: Ty, slot: Slot, classes: &Classes) -> Value
+fn typed_value(ty: Ty, slot: Slot, classes: &Classes) -> Value
     requires { typed classes.now ty slot ≢ None }
     ensures { typed classes.now ty slot ≡ Some result }
 {
     match (ty, slot) {
-        (Ty::Prim(Primitive::Z), Slot::I(number)) => Value::Prim(Num::Z(number == 1)),
-        (Ty::Prim(Primitive::I), Slot::I(number)) => Value::Prim(Num::I(number)),
-        (Ty::Prim(Primitive::J), Slot::J(number)) => Value::Prim(Num::J(number)),
+        (Ty::Prim(primitive), slot) => Value::Prim(number_in(primitive, slot)),
         (Ty::Class(_) | Ty::Array(_), Slot::L(value)) => value,
         _ => unreachable!(),
     }
+}
+
+/// A slot as the value of a type of which it is the erasure; the slot lies in the range of the
+/// type.
+pub fn typed(ty: Ty, slot: Slot, classes: &Classes) -> Value
+    requires { typed classes.now ty slot ≢ None }
+    ensures range { IsTrue (lies_within ty slot) }
+    ensures is { typed classes.now ty slot ≡ Some result }
+{
+    typed_value(ty, slot, classes)
 }
 
 /// Slots as the values of types of which they are the erasures, one for each.

@@ -59,9 +59,18 @@ pub(crate) fn typed_at(
     Ok(())
 }
 
-/// Notes a call of a leaf on the arguments that are loaded, if it runs.
-fn note(stack: &mut Stack, call: &Invocation<'_>, id: LeafId) -> Result<(), NoMemory>
+/// Notes a call of a leaf on the slots at these places, if it runs on the arguments that are
+/// loaded, which are those.
+fn note(
+    stack: &mut Stack,
+    call: &Invocation<'_>,
+    id: LeafId,
+    types: &Tys,
+    places: &Operands,
+) -> Result<(), NoMemory>
     requires leaf { id.0 < length call.now.leaves.now.leaves }
+    requires loaded { typed_at call.now.leaves.now.classes stack.old.frame types.now places.now
+        ≡ Some stack.old.args }
     ensures calls { (leaf : Leaf) → slice_get call.now.leaves.now.leaves id.0 ≡ Some leaf →
         OnOk result (stack.new.calls ≡ stack.old.calls ++ calls_of id leaf stack.old.args) }
     ensures frame { OnOk result (stack.new.frame ≡ stack.old.frame) }
@@ -70,12 +79,21 @@ fn note(stack: &mut Stack, call: &Invocation<'_>, id: LeafId) -> Result<(), NoMe
     if lacks_receiver(call.leaves.is_virtual(id), stack.args()) {
         return Ok(());
     }
-    stack.note(id)
+    stack.note(id, types, places, call.leaves.classes())
 }
 
-/// Calls a leaf on the arguments that are loaded, which have its types.
-fn call_loaded(stack: &mut Stack, call: &Invocation<'_>, id: LeafId) -> Result<Going, NoMemory>
+/// Calls a leaf on the arguments that are loaded, which are the slots at these places, and have its
+/// types.
+fn call_loaded(
+    stack: &mut Stack,
+    call: &Invocation<'_>,
+    id: LeafId,
+    types: &Tys,
+    places: &Operands,
+) -> Result<Going, NoMemory>
     requires leaf { id.0 < length call.now.leaves.now.leaves }
+    requires loaded { typed_at call.now.leaves.now.classes stack.old.frame types.now places.now
+        ≡ Some stack.old.args }
     requires runs { leaf_mean call.now.leaves.now id stack.old.args
         (raised call.now.n stack.old.calls)
         ≢ Stuck }
@@ -85,7 +103,7 @@ fn call_loaded(stack: &mut Stack, call: &Invocation<'_>, id: LeafId) -> Result<G
 {
     let n = raised(call.n, stack.calls());
     let outcome = call.leaves.leaf_does(stack.alloc(), id, stack.args(), n)?;
-    note(stack, call, id)?;
+    note(stack, call, id, types, places)?;
     stack.finish(outcome)
 }
 
@@ -107,6 +125,7 @@ pub(crate) fn call_at(
     if id.0 >= leaves.count() {
         unreachable!()
     }
-    stack.load(&leaves.ty(id).params, places, leaves.classes())?;
-    call_loaded(stack, call, id)
+    let types = &leaves.ty(id).params;
+    stack.load(types, places, leaves.classes())?;
+    call_loaded(stack, call, id, types, places)
 }

@@ -4,6 +4,7 @@
 mod array;
 mod basic;
 mod body;
+mod calls;
 mod convert;
 mod copy;
 mod erasure;
@@ -23,8 +24,9 @@ mod stack;
 
 pub use basic::{Basic, BasicRet, Basics, Shape};
 pub use body::FormBody;
-pub use copy::{copy_bound, copy_field, copy_fields};
-pub use erasure::{all_typed, basic_of, erase, erase_all, shape, typed};
+pub use calls::Calls;
+pub use copy::{copy_field, copy_fields};
+pub use erasure::{all_typed, basic_of, erase, shape, typed};
 pub use field::{Bound, Field, Fields};
 pub use interpreter::{run, run_on};
 pub use machine::Machine;

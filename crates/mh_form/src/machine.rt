@@ -1,9 +1,9 @@
 ghost use Rattle.std.specs.Prelude.{◌≡◌, []};
 ghost use Rattle.std.specs.declared.alloc.Global.{Global};
 
+use crate::Calls;
 use crate::stack::Stack;
 use mh_base::Seq;
-use mh_values::Calls;
 use std::alloc::Global;
 use std::marker::Model;
 
@@ -13,8 +13,7 @@ use std::marker::Model;
 ///
 /// A run begins with no slots and no leaf calls, whatever was left, also where the last one found
 /// no memory on its way. Once a run has ended, the machine keeps room for 4,096 slots at most, and
-/// once the next has begun, for 1,024 leaf calls with 4,096 arguments; what has more is given
-/// back.
+/// once the next has begun, for 1,024 leaf calls; what has more is given back.
 #[derive(Drop)]
 pub struct Machine {
     pub(crate) stack: Stack,

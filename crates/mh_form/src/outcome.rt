@@ -1,5 +1,5 @@
-use crate::Slot;
-use mh_values::{Calls, Exc};
+use crate::{Calls, Slot};
+use mh_values::Exc;
 
 /// How a run ends: with a slot, without one, or with an exception.
 #[derive(Drop)]

@@ -1,7 +1,7 @@
 use mh_base::Seq;
 use mh_values::Value;
 
-/// A value whose type is erased: a `boolean` is int 0 or 1.
+/// A value whose type is erased: a number but a `long` is the int that it is, a `boolean` 0 or 1.
 #[derive(Drop)]
 pub enum Slot {
     I(i32),

@@ -6,9 +6,9 @@ ghost use Rattle.mh_form.specs.declared.slot.Slot.{Slot};
 ghost use Rattle.mh_form.specs.Run.{picked, result_at};
 ghost use Rattle.mh_form.specs.Slots.{holds_one, raised_slot};
 
-use crate::{Operands, Slot, Slots};
+use crate::{Calls, Operands, Slot, Slots};
 use mh_base::{Copied, NoMemory, Seq};
-use mh_values::{Calls, ClassId, Exc, Value};
+use mh_values::{ClassId, Exc, Value};
 use std::alloc::Global;
 
 /// The count of leaf calls after these, modulo 2^32.

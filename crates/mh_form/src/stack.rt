@@ -1,6 +1,7 @@
-ghost use Rattle.std.specs.Prelude.{◌≡◌, ◌≢◌, ◌++◌, ◌∷◌, ◌≤◌, [], IfOk, OnOk, None, Some, length, slice_get, take, map};
+ghost use Rattle.std.specs.Prelude.{◌≡◌, ◌≢◌, ◌++◌, ◌∷◌, ◌≤◌, List, [], IfOk, OnOk, None, Some, length, slice_get, take, map};
 ghost use Rattle.std.specs.Option.{option_map};
 ghost use Rattle.std.specs.declared.alloc.Global.{Global};
+ghost use Rattle.mh_values.specs.declared.value.Value.{Value};
 ghost use Rattle.mh_values.specs.declared.value.Value.TheVariants.{Thrown};
 ghost use Rattle.mh_leaf.specs.Outcome.{ran_of};
 ghost use Rattle.mh_form.specs.declared.slot.Slot.TheVariants as slot;
@@ -12,9 +13,9 @@ ghost use Rattle.mh_form.specs.Stack.{begun, done, left, on_stack, slot_or_exc, 
 use crate::going::Going;
 use crate::leaf::typed_at;
 use crate::slots::slot_at;
-use crate::{Operands, Slot, Slots, erase};
+use crate::{Calls, Operands, Slot, Slots, erase};
 use mh_base::{Copied, NoMemory, clear_within};
-use mh_values::{Calls, ClassId, Classes, Exc, Items, LeafId, Outcome, Tys, Value};
+use mh_values::{ClassId, Classes, Exc, Items, LeafId, Outcome, Tys, Value};
 use std::alloc::Global;
 use std::marker::Model;
 use std::mem;
@@ -219,14 +220,22 @@ impl Stack {
         typed_at(&mut self.args, types, slots, places, classes)
     }
 
-    /// Notes a call of a leaf on the arguments.
-    pub(crate) fn note(&mut self, leaf: LeafId) -> Result<(), NoMemory>
-        ensures { OnOk result (self.new ≡ record self.old {
-          calls = self.old.calls ++ record { leaf = leaf; args = self.old.args } ∷ [];
-          args = [];
-        }) }
+    /// Notes a call of a leaf on the slots at these places, as values of its types. No value is
+    /// made.
+    pub(crate) fn note(
+        &mut self,
+        leaf: LeafId,
+        types: &Tys,
+        places: &Operands,
+        classes: &Classes,
+    ) -> Result<(), NoMemory>
+        ensures calls { (args : List Value) → typed_at classes.now self.old.frame types.now
+            places.now ≡ Some args → OnOk result
+            (self.new.calls ≡ self.old.calls ++ record { leaf = leaf; args = args } ∷ []) }
+        ensures same { OnOk result (self.new ≡ record self.old { calls = self.new.calls }) }
     {
-        self.calls.push(leaf, &mut self.args)
+        self.calls
+            .push(leaf, &self.slots, &self.base, types, places, classes)
     }
 
     /// What a leaf gave, after its call was noted.

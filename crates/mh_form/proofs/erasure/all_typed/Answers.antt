@@ -28,6 +28,6 @@ loop-i-preserved c =
     let here : slice_get slots i ≡ Some c.replace-slot.result =
     slice_get_read slots (length slots) i c.index_mut.result.now refl (omega arith) c.index_mut.ensures.value ∙ ap Some (sym c.replace-slot.ensures.value) in
     let next = typed-next c.args.classes.now c.args.types.now slots c.loop-i.values c.push.new.self i c.get.result.now c.replace-slot.result c.typed.result _
-    c.loop-i.invariant c.get.ensures here c.typed.ensures (grind (arith, common_steps)) in
+    c.loop-i.invariant c.get.ensures here c.typed.ensures.is (grind (arith, common_steps)) in
     next ∙ ap (λ u. typed_on c.push.new.self (all_typed c.args.classes.now (drop (i + 1) c.args.types.now) u))
     (sym (drop-set-lt (i + 1) slots i c.replace-slot.new.dest (omega arith)))
