@@ -12,7 +12,6 @@ use Rattle.mh_values.specs.declared.value.Value.{Value}
 use Rattle.mh_values.specs.Computation.{spliced}
 use Rattle.mh_values.specs.Same.{is_same_return}
 use Rattle.mh_values.proofs.SameTypes.{same_return-is}
-use Rattle.mh_convert.specs.Conversion.{fit}
 use Rattle.mh_tree.specs.Rows.{bind_row, drop_row, permute_row, names_types}
 use Rattle.mh_tree.proofs.RowParts.{bind_row-parts, drop_row-parts, permute_row-parts}
 use Rattle.mh_form.specs.Erasure.{basic_of}
@@ -31,13 +30,6 @@ arity h shaped = ap length shaped.params ∙ length-map h.ty.params basic_of
 module _ (classes : List Class) (h : HandleView) (place : ℕ) (v : Value) (u : MethodTy) (row : bind_row classes h.ty h.weight place v ≡ Ok u) where
   bind-inside : place < length h.ty.params
   bind-inside = let q = bind_row-parts classes h.ty h.weight place v u row in slice_get_within h.ty.params place q.0 q.2
-
-  pub bind-fitting : (p : Ty) → slice_get h.ty.params place ≡ Some p → (w : Value) × (fit classes v p ≡ Ok w)
-  bind-fitting p at =
-      let q = bind_row-parts classes h.ty h.weight place v u row in
-      let same : Some q.0 ≡ Some p = sym q.2 ∙ at in
-      let is : q.0 ≡ p = cc in
-      (q.1, subst (λ t. fit classes v t ≡ Ok q.1) is q.3)
 
   pub bind-fits : IsShaped h → IsTrue (fits (key.Bind place) (handle_body h))
   bind-fits shaped =

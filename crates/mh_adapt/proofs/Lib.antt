@@ -1,3 +1,4 @@
+mod Adapters
 mod Added
 mod BindStands
 mod CollectStands
@@ -6,8 +7,8 @@ mod FilterReturnStands
 mod FilterStands
 mod FoldStands
 mod InsertingFits
+mod Joints
 mod NodeAnswers
-mod NodeRecipes
 mod PartAnswers
 mod PartFits
 mod PartRuns

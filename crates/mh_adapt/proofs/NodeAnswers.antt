@@ -1,27 +1,18 @@
 -- What the calls of adapters without a part need and answer, from what they add to the handle that they adapt.
-use Rattle.std.proofs.Common.{sym, subst, ap, ◌∙◌, ◌+◌, List, [], ◌∷◌, ◌++◌, append-nil, Result, Ok, Err, IfOk}
-use Rattle.std.specs.Prelude.{IsTrue}
+use Rattle.std.proofs.Common.{ap, ◌∙◌, ◌+◌, List, [], ◌∷◌, ◌++◌, append-nil, Result, Ok, Err, IfOk}
 use Rattle.mh_leaf.specs.LeafTable.{LeafTable}
 use Rattle.mh_tree.specs.Tree.{Tree}
 use Rattle.mh_form.specs.declared.field.Field.{Field}
 use Rattle.mh_edit.specs.declared.key.Key.{Key}
-use Rattle.mh_edit.specs.Applied.{applied}
-use Rattle.mh_edit.specs.Fit.{fits}
 use Rattle.mh_handle.specs.declared.error.HandleError.{HandleError}
 use Rattle.mh_handle.specs.declared.growth.Growth.{Growth}
 use Rattle.mh_handle.specs.declared.handle.Handle.{Handle}
 use Rattle.mh_handle.specs.Grows.{GainsNode, Grows, GrowsBy}
 use Rattle.mh_handle.specs.Parts.{PartsView}
-use Rattle.mh_handle.specs.Stands.{HandleView, HasShape, Stands, handle_body}
+use Rattle.mh_handle.specs.Stands.{HandleView, Stands}
 use Rattle.mh_adapt.specs.Parts.{AddsNode}
 
 module _ (t : HandleView) (k : Key) (fields : List Field) (by : Growth) (adds : AddsNode t k fields by) where
-  pub node-fits : IsTrue (fits k (handle_body t)) → IsTrue (fits by.key (handle_body t))
-  node-fits fit = subst (λ j. IsTrue (fits j (handle_body t))) (sym adds.key) fit
-
-  pub node-shaped : HasShape (applied k (handle_body t)) by.ty → HasShape (applied by.key (handle_body t)) by.ty
-  node-shaped shaped = ap (λ j. (applied j (handle_body t)).params) adds.key ∙ shaped
-
   node-grows : (h : HandleView) → Grows t h by.ty by.weight by.parts.sides by.key by.parts.fields → Grows t h by.ty (1 + t.weight) [] k fields
   node-grows h grows = record {
     typed = grows.typed;

@@ -22,13 +22,14 @@ pub record IsSuited (u : MethodTy) (t : HandleView) (k : Key) : Type 0 where
   pub fit : IsTrue (fits k (handle_body t))
   pub shaped : (applied k (handle_body t)).params ≡ map basic_of u.params
 
+module _ (t : HandleView) (k : Key) (by : Growth) (is : by.key ≡ k) (suited : IsSuited by.ty t k) where
+  pub suited-fits : IsTrue (fits by.key (handle_body t))
+  suited-fits = subst (λ j. IsTrue (fits j (handle_body t))) (sym is) suited.fit
+
+  pub suited-shaped : HasShape (applied by.key (handle_body t)) by.ty
+  suited-shaped = ap (λ j. (applied j (handle_body t)).params) is ∙ suited.shaped
+
 module _ (t : HandleView) (k : Key) (f : HandleView) (by : Growth) (adds : AddsPart t k f by) where
-  pub adds-fits : IsSuited by.ty t k → IsTrue (fits by.key (handle_body t))
-  adds-fits suited = subst (λ j. IsTrue (fits j (handle_body t))) (sym adds.key) suited.fit
-
-  pub adds-shaped : IsSuited by.ty t k → HasShape (applied by.key (handle_body t)) by.ty
-  adds-shaped suited = ap (λ j. (applied j (handle_body t)).params) adds.key ∙ suited.shaped
-
   adds-grows : (h : HandleView) (field : Field) → Grows t h by.ty by.weight (held_by f) by.key (field ∷ []) →
       Grows t h by.ty (1 + t.weight + f.weight) (held_by f) k (field ∷ [])
   adds-grows h field grows = record {

@@ -1,13 +1,15 @@
 -- What adapters add to the handle that they adapt.
-use Rattle.std.specs.Prelude.{◌≡◌, ℕ, ◌+◌, [], ◌∷◌, List, length, map, slice_get, Some, Result, Ok, Err, IfOk}
+use Rattle.std.specs.Prelude.{◌≡◌, ℕ, ◌+◌, ◌≤◌, [], ◌∷◌, List, length, map, slice_get, Result, Ok, Err, IfOk}
+use Rattle.std.specs.Option.{option_map_or}
 use Rattle.mh_values.specs.declared.class.Class.{Class}
 use Rattle.mh_values.specs.declared.types.MethodTy.{MethodTy}
-use Rattle.mh_values.specs.declared.types.Ty.{Ty}
+use Rattle.mh_values.specs.declared.value.Exc.{Exc}
 use Rattle.mh_values.specs.declared.value.Value.{Value}
 use Rattle.mh_convert.specs.Conversion.{fit}
-use Rattle.mh_tree.specs.declared.error.CheckError.{CheckError}
-use Rattle.mh_tree.specs.Check.{TellsRow}
-use Rattle.mh_tree.specs.Rows.{TypeOrRefusal, bind_row}
+use Rattle.mh_tree.specs.declared.inserting.Adapter.{Adapter}
+use Rattle.mh_tree.specs.declared.inserting.Adapter.TheVariants as adapter
+use Rattle.mh_tree.specs.declared.joints.Joint.{Joint}
+use Rattle.mh_tree.specs.declared.joints.Joint.TheVariants as joint
 use Rattle.mh_form.specs.declared.field.Field.{Field}
 use Rattle.mh_form.specs.declared.field.Field.TheVariants as field
 use Rattle.mh_form.specs.Erasure.{basic_of, basic_ret_of, erased}
@@ -32,6 +34,35 @@ fold_key place c = key.Fold place (length c.params) (basic_ret_of c.ret)
 abbrev pub filterret_key : MethodTy → Key
 filterret_key f = key.FilterReturn (basic_ret_of f.ret)
 
+-- the key of a joint with a part of this type
+abbrev pub joint_key : Joint → MethodTy → Key
+joint_key (joint.Filter place) f = collect_key place f
+joint_key joint.FilterReturn f = filterret_key f
+joint_key (joint.Fold place) c = fold_key place c
+joint_key (joint.Collect place) f = collect_key place f
+
+-- a combiner takes so few arguments that their number fits a key
+abbrev pub IsCounted : Joint → MethodTy → Type 0
+IsCounted (joint.Fold place) c = length c.params ≤ 255
+IsCounted _ f = Unit {0}
+
+-- the key of an adapter
+abbrev pub adapter_key : Adapter → Key
+adapter_key (adapter.Bind place v) = key.Bind place
+adapter_key (adapter.Drop place types) = key.Add place (map basic_of types.now)
+adapter_key (adapter.Permute asked order) = key.Permute (map basic_of asked.now.params) order.now
+
+-- the field of a bound value: the value that fits, none where it does not fit
+abbrev pub bound_fields : Result Value Exc → List Field
+bound_fields (Ok fitting) = field.Val (erased fitting) ∷ []
+bound_fields (Err e) = []
+
+-- the fields of an adapter of a target of this type
+abbrev pub adapter_fields : List Class → Adapter → MethodTy → List Field
+adapter_fields classes (adapter.Bind place v) target = option_map_or (λ param. bound_fields (fit classes v param)) (slice_get target.params place) []
+adapter_fields classes (adapter.Drop place types) target = []
+adapter_fields classes (adapter.Permute asked order) target = []
+
 -- what an adapter without a part adds to a handle: one to its weight, its key, and fields
 pub record AddsNode (t : HandleView) (k : Key) (fields : List Field) (by : Growth) : Type 0 where
   pub weight : by.weight ≡ 1 + t.weight
@@ -43,29 +74,6 @@ pub record AddsPart (t : HandleView) (k : Key) (part : HandleView) (by : Growth)
   pub weight : by.weight ≡ 1 + t.weight + part.weight
   pub key : by.key ≡ k
   pub parts : by.parts ≡ no_parts
-
--- what an adapter without fields adds, with the type that its rule gives, or its very refusal; want of memory tells nothing
-abbrev pub TellsNode : TypeOrRefusal → HandleView → Key → Result Growth CheckError → Type 0
-TellsNode row t k (Ok by) = (row ≡ Ok by.ty) × AddsNode t k [] by
-TellsNode row t k (Err e) = TellsRow (Err e) row
-
--- what a bound value adds: the value that fits the parameter there
-pub record AddsBound (classes : List Class) (t : HandleView) (place : ℕ) (v : Value) (by : Growth) : Type 0 where
-  pub param : Ty
-  pub fitting : Value
-  pub at : slice_get t.ty.params place ≡ Some param
-  pub fits : fit classes v param ≡ Ok fitting
-  pub adds : AddsNode t (key.Bind place) (field.Val (erased fitting) ∷ []) by
-
--- the same, with the type that the rule gives, or its very refusal; want of memory tells nothing
-abbrev pub TellsBind : List Class → HandleView → ℕ → Value → Result Growth CheckError → Type 0
-TellsBind classes t place v (Ok by) = (bind_row classes t.ty t.weight place v ≡ Ok by.ty) × AddsBound classes t place v by
-TellsBind classes t place v (Err e) = TellsRow (Err e) (bind_row classes t.ty t.weight place v)
-
--- what an adapter with a part adds, with the type that its rule gives, or its very refusal; want of memory tells nothing
-abbrev pub TellsPart : TypeOrRefusal → HandleView → Key → HandleView → Result Growth CheckError → Type 0
-TellsPart row t k part (Ok by) = (row ≡ Ok by.ty) × AddsPart t k part by
-TellsPart row t k part (Err e) = TellsRow (Err e) row
 
 -- a handle that was made has grown by the adapter's key, and by a field that holds the part
 abbrev pub GrowsByPart : HandleView → Growth → HandleView → Result Handle HandleError → Type 0

@@ -8,8 +8,9 @@ ghost use Rattle.mh_handle.specs.Recipe.{recipe};
 ghost use Rattle.mh_handle.specs.Works.{GoesOn, HoldsTypes, IsReady, Makes, StandsIn, TradesTypes};
 ghost use Rattle.mh_handle.specs.Works.{classes_of, leaves_of, types_in};
 
-use crate::nodes::{bind_growth, drop_growth, permute_growth};
+use crate::adapting::adapted;
 use mh_handle::{Handle, HandleError, Work};
+use mh_tree::Adapter;
 use mh_values::{MethodTy, Tys, Value};
 use std::sync::Wait;
 
@@ -37,10 +38,7 @@ pub fn bind<'t, R: Wait>(
     ensures stands { (a : Tree) → StandsIn w.old target.entry a
         → IfOk result (λ h. StandsIn w.old h (tree.Bind a position value)) }
 {
-    match bind_growth(w, &target, position, value) {
-        Ok(by) => target.grown(w, rt, by),
-        Err(error) => target.refused(w, error),
-    }
+    adapted(w, rt, target, Adapter::Bind { position, value })
 }
 
 /// A handle that takes arguments of the types `value_types` at `position`, which `target` does not
@@ -68,10 +66,11 @@ pub fn drop_args<'t, R: Wait>(
     ensures stands { (a : Tree) → StandsIn w.old target.entry a
         → IfOk result (λ h. StandsIn w.old h (tree.Drop a position value_types.now)) }
 {
-    match drop_growth(w, &target, position, value_types) {
-        Ok(by) => target.grown(w, rt, by),
-        Err(error) => target.refused(w, error),
-    }
+    let adapter = Adapter::Drop {
+        position,
+        types: value_types,
+    };
+    adapted(w, rt, target, adapter)
 }
 
 /// A handle of the type `ty` that passes to each parameter of `target` the argument that `reorder`
@@ -98,8 +97,9 @@ pub fn permute<'t, R: Wait>(
     ensures stands { (a : Tree) → StandsIn w.old target.entry a
         → IfOk result (λ h. StandsIn w.old h (tree.Permute a ty.now reorder.now)) }
 {
-    match permute_growth(w, &target, ty, reorder) {
-        Ok(by) => target.grown(w, rt, by),
-        Err(error) => target.refused(w, error),
-    }
+    let adapter = Adapter::Permute {
+        asked: ty,
+        order: reorder,
+    };
+    adapted(w, rt, target, adapter)
 }

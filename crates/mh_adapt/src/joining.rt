@@ -1,19 +1,27 @@
 //! A handle and the part that joins it: an adapter is made of both, or both are given back.
 
-ghost use Rattle.std.specs.Prelude.{◌≡◌, ◌≤◌, ◌+◌, ◌++◌, ◌∷◌, [], Err, IsTrue, length};
+ghost use Rattle.std.specs.Prelude.{◌≡◌, ◌≤◌, ◌+◌, ◌++◌, ◌∷◌, [], Ok, Err, IfOk, IsTrue, length};
+ghost use Rattle.mh_tree.specs.Joints.{joint_row, joint_tree};
+ghost use Rattle.mh_tree.specs.Tree.{Tree};
 ghost use Rattle.mh_edit.specs.Applied.{applied};
 ghost use Rattle.mh_edit.specs.Fit.{fits};
 ghost use Rattle.mh_intern.specs.Exchanges.{Exchanges};
 ghost use Rattle.mh_handle.specs.Errors.{of_check};
+ghost use Rattle.mh_handle.specs.Grows.{GainsPart};
+ghost use Rattle.mh_handle.specs.Obeys.{Obeys};
 ghost use Rattle.mh_handle.specs.Parts.{no_parts};
+ghost use Rattle.mh_handle.specs.Recipe.{recipe};
 ghost use Rattle.mh_handle.specs.Stands.{HasShape, handle_body};
 ghost use Rattle.mh_handle.specs.Works.{GoesOn, HoldsTypes, IsAccepted, IsReady, IsUnchanged};
-ghost use Rattle.mh_handle.specs.Works.{Makes, TradesTypes};
+ghost use Rattle.mh_handle.specs.Works.{Makes, StandsIn, TradesTypes, leaves_of, types_in};
 ghost use Rattle.mh_adapt.specs.Parts.{GrowsByPart};
 
+use crate::growths::joint_growth;
+use crate::types::joint_type;
 use mh_base::NoMemory;
 use mh_handle::{Growth, Handle, HandleError, Work};
-use mh_tree::CheckError;
+use mh_tree::{CheckError, Joint};
+use mh_values::MethodTy;
 use std::sync::Wait;
 
 /// Gives back a handle that is not adapted, and the part, and says why.
@@ -63,5 +71,63 @@ pub(crate) fn grown_with<'t, R: Wait>(
             target.give_back(w);
             Err(HandleError::NoMemory)
         }
+    }
+}
+
+/// A handle that is joined with a part, where the rule of the joint gives this type. Both are given
+/// back where none is made.
+pub fn join<'t, R: Wait>(
+    w: &mut Work<'_, 't>,
+    rt: &R,
+    target: Handle<'t>,
+    joint: Joint,
+    part: Handle<'t>,
+    ty: MethodTy,
+) -> Result<Handle<'t>, HandleError>
+    requires ruled { joint_row joint target.ty target.weight part.ty part.weight ≡ Ok ty }
+    requires ready { IsReady w.old 1 }
+    requires held { HoldsTypes w.old (target.held ++ part.held) }
+    ensures goes_on { GoesOn 1 w.old w.new }
+    ensures accepted { IsAccepted result }
+    ensures typed { IfOk result (λ h. h.ty ≡ ty) }
+    ensures makes { (a b : Tree) → StandsIn w.old target.entry a → StandsIn w.old part.entry b
+        → Makes (recipe (leaves_of w.old) (joint_tree joint a b)) w.old w.new result }
+    ensures types { TradesTypes (ty ∷ []) (target.entry.held ++ part.entry.held)
+        w.old w.new result }
+    ensures gains { IfOk result (GainsPart part.entry target.entry) }
+    ensures stands { (a b : Tree) → StandsIn w.old target.entry a → StandsIn w.old part.entry b
+        → IfOk result (λ h. StandsIn w.old h (joint_tree joint a b)) }
+{
+    match joint_growth(w.alloc, ty, &target, joint, &part) {
+        Ok(by) => grown_with(w, rt, target, by, part),
+        Err(NoMemory) => refused_with(w, target, part, CheckError::NoMemory),
+    }
+}
+
+/// A handle that is joined with a part, refused by the rule of the joint.
+pub(crate) fn joined<'t, R: Wait>(
+    w: &mut Work<'_, 't>,
+    rt: &R,
+    target: Handle<'t>,
+    joint: Joint,
+    part: Handle<'t>,
+) -> Result<Handle<'t>, HandleError>
+    requires ready { IsReady w.old 1 }
+    requires held { HoldsTypes w.old (target.held ++ part.held) }
+    ensures goes_on { GoesOn 1 w.old w.new }
+    ensures obeys { Obeys (joint_row joint target.entry.ty target.entry.weight
+        part.entry.ty part.entry.weight) result }
+    ensures makes { (a b : Tree) → StandsIn w.old target.entry a → StandsIn w.old part.entry b
+        → Makes (recipe (leaves_of w.old) (joint_tree joint a b)) w.old w.new result }
+    ensures types { TradesTypes (types_in (joint_row joint target.entry.ty target.entry.weight
+        part.entry.ty part.entry.weight)) (target.entry.held ++ part.entry.held)
+        w.old w.new result }
+    ensures gains { IfOk result (GainsPart part.entry target.entry) }
+    ensures stands { (a b : Tree) → StandsIn w.old target.entry a → StandsIn w.old part.entry b
+        → IfOk result (λ h. StandsIn w.old h (joint_tree joint a b)) }
+{
+    match joint_type(w, &target, joint, &part) {
+        Ok(ty) => join(w, rt, target, joint, part, ty),
+        Err(error) => refused_with(w, target, part, error),
     }
 }

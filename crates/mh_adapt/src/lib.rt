@@ -2,6 +2,7 @@
 //! before or after a handle. A call that makes none gives back the handles that it was handed.
 #![tactic(auto)]
 
+mod adapting;
 mod growths;
 mod inserting;
 mod joining;
@@ -9,5 +10,7 @@ mod nodes;
 mod parts;
 mod types;
 
+pub use adapting::adapt;
 pub use inserting::{bind, drop_args, permute};
+pub use joining::join;
 pub use parts::{collect, filter, filterret, fold};

@@ -8,9 +8,9 @@ ghost use Rattle.mh_handle.specs.Recipe.{recipe};
 ghost use Rattle.mh_handle.specs.Works.{GoesOn, HoldsTypes, IsReady, Makes, StandsIn, TradesTypes};
 ghost use Rattle.mh_handle.specs.Works.{leaves_of, types_in};
 
-use crate::growths::{collect_growth, filter_growth, filterret_growth, fold_growth};
-use crate::joining::{grown_with, refused_with};
+use crate::joining::joined;
 use mh_handle::{Handle, HandleError, Work};
+use mh_tree::Joint;
 use std::sync::Wait;
 
 /// A handle that passes what `filter` makes of its argument at a position to `target` in its place
@@ -39,10 +39,7 @@ pub fn filter<'t, R: Wait>(
         → StandsIn w.old filter.entry b
         → IfOk result (λ h. StandsIn w.old h (tree.FilterArg a position b)) }
 {
-    match filter_growth(w, &target, position, &filter) {
-        Ok(by) => grown_with(w, rt, target, by, filter),
-        Err(error) => refused_with(w, target, filter, error),
-    }
+    joined(w, rt, target, Joint::Filter(position), filter)
 }
 
 /// A handle that passes its result to `filter` and returns what that gives
@@ -70,10 +67,7 @@ pub fn filterret<'t, R: Wait>(
         → StandsIn w.old filter.entry b
         → IfOk result (λ h. StandsIn w.old h (tree.FilterRet a b)) }
 {
-    match filterret_growth(w, &target, &filter) {
-        Ok(by) => grown_with(w, rt, target, by, filter),
-        Err(error) => refused_with(w, target, filter, error),
-    }
+    joined(w, rt, target, Joint::FilterReturn, filter)
 }
 
 /// A handle that runs `combiner` on the arguments from a position on, and then `target` with what
@@ -103,10 +97,7 @@ pub fn fold<'t, R: Wait>(
         → StandsIn w.old combiner.entry b
         → IfOk result (λ h. StandsIn w.old h (tree.Fold a position b)) }
 {
-    match fold_growth(w, &target, position, &combiner) {
-        Ok(by) => grown_with(w, rt, target, by, combiner),
-        Err(error) => refused_with(w, target, combiner, error),
-    }
+    joined(w, rt, target, Joint::Fold(position), combiner)
 }
 
 /// A handle that takes the arguments of `filter` from a position on, runs `filter` on them and
@@ -136,8 +127,5 @@ pub fn collect<'t, R: Wait>(
         → StandsIn w.old filter.entry b
         → IfOk result (λ h. StandsIn w.old h (tree.Collect a position b)) }
 {
-    match collect_growth(w, &target, position, &filter) {
-        Ok(by) => grown_with(w, rt, target, by, filter),
-        Err(error) => refused_with(w, target, filter, error),
-    }
+    joined(w, rt, target, Joint::Collect(position), filter)
 }

@@ -38,6 +38,11 @@ pub found-row : (classes : List Class) (own : MethodTy) (w : ℕ) (asked u : Met
 found-row classes own w asked u row = let P : MethodTy → Type 0 = λ a. astype_row classes own w a ≡ Ok u in
     subst P (sym (astype_row-parts classes own w asked u row).2) row
 
+-- and so the type that was asked for is found
+pub asked-row : (classes : List Class) (own : MethodTy) (w : ℕ) (asked u : MethodTy) → astype_row classes own w asked ≡ Ok u →
+    astype_row classes own w asked ≡ Ok asked
+asked-row classes own w asked u row = row ∙ ap Ok (astype_row-parts classes own w asked u row).2
+
 pub used-obeys :
     (row : TypeOrRefusal) (classes : List Class) (asked : MethodTy) (old : HandleView) (r : Result Handle HandleError) →
     row ≡ Ok asked → IsAccepted r → IfOk r (IsUsedAs classes asked old) → Obeys row r

@@ -1,9 +1,12 @@
 -- What a generic call leaves of the work, by what its edit leaves of the pass.
-use Rattle.std.proofs.Common.{◌≡◌, refl, sym, subst, ap, false, List, [], ◌∷◌, ◌++◌, Result, Ok, Err, inl, inr, ⊎_elim}
+use Rattle.std.proofs.Common.{◌≡◌, refl, sym, subst, ap, ◌∙◌, ℕ, false, if◌then◌else◌, List, [], ◌∷◌, ◌++◌, Result, Ok, Err, inl, inr, ⊎_elim}
 use Rattle.std.specs.Prelude.{IsErrAnd}
 use denote.Ref.{Bor}
 use Rattle.mh_values.specs.declared.class.Class.{Class}
 use Rattle.mh_values.specs.declared.types.MethodTy.{MethodTy}
+use Rattle.mh_values.specs.declared.value.Exc.{Exc}
+use Rattle.mh_values.specs.Same.{is_same_method_type}
+use Rattle.mh_tree.specs.Rows.{TypeOrRefusal, astype_row}
 use Rattle.mh_edit.specs.declared.key.Key.{Key}
 use Rattle.mh_handle.specs.declared.answer.Answer.{Answer}
 use Rattle.mh_handle.specs.declared.error.EditError.{EditError}
@@ -12,7 +15,7 @@ use Rattle.mh_handle.specs.declared.work.Work.{Work}
 use Rattle.mh_handle.specs.Form.{FormView}
 use Rattle.mh_handle.specs.Passes.{Edits}
 use Rattle.mh_handle.specs.Recipe.{convert_keys}
-use Rattle.mh_astype.specs.Calls.{AsksBy}
+use Rattle.mh_astype.specs.Calls.{AsksBy, call_keys, unless_refused}
 use Rattle.mh_astype.proofs.Using.{trivial, convert_key, keys-changed}
 
 module _ (classes : List Class) (asked own : MethodTy) (recipe : List Key) (key : Key) (old new : Work) (is : trivial classes asked own ≡ false)
@@ -58,6 +61,15 @@ pub asks-late :
 asks-late classes asked own recipe key old new f (Ok a) is k edits h = absurd h
 asks-late classes asked own recipe key old new f (Err x) is k edits h =
     subst (λ v. AsksBy recipe (convert_keys classes asked own) old new (Err v)) (sym h) (asks-without-memory classes asked own recipe key old new is k f edits)
+
+-- a call that is refused asks for no form
+pub asks-no_form : (classes : List Class) (own : MethodTy) (weight : ℕ) (asked : MethodTy) (e : Exc) (recipe : List Key) (w : Work) (a : Answer) →
+    is_same_method_type own asked ≡ false → astype_row classes own weight asked ≡ Err e → AsksBy recipe (call_keys classes own weight asked) w w (Ok a)
+asks-no_form classes own weight asked e recipe w a other row =
+    let none : call_keys classes own weight asked ≡ [] =
+    ap (λ b. if b then [] else unless_refused (astype_row classes own weight asked) (convert_keys classes asked own)) other
+    ∙ ap (λ (r : TypeOrRefusal). unless_refused r (convert_keys classes asked own)) row in
+    subst (λ keys. AsksBy recipe keys w w (Ok a)) (sym none) refl
 
 pub asks-none : (recipe keys : List Key) (w : Work) (r : Result Answer EditError) → IsErrAnd r (λ x. x ≡ NoMemory) → AsksBy recipe keys w w r
 asks-none recipe keys w (Ok a) h = absurd h

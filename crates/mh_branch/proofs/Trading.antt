@@ -1,8 +1,7 @@
 -- What the calls that make handles of parts, or by two calls, leave of the seat of types.
-use Rattle.std.proofs.Common.{◌≡◌, sym, subst, ℕ, ◌+◌, ◌≤◌, List, [], ◌∷◌, ◌++◌, append-nil, Result, Ok, Err, arith}
+use Rattle.std.proofs.Common.{◌≡◌, sym, subst, ℕ, ◌≤◌, List, [], ◌∷◌, ◌++◌, append-nil, Result, Ok, Err, arith}
 use Rattle.std.specs.Prelude.{IsErrAnd}
 use Rattle.mh_values.specs.declared.types.MethodTy.{MethodTy}
-use Rattle.mh_tree.specs.Rows.{TypeOrRefusal}
 use Rattle.mh_intern.specs.Exchanges.{AreHeld, Exchanges}
 use Rattle.mh_intern.specs.Held.{times_type}
 use Rattle.mh_intern.specs.Views.{HoldView, SeatView}
@@ -12,10 +11,9 @@ use Rattle.mh_handle.specs.declared.error.HandleError.{HandleError}
 use Rattle.mh_handle.specs.declared.error.HandleError.TheVariants.{NoMemory, FormsFull, TypesFull, Refused}
 use Rattle.mh_handle.specs.declared.handle.Handle.{Handle}
 use Rattle.mh_handle.specs.declared.work.Work.{Work}
-use Rattle.mh_handle.specs.Works.{IsAccepted, IsReady, IsUnchanged, TradesTypes, types_in}
+use Rattle.mh_handle.specs.Works.{IsAccepted, IsReady, IsUnchanged, TradesTypes}
 use Rattle.mh_handle.proofs.Going.{seated-still, unchanged-ready}
 use Rattle.mh_handle.proofs.HoldOrders.{exchanges-few}
-use Rattle.mh_handle.proofs.Trading.{trades-row}
 
 -- ---- parts
 
@@ -38,11 +36,10 @@ trades-from asks gone a b c (Err (FormsFull drawn)) same t = subst (λ s. Exchan
 trades-from asks gone a b c (Err (TypesFull bucket)) same t = (subst (λ s. Exchanges asks gone [] s c.seat.now) same t.0, t.1)
 trades-from asks gone a b c (Err (Refused e)) same t = subst (λ s. Exchanges [] gone [] s c.seat.now) same t
 
--- a handle is made of parts, of the type that its rule gives
-pub trades-parts : (row : TypeOrRefusal) (t : MethodTy) (parts gone : List HoldView) (a b c : Work) (r : Result Handle HandleError) → row ≡ Ok t →
-    parts ≡ gone → b.seat.now ≡ a.seat.now → TradesTypes (t ∷ []) parts b c r → TradesTypes (types_in row) gone a c r
-trades-parts row t parts gone a b c r is all same x =
-    trades-row row t gone a c r is (trades-from (t ∷ []) gone a b c r same (subst (λ l. TradesTypes (t ∷ []) l b c r) all x))
+-- a handle is made of parts
+pub trades-parts : (t : MethodTy) (parts gone : List HoldView) (a b c : Work) (r : Result Handle HandleError) → parts ≡ gone → b.seat.now ≡ a.seat.now →
+    TradesTypes (t ∷ []) parts b c r → TradesTypes (t ∷ []) gone a c r
+trades-parts t parts gone a b c r all same x = trades-from (t ∷ []) gone a b c r same (subst (λ l. TradesTypes (t ∷ []) l b c r) all x)
 
 -- memory is short, and holds were handed back
 pub trades-short : (asks : List MethodTy) (gone : List HoldView) (a b : Work) (r : Result Handle HandleError) → IsErrAnd r (λ x. x ≡ NoMemory) →

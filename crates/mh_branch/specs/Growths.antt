@@ -1,14 +1,11 @@
 -- What branches and arrays add to the form that does nothing, or to the handle that they adapt.
-use Rattle.std.specs.Prelude.{◌≡◌, ℕ, ◌+◌, ◌-◌, List, [], ◌∷◌, ◌++◌, length, Option, Some, Result, Ok, Err, IfOk}
-use Rattle.mh_values.specs.declared.class.Class.{Class}
+use Rattle.std.specs.Prelude.{◌≡◌, ℕ, ◌+◌, ◌-◌, List, [], ◌∷◌, ◌++◌, length, Option, Some, Result, Ok, Err}
 use Rattle.mh_values.specs.declared.class.ClassId.{ClassId}
 use Rattle.mh_values.specs.declared.types.Comp.{Comp}
 use Rattle.mh_values.specs.declared.types.Ty.{Ty}
 use Rattle.mh_values.specs.declared.types.MethodTy.{MethodTy}
 use Rattle.mh_values.specs.Array.{item_type}
-use Rattle.mh_tree.specs.declared.error.CheckError.{CheckError}
-use Rattle.mh_tree.specs.Check.{TellsRow}
-use Rattle.mh_tree.specs.Rows.{catch_row, component_of, gather_row, guard_row}
+use Rattle.mh_tree.specs.Rows.{component_of}
 use Rattle.mh_intern.specs.Exchanges.{Exchanges}
 use Rattle.mh_intern.specs.Views.{HoldView}
 use Rattle.mh_form.specs.declared.field.Field.{Field}
@@ -16,12 +13,8 @@ use Rattle.mh_form.specs.declared.field.Field.TheVariants as field
 use Rattle.mh_form.specs.Erasure.{basic_of, shape_of}
 use Rattle.mh_edit.specs.declared.key.Key.{Key}
 use Rattle.mh_edit.specs.declared.key.Key.TheVariants as key
-use Rattle.mh_handle.specs.declared.error.HandleError.{HandleError}
 use Rattle.mh_handle.specs.declared.growth.Growth.{Growth}
-use Rattle.mh_handle.specs.declared.handle.Handle.{Handle}
 use Rattle.mh_handle.specs.declared.work.Work.{Work}
-use Rattle.mh_branch.specs.declared.growths.Branch.{Branch}
-use Rattle.mh_handle.specs.Grows.{Grows, base_handle}
 use Rattle.mh_handle.specs.Parts.{AddsHandle, IsPartOf, PartsView, held_by, no_parts}
 use Rattle.mh_handle.specs.Recipe.{at_some}
 use Rattle.mh_handle.specs.Stands.{HandleView}
@@ -48,11 +41,9 @@ pub record IsGather (t : HandleView) (c : Comp) (count : ℕ) (by : Growth) : Ty
   pub key : by.key ≡ key.Gather count (basic_of (item_type c))
   pub parts : by.parts ≡ record no_parts { fields = field.Comp c ∷ [] }
 
--- the same, with the type that its rule gives, or its very refusal; want of memory tells nothing
-abbrev pub TellsGather : List Class → HandleView → Option Ty → ℕ → Result Growth CheckError → Type 0
-TellsGather classes t array count (Ok by) =
-    (gather_row classes t.ty t.weight array count ≡ Ok by.ty) × (c : Comp) × (component_of array ≡ Some c) × IsGather t c count by
-TellsGather classes t array count (Err e) = TellsRow (Err e) (gather_row classes t.ty t.weight array count)
+-- the same of the component of an array type
+abbrev pub AddsGather : HandleView → Option Ty → ℕ → Growth → Type 0
+AddsGather t array count by = (c : Comp) × (component_of array ≡ Some c) × IsGather t c count by
 
 -- two parts more, one after the other
 abbrev pub AddsHandles : HandleView → HandleView → PartsView → PartsView → Type 0
@@ -78,26 +69,6 @@ pub record AreCatchParts (target : HandleView) (class : ClassId) (handler : Hand
 abbrev pub TradesParts : {A E : Type 0} → List HoldView → Work → Work → Result A E → Type 0
 TradesParts held old new (Ok parts) = new.seat.now ≡ old.seat.now
 TradesParts held old new (Err error) = Exchanges [] held [] old.seat.now new.seat.now
-
--- a guard before its parts are there, with the type that its rule gives, or its very refusal; want of memory tells nothing
-abbrev pub TellsGuard : HandleView → HandleView → HandleView → Result Branch CheckError → Type 0
-TellsGuard test target fallback (Ok b) =
-    (guard_row test.ty test.weight target.ty target.weight fallback.ty fallback.weight ≡ Ok b.ty)
-    × (b.weight ≡ 1 + test.weight + target.weight + fallback.weight) × (b.key ≡ guard_key b.ty test.ty)
-TellsGuard test target fallback (Err e) =
-    TellsRow (Err e) (guard_row test.ty test.weight target.ty target.weight fallback.ty fallback.weight)
-
--- a catch before its parts are there, with the type that its rule gives, or its very refusal; want of memory tells nothing
-abbrev pub TellsCatch : List Class → HandleView → ClassId → HandleView → Result Branch CheckError → Type 0
-TellsCatch classes target class handler (Ok b) =
-    (catch_row classes target.ty target.weight class handler.ty handler.weight ≡ Ok b.ty)
-    × (b.weight ≡ 1 + target.weight + handler.weight) × (b.key ≡ catch_key b.ty handler.ty)
-TellsCatch classes target class handler (Err e) =
-    TellsRow (Err e) (catch_row classes target.ty target.weight class handler.ty handler.weight)
-
--- a handle that was made is the branch, with its parts
-abbrev pub RootsBranch : Branch → PartsView → Result Handle HandleError → Type 0
-RootsBranch b parts made = IfOk made (λ h. Grows base_handle h b.ty b.weight parts.sides b.key parts.fields)
 
 -- a handle with a test, a target and a fallback: what they weigh and one more, the types that they hold, and a field for each
 pub record HasBranches (test target fallback new : HandleView) : Type 0 where

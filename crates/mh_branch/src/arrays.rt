@@ -1,4 +1,4 @@
-ghost use Rattle.std.specs.Prelude.{◌≡◌, IfOk, Some};
+ghost use Rattle.std.specs.Prelude.{◌≡◌, ◌∷◌, [], IfOk, Ok, Some};
 ghost use Rattle.mh_values.specs.Classes.{AreClasses};
 ghost use Rattle.mh_tree.specs.Check.{TellsRow};
 ghost use Rattle.mh_tree.specs.Rows.{component_of, gather_row};
@@ -8,10 +8,11 @@ ghost use Rattle.mh_handle.specs.Grows.{GainsNode};
 ghost use Rattle.mh_handle.specs.Obeys.{Obeys};
 ghost use Rattle.mh_handle.specs.Stands.{IsShaped};
 ghost use Rattle.mh_handle.specs.Recipe.{recipe};
-ghost use Rattle.mh_branch.specs.Growths.{TellsGather};
-ghost use Rattle.mh_handle.specs.Works.{GoesOn, HoldsTypes, IsReady, Makes, StandsIn};
+ghost use Rattle.mh_branch.specs.Growths.{AddsGather};
+ghost use Rattle.mh_handle.specs.Works.{GoesOn, HoldsTypes, IsAccepted, IsReady, Makes, StandsIn};
 ghost use Rattle.mh_handle.specs.Works.{TradesTypes, classes_of, leaves_of, types_in};
 
+use mh_base::NoMemory;
 use mh_edit::Key;
 use mh_form::{Field, basic_of};
 use mh_handle::{Growth, Handle, HandleError, Parts, Work, one_field};
@@ -30,51 +31,84 @@ fn component_of(ty: Option<Ty>) -> Comp
     }
 }
 
+/// Items that are gathered in an array: the type of the array, and how many there are.
+#[derive(Clone, Copy, Debug)]
+pub struct Gathered {
+    pub array: Option<Ty>,
+    pub count: u8,
+}
+
 /// The type of a gather of a handle.
 fn gather_type<'t>(
     w: &Work<'_, 't>,
     target: &Handle<'t>,
-    array: Option<Ty>,
-    count: u8,
+    gathered: Gathered,
 ) -> Result<MethodTy, CheckError>
-    ensures are { AreClasses (classes_of w.now) }
-    ensures shaped { IsShaped target.now }
     ensures tells { TellsRow result (gather_row (classes_of w.now)
-        target.now.ty target.now.weight array count) }
+        target.now.ty target.now.weight gathered.array gathered.count) }
 {
-    check_gather(
-        w.alloc,
-        target.ty(),
-        target.weight(),
-        array,
-        count,
-        w.classes(),
-    )
+    let Gathered { array, count } = gathered;
+    let (ty, weight) = (target.ty(), target.weight());
+    check_gather(w.alloc, ty, weight, array, count, w.classes())
 }
 
-/// What a gather of items adds to a handle.
+/// What a gather of this type adds to a handle.
 fn gather_growth<'t>(
     w: &Work<'_, 't>,
     target: &Handle<'t>,
-    array: Option<Ty>,
-    count: u8,
-) -> Result<Growth<'t>, CheckError>
+    gathered: Gathered,
+    ty: MethodTy,
+) -> Result<Growth<'t>, NoMemory>
+    requires ruled { gather_row (classes_of w.now)
+        target.now.ty target.now.weight gathered.array gathered.count ≡ Ok ty }
     ensures are { AreClasses (classes_of w.now) }
     ensures shaped { IsShaped target.now }
-    ensures tells { TellsGather (classes_of w.now) target.now array count result }
+    ensures ty { IfOk result (λ by. by.ty ≡ ty) }
+    ensures adds { IfOk result (AddsGather target.now gathered.array gathered.count) }
 {
-    let ty = gather_type(w, target, array, count)?;
-    let component = component_of(array);
+    // A handle has the shape of its type, and each class stands after its superclass.
+    let (_ty, _classes) = (target.ty(), w.classes());
+    let component = component_of(gathered.array);
     let fields = one_field(w.alloc, Field::Comp(component))?;
     Ok(Growth {
         ty,
         weight: 1 + target.weight(),
         key: Key::Gather {
-            count,
+            count: gathered.count,
             basic: basic_of(component.item_type()),
         },
         parts: Parts::of_fields(w.alloc, fields),
     })
+}
+
+/// A gather of a handle, where its rule gives this type. The handle is given back where none is
+/// made.
+pub fn gather_of<'t, R: Wait>(
+    w: &mut Work<'_, 't>,
+    rt: &R,
+    target: Handle<'t>,
+    gathered: Gathered,
+    ty: MethodTy,
+) -> Result<Handle<'t>, HandleError>
+    requires ruled { gather_row (classes_of w.old)
+        target.ty target.weight gathered.array gathered.count ≡ Ok ty }
+    requires ready { IsReady w.old 1 }
+    requires held { HoldsTypes w.old target.held }
+    ensures goes_on { GoesOn 1 w.old w.new }
+    ensures accepted { IsAccepted result }
+    ensures typed { IfOk result (λ h. h.ty ≡ ty) }
+    ensures makes { (a : Tree) → StandsIn w.old target.entry a
+        → Makes (recipe (leaves_of w.old) (tree.Gather a gathered.array gathered.count))
+        w.old w.new result }
+    ensures types { TradesTypes (ty ∷ []) target.entry.held w.old w.new result }
+    ensures gains { IfOk result (GainsNode target.entry) }
+    ensures stands { (a : Tree) → StandsIn w.old target.entry a
+        → IfOk result (λ h. StandsIn w.old h (tree.Gather a gathered.array gathered.count)) }
+{
+    match gather_growth(w, &target, gathered, ty) {
+        Ok(by) => target.grown(w, rt, by),
+        Err(NoMemory) => target.refused(w, CheckError::NoMemory),
+    }
 }
 
 /// A handle that takes up to 254 items in the place of the last argument of `target`, to which
@@ -101,8 +135,9 @@ pub fn gather<'t, R: Wait>(
     ensures stands { (a : Tree) → StandsIn w.old target.entry a
         → IfOk result (λ h. StandsIn w.old h (tree.Gather a array count)) }
 {
-    match gather_growth(w, &target, array, count) {
-        Ok(by) => target.grown(w, rt, by),
+    let gathered = Gathered { array, count };
+    match gather_type(w, &target, gathered) {
+        Ok(ty) => gather_of(w, rt, target, gathered, ty),
         Err(error) => target.refused(w, error),
     }
 }

@@ -1,138 +1,107 @@
-ghost use Rattle.std.specs.Prelude.{◌≤◌, ◌+◌, ◌++◌, ◌∷◌, [], IfOk, IsTrue, length};
-ghost use Rattle.mh_values.specs.Classes.{AreClasses};
+ghost use Rattle.std.specs.Prelude.{◌≡◌, ◌+◌, ◌++◌, ◌∷◌, [], Err, IfOk, Ok};
 ghost use Rattle.mh_tree.specs.Check.{TellsRow};
 ghost use Rattle.mh_tree.specs.Rows.{guard_row, catch_row};
 ghost use Rattle.mh_tree.specs.Tree.{Tree};
 ghost use Rattle.mh_tree.specs.Tree as tree;
-ghost use Rattle.mh_form.specs.Body.{nothing};
-ghost use Rattle.mh_edit.specs.Applied.{applied};
-ghost use Rattle.mh_edit.specs.Fit.{fits};
+ghost use Rattle.mh_intern.specs.Exchanges.{Exchanges};
+ghost use Rattle.mh_handle.specs.Errors.{of_check};
 ghost use Rattle.mh_handle.specs.Obeys.{Obeys};
 ghost use Rattle.mh_handle.specs.Recipe.{recipe};
-ghost use Rattle.mh_handle.specs.Stands.{HasShape, IsShaped};
-ghost use Rattle.mh_handle.specs.Works.{GoesOn, HoldsTypes, IsAccepted, IsReady, Makes, StandsIn};
-ghost use Rattle.mh_handle.specs.Works.{TradesTypes, classes_of, leaves_of, types_in};
-ghost use Rattle.mh_branch.specs.Growths.{HasBranches, HasHandler, RootsBranch};
-ghost use Rattle.mh_branch.specs.Growths.{TellsCatch, TellsGuard};
+ghost use Rattle.mh_handle.specs.Works.{GoesOn, HoldsTypes, IsAccepted, IsReady, IsUnchanged};
+ghost use Rattle.mh_handle.specs.Works.{Makes, StandsIn, TradesTypes, classes_of, leaves_of};
+ghost use Rattle.mh_handle.specs.Works.{types_in};
+ghost use Rattle.mh_branch.specs.Growths.{HasBranches, HasHandler};
 
-use crate::growths::{Branch, catch_key, catch_parts, guard_key, guard_parts};
-use mh_handle::{Growth, Handle, HandleError, Parts, Work};
+use crate::growths::{Branches, Caught, catch_key, catch_parts, guard_key, guard_parts};
+use mh_base::NoMemory;
+use mh_handle::{Growth, Handle, HandleError, Work};
 use mh_tree::{CheckError, check_catch, check_guard};
 use mh_values::{ClassId, MethodTy};
 use std::sync::Wait;
 
-/// The type of a guard of handles.
-fn guard_type<'t>(
-    w: &Work<'_, 't>,
-    test: &Handle<'t>,
-    target: &Handle<'t>,
-    fallback: &Handle<'t>,
-) -> Result<MethodTy, CheckError>
-    ensures shaped { IsShaped test.now × IsShaped target.now × IsShaped fallback.now }
-    ensures tells { TellsRow result (guard_row test.now.ty test.now.weight
-        target.now.ty target.now.weight fallback.now.ty fallback.now.weight) }
-{
-    check_guard(
-        w.alloc,
-        test.ty(),
-        test.weight(),
-        target.ty(),
-        target.weight(),
-        fallback.ty(),
-        fallback.weight(),
-        w.classes(),
-    )
+impl<'t> Branches<'t> {
+    /// The type of a guard of these handles.
+    fn ty(&self, w: &Work<'_, 't>) -> Result<MethodTy, CheckError>
+        ensures tells { TellsRow result (guard_row self.now.test.ty self.now.test.weight
+            self.now.target.ty self.now.target.weight
+            self.now.fallback.ty self.now.fallback.weight) }
+    {
+        check_guard(
+            w.alloc,
+            self.test.ty(),
+            self.test.weight(),
+            self.target.ty(),
+            self.target.weight(),
+            self.fallback.ty(),
+            self.fallback.weight(),
+            w.classes(),
+        )
+    }
+
+    /// Gives back the handles of a guard that is not made, and says why.
+    fn refused(self, w: &mut Work<'_, 't>, error: CheckError) -> Result<Handle<'t>, HandleError>
+        requires of_types { w.old.seat.now.table ≡ w.old.types.now }
+        requires held { HoldsTypes w.old
+            (self.test.held ++ self.target.held ++ self.fallback.held) }
+        ensures unchanged { IsUnchanged w.old w.new }
+        ensures error { result ≡ Err (of_check error) }
+        ensures types { Exchanges []
+            (self.entry.test.held ++ self.entry.target.held ++ self.entry.fallback.held) []
+            w.old.seat.now w.new.seat.now }
+    {
+        let Branches {
+            test,
+            target,
+            fallback,
+        } = self;
+        test.give_back(w);
+        target.give_back(w);
+        fallback.refused(w, error)
+    }
 }
 
-/// The type of a catch of handles.
-fn catch_type<'t>(
-    w: &Work<'_, 't>,
-    target: &Handle<'t>,
-    class: ClassId,
-    handler: &Handle<'t>,
-) -> Result<MethodTy, CheckError>
-    ensures are { AreClasses (classes_of w.now) }
-    ensures shaped { IsShaped target.now × IsShaped handler.now }
-    ensures tells { TellsRow result (catch_row (classes_of w.now) target.now.ty target.now.weight
-        class handler.now.ty handler.now.weight) }
-{
-    check_catch(
-        w.alloc,
-        target.ty(),
-        target.weight(),
-        class,
-        handler.ty(),
-        handler.weight(),
-        w.classes(),
-    )
-}
-
-/// What a guard of handles is before its parts are there.
-fn guard_branch<'t>(
-    w: &Work<'_, 't>,
-    test: &Handle<'t>,
-    target: &Handle<'t>,
-    fallback: &Handle<'t>,
-) -> Result<Branch, CheckError>
-    ensures shaped { IsShaped test.now × IsShaped target.now × IsShaped fallback.now }
-    ensures tells { TellsGuard test.now target.now fallback.now result }
-{
-    let ty = guard_type(w, test, target, fallback)?;
-    let key = guard_key(w.alloc, &ty, test)?;
-    Ok(Branch {
-        ty,
-        weight: 1 + test.weight() + target.weight() + fallback.weight(),
-        key,
-    })
-}
-
-/// What a catch of handles is before its parts are there.
-fn catch_branch<'t>(
-    w: &Work<'_, 't>,
-    target: &Handle<'t>,
-    class: ClassId,
-    handler: &Handle<'t>,
-) -> Result<Branch, CheckError>
-    ensures are { AreClasses (classes_of w.now) }
-    ensures shaped { IsShaped target.now × IsShaped handler.now }
-    ensures tells { TellsCatch (classes_of w.now) target.now class handler.now result }
-{
-    let ty = catch_type(w, target, class, handler)?;
-    let key = catch_key(w.alloc, &ty, handler)?;
-    Ok(Branch {
-        ty,
-        weight: 1 + target.weight() + handler.weight(),
-        key,
-    })
-}
-
-/// The handle of a branch, with its parts.
-fn branch_of<'t, R: Wait>(
+/// A guard of handles, where its rule gives this type. The handles are given back where none is
+/// made.
+pub fn guard_of<'t, R: Wait>(
     w: &mut Work<'_, 't>,
     rt: &R,
-    branch: Branch,
-    parts: Parts<'t>,
+    branches: Branches<'t>,
+    ty: MethodTy,
 ) -> Result<Handle<'t>, HandleError>
-    requires fits { IsTrue (fits branch.key nothing) }
-    requires shaped { HasShape (applied branch.key nothing) branch.ty }
-    requires light { branch.weight ≤ 256 }
-    requires few { 1 + length parts.held ≤ branch.weight }
+    requires ruled { guard_row branches.test.ty branches.test.weight
+        branches.target.ty branches.target.weight
+        branches.fallback.ty branches.fallback.weight ≡ Ok ty }
     requires ready { IsReady w.old 1 }
-    requires held { HoldsTypes w.old parts.held }
+    requires held { HoldsTypes w.old
+        (branches.test.held ++ branches.target.held ++ branches.fallback.held) }
     ensures goes_on { GoesOn 1 w.old w.new }
-    ensures makes { Makes (branch.key ∷ []) w.old w.new result }
     ensures accepted { IsAccepted result }
-    ensures roots { RootsBranch branch parts.entry result }
-    ensures types { TradesTypes (branch.ty ∷ []) parts.entry.held w.old w.new result }
+    ensures typed { IfOk result (λ h. h.ty ≡ ty) }
+    ensures makes { (a b d : Tree) → StandsIn w.old branches.entry.test a
+        → StandsIn w.old branches.entry.target b → StandsIn w.old branches.entry.fallback d
+        → Makes (recipe (leaves_of w.old) (tree.Guard a b d)) w.old w.new result }
+    ensures types { TradesTypes (ty ∷ []) (branches.entry.test.held
+        ++ branches.entry.target.held ++ branches.entry.fallback.held) w.old w.new result }
+    ensures gains { IfOk result
+        (HasBranches branches.entry.test branches.entry.target branches.entry.fallback) }
+    ensures stands { (a b d : Tree) → StandsIn w.old branches.entry.test a
+        → StandsIn w.old branches.entry.target b → StandsIn w.old branches.entry.fallback d
+        → IfOk result (λ h. StandsIn w.old h (tree.Guard a b d)) }
 {
-    let Branch { ty, weight, key } = branch;
-    let by = Growth {
-        ty,
-        weight,
-        key,
-        parts,
-    };
-    Handle::rooted(w, rt, by)
+    let weight = branches.weight();
+    match guard_key(w.alloc, &ty, &branches.test) {
+        Ok(key) => {
+            let parts = guard_parts(w, branches)?;
+            let by = Growth {
+                ty,
+                weight,
+                key,
+                parts,
+            };
+            Handle::rooted(w, rt, by)
+        }
+        Err(NoMemory) => branches.refused(w, CheckError::NoMemory),
+    }
 }
 
 /// A handle that runs `target` where `test` gives true on the first arguments, and else `fallback`
@@ -162,16 +131,95 @@ pub fn guard<'t, R: Wait>(
         → StandsIn w.old target.entry b → StandsIn w.old fallback.entry d
         → IfOk result (λ h. StandsIn w.old h (tree.Guard a b d)) }
 {
-    match guard_branch(w, &test, &target, &fallback) {
-        Ok(branch) => {
-            let parts = guard_parts(w, test, target, fallback)?;
-            branch_of(w, rt, branch, parts)
+    let branches = Branches {
+        test,
+        target,
+        fallback,
+    };
+    match branches.ty(w) {
+        Ok(ty) => guard_of(w, rt, branches, ty),
+        Err(error) => branches.refused(w, error),
+    }
+}
+
+impl<'t> Caught<'t> {
+    /// The type of a catch of these handles.
+    fn ty(&self, w: &Work<'_, 't>) -> Result<MethodTy, CheckError>
+        ensures tells { TellsRow result (catch_row (classes_of w.now)
+            self.now.target.ty self.now.target.weight self.now.class
+            self.now.handler.ty self.now.handler.weight) }
+    {
+        check_catch(
+            w.alloc,
+            self.target.ty(),
+            self.target.weight(),
+            self.class,
+            self.handler.ty(),
+            self.handler.weight(),
+            w.classes(),
+        )
+    }
+
+    /// Gives back the handles of a catch that is not made, and says why.
+    fn refused(self, w: &mut Work<'_, 't>, error: CheckError) -> Result<Handle<'t>, HandleError>
+        requires of_types { w.old.seat.now.table ≡ w.old.types.now }
+        requires held { HoldsTypes w.old (self.target.held ++ self.handler.held) }
+        ensures unchanged { IsUnchanged w.old w.new }
+        ensures error { result ≡ Err (of_check error) }
+        ensures types { Exchanges [] (self.entry.target.held ++ self.entry.handler.held) []
+            w.old.seat.now w.new.seat.now }
+    {
+        let Caught {
+            target,
+            class: _class,
+            handler,
+        } = self;
+        target.give_back(w);
+        handler.refused(w, error)
+    }
+}
+
+/// A catch of handles, where its rule gives this type. The handles are given back where none is
+/// made.
+pub fn catch_of<'t, R: Wait>(
+    w: &mut Work<'_, 't>,
+    rt: &R,
+    caught: Caught<'t>,
+    ty: MethodTy,
+) -> Result<Handle<'t>, HandleError>
+    requires ruled { catch_row (classes_of w.old) caught.target.ty caught.target.weight
+        caught.class caught.handler.ty caught.handler.weight ≡ Ok ty }
+    requires ready { IsReady w.old 1 }
+    requires held { HoldsTypes w.old (caught.target.held ++ caught.handler.held) }
+    ensures goes_on { GoesOn 1 w.old w.new }
+    ensures accepted { IsAccepted result }
+    ensures typed { IfOk result (λ h. h.ty ≡ ty) }
+    ensures makes { (a b : Tree) → StandsIn w.old caught.entry.target a
+        → StandsIn w.old caught.entry.handler b
+        → Makes (recipe (leaves_of w.old) (tree.Catch a caught.entry.class b)) w.old w.new result }
+    ensures types { TradesTypes (ty ∷ [])
+        (caught.entry.target.held ++ caught.entry.handler.held) w.old w.new result }
+    ensures gains { IfOk result
+        (HasHandler caught.entry.target caught.entry.class caught.entry.handler) }
+    ensures stands { (a b : Tree) → StandsIn w.old caught.entry.target a
+        → StandsIn w.old caught.entry.handler b
+        → IfOk result (λ h. StandsIn w.old h (tree.Catch a caught.entry.class b)) }
+{
+    // Each class stands after its superclass.
+    let _classes = w.classes();
+    let weight = caught.weight();
+    match catch_key(w.alloc, &ty, &caught.handler) {
+        Ok(key) => {
+            let parts = catch_parts(w, caught)?;
+            let by = Growth {
+                ty,
+                weight,
+                key,
+                parts,
+            };
+            Handle::rooted(w, rt, by)
         }
-        Err(error) => {
-            test.give_back(w);
-            target.give_back(w);
-            fallback.refused(w, error)
-        }
+        Err(NoMemory) => caught.refused(w, CheckError::NoMemory),
     }
 }
 
@@ -203,14 +251,13 @@ pub fn catch<'t, R: Wait>(
         → StandsIn w.old handler.entry b → IfOk result
         (λ h. StandsIn w.old h (tree.Catch a class b)) }
 {
-    match catch_branch(w, &target, class, &handler) {
-        Ok(branch) => {
-            let parts = catch_parts(w, target, class, handler)?;
-            branch_of(w, rt, branch, parts)
-        }
-        Err(error) => {
-            target.give_back(w);
-            handler.refused(w, error)
-        }
+    let caught = Caught {
+        target,
+        class,
+        handler,
+    };
+    match caught.ty(w) {
+        Ok(ty) => catch_of(w, rt, caught, ty),
+        Err(error) => caught.refused(w, error),
     }
 }

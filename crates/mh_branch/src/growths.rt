@@ -1,7 +1,8 @@
-//! What branches are made of: their type, weight and key, and then their parts.
+//! What branches are made of: their handles, with their weight, their key, and their parts.
 
-ghost use Rattle.std.specs.Prelude.{◌≡◌, ◌≤◌, ◌++◌, length, IfOk};
+ghost use Rattle.std.specs.Prelude.{◌≡◌, ◌≤◌, ◌+◌, ◌++◌, length, IfOk};
 ghost use Rattle.mh_handle.specs.Parts.{AddsHandle};
+ghost use Rattle.mh_handle.specs.Stands.{IsShaped};
 ghost use Rattle.mh_handle.specs.Works.{HoldsTypes, IsUnchanged};
 ghost use Rattle.mh_branch.specs.Growths.{AddsHandler, AddsHandles, AreCatchParts, AreGuardParts};
 ghost use Rattle.mh_branch.specs.Growths.{TradesParts, catch_key, guard_key};
@@ -13,12 +14,44 @@ use mh_handle::{Handle, Parts, Work};
 use mh_values::{ClassId, MethodTy};
 use std::alloc::Global;
 
-/// What a branch is before its parts are there.
+/// The handles of a guard: a test, what runs where it gives true, and what runs else.
 #[derive(Drop)]
-pub(crate) struct Branch {
-    pub ty: MethodTy,
-    pub weight: u32,
-    pub key: Key,
+pub struct Branches<'t> {
+    pub test: Handle<'t>,
+    pub target: Handle<'t>,
+    pub fallback: Handle<'t>,
+}
+
+impl<'t> Branches<'t> {
+    /// What a guard of these handles weighs. None of them holds more types than it weighs.
+    pub(crate) fn weight(&self) -> u32
+        ensures weight { result ≡ 1 + self.now.test.weight + self.now.target.weight
+            + self.now.fallback.weight }
+        ensures shaped { IsShaped self.now.test × IsShaped self.now.target
+            × IsShaped self.now.fallback }
+    {
+        let (_test, _target, _fallback) = (self.test.ty(), self.target.ty(), self.fallback.ty());
+        1 + self.test.weight() + self.target.weight() + self.fallback.weight()
+    }
+}
+
+/// The handles of a catch: a target, and what handles its exceptions of a class.
+#[derive(Drop)]
+pub struct Caught<'t> {
+    pub target: Handle<'t>,
+    pub class: ClassId,
+    pub handler: Handle<'t>,
+}
+
+impl<'t> Caught<'t> {
+    /// What a catch of these handles weighs. None of them holds more types than it weighs.
+    pub(crate) fn weight(&self) -> u32
+        ensures weight { result ≡ 1 + self.now.target.weight + self.now.handler.weight }
+        ensures shaped { IsShaped self.now.target × IsShaped self.now.handler }
+    {
+        let (_target, _handler) = (self.target.ty(), self.handler.ty());
+        1 + self.target.weight() + self.handler.weight()
+    }
 }
 
 /// The key of a guard of this type.
@@ -126,17 +159,22 @@ fn with_handler<'t>(
 /// The parts of a guard: the test, the target and the fallback.
 pub(crate) fn guard_parts<'t>(
     w: &mut Work<'_, 't>,
-    test: Handle<'t>,
-    target: Handle<'t>,
-    fallback: Handle<'t>,
+    branches: Branches<'t>,
 ) -> Result<Parts<'t>, NoMemory>
     requires of_types { w.old.seat.now.table ≡ w.old.types.now }
-    requires held { HoldsTypes w.old (test.held ++ target.held ++ fallback.held) }
+    requires held { HoldsTypes w.old
+        (branches.test.held ++ branches.target.held ++ branches.fallback.held) }
     ensures unchanged { IsUnchanged w.old w.new }
-    ensures parts { IfOk result (AreGuardParts test.entry target.entry fallback.entry) }
-    ensures types { TradesParts (test.entry.held ++ target.entry.held ++ fallback.entry.held)
-        w.old w.new result }
+    ensures parts { IfOk result
+        (AreGuardParts branches.entry.test branches.entry.target branches.entry.fallback) }
+    ensures types { TradesParts (branches.entry.test.held ++ branches.entry.target.held
+        ++ branches.entry.fallback.held) w.old w.new result }
 {
+    let Branches {
+        test,
+        target,
+        fallback,
+    } = branches;
     let none = Parts::new(w.alloc);
     match with_part(w, none, test) {
         Ok(parts) => with_two(w, parts, target, fallback),
@@ -151,16 +189,21 @@ pub(crate) fn guard_parts<'t>(
 /// The parts of a catch: the target and the handler, with the class of exceptions between them.
 pub(crate) fn catch_parts<'t>(
     w: &mut Work<'_, 't>,
-    target: Handle<'t>,
-    class: ClassId,
-    handler: Handle<'t>,
+    caught: Caught<'t>,
 ) -> Result<Parts<'t>, NoMemory>
     requires of_types { w.old.seat.now.table ≡ w.old.types.now }
-    requires held { HoldsTypes w.old (target.held ++ handler.held) }
+    requires held { HoldsTypes w.old (caught.target.held ++ caught.handler.held) }
     ensures unchanged { IsUnchanged w.old w.new }
-    ensures parts { IfOk result (AreCatchParts target.entry class handler.entry) }
-    ensures types { TradesParts (target.entry.held ++ handler.entry.held) w.old w.new result }
+    ensures parts { IfOk result
+        (AreCatchParts caught.entry.target caught.entry.class caught.entry.handler) }
+    ensures types { TradesParts (caught.entry.target.held ++ caught.entry.handler.held)
+        w.old w.new result }
 {
+    let Caught {
+        target,
+        class,
+        handler,
+    } = caught;
     let none = Parts::new(w.alloc);
     match with_part(w, none, target) {
         Ok(parts) => with_handler(w, parts, class, handler),

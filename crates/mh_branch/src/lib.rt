@@ -7,7 +7,8 @@ mod growths;
 mod roots;
 mod spreading;
 
-pub use arrays::gather;
-pub use branches::{catch, guard};
+pub use arrays::{Gathered, gather, gather_of};
+pub use branches::{catch, catch_of, guard, guard_of};
+pub use growths::{Branches, Caught};
 pub use roots::{constant, identity, throw};
 pub use spreading::{check_spread_use, spread};

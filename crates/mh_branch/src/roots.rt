@@ -13,7 +13,6 @@ use mh_form::{Field, basic_of, erase, shape};
 use mh_handle::{Growth, Handle, HandleError, Parts, Work, one_field};
 use mh_tree::{check_constant, check_identity, check_throw};
 use mh_values::{ClassId, Classes, Ty, Value};
-use std::alloc::Global;
 use std::sync::Wait;
 
 /// The value that fits a type.

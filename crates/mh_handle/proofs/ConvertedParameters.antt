@@ -6,7 +6,7 @@ use Rattle.mh_values.specs.declared.class.Class.{Class}
 use Rattle.mh_values.specs.declared.types.Primitive.{Primitive}
 use Rattle.mh_values.specs.declared.types.Ty.{Ty}
 use Rattle.mh_values.specs.declared.types.Ty.TheVariants as ty
-use Rattle.mh_values.proofs.SameTypes.{same_primitive-is}
+use Rattle.mh_values.proofs.PrimitiveLaws.{same_primitive-is}
 use Rattle.mh_convert.specs.declared.conv.Conv.{Conv}
 use Rattle.mh_convert.specs.declared.conv.RetConv.{RetConv}
 use Rattle.mh_convert.specs.Conversion.{can, is_trivial}

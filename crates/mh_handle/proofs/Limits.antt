@@ -16,6 +16,9 @@ use Rattle.mh_tree.proofs.Provided.{provided-parts}
 -- each type takes at least one slot
 slots-some : (t : Ty) → 1 ≤ slots_of t
 slots-some (ty.Prim primitive.Z) = omega arith
+slots-some (ty.Prim primitive.B) = omega arith
+slots-some (ty.Prim primitive.C) = omega arith
+slots-some (ty.Prim primitive.S) = omega arith
 slots-some (ty.Prim primitive.I) = omega arith
 slots-some (ty.Prim primitive.J) = omega arith
 slots-some (ty.Class c) = omega arith

@@ -40,6 +40,13 @@ refused-makes recipe w e (Err x) is = subst (λ v. Makes recipe w w (Err v)) (sy
 
 -- ---- a handle that was made, or want of memory or of numbers
 
+pub given-obeys : (row : TypeOrRefusal) (t : MethodTy) (r : Result Handle HandleError) → row ≡ Ok t → IsAccepted r → IfOk r (λ h. h.ty ≡ t) → Obeys row r
+given-obeys row t (Ok h) is accepted typed = is ∙ ap Ok (sym typed)
+given-obeys row t (Err handle.NoMemory) is accepted typed = tt
+given-obeys row t (Err (handle.FormsFull drawn)) is accepted typed = (t, is)
+given-obeys row t (Err (handle.TypesFull bucket)) is accepted typed = (t, is)
+given-obeys row t (Err (handle.Refused e)) is accepted typed = absurd accepted
+
 pub grown-obeys :
     (row : TypeOrRefusal) (old : HandleView) (t : MethodTy) (weight : ℕ) (sides : List MethodTy) (k : Key) (fields : List Field) (r : Result Handle HandleError)
     →

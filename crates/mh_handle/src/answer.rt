@@ -1,8 +1,8 @@
 ghost use Rattle.std.specs.Prelude.{◌≡◌, [], ◌≢◌, None, Some};
 ghost use Rattle.mh_handle.specs.Answers.{answer_in, typed_result};
 
-use mh_form::{Slot, SlotOutcome, typed};
-use mh_values::{Calls, Classes, Exc, Outcome, Ty, Value};
+use mh_form::{Calls, Slot, SlotOutcome, typed};
+use mh_values::{Classes, Exc, Outcome, Ty, Value};
 use std::alloc::Global;
 use std::marker::Model;
 

@@ -20,9 +20,12 @@ bucket_slots = 32
 abbrev pub slots : ℕ
 slots = 2048
 
--- Z 1, I 5, J 6
+-- Z 1, B 2, C 3, S 4, I 5, J 6
 abbrev pub primitive_code : Primitive → ℕ
 primitive_code primitive.Z = 1
+primitive_code primitive.B = 2
+primitive_code primitive.C = 3
+primitive_code primitive.S = 4
 primitive_code primitive.I = 5
 primitive_code primitive.J = 6
 

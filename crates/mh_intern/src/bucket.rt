@@ -20,6 +20,9 @@ fn primitive_code(primitive: Primitive) -> u64
 {
     match primitive {
         Primitive::Z => 1,
+        Primitive::B => 2,
+        Primitive::C => 3,
+        Primitive::S => 4,
         Primitive::I => 5,
         Primitive::J => 6,
     }

@@ -5,7 +5,7 @@ use Rattle.mh_tree.specs.Rows.{astype_row}
 use Rattle.mh_handle.proofs.Answering.{typed_run-well_formed}
 use Rattle.mh_astype.proofs.Asking.{differs}
 use Rattle.mh_astype.proofs.Calling.{generic-refused, generic_keys-refused, own-typed, refusal-is, thrown-answer, types-are}
-use Rattle.mh_astype.proofs.Editing.{asks-none}
+use Rattle.mh_astype.proofs.Editing.{asks-none, asks-no_form}
 use Rattle.mh_astype.proofs.calls.invoke_generic_with.Goals as goal
 
 pub invoke_with-requires-clause-typed : goal.invoke_with-requires-clause-typed
@@ -26,6 +26,19 @@ invoke_with-requires-clause-runs g c =
 pub returns-in_err-exc-clause-asks : goal.returns-in_err-exc-clause-asks
 returns-in_err-exc-clause-asks g c = asks-none c.args.handle.now.form.recipe _ c.args.w.now c.from_residual-in_err-exc.result
     c.from_residual-in_err-exc.ensures.1
+
+pub returns-in-Some-clause-asks : goal.returns-in-Some-clause-asks
+returns-in-Some-clause-asks g c =
+    let other : is_same_method_type c.args.handle.now.ty c.args.call.now ≡ false =
+    differs c.is_same_method_type.result c.ty.result.now c.args.handle.now.ty c.args.call.now c.if-is_same_method_type.false c.is_same_method_type.ensures
+    c.ty.ensures.ty in
+    let row : astype_row c.args.w.now.leaves.now.classes c.args.handle.now.ty c.args.handle.now.weight c.args.call.now ≡ Err c.in-Some.exc =
+    refusal-is (astype_row c.classes.result.now c.args.handle.now.ty c.args.handle.now.weight c.args.call.now) _ c.args.call.now c.in_ok-exc.field-0
+    c.in-Some.exc
+    c.in-Some.is c.in_ok-exc.ensures
+    (ap (λ (cs : List Class). astype_row cs c.args.handle.now.ty c.args.handle.now.weight c.args.call.now) c.classes.ensures) in
+    asks-no_form c.args.w.now.leaves.now.classes c.args.handle.now.ty c.args.handle.now.weight c.args.call.now c.in-Some.exc c.args.handle.now.form.recipe
+    c.args.w.now c.thrown.result other row
 
 pub returns-in-Some-clause-answer : goal.returns-in-Some-clause-answer
 returns-in-Some-clause-answer g c t st =
