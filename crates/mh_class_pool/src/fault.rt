@@ -11,7 +11,7 @@ pub enum ClassKind {
     Truncated = 1,
     /// The file does not begin with CAFEBABE.
     BadMagic,
-    /// The major version is none from 45 to 61.
+    /// The major version is none from 45 to 65.
     BadVersion,
     /// A tag of the constant pool that is none of 4.4.
     BadTag,

@@ -30,9 +30,9 @@ other_magic : reads header (at_start (0 ∷ 0xFE ∷ 0xBA ∷ 0xBE ∷ [])) ≡ 
 unfolding at_start header
 other_magic = refl
 
-version_62 : reads header (at_start (magic (0 ∷ 0 ∷ 0 ∷ 62 ∷ []))) ≡ fault 6 BadVersion
+version_66 : reads header (at_start (magic (0 ∷ 0 ∷ 0 ∷ 66 ∷ []))) ≡ fault 6 BadVersion
 unfolding at_start magic header
-version_62 = refl
+version_66 = refl
 
 count_cut_short : reads header (at_start (magic (0 ∷ 0 ∷ 0 ∷ 61 ∷ 0 ∷ []))) ≡ fault 8 Truncated
 unfolding at_start magic header

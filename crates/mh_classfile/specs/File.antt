@@ -23,9 +23,9 @@ magic_number = 0xCAFEBABE
 abbrev pub oldest_major : ℕ
 oldest_major = 45
 
--- the major version of the class files of Java SE 17
+-- the major version of the newest class files that are read, of Java SE 21
 abbrev pub newest_major : ℕ
-newest_major = 61
+newest_major = 65
 
 -- magic, minor version, a major version from the oldest to the newest, and the count of the pool, which is not 0
 unfoldable pub header : ClassPart ℕ

@@ -25,8 +25,8 @@ const MAGIC: u32 = 0xCAFE_BABE;
 /// The major version of the oldest class files, of JDK 1.1 (4.1, table 4.1-A).
 const OLDEST_MAJOR: u16 = 45;
 
-/// The major version of the class files of Java SE 17.
-const NEWEST_MAJOR: u16 = 61;
+/// The major version of the newest class files that are read, of Java SE 21.
+const NEWEST_MAJOR: u16 = 65;
 
 /// Magic and versions, and the count of the pool.
 #[tactic(auto, unfolding(crate::specs::File::header))]

@@ -66,6 +66,8 @@ impl Inputs for GeneratedFiles {
 
     ghost reached = { λ _ _. 0 };
 
+    ghost starts = { λ _. 0 };
+
     fn read(&mut self, name: &str, at: u64, buf: &mut [u8]) -> Result<usize, Failed> {
         Ok(copy_from(self.bytes(name), at, buf))
     }

@@ -1,5 +1,6 @@
 pub mod Arguments
 pub mod Bootstraps
+pub mod Entries
 pub mod Host
 pub mod Numbering
 pub mod OfClasses

@@ -1,3 +1,4 @@
+pub mod Entries
 pub mod Given
 pub mod Job
 pub mod Jobs

@@ -1,15 +1,17 @@
-ghost use Rattle.std.specs.Prelude.{◌≡◌, ◌<◌, length, slice_get, Some, IfSome};
+ghost use Rattle.std.specs.Prelude.{◌≡◌, ◌<◌, length};
 ghost use Rattle.mh_jobs.specs.Job.{arguments_of, bootstrap_call, bootstrap_script, call_of, constants_at, site_type};
+ghost use Rattle.mh_jobs.specs.Entries.{AreEntries};
 ghost use Rattle.mh_jobs.specs.Told.{TellsResolved};
 
-use crate::argument::{argument_of, text_of};
+use crate::argument::text_of;
 use crate::error::ResolutionError;
 use crate::names::script_of;
+use crate::statics::{Entries, shared_arguments};
 use crate::thrown::unsupported;
 use crate::types::TypeOrThrown;
 use crate::{Argument, BootstrapCall};
-use mh_base::{Copied, Seq, Shared};
-use mh_classfile::{ClassView, Constant, HandleRef, SiteView};
+use mh_base::{Copied, Frozen, Shared};
+use mh_classfile::{ClassView, HandleRef, SiteView};
 use mh_leaves::Leaves;
 use mh_script::{ScriptId, Scripts};
 use mh_values::MethodTy;
@@ -21,43 +23,22 @@ pub(crate) struct Resolving<'a, 'b> {
     pub view: &'a ClassView<'b>,
     pub scripts: &'a Scripts,
     pub leaves: &'a Leaves,
-}
-
-/// The number of static arguments of a bootstrap method.
-fn count(view: &ClassView<'_>, bootstrap: u16) -> u16
-    requires { bootstrap < length view.now.bootstraps }
-    ensures { result ≡ length (constants_at view.now bootstrap) }
-{
-    view.arguments(bootstrap)
-}
-
-/// A static argument of a bootstrap method.
-fn constant<'b>(view: &ClassView<'b>, bootstrap: u16, k: u16) -> Constant<'b>
-    requires bootstrap { bootstrap < length view.now.bootstraps }
-    requires argument { k < length (constants_at view.now bootstrap) }
-    ensures { slice_get (constants_at view.now bootstrap) k ≡ Some result }
-{
-    view.argument(bootstrap, k)
+    /// The static arguments of the class's bootstrap methods.
+    pub entries: &'a Entries,
 }
 
 /// The static arguments of a bootstrap method.
-#[tactic(auto, using(crate::proofs::Arguments::reading))]
-fn arguments_of(
+fn arguments_at(
     alloc: Global,
     from: &Resolving<'_, '_>,
     bootstrap: u16,
-) -> Result<Seq<Argument>, ResolutionError>
-    requires { bootstrap < length from.now.view.now.bootstraps }
+) -> Result<Frozen<Argument>, ResolutionError>
+    requires entries { AreEntries from.now.leaves.now from.now.view.now from.now.entries.now }
+    requires bootstrap { bootstrap < length from.now.view.now.bootstraps }
     ensures { TellsResolved result (arguments_of from.now.leaves.now
         (constants_at from.now.view.now bootstrap)) }
 {
-    let mut arguments = Seq::new(alloc);
-    for k in 0..count(from.view, bootstrap) {
-        let constant = constant(from.view, bootstrap, k);
-        let argument = argument_of(alloc, from.leaves, &constant)?;
-        arguments.push(argument)?;
-    }
-    Ok(arguments)
+    shared_arguments(alloc, from.entries.get(bootstrap as usize))
 }
 
 /// The script that a bootstrap method's handle names.
@@ -93,6 +74,7 @@ fn call_of(
     ty: &TypeOrThrown,
     handle: &HandleRef<'_>,
 ) -> Result<BootstrapCall, ResolutionError>
+    requires entries { AreEntries from.now.leaves.now from.now.view.now from.now.entries.now }
     requires ty { ty.now ≡ site_type from.now.leaves.now.classes site.now }
     requires bootstrap { site.now.bootstrap < length from.now.view.now.bootstraps }
     ensures { TellsResolved result (call_of from.now.leaves.now from.now.scripts.now site.now
@@ -101,7 +83,7 @@ fn call_of(
     let script = bootstrap_script(alloc, from, handle)?;
     let ty = shared(alloc, ty)?;
     let name = text_of(alloc, &site.name)?;
-    let arguments = arguments_of(alloc, from, site.bootstrap)?;
+    let arguments = arguments_at(alloc, from, site.bootstrap)?;
     Ok(BootstrapCall {
         script,
         name,
@@ -117,7 +99,8 @@ pub(crate) fn bootstrap_call(
     site: &SiteView<'_>,
     ty: &TypeOrThrown,
 ) -> Result<BootstrapCall, ResolutionError>
-    requires { ty.now ≡ site_type from.now.leaves.now.classes site.now }
+    requires entries { AreEntries from.now.leaves.now from.now.view.now from.now.entries.now }
+    requires ty { ty.now ≡ site_type from.now.leaves.now.classes site.now }
     ensures { TellsResolved result (bootstrap_call from.now.leaves.now from.now.scripts.now
         from.now.view.now site.now) }
 {

@@ -1,11 +1,13 @@
 ghost use Rattle.std.specs.Prelude.{◌≡◌, ◌<◌, length, Some, IfOk};
 ghost use Rattle.std.specs.Option.{option_copied};
+ghost use Rattle.mh_jobs.specs.Entries.{AreEntries};
 ghost use Rattle.mh_jobs.specs.Job.{bootstrap_call, job_of, site_job, site_type};
 
 use crate::call::{Resolving, bootstrap_call};
 use crate::error::ResolutionError;
+use crate::statics::entries_of;
 use crate::types::{TypeOrThrown, read_type};
-use mh_base::{NoMemory, Seq, Shared};
+use mh_base::{Frozen, NoMemory, Shared};
 use mh_classfile::{ClassView, SiteView};
 use mh_leaves::Leaves;
 use mh_script::{ScriptId, Scripts};
@@ -24,13 +26,13 @@ pub enum Argument {
 }
 
 /// What a bootstrap method is called with: its script, the name and the type of the call site, and
-/// the static arguments.
+/// the static arguments, which all call sites of the bootstrap method share.
 #[derive(Debug, Drop)]
 pub struct BootstrapCall {
     pub script: ScriptId,
     pub name: Str,
     pub ty: Shared<MethodTy>,
-    pub arguments: Seq<Argument>,
+    pub arguments: Frozen<Argument>,
 }
 
 /// A call site of a run, resolved as far as it can be.
@@ -71,7 +73,8 @@ fn call_or_thrown(
     site: &SiteView<'_>,
     ty: &TypeOrThrown,
 ) -> Result<Result<BootstrapCall, Exc>, NoMemory>
-    requires { ty.now ≡ site_type from.now.leaves.now.classes site.now }
+    requires entries { AreEntries from.now.leaves.now from.now.view.now from.now.entries.now }
+    requires ty { ty.now ≡ site_type from.now.leaves.now.classes site.now }
     ensures { IfOk result (λ call. call ≡ bootstrap_call from.now.leaves.now from.now.scripts.now
         from.now.view.now site.now) }
 {
@@ -90,7 +93,8 @@ pub(crate) fn site_job(
     site: &SiteView<'_>,
     ty: TypeOrThrown,
 ) -> Result<Job, NoMemory>
-    requires { ty ≡ site_type from.now.leaves.now.classes site.now }
+    requires entries { AreEntries from.now.leaves.now from.now.view.now from.now.entries.now }
+    requires ty { ty ≡ site_type from.now.leaves.now.classes site.now }
     ensures { IfOk result (λ made. made ≡ site_job from.now.leaves.now from.now.scripts.now
         from.now.view.now number site.now) }
 {
@@ -121,10 +125,12 @@ pub fn job_of(
     requires { k < length view.now.sites }
     ensures { IfOk result (λ made. job_of leaves.now scripts.now view.now k site ≡ Some made) }
 {
+    let entries = entries_of(alloc, view, leaves)?;
     let from = Resolving {
         view,
         scripts,
         leaves,
+        entries: &entries,
     };
     let at = view.site(k);
     let ty = read_type(alloc, leaves.classes(), at.descriptor.bytes())?;

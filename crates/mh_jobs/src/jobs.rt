@@ -5,6 +5,7 @@ ghost use Rattle.mh_jobs.specs.Jobs.{jobs_of, with_class};
 use crate::Job;
 use crate::call::Resolving;
 use crate::job::site_job;
+use crate::statics::entries_of;
 use crate::types::{no_types, read_once};
 use mh_base::{NoMemory, Seq};
 use mh_classfile::ClassView;
@@ -74,7 +75,8 @@ impl Jobs {
 }
 
 /// These jobs and those of the call sites of one more class, numbered on. A call site that no `u32`
-/// can number is want of memory. Equal descriptors of the class are read once.
+/// can number is want of memory. Equal descriptors of the class
+/// are read once, and so are the static arguments of each bootstrap method.
 #[tactic(auto, using(crate::proofs::Numbering::all_made, crate::proofs::Numbering::more_classes))]
 pub fn push_jobs(
     alloc: Global,
@@ -89,10 +91,12 @@ pub fn push_jobs(
     ensures run { (classes : List Class) → jobs ≡ jobs_of leaves.now scripts.now classes
         → IfOk result (λ all. all ≡ jobs_of leaves.now scripts.now (classes ++ view.now ∷ [])) }
 {
+    let entries = entries_of(alloc, view, leaves)?;
     let from = Resolving {
         view,
         scripts,
         leaves,
+        entries: &entries,
     };
     let mut all = jobs;
     let mut types = no_types(alloc);

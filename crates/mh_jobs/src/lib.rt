@@ -8,6 +8,7 @@ mod job;
 mod jobs;
 mod names;
 mod run;
+mod statics;
 mod thrown;
 mod types;
 
