@@ -11,7 +11,6 @@ use Rattle.mh_handle.specs.declared.error.HandleError.{HandleError}
 use Rattle.mh_handle.specs.declared.handle.Handle.{Handle}
 use Rattle.mh_handle.specs.declared.work.Work.{Work}
 use Rattle.mh_handle.specs.Recipe.{recipe}
-use Rattle.mh_handle.specs.Stands.{Stands}
 use Rattle.mh_handle.specs.Works.{Makes}
 use Rattle.mh_attempt.specs.declared.handle.HandleOperand.{HandleOperand}
 use Rattle.mh_attempt.specs.declared.handle.HandleOperand.TheVariants as operand
@@ -79,30 +78,3 @@ asks-nodes operands nodes old mid new r same first asks =
     subst (λ rs. AsksIfMade rs old new r) (made-then old.leaves.now operands all)
     (asks-then (recipes_made old.leaves.now operands []) (map (recipe old.leaves.now) all) old mid new r first
     (subst (λ leaves. AsksIfMade (map (recipe leaves) (nodes leaves)) mid new r) (ap (λ l. l.now) same) asks))
-
--- a node of what stands for one tree, two trees or three
-pub asks-one : (operands : List HandleOperand) (old mid new : Work) (t node : Tree) (h : Handle) (r : Result Handle HandleError) →
-    mid.leaves ≡ old.leaves → HasAskedMore (recipes_made old.leaves.now operands []) old.pass.now mid.pass.now → Stands old.leaves.now h t →
-    (Stands mid.leaves.now h t → Makes (recipe mid.leaves.now node) mid new r) → AsksIfMade (recipes_made old.leaves.now operands (node ∷ [])) old new r
-asks-one operands old mid new t node h r same first stands makes =
-    let now = ap (λ l. l.now) (sym same) in
-    asks-nodes operands (λ leaves. node ∷ []) old mid new r same first
-    (asks-made (recipe mid.leaves.now node) mid new r (makes (subst (λ l. Stands l h t) now stands)))
-
-pub asks-two : (operands : List HandleOperand) (old mid new : Work) (t p node : Tree) (h k : Handle) (r : Result Handle HandleError) →
-    mid.leaves ≡ old.leaves → HasAskedMore (recipes_made old.leaves.now operands []) old.pass.now mid.pass.now → Stands old.leaves.now h t →
-    Stands old.leaves.now k p → (Stands mid.leaves.now h t → Stands mid.leaves.now k p → Makes (recipe mid.leaves.now node) mid new r) →
-    AsksIfMade (recipes_made old.leaves.now operands (node ∷ [])) old new r
-asks-two operands old mid new t p node h k r same first stands others makes =
-    let now = ap (λ l. l.now) (sym same) in
-    asks-one operands old mid new t node h r same first stands (λ there. makes there (subst (λ l. Stands l k p) now others))
-
-pub asks-three : (operands : List HandleOperand) (old mid new : Work) (c t e node : Tree) (f h k : Handle) (r : Result Handle HandleError) →
-    mid.leaves ≡ old.leaves → HasAskedMore (recipes_made old.leaves.now operands []) old.pass.now mid.pass.now → Stands old.leaves.now f c →
-    Stands old.leaves.now h t → Stands old.leaves.now k e →
-    (Stands mid.leaves.now f c → Stands mid.leaves.now h t → Stands mid.leaves.now k e → Makes (recipe mid.leaves.now node) mid new r) →
-    AsksIfMade (recipes_made old.leaves.now operands (node ∷ [])) old new r
-asks-three operands old mid new c t e node f h k r same first tests stands others makes =
-    let now = ap (λ l. l.now) (sym same) in
-    asks-two operands old mid new c t node f h r same first tests stands
-    (λ there here. makes there here (subst (λ l. Stands l k e) now others))

@@ -1,5 +1,5 @@
 -- What the lines of operations leave of a pass, by the nodes whose forms they ask for.
-use Rattle.std.proofs.Common.{◌≡◌, sym, ◌∙◌, ap, ap₂, subst, ℕ, List, [], ◌∷◌, ◌++◌, append-nil, map, flat_map, Result, Ok, Err}
+use Rattle.std.proofs.Common.{◌≡◌, sym, ◌∙◌, ap, subst, List, [], ◌∷◌, ◌++◌, append-nil, map, flat_map, Result, Ok, Err}
 use Rattle.std.specs.Prelude.{IsErrAnd}
 use Rattle.mh_base.proofs.Inversion.{ok_is}
 use Rattle.mh_leaf.specs.LeafTable.{LeafTable}
@@ -14,18 +14,15 @@ use Rattle.mh_handle.specs.Errors.{of_check}
 use Rattle.mh_handle.specs.Recipe.{recipe}
 use Rattle.mh_jobs.specs.Thrown.{OrThrown, ◌>>=◌}
 use Rattle.mh_jobs.proofs.Parts.{bound-parts}
-use Rattle.mh_script.specs.declared.operand.MethodTypeOperand.{MethodTypeOperand}
 use Rattle.mh_script.specs.declared.operand.Register.{Register}
-use Rattle.mh_script.specs.declared.operand.TypeOperand.{TypeOperand}
 use Rattle.mh_script.specs.declared.script.Operation.{Operation}
-use Rattle.mh_script.specs.declared.script.Operation.TheVariants as operation
 use Rattle.mh_link.specs.Made.{handles_of, node_of_use, nodes_of_uses, unless_thrown}
-use Rattle.mh_link.specs.Operands.{Frame, handle_in}
+use Rattle.mh_link.specs.Operands.{Frame}
 use Rattle.mh_link.specs.Operations.{node_of}
 use Rattle.mh_attempt.specs.declared.handle.HandleOperand.{HandleOperand}
 use Rattle.mh_attempt.specs.Asked.{AsksIfMade, AsksOrThrows, HasAskedMore, HasStoppedAt, HasNoNumber}
 use Rattle.mh_attempt.specs.Lines.{MakesNode, typed}
-use Rattle.mh_attempt.specs.Recipes.{asked_itself, line_recipes, recipes_made, spread_asked, use_asked}
+use Rattle.mh_attempt.specs.Recipes.{asked_itself, line_recipes, recipes_made}
 use Rattle.mh_attempt.specs.Registers.{node_made}
 use Rattle.mh_attempt.proofs.AskedNodes.{asks-refused, asks-still}
 
@@ -73,35 +70,11 @@ module _ (leaves : LeafTable) (frame : Frame) (op : Operation) (old new : Work) 
       subst (λ uses. AsksIfMade (map (recipe leaves) (uses ++ asked_itself leaves frame op n)) old new r) same
       (asks n (subst (λ t. m ≡ Ok t) (ok_is found.0 n own.2) found.1)))
 
--- ---- nodes that an operation makes itself
-
--- a use of the operand
-pub use-itself : (leaves : LeafTable) (frame : Frame) (h : Register) (ty : MethodTypeOperand) (operands : List HandleOperand) (old new : Work)
-    (r : Result Handle HandleError) (t u : Tree) → handle_in frame h ≡ Ok t → AsksIfMade (recipes_made leaves operands (use_asked leaves t u)) old new r →
-    AsksIfMade (recipes_made leaves operands (asked_itself leaves frame (operation.AsType h ty) u)) old new r
-use-itself leaves frame h ty operands old new r t u held asks =
-    subst (λ m. AsksIfMade (recipes_made leaves operands (unless_thrown m (λ v. use_asked leaves v u))) old new r) (sym held) asks
-
--- a spread of the operand
-pub spread-itself : (leaves : LeafTable) (frame : Frame) (h : Register) (ty : TypeOperand) (count : ℕ) (operands : List HandleOperand) (old new : Work)
-    (r : Result Handle HandleError) (t s : Tree) → handle_in frame h ≡ Ok t → AsksIfMade (recipes_made leaves operands (spread_asked leaves t s)) old new r →
-    AsksIfMade (recipes_made leaves operands (asked_itself leaves frame (operation.Spread h ty count) s)) old new r
-spread-itself leaves frame h ty count operands old new r t s held asks =
-    subst (λ m. AsksIfMade (recipes_made leaves operands (unless_thrown m (λ v. spread_asked leaves v s))) old new r) (sym held) asks
-
 -- ---- uses of operands
 
 pub one-use : (frame : Frame) (a : HandleOperand) (h : Register) → node_made a ≡ node_of_use frame h →
     flat_map node_made (a ∷ []) ≡ nodes_of_uses frame (h ∷ [])
 one-use frame a h first = ap (λ ts. ts ++ []) first
-
-pub two-uses : (frame : Frame) (a b : HandleOperand) (h k : Register) → node_made a ≡ node_of_use frame h → node_made b ≡ node_of_use frame k →
-    flat_map node_made (a ∷ b ∷ []) ≡ nodes_of_uses frame (h ∷ k ∷ [])
-two-uses frame a b h k first second = ap₂ (λ ts us. ts ++ us) first (one-use frame b k second)
-
-pub three-uses : (frame : Frame) (a b c : HandleOperand) (h k l : Register) → node_made a ≡ node_of_use frame h → node_made b ≡ node_of_use frame k →
-    node_made c ≡ node_of_use frame l → flat_map node_made (a ∷ b ∷ c ∷ []) ≡ nodes_of_uses frame (h ∷ k ∷ l ∷ [])
-three-uses frame a b c h k l first second third = ap₂ (λ ts us. ts ++ us) first (two-uses frame b c k l second third)
 
 -- what is asked for by one use, and nothing more
 pub alone-asks : (leaves : LeafTable) (frame : Frame) (o : HandleOperand) (h : Register) (old new : Work) (r : Result Handle HandleError) →

@@ -1,5 +1,5 @@
 -- Which types are asked for, by what is answered.
-use Rattle.std.proofs.Common.{◌≡◌, sym, subst, ℕ, ◌+◌, arith, List, [], ◌++◌, Result, Ok, Err}
+use Rattle.std.proofs.Common.{◌≡◌, sym, subst, ℕ, arith, List, [], ◌++◌, Result, Ok, Err}
 use Rattle.std.specs.Prelude.{IsErrAnd}
 use Rattle.mh_values.specs.declared.types.MethodTy.{MethodTy}
 use Rattle.mh_intern.specs.Exchanges.{Exchanges}

@@ -7,7 +7,6 @@ pub mod AskedNodes
 pub mod AskedOperands
 pub mod AskedOperations
 pub mod AskedUses
-pub mod Asking
 pub mod AskingRuns
 pub mod TypeLists
 pub mod AskingTypes
@@ -23,7 +22,6 @@ pub mod KnownNodes
 pub mod KnownSteps
 pub mod LineNodes
 pub mod OperandTypes
-pub mod NodeTypes
 pub mod UseTypes
 pub mod LineTypes
 pub mod MadeOperations
@@ -36,13 +34,14 @@ pub mod RegisterContents
 pub mod AssignedHolds
 pub mod RegisterTypes
 pub mod Replacing
-pub mod Rules
 pub mod MadeNodes
 pub mod RunCalls
 pub mod RunFails
 pub mod RunEnds
 pub mod RunLines
 pub mod NextLine
+pub mod NodeOperands
+pub mod NodeRules
 pub mod RunRegisters
 pub mod RoomyRegisters
 pub mod FailedSteps

@@ -14,7 +14,7 @@ use Rattle.mh_handle.specs.declared.error.HandleError.{HandleError}
 use Rattle.mh_handle.specs.declared.handle.Handle.{Handle}
 use Rattle.mh_handle.specs.declared.work.Work.{Work}
 use Rattle.mh_handle.specs.Works.{TradesTypes, types_in}
-use Rattle.mh_jobs.specs.Thrown.{OrThrown}
+use Rattle.mh_jobs.specs.Thrown.{OrThrown, ◌>>=◌}
 use Rattle.mh_link.specs.Made.{nodes_of, types_of, unless_thrown}
 use Rattle.mh_attempt.specs.declared.handle.HandleOperand.{HandleOperand}
 use Rattle.mh_attempt.specs.declared.handle.HandleOperand.TheVariants as operand
@@ -102,13 +102,6 @@ types-unmade_node A leaves operands node n old new error r given is asked =
     subst (λ ts. AsksTypesOrThrows ts old new r) (made-node leaves operands node n given)
     (types-more first (first ++ more) old new r (within-first first more) (types-handed A first old new error r is asked))
 
--- the same of a tree that has a type
-pub types-unmade : (A : Type 0) {B : Type 0} (leaves : LeafTable) (operands : List HandleOperand) (n : Tree) (own : MethodTy) (old new : Work)
-    (error : HandleError) (r : Result B HandleError) → type_of leaves n ≡ Ok own → IsErrAnd r (λ x. x ≡ error) →
-    AsksTypesOrThrows {A = A} (types_made leaves operands []) old new (Err error) → AsksTypesOrThrows (node_types leaves operands (typed leaves n)) old new r
-types-unmade A leaves operands n own old new error r is wrong asked =
-    types-unmade_node A leaves operands (typed leaves n) n old new error r (typed-is leaves n own is) wrong asked
-
 -- they were made, and then nodes of them
 pub types-nodes : (operands : List HandleOperand) (node : OrThrown Tree) (n : Tree) (asks : List MethodTy) (gone : List HoldView) (old mid new : Work)
     (r : Result Handle HandleError) → node ≡ Ok n → IsWithin asks (types_of old.leaves.now (nodes_of n)) →
@@ -130,3 +123,16 @@ types-row operands n own row gone old mid new r alone is by first x =
     types-nodes operands (typed leaves n) n (types_in row) gone old mid new r (typed-is leaves n own is)
     (within-equal (types_in row) (types_of leaves (nodes_of n))
     (ap types_in (sym by) ∙ tree-types leaves n ∙ ap (types_of leaves) (sym alone))) first x
+
+-- a node of no operand
+pub types-root : (old new : Work) (n : Tree) (r : Result Handle HandleError) → nodes_of n ≡ n ∷ [] →
+    TradesTypes (types_in (type_of old.leaves.now n)) [] old new r → AsksTypesOrThrows (node_types old.leaves.now [] (typed old.leaves.now n)) old new r
+types-root old new n r alone x =
+    subst (λ ts. AsksTypesOrThrows ts old new r) (of-rule (type_of leaves n) refl) (types-traded (types_in (type_of leaves n)) [] old new r x)
+  where
+    leaves : LeafTable
+    leaves = old.leaves.now
+
+    of-rule : (m : TypeOrRefusal) → type_of leaves n ≡ m → types_in m ≡ types_of leaves (unless_thrown (m >>= (λ (o : MethodTy). Ok n)) nodes_of)
+    of-rule (Ok own) is = ap types_in (sym is) ∙ tree-types leaves n ∙ ap (types_of leaves) (sym alone)
+    of-rule (Err e) is = refl

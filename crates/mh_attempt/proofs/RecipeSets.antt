@@ -1,5 +1,5 @@
 -- Lists of recipes as sets.
-use Rattle.std.proofs.Common.{◌≡◌, sym, ◌∙◌, ap, true, false, List, [], ◌∷◌, ◌++◌, ◌⊎◌, ⊎_elim}
+use Rattle.std.proofs.Common.{◌≡◌, sym, ◌∙◌, ap, true, false, List, [], ◌∷◌, ◌++◌, ⊎_elim}
 use Rattle.std.proofs.lemmas.List.Folds.{list_any-append}
 use Rattle.std.proofs.lemmas.Bool.{or_left, or_right, or_cases}
 use Rattle.mh_base.proofs.Tests.{same_tests}

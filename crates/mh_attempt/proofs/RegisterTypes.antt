@@ -1,6 +1,6 @@
 -- Which types registers hold after an assignment, and all at once.
 use denote.Ref.{Bor}
-use Rattle.std.proofs.Common.{◌≡◌, sym, ◌∙◌, ap, subst, arith, ℕ, ◌+◌, List, [], ◌∷◌, ◌++◌, append-nil, length, length-append, None, Some}
+use Rattle.std.proofs.Common.{◌≡◌, sym, ◌∙◌, ap, subst, arith, ℕ, List, [], ◌∷◌, ◌++◌, append-nil, length, length-append, None, Some}
 use Rattle.std.proofs.lemmas.Grind.{flat_map-append}
 use Rattle.mh_intern.specs.Exchanges.{AreHeld, AreOf, Exchanges}
 use Rattle.mh_intern.specs.Views.{HoldView, SeatView}

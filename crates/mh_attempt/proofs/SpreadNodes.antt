@@ -1,15 +1,11 @@
 -- The node of a handle whose last arguments come in an array.
-use Rattle.std.proofs.Common.{◌≡◌, sym, ap, subst, ◌∙◌, ℕ, Bool, ◌&&◌, List, length, Option, Result, Ok, Err, IfOk, codes, nat_le}
+use Rattle.std.proofs.Common.{◌≡◌, sym, ap, subst, ◌∙◌, ℕ, Bool, ◌&&◌, List, length, Option, Result, Ok, IfOk, codes, nat_le}
 use Rattle.std.specs.Prelude.{is_some}
-use Rattle.mh_base.proofs.Inversion.{ok_is, err_is}
+use Rattle.mh_base.proofs.Inversion.{ok_is}
 use Rattle.mh_values.specs.declared.class.Class.{Class}
 use Rattle.mh_values.specs.declared.types.Ty.{Ty}
 use Rattle.mh_values.specs.declared.types.MethodTy.{MethodTy}
-use Rattle.mh_values.specs.declared.value.Exc.{Exc}
 use Rattle.mh_leaf.specs.LeafTable.{LeafTable}
-use Rattle.mh_tree.specs.declared.error.CheckError.{CheckError}
-use Rattle.mh_tree.specs.declared.error.CheckError.TheVariants.{NoMemory, Refused}
-use Rattle.mh_tree.specs.Check.{TellsRow}
 use Rattle.mh_tree.specs.Rows.{TypeOrRefusal, component_of, illegal}
 use Rattle.mh_tree.specs.Tree.{Tree, weight}
 use Rattle.mh_tree.specs.Tree as tree
@@ -18,22 +14,14 @@ use Rattle.mh_tree.specs.Use.{items_used_as, spread_use_row}
 use Rattle.mh_handle.specs.declared.error.HandleError.{HandleError}
 use Rattle.mh_handle.specs.declared.handle.Handle.{Handle}
 use Rattle.mh_handle.specs.declared.work.Work.{Work}
-use Rattle.mh_handle.specs.Errors.{of_check}
 use Rattle.mh_handle.specs.Obeys.{Obeys}
 use Rattle.mh_handle.specs.Stands.{Stands}
-use Rattle.mh_handle.proofs.Going.{unchanged-still}
 use Rattle.mh_jobs.specs.Thrown.{OrThrown, ◌>>=◌, ◌>>◌, require}
 use Rattle.mh_jobs.proofs.Parts.{bound-parts, require-parts}
 use Rattle.mh_attempt.specs.Lines.{MakesNode, typed}
 use Rattle.mh_link.specs.Operations.{spread_of}
-use Rattle.mh_attempt.specs.Uses.{typed_spread}
 use Rattle.mh_attempt.proofs.LineNodes.{made-node, same-node}
 use Rattle.mh_link.proofs.Uses.{spread_of-type}
-
--- what is thrown in the place of the type is thrown in the place of the tree
-thrown-typed : (leaves : LeafTable) (m : OrThrown Tree) (e : Exc) → (m >>= type_of leaves) ≡ Err e → (m >>= typed leaves) ≡ Err e
-thrown-typed leaves (Ok u) e h = ap (λ m. m >>= (λ (o : MethodTy). Ok u)) h
-thrown-typed leaves (Err x) e h = ap (λ y. Err y) (err_is x e h)
 
 module _ (leaves : LeafTable) (t : Tree) (own : MethodTy) (array : Option Ty) (count : ℕ) (typed-as : type_of leaves t ≡ Ok own) where
   -- what the rule says of types and weights
@@ -57,20 +45,12 @@ module _ (leaves : LeafTable) (t : Tree) (own : MethodTy) (array : Option Ty) (c
       let same = ok_is spread found.0 is.1 in
       (subst (λ u. spread_of leaves t array count ≡ Ok u) (sym same) found.1, subst (λ u. type_of leaves u ≡ Ok ty) (sym same) found.2)
 
--- a spread that the rule refuses
-pub refused-spread : (w : Work) (t : Tree) (array : Option Ty) (count : ℕ) (row : TypeOrRefusal) (error : CheckError) →
-    (spread_of w.leaves.now t array count >>= type_of w.leaves.now) ≡ row → TellsRow (Err error) row →
-    MakesNode (typed_spread w.leaves.now t array count) w w (Err (of_check error))
-refused-spread w t array count row NoMemory is tells = tt
-refused-spread w t array count row (Refused e) is tells =
-    (thrown-typed w.leaves.now (spread_of w.leaves.now t array count) e (is ∙ tells), unchanged-still w)
-
 -- the handle that a spread makes
 pub node-of-spread : (old mid new : Work) (t : Tree) (h : Handle) (array : Option Ty) (count : ℕ) (ty : MethodTy) (r : Result Handle HandleError) →
     mid.leaves ≡ old.leaves → Stands old.leaves.now h t → (spread_of old.leaves.now t array count >>= type_of old.leaves.now) ≡ Ok ty →
     Obeys (spread_use_row mid.leaves.now.classes h.ty h.weight array count) r →
     (Stands mid.leaves.now h t → IfOk r (λ x. Stands mid.leaves.now x (tree.Spread (items_used_as h.ty array count t) array count))) →
-    MakesNode (typed_spread old.leaves.now t array count) old new r
+    MakesNode (spread_of old.leaves.now t array count >>= typed old.leaves.now) old new r
 node-of-spread old mid new t h array count ty r same stands checked obeys made =
     let leaves = old.leaves.now in
     let is = spread-is leaves t h.ty array count stands.typed ty checked in

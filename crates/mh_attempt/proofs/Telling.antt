@@ -7,7 +7,7 @@ use Rattle.mh_values.specs.Descriptor.{TellsType}
 use Rattle.mh_tree.specs.declared.error.CheckError.{CheckError}
 use Rattle.mh_tree.specs.declared.error.CheckError.TheVariants.{NoMemory, Refused}
 use Rattle.mh_jobs.specs.Names.{meaning}
-use Rattle.mh_jobs.specs.Thrown.{OrThrown, Says, ◌>>=◌, no_type}
+use Rattle.mh_jobs.specs.Thrown.{OrThrown, Says, no_type}
 use Rattle.mh_attempt.specs.Told.{Tells, TellsBy, Throws}
 
 -- ---- what is thrown

@@ -1,5 +1,5 @@
 -- Lists of types that are within others.
-use Rattle.std.proofs.Common.{◌≡◌, subst, ◌+◌, ◌≤◌, arith, List, [], ◌++◌}
+use Rattle.std.proofs.Common.{◌≡◌, subst, ◌≤◌, arith, List, [], ◌++◌}
 use Rattle.mh_values.specs.declared.types.MethodTy.{MethodTy}
 use Rattle.mh_intern.specs.Held.{times_type}
 use Rattle.mh_intern.proofs.Measures.{times_type-append}

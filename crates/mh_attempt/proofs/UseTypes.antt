@@ -24,11 +24,10 @@ use Rattle.mh_astype.specs.Use.{used_types}
 use Rattle.mh_branch.specs.Spreading.{spread_types}
 use Rattle.mh_jobs.specs.Thrown.{◌>>=◌}
 use Rattle.mh_link.specs.Made.{nodes_of, types_of}
-use Rattle.mh_link.specs.Operations.{spread_of}
+use Rattle.mh_link.specs.Operations.{spread_of, use_of}
 use Rattle.mh_attempt.specs.declared.handle.HandleOperand.{HandleOperand}
 use Rattle.mh_attempt.specs.AskedTypes.{AsksNoOther, AsksTypesOrThrows, node_types, types_made}
 use Rattle.mh_attempt.specs.Lines.{typed}
-use Rattle.mh_attempt.specs.Uses.{typed_spread, typed_use}
 use Rattle.mh_attempt.proofs.TypeLists.{IsWithin, within-both, within-equal, within-none}
 use Rattle.mh_attempt.proofs.LineNodes.{typed-is}
 use Rattle.mh_attempt.proofs.SpreadNodes.{spread-is, spread-rule}
@@ -83,25 +82,26 @@ module _ (operands : List HandleOperand) (old mid new : Work) (t : Tree) (h : Ha
   -- a use of what stands for a tree
   pub types-use : (own asked used : MethodTy) → type_of old.leaves.now t ≡ Ok own → type_of old.leaves.now (used_as own asked t) ≡ Ok used →
       TradesTypes (used_types mid.leaves.now.classes h.ty h.weight asked) gone mid new r →
-      AsksTypesOrThrows (node_types old.leaves.now operands (typed_use old.leaves.now t asked)) old new r
+      AsksTypesOrThrows (node_types old.leaves.now operands (use_of old.leaves.now t asked >>= typed old.leaves.now)) old new r
   types-use own asked used typed-as is x =
       let leaves = old.leaves.now in
       let u = used_as h.ty asked t in
       let same-type = ok_is own h.ty (sym typed-as ∙ stands.typed) in
-      types-nodes operands (typed_use leaves t asked) u (used_types mid.leaves.now.classes h.ty h.weight asked) gone old mid new r
+      types-nodes operands (use_of leaves t asked >>= typed leaves) u (used_types mid.leaves.now.classes h.ty h.weight asked) gone old mid new r
       (use-is leaves t h.ty asked stands.typed ∙ typed-is leaves u used (subst (λ o. type_of leaves (used_as o asked t) ≡ Ok used) same-type is))
       (within-use leaves t h.ty mid.leaves.now.classes h.weight (ap (λ l. l.now.classes) same) stands.typed stands.weighed nodes_of (λ a. refl) asked) first x
 
   -- a spread of it
   pub types-spread : (array : Option Ty) (count : ℕ) (ty : MethodTy) → (spread_of old.leaves.now t array count >>= type_of old.leaves.now) ≡ Ok ty →
       TradesTypes (spread_types mid.leaves.now.classes h.ty h.weight array count) gone mid new r →
-      AsksTypesOrThrows (node_types old.leaves.now operands (typed_spread old.leaves.now t array count)) old new r
+      AsksTypesOrThrows (node_types old.leaves.now operands (spread_of old.leaves.now t array count >>= typed old.leaves.now)) old new r
   types-spread array count ty checked x =
       let leaves = old.leaves.now in
       let now = ap (λ l. l.now.classes) same in
       let s = tree.Spread (items_used_as h.ty array count t) array count in
       let is = spread-is leaves t h.ty array count stands.typed ty checked in
       let rule = spread-rule leaves t h.ty array count stands.typed mid.leaves.now.classes h.weight now stands.weighed in
-      types-nodes operands (typed_spread leaves t array count) s (spread_types mid.leaves.now.classes h.ty h.weight array count) gone old mid new r
+      types-nodes operands (spread_of leaves t array count >>= typed leaves) s (spread_types mid.leaves.now.classes h.ty h.weight array count) gone
+      old mid new r
       (ap (λ m. m >>= typed leaves) is.0 ∙ typed-is leaves s ty is.1)
       (within-spread leaves t h.ty mid.leaves.now.classes h.weight now stands.typed stands.weighed array count (is.1 ∙ sym checked ∙ rule)) first x

@@ -20,9 +20,12 @@ use Rattle.mh_link.specs.Operations.{use_of}
 use Rattle.mh_attempt.proofs.LineNodes.{made-node, same-node}
 
 -- a use is that of a tree whose type is known
+pub use-given : (leaves : LeafTable) (t : Tree) (own asked : MethodTy) → type_of leaves t ≡ Ok own → use_of leaves t asked ≡ Ok (used_as own asked t)
+use-given leaves t own asked h = ap (λ (m : TypeOrRefusal). m >>= (λ o. Ok (used_as o asked t))) h
+
 pub use-is : (leaves : LeafTable) (t : Tree) (own asked : MethodTy) → type_of leaves t ≡ Ok own →
     (use_of leaves t asked >>= typed leaves) ≡ typed leaves (used_as own asked t)
-use-is leaves t own asked h = ap (λ (m : TypeOrRefusal). (m >>= (λ o. Ok (used_as o asked t))) >>= typed leaves) h
+use-is leaves t own asked h = ap (λ m. m >>= typed leaves) (use-given leaves t own asked h)
 
 -- the type of a use is what the rule says of types and weights
 pub use-rule : (leaves : LeafTable) (classes : List Class) (t : Tree) (own asked : MethodTy) (n : ℕ) → classes ≡ leaves.classes → type_of leaves t ≡ Ok own →

@@ -3,10 +3,10 @@ pub mod AskedTypes
 pub mod Errors
 pub mod Lines
 pub mod Linkage
+pub mod Nodes
 pub mod Operations
 pub mod Recipes
 pub mod Registers
 pub mod Runs
 pub mod Several
 pub mod Told
-pub mod Uses

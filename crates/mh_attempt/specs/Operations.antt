@@ -1,9 +1,11 @@
 -- What the operation of a line leaves, and the call that makes its node.
-use Rattle.std.specs.Prelude.{List, [], ◌∷◌, Result}
+use Rattle.std.specs.Prelude.{◌≡◌, List, [], ◌∷◌, Result, Ok}
 use Rattle.mh_tree.specs.Tree.{Tree}
 use Rattle.mh_handle.specs.declared.error.HandleError.{HandleError}
 use Rattle.mh_handle.specs.declared.handle.Handle.{Handle}
 use Rattle.mh_handle.specs.declared.work.Work.{Work}
+use Rattle.mh_handle.specs.Works.{GoesOn}
+use Rattle.mh_jobs.specs.Thrown.{OrThrown, ◌>>=◌}
 use Rattle.mh_script.specs.declared.script.Operation.{Operation}
 use Rattle.mh_link.specs.Operands.{Frame}
 use Rattle.mh_link.specs.Operations.{node_of}
@@ -12,6 +14,7 @@ use Rattle.mh_attempt.specs.Asked.{AsksIfMade, AsksOrThrows}
 use Rattle.mh_attempt.specs.AskedTypes.{AsksTypesOrThrows, line_types, node_types}
 use Rattle.mh_attempt.specs.Lines.{MakesNode, typed}
 use Rattle.mh_attempt.specs.Recipes.{line_recipes, recipes_made}
+use Rattle.mh_attempt.specs.Several.{AddsTypes}
 
 -- where registers stand for a frame: a handle that stands for the operation's node, or what is thrown in its place; the forms that are asked for are
 -- those of the node's recipes, and the types none but those of the nodes that it names
@@ -20,9 +23,16 @@ pub record MakesOperation (frame : Frame) (operation : Operation) (old new : Wor
   pub asks : AsksOrThrows (line_recipes old.leaves.now frame operation) old new r
   pub asked : AsksTypesOrThrows (line_types old.leaves.now frame operation) old new r
 
--- a handle that stands for a node of operands, or what is thrown in its place; the forms that are asked for are those of the operands that are leaves
--- and then its own, and the types none but those of these nodes
-pub record MakesOf (operands : List HandleOperand) (t : Tree) (old new : Work) (r : Result Handle HandleError) : Type 0 where
-  pub node : MakesNode (typed old.leaves.now t) old new r
-  pub asks : AsksIfMade (recipes_made old.leaves.now operands (t ∷ [])) old new r
-  pub asked : AsksTypesOrThrows (node_types old.leaves.now operands (typed old.leaves.now t)) old new r
+-- what a call leaves that makes what an operation asks for: a handle that stands for the tree, or what is thrown in its place; the forms that are asked for
+-- are those of the operands that are leaves and then those of the nodes that the operation makes itself, and the types none but those of these nodes
+pub record MakesAsked (operands : List HandleOperand) (m : OrThrown Tree) (itself : Tree → List Tree) (old new : Work) (r : Result Handle HandleError)
+    : Type 0 where
+  pub goes_on : GoesOn 4 old new
+  pub types : AddsTypes old new r
+  pub node : MakesNode (m >>= typed old.leaves.now) old new r
+  pub asks : (n : Tree) → m ≡ Ok n → AsksIfMade (recipes_made old.leaves.now operands (itself n)) old new r
+  pub asked : AsksTypesOrThrows (node_types old.leaves.now operands (m >>= typed old.leaves.now)) old new r
+
+-- the same of one tree, whose form alone is asked for after those of the operands
+abbrev pub MakesOf : List HandleOperand → Tree → Work → Work → Result Handle HandleError → Type 0
+MakesOf operands n old new r = MakesAsked operands (Ok n) (λ (t : Tree). t ∷ []) old new r

@@ -7,12 +7,14 @@ ghost use Rattle.mh_tree.specs.Typing.{type_of};
 ghost use Rattle.mh_handle.specs.Works.{IsReady, GoesOn, IsAccepted, StandsIn, leaves_of};
 ghost use Rattle.mh_attempt.specs.Asked.{AsksIfMade};
 ghost use Rattle.mh_attempt.specs.AskedTypes.{AsksTypesOrThrows, types_made};
+ghost use Rattle.mh_attempt.specs.Nodes.{IsTypedAs};
 ghost use Rattle.mh_attempt.specs.Recipes.{recipes_made};
 ghost use Rattle.mh_attempt.specs.Registers.{IsHeldIn, StandsFor, StandsForSome};
 ghost use Rattle.mh_attempt.specs.Several.{AddsTypes};
 
 use mh_handle::{Handle, HandleError, Work, leaf};
 use mh_leaves::Leaves;
+use mh_tree::Typed;
 use mh_values::{LeafId, MethodTy};
 use std::sync::Wait;
 
@@ -46,6 +48,19 @@ impl<'f, 't> HandleOperand<'f, 't> {
         match self {
             HandleOperand::Held(handle) => handle.weight(),
             HandleOperand::Leaf(_) => 1,
+        }
+    }
+
+    /// Its type and the weight of its tree.
+    pub fn typed<'a>(&'a self, leaves: &'a Leaves) -> Typed<'a>
+        requires { StandsForSome leaves.now self.now }
+        ensures typed { (t : Tree) → StandsFor leaves.now self.now t
+            → IsTypedAs leaves.now t result.ty.now result.weight }
+        ensures light { result.weight ≤ 256 }
+    {
+        Typed {
+            ty: self.ty(leaves),
+            weight: self.weight(),
         }
     }
 

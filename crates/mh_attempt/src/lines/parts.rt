@@ -1,246 +1,122 @@
-//! Lines that adapt a handle by another one, which runs before or after it: `filter`,
-//! `filterret`, `fold` and `collect`.
+//! The handle of a node, by the number of its handles. A call that makes a handle of no other asks
+//! the rule itself; else the rule is asked before any handle is made.
 
-ghost use Rattle.std.specs.Prelude.{[], ◌∷◌};
+ghost use Rattle.std.specs.Prelude.{List, [], ◌∷◌};
 ghost use Rattle.mh_tree.specs.Tree.{Tree};
 ghost use Rattle.mh_tree.specs.Tree as tree;
-ghost use Rattle.mh_script.specs.declared.script.Operation.TheVariants as operation;
-ghost use Rattle.mh_handle.specs.Works.{GoesOn, IsReady, leaves_of};
-ghost use Rattle.mh_attempt.specs.Operations.{MakesOf, MakesOperation};
-ghost use Rattle.mh_link.specs.Operands.{Frame};
-ghost use Rattle.mh_attempt.specs.Registers.{AreHeldBy, Hold, HoldSome, IsHeldIn, StandsFor, StandsForSome};
-ghost use Rattle.mh_attempt.specs.Several.{AddsTypes};
+ghost use Rattle.mh_handle.specs.Works.{IsReady, leaves_of};
+ghost use Rattle.mh_jobs.specs.Thrown.{OrThrown};
+ghost use Rattle.mh_attempt.specs.Nodes.{AreOperands, IsAsked, IsOperand, parts_of};
+ghost use Rattle.mh_attempt.specs.Nodes.{one_tree, two_tree};
+ghost use Rattle.mh_attempt.specs.Operations.{MakesAsked, MakesOf};
+ghost use Rattle.mh_attempt.specs.Registers.{StandsFor};
 
 use crate::handle::HandleOperand;
-use crate::lines::several::both_made;
-use crate::registers::Registers;
-use mh_adapt::{collect, filterret, fold};
-use mh_handle::{Handle, HandleError, Work};
-use mh_script::Register;
-use mh_tree::{check_collect, check_filter, check_filterret, check_fold};
+use crate::lines::combining::{check_one, check_two, of_one, of_two};
+use crate::lines::nodes::{NodeOperand, OfOne, OfTwo};
+use crate::lines::several::{both_made, three_made};
+use crate::lines::uses::{spread_out, used};
+use mh_branch::{constant, guard, identity, throw};
+use mh_handle::{Handle, HandleError, Work, leaf};
+use mh_tree::check_guard;
 use std::sync::Wait;
 
-// A handle one of whose arguments a filter makes of its own.
-fn filtered<'t, R: Wait>(
+/// The handle of a node that an operation asks for. Refused by the rule of its combinator.
+pub(crate) fn made<'t, R: Wait>(
+    w: &mut Work<'_, 't>,
+    rt: &R,
+    node: NodeOperand<'_, 't>,
+) -> Result<Handle<'t>, HandleError>
+    requires ready { IsReady w.old 4 }
+    requires operands { AreOperands (leaves_of w.old) w.old.seat.now node }
+    ensures { (m : OrThrown Tree) (itself : Tree → List Tree)
+        → IsAsked (leaves_of w.old) node.entry m itself
+        → MakesAsked (parts_of node.entry) m itself w.old w.new result }
+{
+    match node {
+        NodeOperand::Leaf(id) => leaf(w, rt, id),
+        NodeOperand::Constant(ty, value) => constant(w, rt, ty, value),
+        NodeOperand::Identity(ty) => identity(w, rt, ty),
+        NodeOperand::Throw(ret, class) => throw(w, rt, ret, class),
+        NodeOperand::One(target, by) => made_of_one(w, rt, &target, by),
+        NodeOperand::Two(target, by, part) => made_of_two(w, rt, &target, by, &part),
+        NodeOperand::Guard(test, target, fallback) => guarded(w, rt, &test, &target, &fallback),
+        NodeOperand::Spread(target, array, count) => spread_out(w, rt, &target, array, count),
+        NodeOperand::AsType(target, asked) => used(w, rt, &target, asked.get()),
+    }
+}
+
+// Of one handle.
+fn made_of_one<'t, R: Wait>(
     w: &mut Work<'_, 't>,
     rt: &R,
     target: &HandleOperand<'_, 't>,
-    position: u8,
-    filter: &HandleOperand<'_, 't>,
+    by: OfOne<'_>,
 ) -> Result<Handle<'t>, HandleError>
     requires ready { IsReady w.old 4 }
-    requires target { StandsForSome (leaves_of w.old) target.now }
-    requires target_held { IsHeldIn w.old.seat.now target.now }
-    requires filter { StandsForSome (leaves_of w.old) filter.now }
-    requires filter_held { IsHeldIn w.old.seat.now filter.now }
-    ensures goes_on { GoesOn 4 w.old w.new }
-    ensures types { AddsTypes w.old w.new result }
-    ensures makes { (t p : Tree) → StandsFor (leaves_of w.old) target.now t
-        → StandsFor (leaves_of w.old) filter.now p
-        → MakesOf (target.now ∷ filter.now ∷ []) (tree.FilterArg t position p) w.old w.new result }
+    requires target { IsOperand (leaves_of w.old) w.old.seat.now target.now }
+    ensures { (t : Tree) → StandsFor (leaves_of w.old) target.now t
+        → MakesOf (target.now ∷ []) (one_tree by.entry t) w.old w.new result }
 {
-    let ty = target.ty(w.leaves);
-    let filter_ty = filter.ty(w.leaves);
-    let weight = target.weight();
-    let filter_weight = filter.weight();
-    check_filter(
-        w.alloc,
-        ty,
-        weight,
-        position,
-        filter_ty,
-        filter_weight,
-        w.classes(),
-    )?;
-    let made = both_made(w, rt, target, filter)?;
-    mh_adapt::filter(w, rt, made.0, position, made.1)
+    let own = target.typed(w.leaves);
+    let ty = check_one(w.alloc, own, &by, w.classes())?;
+    let target = target.made(w, rt)?;
+    of_one(w, rt, target, by, ty)
 }
 
-/// `filter H P F`: a handle one of whose arguments a filter makes of its own.
-pub(crate) fn filter_line<'t, R: Wait>(
+// Of two handles.
+fn made_of_two<'t, R: Wait>(
     w: &mut Work<'_, 't>,
     rt: &R,
-    registers: &Registers<'_, 't>,
-    target: &Register,
-    position: u8,
-    filter: &Register,
+    target: &HandleOperand<'_, 't>,
+    by: OfTwo,
+    part: &HandleOperand<'_, 't>,
 ) -> Result<Handle<'t>, HandleError>
     requires ready { IsReady w.old 4 }
-    requires registers { HoldSome (leaves_of w.old) registers.now }
-    requires kept { AreHeldBy w.old.seat.now registers.now }
-    ensures goes_on { GoesOn 4 w.old w.new }
-    ensures types { AddsTypes w.old w.new result }
-    ensures line { (frame : Frame) → Hold (leaves_of w.old) registers.now frame
-        → MakesOperation frame (operation.Filter target.now position filter.now)
+    requires target { IsOperand (leaves_of w.old) w.old.seat.now target.now }
+    requires part { IsOperand (leaves_of w.old) w.old.seat.now part.now }
+    ensures { (t p : Tree) → StandsFor (leaves_of w.old) target.now t
+        → StandsFor (leaves_of w.old) part.now p
+        → MakesOf (target.now ∷ part.now ∷ []) (two_tree by t p) w.old w.new result }
+{
+    let own = target.typed(w.leaves);
+    let other = part.typed(w.leaves);
+    let ty = check_two(w.alloc, own, by, other, w.classes())?;
+    let made = both_made(w, rt, target, part)?;
+    of_two(w, rt, made, by, ty)
+}
+
+// Of a test, a target and a fallback.
+fn guarded<'t, R: Wait>(
+    w: &mut Work<'_, 't>,
+    rt: &R,
+    test: &HandleOperand<'_, 't>,
+    target: &HandleOperand<'_, 't>,
+    fallback: &HandleOperand<'_, 't>,
+) -> Result<Handle<'t>, HandleError>
+    requires ready { IsReady w.old 4 }
+    requires test { IsOperand (leaves_of w.old) w.old.seat.now test.now }
+    requires target { IsOperand (leaves_of w.old) w.old.seat.now target.now }
+    requires fallback { IsOperand (leaves_of w.old) w.old.seat.now fallback.now }
+    ensures { (c t e : Tree) → StandsFor (leaves_of w.old) test.now c
+        → StandsFor (leaves_of w.old) target.now t
+        → StandsFor (leaves_of w.old) fallback.now e
+        → MakesOf (test.now ∷ target.now ∷ fallback.now ∷ []) (tree.Guard c t e)
         w.old w.new result }
 {
-    let target = registers.handle(w.alloc, target)?;
-    let filter = registers.handle(w.alloc, filter)?;
-    filtered(w, rt, &target, position, &filter)
-}
-
-// A handle whose result a filter takes.
-fn return_filtered<'t, R: Wait>(
-    w: &mut Work<'_, 't>,
-    rt: &R,
-    target: &HandleOperand<'_, 't>,
-    filter: &HandleOperand<'_, 't>,
-) -> Result<Handle<'t>, HandleError>
-    requires ready { IsReady w.old 4 }
-    requires target { StandsForSome (leaves_of w.old) target.now }
-    requires target_held { IsHeldIn w.old.seat.now target.now }
-    requires filter { StandsForSome (leaves_of w.old) filter.now }
-    requires filter_held { IsHeldIn w.old.seat.now filter.now }
-    ensures goes_on { GoesOn 4 w.old w.new }
-    ensures types { AddsTypes w.old w.new result }
-    ensures makes { (t p : Tree) → StandsFor (leaves_of w.old) target.now t
-        → StandsFor (leaves_of w.old) filter.now p
-        → MakesOf (target.now ∷ filter.now ∷ []) (tree.FilterRet t p) w.old w.new result }
-{
-    let ty = target.ty(w.leaves);
-    let filter_ty = filter.ty(w.leaves);
-    let weight = target.weight();
-    let filter_weight = filter.weight();
-    check_filterret(w.alloc, ty, weight, filter_ty, filter_weight, w.classes())?;
-    let made = both_made(w, rt, target, filter)?;
-    filterret(w, rt, made.0, made.1)
-}
-
-/// `filterret H F`: a handle whose result a filter takes.
-pub(crate) fn filterret_line<'t, R: Wait>(
-    w: &mut Work<'_, 't>,
-    rt: &R,
-    registers: &Registers<'_, 't>,
-    target: &Register,
-    filter: &Register,
-) -> Result<Handle<'t>, HandleError>
-    requires ready { IsReady w.old 4 }
-    requires registers { HoldSome (leaves_of w.old) registers.now }
-    requires kept { AreHeldBy w.old.seat.now registers.now }
-    ensures goes_on { GoesOn 4 w.old w.new }
-    ensures types { AddsTypes w.old w.new result }
-    ensures line { (frame : Frame) → Hold (leaves_of w.old) registers.now frame
-        → MakesOperation frame (operation.FilterReturn target.now filter.now) w.old w.new result }
-{
-    let target = registers.handle(w.alloc, target)?;
-    let filter = registers.handle(w.alloc, filter)?;
-    return_filtered(w, rt, &target, &filter)
-}
-
-// A handle one of whose arguments a combiner makes of those that follow.
-fn folded<'t, R: Wait>(
-    w: &mut Work<'_, 't>,
-    rt: &R,
-    target: &HandleOperand<'_, 't>,
-    position: u8,
-    combiner: &HandleOperand<'_, 't>,
-) -> Result<Handle<'t>, HandleError>
-    requires ready { IsReady w.old 4 }
-    requires target { StandsForSome (leaves_of w.old) target.now }
-    requires target_held { IsHeldIn w.old.seat.now target.now }
-    requires combiner { StandsForSome (leaves_of w.old) combiner.now }
-    requires combiner_held { IsHeldIn w.old.seat.now combiner.now }
-    ensures goes_on { GoesOn 4 w.old w.new }
-    ensures types { AddsTypes w.old w.new result }
-    ensures makes { (t p : Tree) → StandsFor (leaves_of w.old) target.now t
-        → StandsFor (leaves_of w.old) combiner.now p
-        → MakesOf (target.now ∷ combiner.now ∷ []) (tree.Fold t position p) w.old w.new result }
-{
-    let ty = target.ty(w.leaves);
-    let combiner_ty = combiner.ty(w.leaves);
-    let weight = target.weight();
-    let combiner_weight = combiner.weight();
-    check_fold(
+    let first = test.typed(w.leaves);
+    let own = target.typed(w.leaves);
+    let last = fallback.typed(w.leaves);
+    check_guard(
         w.alloc,
-        ty,
-        weight,
-        position,
-        combiner_ty,
-        combiner_weight,
+        first.ty,
+        first.weight,
+        own.ty,
+        own.weight,
+        last.ty,
+        last.weight,
         w.classes(),
     )?;
-    let made = both_made(w, rt, target, combiner)?;
-    fold(w, rt, made.0, position, made.1)
-}
-
-/// `fold H P F`: a handle one of whose arguments a combiner makes of those that follow.
-pub(crate) fn fold_line<'t, R: Wait>(
-    w: &mut Work<'_, 't>,
-    rt: &R,
-    registers: &Registers<'_, 't>,
-    target: &Register,
-    position: u8,
-    combiner: &Register,
-) -> Result<Handle<'t>, HandleError>
-    requires ready { IsReady w.old 4 }
-    requires registers { HoldSome (leaves_of w.old) registers.now }
-    requires kept { AreHeldBy w.old.seat.now registers.now }
-    ensures goes_on { GoesOn 4 w.old w.new }
-    ensures types { AddsTypes w.old w.new result }
-    ensures line { (frame : Frame) → Hold (leaves_of w.old) registers.now frame
-        → MakesOperation frame (operation.Fold target.now position combiner.now)
-        w.old w.new result }
-{
-    let target = registers.handle(w.alloc, target)?;
-    let combiner = registers.handle(w.alloc, combiner)?;
-    folded(w, rt, &target, position, &combiner)
-}
-
-// A handle one of whose arguments a filter makes of its own.
-fn collected<'t, R: Wait>(
-    w: &mut Work<'_, 't>,
-    rt: &R,
-    target: &HandleOperand<'_, 't>,
-    position: u8,
-    filter: &HandleOperand<'_, 't>,
-) -> Result<Handle<'t>, HandleError>
-    requires ready { IsReady w.old 4 }
-    requires target { StandsForSome (leaves_of w.old) target.now }
-    requires target_held { IsHeldIn w.old.seat.now target.now }
-    requires filter { StandsForSome (leaves_of w.old) filter.now }
-    requires filter_held { IsHeldIn w.old.seat.now filter.now }
-    ensures goes_on { GoesOn 4 w.old w.new }
-    ensures types { AddsTypes w.old w.new result }
-    ensures makes { (t p : Tree) → StandsFor (leaves_of w.old) target.now t
-        → StandsFor (leaves_of w.old) filter.now p
-        → MakesOf (target.now ∷ filter.now ∷ []) (tree.Collect t position p) w.old w.new result }
-{
-    let ty = target.ty(w.leaves);
-    let filter_ty = filter.ty(w.leaves);
-    let weight = target.weight();
-    let filter_weight = filter.weight();
-    check_collect(
-        w.alloc,
-        ty,
-        weight,
-        position,
-        filter_ty,
-        filter_weight,
-        w.classes(),
-    )?;
-    let made = both_made(w, rt, target, filter)?;
-    collect(w, rt, made.0, position, made.1)
-}
-
-/// `collect H P F`: a handle one of whose arguments a filter makes of its own.
-pub(crate) fn collect_line<'t, R: Wait>(
-    w: &mut Work<'_, 't>,
-    rt: &R,
-    registers: &Registers<'_, 't>,
-    target: &Register,
-    position: u8,
-    filter: &Register,
-) -> Result<Handle<'t>, HandleError>
-    requires ready { IsReady w.old 4 }
-    requires registers { HoldSome (leaves_of w.old) registers.now }
-    requires kept { AreHeldBy w.old.seat.now registers.now }
-    ensures goes_on { GoesOn 4 w.old w.new }
-    ensures types { AddsTypes w.old w.new result }
-    ensures line { (frame : Frame) → Hold (leaves_of w.old) registers.now frame
-        → MakesOperation frame (operation.Collect target.now position filter.now)
-        w.old w.new result }
-{
-    let target = registers.handle(w.alloc, target)?;
-    let filter = registers.handle(w.alloc, filter)?;
-    collected(w, rt, &target, position, &filter)
+    let made = three_made(w, rt, test, target, fallback)?;
+    guard(w, rt, made.0, made.1, made.2)
 }

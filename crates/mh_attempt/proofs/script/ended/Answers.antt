@@ -1,11 +1,18 @@
 use Rattle.std.proofs.Common.{sym, subst}
 use Rattle.mh_handle.specs.Works.{leaves_of}
+use Rattle.mh_link.specs.Linked.{ended}
 use Rattle.mh_attempt.specs.Asked.{AsksOrThrows}
 use Rattle.mh_attempt.specs.AskedTypes.{AsksTypesOrThrows, end_types}
+use Rattle.mh_attempt.specs.Lines.{MakesNode}
 use Rattle.mh_attempt.specs.Recipes.{end_recipes}
 use Rattle.mh_attempt.proofs.Adding.{adds-none, adds-unmade}
 use Rattle.mh_attempt.proofs.AskingTypes.{no_other-still, types-refused}
 use Rattle.mh_attempt.proofs.script.ended.Goals as goal
+
+pub returns-in-Return-clause-node : goal.returns-in-Return-clause-node
+returns-in-Return-clause-node g c frame hold =
+    subst (λ e. MakesNode (ended (leaves_of c.args.w.now) e frame) c.args.w.now c.returned.new.w c.returned.result) (sym c.in-Return.is)
+    (c.returned.ensures.node frame hold)
 
 pub returns-in-Return-clause-asks : goal.returns-in-Return-clause-asks
 returns-in-Return-clause-asks g c frame hold =

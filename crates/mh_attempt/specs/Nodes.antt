@@ -1,0 +1,117 @@
+-- What the operation of a line asks for, as a value: a combinator with its operands, by the number of its handles.
+use Rattle.std.specs.Prelude.{◌≡◌, ℕ, ◌<◌, List, [], ◌∷◌, length, Result, Ok, Err}
+use Rattle.mh_values.specs.declared.class.Class.{Class}
+use Rattle.mh_values.specs.declared.types.MethodTy.{MethodTy}
+use Rattle.mh_intern.specs.Views.{SeatView}
+use Rattle.mh_leaf.specs.LeafTable.{LeafTable}
+use Rattle.mh_tree.specs.declared.error.CheckError.{CheckError}
+use Rattle.mh_tree.specs.declared.error.CheckError.TheVariants as check
+use Rattle.mh_tree.specs.Joints.{joint_row, joint_tree}
+use Rattle.mh_tree.specs.Rows.{TypeOrRefusal, bind_row, catch_row, drop_row, gather_row, permute_row}
+use Rattle.mh_tree.specs.Tree.{Tree, weight}
+use Rattle.mh_tree.specs.Tree as tree
+use Rattle.mh_tree.specs.Typing.{type_of}
+use Rattle.mh_jobs.specs.Thrown.{OrThrown}
+use Rattle.mh_link.specs.Operations.{spread_of, use_of}
+use Rattle.mh_attempt.specs.declared.handle.HandleOperand.{HandleOperand}
+use Rattle.mh_attempt.specs.declared.lines.nodes.NodeOperand.{NodeOperand}
+use Rattle.mh_attempt.specs.declared.lines.nodes.NodeOperand.TheVariants as node
+use Rattle.mh_attempt.specs.declared.lines.nodes.OfOne.{OfOne}
+use Rattle.mh_attempt.specs.declared.lines.nodes.OfOne.TheVariants as one
+use Rattle.mh_attempt.specs.declared.lines.nodes.OfTwo.{OfTwo}
+use Rattle.mh_attempt.specs.declared.lines.nodes.OfTwo.TheVariants as two
+use Rattle.mh_attempt.specs.Recipes.{spread_asked, use_asked}
+use Rattle.mh_attempt.specs.Registers.{IsHeldIn, StandsFor, StandsForSome}
+
+-- ---- combinators
+
+-- the type that a combinator of one handle makes of a target's, or the exception with which it is refused
+abbrev pub one_row : List Class → OfOne → MethodTy → ℕ → TypeOrRefusal
+one_row classes (one.Bind place v) target weight = bind_row classes target weight place v
+one_row classes (one.Drop place types) target weight = drop_row target weight place types
+one_row classes (one.Permute asked order) target weight = permute_row target weight asked order.now
+one_row classes (one.Gather array count) target weight = gather_row classes target weight array count
+
+-- its tree
+abbrev pub one_tree : OfOne → Tree → Tree
+one_tree (one.Bind place v) t = tree.Bind t place v
+one_tree (one.Drop place types) t = tree.Drop t place types
+one_tree (one.Permute asked order) t = tree.Permute t asked order.now
+one_tree (one.Gather array count) t = tree.Gather t array count
+
+-- the type that a combinator of two handles makes of those of a target and of a part, or the exception with which it is refused
+abbrev pub two_row : List Class → OfTwo → MethodTy → ℕ → MethodTy → ℕ → TypeOrRefusal
+two_row classes (two.Joint j) target target_weight part part_weight = joint_row j target target_weight part part_weight
+two_row classes (two.Catch class) target target_weight part part_weight = catch_row classes target target_weight class part part_weight
+
+-- its tree
+abbrev pub two_tree : OfTwo → Tree → Tree → Tree
+two_tree (two.Joint j) t p = joint_tree j t p
+two_tree (two.Catch class) t p = tree.Catch t class p
+
+-- ---- what an operation asks for
+
+-- it asks for this tree, and of what it makes itself for the form of this tree alone
+pub record IsAlone (m : OrThrown Tree) (itself : Tree → List Tree) (n : Tree) : Type 0 where
+  pub asked : m ≡ Ok n
+  pub forms : itself ≡ (λ (t : Tree). t ∷ [])
+
+-- the node asks for a tree, or for what is thrown in its place, and for the forms of the nodes that it makes itself
+abbrev pub IsAsked : LeafTable → NodeOperand → OrThrown Tree → (Tree → List Tree) → Type 0
+IsAsked leaves (node.Leaf l) m itself = (l.0 < length leaves.leaves) × IsAlone m itself (tree.Leaf l)
+IsAsked leaves (node.Constant ty v) m itself = IsAlone m itself (tree.Constant ty v)
+IsAsked leaves (node.Identity ty) m itself = IsAlone m itself (tree.Identity ty)
+IsAsked leaves (node.Throw ret class) m itself = IsAlone m itself (tree.Throw ret class)
+IsAsked leaves (node.One h by) m itself = (t : Tree) × StandsFor leaves h t × IsAlone m itself (one_tree by t)
+IsAsked leaves (node.Two h by k) m itself = (t : Tree) × (p : Tree) × StandsFor leaves h t × StandsFor leaves k p × IsAlone m itself (two_tree by t p)
+IsAsked leaves (node.Guard f h k) m itself =
+    (c : Tree) × (t : Tree) × (e : Tree) × StandsFor leaves f c × StandsFor leaves h t × StandsFor leaves k e × IsAlone m itself (tree.Guard c t e)
+IsAsked leaves (node.Spread h array count) m itself =
+    (t : Tree) × StandsFor leaves h t × (m ≡ spread_of leaves t array count) × (itself ≡ spread_asked leaves t)
+IsAsked leaves (node.AsType h asked) m itself = (t : Tree) × StandsFor leaves h t × (m ≡ use_of leaves t asked) × (itself ≡ use_asked leaves t)
+
+-- the node that is asked for, or what an operand throws; want of memory tells nothing
+abbrev pub TellsNode : LeafTable → Result NodeOperand CheckError → OrThrown Tree → (Tree → List Tree) → Type 0
+TellsNode leaves (Ok n) m itself = IsAsked leaves n m itself
+TellsNode leaves (Err (check.Refused e)) m itself = m ≡ Err e
+TellsNode leaves (Err check.NoMemory) m itself = Unit {0}
+
+-- ---- its operands
+
+-- the handles of a node, from left to right
+abbrev pub parts_of : NodeOperand → List HandleOperand
+parts_of (node.One h by) = h ∷ []
+parts_of (node.Two h by k) = h ∷ k ∷ []
+parts_of (node.Guard f h k) = f ∷ h ∷ k ∷ []
+parts_of (node.Spread h array count) = h ∷ []
+parts_of (node.AsType h asked) = h ∷ []
+parts_of _ = []
+
+-- the seat holds their types
+abbrev pub AreHeldIn : SeatView → NodeOperand → Type 0
+AreHeldIn seat (node.One h by) = IsHeldIn seat h
+AreHeldIn seat (node.Two h by k) = IsHeldIn seat h × IsHeldIn seat k
+AreHeldIn seat (node.Guard f h k) = IsHeldIn seat f × IsHeldIn seat h × IsHeldIn seat k
+AreHeldIn seat (node.Spread h array count) = IsHeldIn seat h
+AreHeldIn seat (node.AsType h asked) = IsHeldIn seat h
+AreHeldIn seat _ = Unit {0}
+
+-- the type and the weight of a tree
+pub record IsTypedAs (leaves : LeafTable) (t : Tree) (ty : MethodTy) (n : ℕ) : Type 0 where
+  pub typed : type_of leaves t ≡ Ok ty
+  pub weighed : n ≡ weight t
+
+-- a handle can be made of an operand: it stands for a tree, and the seat holds its types
+pub record IsOperand (leaves : LeafTable) (seat : SeatView) (h : HandleOperand) : Type 0 where
+  pub stands : StandsForSome leaves h
+  pub held : IsHeldIn seat h
+
+-- the same of all operands of a node; a leaf is a leaf of the table
+abbrev pub AreOperands : LeafTable → SeatView → NodeOperand → Type 0
+AreOperands leaves seat (node.Leaf l) = l.0 < length leaves.leaves
+AreOperands leaves seat (node.One h by) = IsOperand leaves seat h
+AreOperands leaves seat (node.Two h by k) = IsOperand leaves seat h × IsOperand leaves seat k
+AreOperands leaves seat (node.Guard f h k) = IsOperand leaves seat f × IsOperand leaves seat h × IsOperand leaves seat k
+AreOperands leaves seat (node.Spread h array count) = IsOperand leaves seat h
+AreOperands leaves seat (node.AsType h asked) = IsOperand leaves seat h
+AreOperands leaves seat _ = Unit {0}

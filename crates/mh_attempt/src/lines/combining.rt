@@ -1,0 +1,117 @@
+//! The combinators of one handle and of two: their rules, and the handles that they make.
+
+ghost use Rattle.std.specs.Prelude.{◌≡◌, ◌∷◌, ◌++◌, [], Ok, IfOk};
+ghost use Rattle.mh_tree.specs.Check.{TellsRow};
+ghost use Rattle.mh_tree.specs.Tree.{Tree};
+ghost use Rattle.mh_handle.specs.Recipe.{recipe};
+ghost use Rattle.mh_handle.specs.Works.{GoesOn, HoldsTypes, IsAccepted, IsReady, Makes};
+ghost use Rattle.mh_handle.specs.Works.{StandsIn, TradesTypes, classes_of, leaves_of};
+ghost use Rattle.mh_attempt.specs.Nodes.{one_row, one_tree, two_row, two_tree};
+
+use crate::lines::nodes::{OfOne, OfTwo};
+use mh_adapt::{bind, drop_args, join, permute};
+use mh_branch::{catch, gather};
+use mh_handle::{Handle, HandleError, Work};
+use mh_tree::{
+    CheckError, Typed, check_bind, check_catch, check_drop, check_gather, check_joint,
+    check_permute,
+};
+use mh_values::{Classes, MethodTy};
+use std::alloc::Global;
+use std::sync::Wait;
+
+/// The type of a handle that is made of one other.
+pub(crate) fn check_one(
+    alloc: Global,
+    target: Typed<'_>,
+    by: &OfOne<'_>,
+    classes: &Classes,
+) -> Result<MethodTy, CheckError>
+    ensures { TellsRow result
+        (one_row classes.now by.now target.entry.ty.now target.entry.weight) }
+{
+    let (ty, weight) = (target.ty, target.weight);
+    match by {
+        OfOne::Bind(position, value) => check_bind(alloc, ty, weight, *position, value, classes),
+        OfOne::Drop(position, types) => check_drop(alloc, ty, weight, *position, types, classes),
+        OfOne::Permute(asked, order) => {
+            check_permute(alloc, ty, weight, asked.get(), order, classes)
+        }
+        OfOne::Gather(array, count) => check_gather(alloc, ty, weight, *array, *count, classes),
+    }
+}
+
+/// The type of a handle that is made of two others.
+pub(crate) fn check_two(
+    alloc: Global,
+    target: Typed<'_>,
+    by: OfTwo,
+    part: Typed<'_>,
+    classes: &Classes,
+) -> Result<MethodTy, CheckError>
+    ensures { TellsRow result (two_row classes.now by target.entry.ty.now target.entry.weight
+        part.entry.ty.now part.entry.weight) }
+{
+    let (ty, weight) = (target.ty, target.weight);
+    match by {
+        OfTwo::Joint(joint) => check_joint(alloc, target, joint, part, classes),
+        OfTwo::Catch(class) => {
+            check_catch(alloc, ty, weight, class, part.ty, part.weight, classes)
+        }
+    }
+}
+
+/// The handle that is made of one other, where the rule gives this type.
+pub(crate) fn of_one<'t, R: Wait>(
+    w: &mut Work<'_, 't>,
+    rt: &R,
+    target: Handle<'t>,
+    by: OfOne<'_>,
+    _ty: MethodTy,
+) -> Result<Handle<'t>, HandleError>
+    requires ruled { one_row (classes_of w.old) by target.ty target.weight ≡ Ok _ty }
+    requires ready { IsReady w.old 1 }
+    requires held { HoldsTypes w.old target.held }
+    ensures goes_on { GoesOn 1 w.old w.new }
+    ensures accepted { IsAccepted result }
+    ensures makes { (t : Tree) → StandsIn w.old target.entry t
+        → Makes (recipe (leaves_of w.old) (one_tree by.entry t)) w.old w.new result }
+    ensures types { TradesTypes (_ty ∷ []) target.entry.held w.old w.new result }
+    ensures stands { (t : Tree) → StandsIn w.old target.entry t
+        → IfOk result (λ h. StandsIn w.old h (one_tree by.entry t)) }
+{
+    match by {
+        OfOne::Bind(position, value) => bind(w, rt, target, position, value),
+        OfOne::Drop(position, types) => drop_args(w, rt, target, position, &types),
+        OfOne::Permute(asked, order) => permute(w, rt, target, asked.get(), order),
+        OfOne::Gather(array, count) => gather(w, rt, target, array, count),
+    }
+}
+
+/// The handle that is made of two others, where the rule gives this type.
+pub(crate) fn of_two<'t, R: Wait>(
+    w: &mut Work<'_, 't>,
+    rt: &R,
+    parts: (Handle<'t>, Handle<'t>),
+    by: OfTwo,
+    ty: MethodTy,
+) -> Result<Handle<'t>, HandleError>
+    requires ruled { two_row (classes_of w.old) by parts.0.ty parts.0.weight
+        parts.1.ty parts.1.weight ≡ Ok ty }
+    requires ready { IsReady w.old 1 }
+    requires held { HoldsTypes w.old (parts.0.held ++ parts.1.held) }
+    ensures goes_on { GoesOn 1 w.old w.new }
+    ensures accepted { IsAccepted result }
+    ensures makes { (t p : Tree) → StandsIn w.old parts.entry.0 t → StandsIn w.old parts.entry.1 p
+        → Makes (recipe (leaves_of w.old) (two_tree by t p)) w.old w.new result }
+    ensures types { TradesTypes (ty ∷ []) (parts.entry.0.held ++ parts.entry.1.held)
+        w.old w.new result }
+    ensures stands { (t p : Tree) → StandsIn w.old parts.entry.0 t → StandsIn w.old parts.entry.1 p
+        → IfOk result (λ h. StandsIn w.old h (two_tree by t p)) }
+{
+    let (target, part) = parts;
+    match by {
+        OfTwo::Joint(joint) => join(w, rt, target, joint, part, ty),
+        OfTwo::Catch(class) => catch(w, rt, target, class, part),
+    }
+}
