@@ -1,5 +1,5 @@
 -- What is told of a file, and what a read of it gives.
-use Rattle.std.specs.Prelude.{◌≡◌, ◌<◌, ◌≤◌, ℕ, List, [], length, take, drop, Option, None, Some}
+use Rattle.std.specs.Prelude.{◌≡◌, ◌≢◌, ◌<◌, ◌≤◌, ℕ, List, [], length, take, drop, Option, None, Some}
 use Rattle.std.specs.declared.vec.Vec.{Vec}
 use Rattle.std.specs.declared.alloc.Global.{Global}
 
@@ -19,6 +19,11 @@ abbrev pub HasRead : Told → ℕ → ℕ → List ℕ → Type 0
 HasRead nothing at n buf = Unit {0}
 HasRead absent at n buf = ⊥
 HasRead (file bytes) at n buf = ReadsFrom bytes at n buf
+
+-- a file of which this is told is open at a place: it is not told to be absent, and where its bytes are told, those from the place on are left
+pub record StandsAt (told : Told) (at : ℕ) (left : Option (List ℕ)) : Type 0 where
+  pub there : told ≢ absent
+  pub rest : (bytes : List ℕ) → told ≡ file bytes → left ≡ Some (drop at bytes)
 
 -- these are the file's bytes, where it is told
 abbrev pub IsWhole : Told → List ℕ → Type 0

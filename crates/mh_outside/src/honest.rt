@@ -19,6 +19,8 @@ impl Inputs for HonestInputs {
 
     ghost reached = { λ _ _. 0 };
 
+    ghost starts = { λ _. 0 };
+
     fn read(&mut self, name: &str, at: u64, buf: &mut [u8]) -> Result<usize, Failed> {
         match self.files.get(name) {
             Some(bytes) => Ok(copy_from(bytes, at, buf)),

@@ -1,6 +1,7 @@
-ghost use Rattle.std.specs.Prelude.{◌≡◌, ◌≤◌, ◌+◌, List, ℕ, max, OnOk, OnErr, IfOk, length};
+ghost use Rattle.std.specs.Prelude.{◌≡◌, ◌≤◌, ◌<◌, ◌+◌, List, ℕ, OnOk, OnErr, IfOk, length};
 ghost use Rattle.mh_outside.specs.Told.{Told, HasRead};
 ghost use Rattle.mh_outside.specs.Causes.{Rose, AreSame};
+ghost use Rattle.mh_outside.specs.Reach.{ReachesTo};
 
 use std::error::Error;
 use std::fmt;
@@ -30,6 +31,9 @@ pub trait Inputs {
     /// end of the buffer that reached furthest.
     ghost reached: { Self → List ℕ → ℕ };
 
+    /// How many calls have read a file from its front. A pipe gives its bytes to the first of them.
+    ghost starts: { Self → ℕ };
+
     /// Reads bytes of the file from the place `at` on, into the front of the buffer, and says how
     /// many. It is none only where the buffer is empty or the file ends at `at` or before. A name that
     /// cannot be opened is a fault.
@@ -38,8 +42,9 @@ pub trait Inputs {
         ensures later { (n : List ℕ) → faults self.old n ≤ faults self.new n }
         ensures cause { OnErr result (Rose (faults self.old name.now) (faults self.new name.now)) }
         ensures no_fault { OnOk result (AreSame (faults self.old) (faults self.new)) }
-        ensures reached { reached self.new name.now
-            ≤ max (reached self.old name.now) (at + length buf.new) }
+        ensures reached { ReachesTo (at + length buf.new) (reached self.old) (reached self.new) }
+        ensures starts { starts self.new ≤ starts self.old + 1 }
+        ensures goes_on { 0 < at → starts self.new ≤ starts self.old }
         ensures count { IfOk result (λ n. n ≤ length buf.new) }
         ensures bytes { IfOk result (λ n. HasRead (told self.old name.now) at n buf.new) };
 }

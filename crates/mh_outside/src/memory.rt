@@ -1,4 +1,4 @@
-ghost use Rattle.std.specs.Prelude.{◌≡◌, ◌≤◌, ◌||◌, ◌+◌, ◌-◌, ◌^◌, ◌++◌, min, max, Some, IsTrue, IsErr, OnOk, OnErr, IfOk, is_err, is_none, length};
+ghost use Rattle.std.specs.Prelude.{◌≡◌, ◌≤◌, ◌<◌, ◌||◌, ◌+◌, ◌-◌, ◌^◌, ◌++◌, min, max, Some, IsTrue, IsErr, OnOk, OnErr, IfOk, is_err, is_none, length};
 ghost use Rattle.std.specs.BTreeMap.{get_by_text};
 ghost use Rattle.mh_outside.specs.Told.{HasRead, file_or_absent};
 ghost use Rattle.mh_outside.specs.Causes.{Rose};
@@ -20,13 +20,22 @@ pub struct MemoryInputs {
     pub faults: u64,
     /// How many bytes from the front of a file a call has asked for; the most of every name.
     pub reached: u64,
+    /// How many calls have read a file from its front.
+    pub starts: u64,
 }
 
 impl MemoryInputs {
     /// Files of which no call was made yet, and the numbers of the calls that are to fail.
     pub fn new(files: BTreeMap<String, Vec<u8>>, fail: Vec<u64>) -> MemoryInputs
         ensures { result
-            ≡ record { files = files; fail = fail; calls = 0; faults = 0; reached = 0 } }
+            ≡ record {
+              files = files;
+              fail = fail;
+              calls = 0;
+              faults = 0;
+              reached = 0;
+              starts = 0;
+            } }
     {
         MemoryInputs {
             files,
@@ -34,6 +43,7 @@ impl MemoryInputs {
             calls: 0,
             faults: 0,
             reached: 0,
+            starts: 0,
         }
     }
 }
@@ -45,12 +55,15 @@ impl Inputs for MemoryInputs {
 
     ghost reached = { λ s _. s.reached };
 
+    ghost starts = { λ s. s.starts };
+
     fn read(&mut self, name: &str, at: u64, buf: &mut [u8]) -> Result<usize, Failed>
         // Just the listed calls fail, and those for a name that has no file.
         ensures fails { is_err result ≡ (is_listed self.old.fail.items self.old.calls
             || is_none (get_by_text self.old.files name.now)) }
         ensures calls { CountsCall self.old.calls self.new.calls
             self.old.fail.items self.new.fail.items }
+        ensures started { at ≡ 0 → self.new.starts ≡ min (self.old.starts + 1) (2 ^ 64 - 1) }
         ensures furthest { self.new.reached
             ≡ max self.old.reached (min (at + length buf.new) (2 ^ 64 - 1)) }
 
@@ -60,6 +73,8 @@ impl Inputs for MemoryInputs {
         ensures cause { OnErr result (Rose self.old.faults self.new.faults) }
         ensures no_fault { OnOk result (self.new.faults ≡ self.old.faults) }
         ensures reached { self.new.reached ≤ max self.old.reached (at + length buf.new) }
+        ensures starts { self.new.starts ≤ self.old.starts + 1 }
+        ensures goes_on { 0 < at → self.new.starts ≤ self.old.starts }
         ensures count { IfOk result (λ n. n ≤ length buf.new) }
         ensures bytes { IfOk result
             (λ n. HasRead (file_or_absent (get_by_text self.old.files name.now)) at n buf.new) }
@@ -67,6 +82,9 @@ impl Inputs for MemoryInputs {
         let call = self.calls;
         self.calls = call.saturating_add(1);
         self.reached = self.reached.max(at.saturating_add(buf.len() as u64));
+        if at == 0 {
+            self.starts = self.starts.saturating_add(1);
+        }
         if !self.fail.contains(&call)
             && let Some(bytes) = self.files.get(name)
         {

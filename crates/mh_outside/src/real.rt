@@ -1,127 +1,56 @@
-ghost use Rattle.std.specs.Prelude.{None, ◌≡◌, ◌≤◌, length, IfOk};
+ghost use Rattle.std.specs.Prelude.{◌≡◌, None, IfOk, IfSome};
 ghost use Rattle.mh_outside.specs.Told.{nothing};
 
-use crate::{Failed, Inputs, Sink};
+use crate::{OpenedInputs, Opens, WriterSink};
 use std::alloc::Global;
-use std::io::{Read, Seek, SeekFrom, Write};
+use std::io::{Printer, Seek, SeekFrom};
 use std::rt::Files;
 use std::{fs, io};
 
-// A file that is read piece by piece: its name, and the place after what was read of it.
+/// The files of the system. Of what they hold nothing is told: that is the trusted edge.
 #[derive(Drop)]
-struct Opened<F: Drop> {
-    name: String,
-    file: F,
-    at: u64,
-}
-
-/// The files of the system. Of what they hold, and how far they are read, nothing is told: that is
-/// the trusted edge. A file that
-/// is read from its front on is opened once, and read on where the last piece ended.
-#[derive(Drop)]
-pub struct RealInputs<'r, R: Files> {
+pub struct RealFiles<'r, R> {
     rt: &'r R,
-    alloc: Global,
-    opened: Option<Opened<R::File>>,
-    /// How many calls failed; the count of every name.
-    pub faults: u64,
 }
 
-impl<'r, R: Files> RealInputs<'r, R> {
-    /// The files that the runtime gives. The allocator is for the name of the file that is open.
-    pub fn new(alloc: Global, rt: &'r R) -> Self
-        ensures { result.faults ≡ 0 }
-    {
-        RealInputs {
-            rt,
-            alloc,
-            opened: None,
-            faults: 0,
-        }
+// A file that stands at its front, moved to a place. At place 0 it is left as it is, so that what
+// cannot be moved can be read.
+fn moved<F: Seek + Drop>(mut file: F, at: u64) -> io::Result<F>
+    ensures { IfSome (F.stream_position file) (λ front. front ≡ 0
+        → IfOk result (λ moved. IfSome (F.stream_position moved) (λ place. place ≡ at))) }
+{
+    if at > 0 {
+        file.seek(SeekFrom::Start(at))?;
     }
-
-    // The file, at a place: the one that is open where it stands there, else it is opened.
-    fn file_at(&mut self, name: &str, at: u64) -> io::Result<R::File>
-        ensures { self.new.faults ≡ self.old.faults }
-    {
-        if let Some(opened) = self.opened.take()
-            && opened.name.as_str() == name
-            && opened.at == at
-        {
-            return Ok(opened.file);
-        }
-        let mut file = fs::open(self.rt, name)?;
-        if at > 0 {
-            file.seek(SeekFrom::Start(at))?;
-        }
-        Ok(file)
-    }
-
-    fn read_at(&mut self, name: &str, at: u64, buf: &mut [u8]) -> io::Result<usize>
-        ensures count { IfOk result (λ n. n ≤ length buf.new) }
-        ensures still { self.new.faults ≡ self.old.faults }
-    {
-        let mut file = self.file_at(name, at)?;
-        let count = file.read(buf)?;
-        // Without memory for the name the file is opened again for the next piece.
-        if let Ok(name) = String::from_str(self.alloc, name) {
-            let at = at.saturating_add(count as u64);
-            self.opened = Some(Opened { name, file, at });
-        }
-        Ok(count)
-    }
+    Ok(file)
 }
 
-impl<'r, R: Files> Inputs for RealInputs<'r, R> {
+impl<'r, R: Files> Opens for RealFiles<'r, R> {
+    type File = R::File;
+
     ghost told = { λ _ _. nothing };
 
-    ghost faults = { λ s _. s.faults };
-
-    ghost reached = { λ _ _. 0 };
-
-    fn read(&mut self, name: &str, at: u64, buf: &mut [u8]) -> Result<usize, Failed> {
-        match self.read_at(name, at, buf) {
-            Ok(count) => Ok(count),
-            Err(_) => {
-                self.faults = self.faults.saturating_add(1);
-                Err(Failed)
-            }
-        }
+    fn open_at(&self, name: &str, at: u64) -> io::Result<R::File> {
+        moved(fs::open(self.rt, name)?, at)
     }
 }
 
-/// Standard output. Of what it took nothing is told.
-#[derive(Drop)]
-pub struct RealSink<'r, R> {
-    rt: &'r R,
-    /// How many writes failed.
-    pub faults: u64,
+/// Files of the system as the inputs of a run.
+pub type RealInputs<'r, R> = OpenedInputs<RealFiles<'r, R>>;
+
+/// Standard output as the sink of a run. Of what it took nothing is told.
+pub type RealSink<'r, R> = WriterSink<Printer<'r, R>>;
+
+/// The files that the runtime gives.
+pub fn real_inputs<'r, R: Files>(alloc: Global, rt: &'r R) -> RealInputs<'r, R>
+    ensures { result.faults ≡ 0 }
+{
+    OpenedInputs::new(alloc, RealFiles { rt })
 }
 
-impl<'r, R: Print> RealSink<'r, R> {
-    /// The standard output of the runtime.
-    pub fn new(rt: &'r R) -> Self
-        ensures { result.faults ≡ 0 }
-    {
-        RealSink { rt, faults: 0 }
-    }
-}
-
-impl<'r, R: Print> Sink for RealSink<'r, R> {
-    ghost taken = { λ _. None };
-
-    ghost faults = { λ s. s.faults };
-
-    fn write(&mut self, bytes: &[u8]) -> Result<usize, Failed> {
-        if bytes.is_empty() {
-            return Ok(0);
-        }
-        if let Ok(count) = io::writer(self.rt).write(bytes)
-            && count > 0
-        {
-            return Ok(count);
-        }
-        self.faults = self.faults.saturating_add(1);
-        Err(Failed)
-    }
+/// The standard output of the runtime.
+pub fn real_sink<'r, R: Print>(rt: &'r R) -> RealSink<'r, R>
+    ensures { result.faults ≡ 0 }
+{
+    WriterSink::new(io::writer(rt))
 }

@@ -1,8 +1,9 @@
-ghost use Rattle.std.specs.Prelude.{◌≡◌, ◌≤◌, ◌<◌, ◌+◌, ◌-◌, List, ℕ, max, OnOk, OnErr, IfOk, IsErrOf, length};
+ghost use Rattle.std.specs.Prelude.{◌≡◌, ◌≤◌, ◌<◌, ◌+◌, ◌-◌, List, ℕ, OnOk, OnErr, IfOk, IsErrOf, length};
 ghost use Rattle.std.specs.Io.KnownBytes.{Appends};
 ghost use Rattle.mh_outside.specs.Told.{IsFront, IsWhole, MayBeLonger, KeepsFront, EndsAt};
 ghost use Rattle.mh_outside.specs.Causes.{Rose, AreSame, AppendsPart};
 ghost use Rattle.mh_outside.specs.Kept.{KeepsInputs};
+ghost use Rattle.mh_outside.specs.Reach.{ReachesTo, ReadsOnce};
 ghost use Rattle.mh_outside.specs.declared.whole.ReadWhole.TheVariants.{NoMemory};
 
 use crate::{Failed, Inputs, Sink};
@@ -63,8 +64,10 @@ fn read_piece<I: Inputs>(
         → Rose (I.faults inputs.old name.now) (I.faults inputs.new name.now) }
     ensures memory { IsErrOf result ReadWhole.NoMemory
         → AreSame (I.faults inputs.old) (I.faults inputs.new) }
-    ensures reached { I.reached inputs.new name.now
-        ≤ max (I.reached inputs.old name.now) (length bytes.old.items + room) }
+    ensures reached { ReachesTo (length bytes.old.items + room)
+        (I.reached inputs.old) (I.reached inputs.new) }
+    ensures starts { I.starts inputs.new ≤ I.starts inputs.old + 1 }
+    ensures goes_on { 0 < length bytes.old.items → I.starts inputs.new ≤ I.starts inputs.old }
     ensures short { IsErrOf result ReadWhole.TooLong → ⊥ }
 {
     let mut piece = [0u8; PIECE];
@@ -79,7 +82,8 @@ fn read_piece<I: Inputs>(
 }
 
 /// Reads a file to its end. It is `TooLong` once a byte past the limit was taken, and `ReadFault`
-/// at the first read that fails. It asks for one byte past the limit, and for none after it.
+/// at the first read that fails. It asks for one byte past the limit, and for none after it, and
+/// begins at the front once, so that a pipe serves.
 pub fn read_whole<I: Inputs>(
     alloc: Global,
     inputs: &mut I,
@@ -100,8 +104,8 @@ pub fn read_whole<I: Inputs>(
     ensures memory { IsErrOf result ReadWhole.NoMemory
         → AreSame (I.faults inputs.old) (I.faults inputs.new) }
 
-    ensures reached { I.reached inputs.new name.now
-        ≤ max (I.reached inputs.old name.now) (limit + 1) }
+    ensures reads { ReadsOnce (limit + 1) 1 (I.reached inputs.old) (I.reached inputs.new)
+        (I.starts inputs.old) (I.starts inputs.new) }
 
     // Where a file is within the limit, `file` excludes that it is longer; so TooLong is exact.
     ensures too_long { IsErrOf result ReadWhole.TooLong

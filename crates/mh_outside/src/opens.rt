@@ -1,0 +1,19 @@
+ghost use Rattle.std.specs.Prelude.{List, ℕ, IfOk};
+ghost use Rattle.mh_outside.specs.Told.{Told, StandsAt};
+
+use std::io;
+
+/// What opens files by their names.
+pub trait Opens {
+    /// A file that is open.
+    type File: io::Read + Drop;
+
+    /// What is told of the file of a name.
+    ghost told: { Self → List ℕ → Told };
+
+    /// Opens the file of a name at a place: reads give what lies from there on. At place 0 it is not
+    /// moved, so that a pipe can be opened too.
+    fn open_at(&self, name: &str, at: u64) -> io::Result<Self::File>
+        ensures { IfOk result
+            (λ file. StandsAt (told self.now name.now) at (Self.File.remaining file)) };
+}
