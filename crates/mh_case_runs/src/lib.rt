@@ -1,0 +1,10 @@
+//! Runs of cases in memory: which give what they must, and where the others differ.
+#![tactic(auto)]
+
+mod checking;
+mod made;
+mod running;
+mod saying;
+
+pub use checking::check_files;
+pub use saying::GaveUp;
