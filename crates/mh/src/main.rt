@@ -15,7 +15,7 @@ ghost use Rattle.mh_main.specs.Due.{IsGenerated, FailsToRead, FillsForms, FillsT
 
 use mh_main::status::NO_MEMORY;
 use mh_main::top;
-use mh_outside::{Inputs, OpenGate, RealInputs, RealSink, Sink};
+use mh_outside::{Inputs, OpenGate, Sink, real_inputs, real_sink};
 use std::alloc::{AllocError, Global};
 use std::process::ExitCode;
 use std::sync::Wait;
@@ -105,7 +105,7 @@ fn main(rt: HostRuntime) -> ExitCode {
     let Ok(texts) = borrowed(&rt, &words) else {
         return ExitCode::from(NO_MEMORY);
     };
-    let mut inputs = RealInputs::new(rt.alloc(), &rt);
-    let mut sink = RealSink::new(&rt);
+    let mut inputs = real_inputs(rt.alloc(), &rt);
+    let mut sink = real_sink(&rt);
     run(&rt, rt.alloc(), &texts, &mut inputs, &mut sink)
 }

@@ -1,7 +1,8 @@
 -- The call that the line of a call means.
-use Rattle.std.proofs.Common.{◌≡◌, ◌∙◌, ap, ℕ, ◌<◌, ◌≤◌, true, List, [], ◌∷◌, ◌++◌, length, codes, Some, None, Ok, arith}
+use Rattle.std.proofs.Common.{◌≡◌, ◌∙◌, ap, ℕ, ◌^◌, ◌<◌, ◌≤◌, true, List, [], ◌∷◌, ◌++◌, length, codes, Some, None, Ok, arith}
 use Rattle.std.specs.Prelude.{nat_lt, option_map, option_and_then, if◌then◌else◌}
 use Rattle.std.specs.Fmt.{decimal}
+use Rattle.std.proofs.lemmas.Bool.{lt-ltb}
 use Rattle.std.proofs.lemmas.Bool.Decides.{nat_tests}
 use Rattle.mh_values.specs.declared.class.Class.{Class}
 use Rattle.mh_values.specs.declared.types.Primitive.TheVariants as primitive
@@ -41,6 +42,7 @@ argument-read : (classes : List Class) (call : ℕ) → call < 1000 →
 argument-read classes call low =
     ap (λ o. option_and_then (λ v. option_map (λ vs. v ∷ vs) (Some [])) (option_and_then (λ v. if has_type classes v int_type then Some v else None) o))
     (literal-read classes call (omega arith))
+    ∙ ap (λ t. option_and_then (λ v. option_map (λ vs. v ∷ vs) (Some [])) (if t then Some (int call) else None)) (lt-ltb call (2 ^ 31) (omega arith))
 
 -- the call of a line is put after those of its thread
 pub call-meant : (leaves : LeafTable) (jobs : List Job) (sites thread call : ℕ) (front : List (List Call)) (calls : List Call) →

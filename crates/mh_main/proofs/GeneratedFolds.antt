@@ -10,7 +10,7 @@ use Rattle.mh_base.specs.Provided.{provided}
 use Rattle.mh_jobs.specs.declared.job.Job.{Job}
 use Rattle.mh_plan.specs.declared.call.Call.{Call}
 use Rattle.mh_plan.specs.declared.kinds.PlanKind.TheVariants.{TooMany}
-use Rattle.mh_plan.specs.Plan.{faultless, line_counted, line_meaning, none_counted, plan, plan_of}
+use Rattle.mh_plan.specs.Plan.{faultless, line_counted, line_meaning, most_threads, none_counted, plan, plan_of}
 use Rattle.mh_generated.specs.Counts.{calls_of_thread, site_count, thread_count}
 use Rattle.mh_generated.specs.Plan.{called_site, generated_plan}
 use Rattle.mh_generated.proofs.Lines.{call_line, lines-of-ended}
@@ -56,13 +56,14 @@ calls-counted sites thread first (suc count) threads calls n some few fits there
     ∙ ap (λ c. Ok (record none_counted { threads = threads; calls = c })) more
 
 -- the line that begins a thread
-thread-counted : (threads calls : ℕ) → threads < 64 → line_counted (record none_counted { threads = threads; calls = calls }) (codes "thread")
+thread-counted : (threads calls : ℕ) → threads < most_threads → line_counted (record none_counted { threads = threads; calls = calls }) (codes "thread")
     ≡ Ok (record none_counted { threads = threads + 1; calls = calls })
 thread-counted threads calls few =
-    let room : nat_lt threads 64 ≡ true = grind (arith, nat_tests) in
+    let room : nat_lt threads most_threads ≡ true = grind (arith, nat_tests) in
     ap (λ t. provided t TooMany (Ok (record none_counted { threads = threads + 1; calls = calls }))) room
 
-threads-counted : (sites count first more threads calls n : ℕ) → 0 < sites → sites ≤ 64 → count ≤ 1000 → threads + more ≤ 64 → calls + more * count ≤ 10000 →
+threads-counted : (sites count first more threads calls n : ℕ) → 0 < sites → sites ≤ 64 → count ≤ 1000 →
+    threads + more ≤ most_threads → calls + more * count ≤ 10000 →
     built_from line_counted n (record none_counted { threads = threads; calls = calls }) (lines_from sites count first more)
     ≡ Ok (record none_counted { threads = threads + more; calls = calls + more * count })
 unfolding lines_from thread_lines
@@ -75,7 +76,7 @@ threads-counted sites count first (suc more) threads calls n some few fits there
     let own = map (call_line sites first) (range_with_len 0 count) in
     let others = lines_from sites count (first + 1) more in
     let product = suc-mul more count in
-    let fewer : threads + 1 + more ≤ 64 = omega arith in
+    let fewer : threads + 1 + more ≤ most_threads = omega arith in
     let room' : calls + count + more * count ≤ 10000 = omega arith in
     let all : threads + 1 + more ≡ threads + suc more = omega arith in
     let all' : calls + count + more * count ≡ calls + suc more * count = omega arith in

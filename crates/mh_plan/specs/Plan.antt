@@ -89,7 +89,7 @@ none_counted = record { threads = 0; calls = 0 }
 
 -- how many threads a plan may have
 abbrev pub most_threads : ℕ
-most_threads = 64
+most_threads = 128
 
 -- how many calls all its threads may have together
 abbrev pub most_calls : ℕ

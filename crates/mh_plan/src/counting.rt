@@ -10,7 +10,7 @@ use mh_base::{LineError, LineFault, NoMemory, is_passed, is_plain, split_at_byte
 use std::alloc::Global;
 
 /// How many threads a plan may have.
-const MOST_THREADS: u32 = 64;
+const MOST_THREADS: u32 = 128;
 
 /// How many calls all threads of a plan may have.
 const MOST_CALLS: u32 = 10000;

@@ -13,7 +13,7 @@ use std::fmt;
 pub enum PlanKind {
     /// The line is none of a plan, or a call before the first thread.
     BadLine,
-    /// The thread is past 64, or the call past 10,000 of all threads.
+    /// The thread is past 128, or the call past 10,000 of all threads.
     TooMany,
     /// No leaf has the texts of the reference.
     NoLeaf,

@@ -7,9 +7,10 @@ ghost use Rattle.mh_plan.specs.Results.{result_said, thread_said, results_said};
 use crate::{Recorded, Shown, Table, ThreadAnswers};
 use itoa::Buffer;
 use mh_base::NoMemory;
+use mh_form::Calls;
 use mh_handle::Answer;
 use mh_texts::{show_exc, show_type, show_value};
-use mh_values::{Calls, Classes, LeafId, Outcome, Value};
+use mh_values::{Classes, LeafId, Outcome, Value};
 use std::alloc::Global;
 
 fn push(text: &mut Vec<u8>, bytes: &[u8]) -> Result<(), NoMemory>

@@ -24,7 +24,7 @@ fn read_all(alloc: Global, of: &Callees<'_>, lines: &[&[u8]]) -> Result<Plan, Pl
 
 /// Reads a plan of calls of these leaves and of the call sites of these jobs, or gives the faulty
 /// line that counts. Its calls can then be made: nothing of them has to be tested when they run. It
-/// has at most 64 threads and 10,000 calls. A line that no `u32` can number is want of memory.
+/// has at most 128 threads and 10,000 calls. A line that no `u32` can number is want of memory.
 pub fn read_plan(
     alloc: Global,
     bytes: &[u8],

@@ -83,7 +83,7 @@ pub(crate) enum Full {
 }
 
 impl<'s, 't, J: Run> Joined<'s, 't, J> {
-    // JoinsLane what a thread leaves.
+    // Joins what a thread leaves.
     fn add<G>(
         &mut self,
         context: &Context<'s, 't, J, G>,

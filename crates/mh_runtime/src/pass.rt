@@ -183,7 +183,7 @@ impl<'s, 't, J: Run> Pass<'s, 't, J> {
         self.walks.find(linker, site)
     }
 
-    /// BeginsAttempt an attempt of a site, and draws its serial.
+    /// Begins an attempt of a site, and draws its serial.
     pub(crate) fn begin(&mut self, linker: &'s Linker<'t, J>, site: u32) -> Result<u64, NoMemory>
         requires pass { self.old.linker ≡ linker.now }
         requires site { site < length J.given.jobs }
