@@ -106,8 +106,6 @@ enum Own {
     NESTED,
     /** A class that is no Throwable is refused by IllegalArgumentException. */
     THROWABLE,
-    /** A Byte, Short or Character is not unboxed and widened. */
-    SMALL,
     /** Of the conversions and the slots of a spread the conversions are looked at first. */
     SPREAD,
     /** An array type that an identity handle does not take is refused by gather. */
@@ -238,7 +236,7 @@ final class Run {
     private String linesOfGeneric(Call call, Object[] arguments) {
         MethodHandle leaf = classes.handleOf(leaves.get(call.leaf()));
         MethodType type = classes.methodType(call.type());
-        if (Descriptors.isTooWide(type) || isOwn && Conversions.areSmall(leaf.type(), type)) {
+        if (Descriptors.isTooWide(type)) {
             return lineOf(() -> converted(leaf, type), void.class);
         }
         Caller caller = classes.caller(call.type());
@@ -252,9 +250,6 @@ final class Run {
 
     /** A handle as a type, with what mh refuses. */
     MethodHandle converted(MethodHandle handle, MethodType type) throws Throwable {
-        if (isOwn && Conversions.areSmall(handle.type(), type)) {
-            throw own(Own.SMALL, exceptions.wrongType(handle.type(), type));
-        }
         MethodHandle converted = handle.asType(type);
         limit("astype", type);
         return converted;
@@ -895,8 +890,6 @@ final class WideCatch {
 
 /** What is asked of the conversions of an asType. */
 final class Conversions {
-    private static final Set<Class<?>> SMALL = Set.of(Byte.class, Short.class, Character.class);
-
     private Conversions() {}
 
     /** Whether two arguments of a call of the asked type have conversions that may fail. */
@@ -919,20 +912,6 @@ final class Conversions {
             converted = converted.asType(converted.type().changeParameterType(i, asked.parameterType(i)));
         }
         return converted.asType(asked);
-    }
-
-    /** Whether a Byte, Short or Character is unboxed and widened. */
-    static boolean areSmall(MethodType type, MethodType asked) {
-        for (int i = 0; i < Math.min(type.parameterCount(), asked.parameterCount()); i++) {
-            if (isSmall(asked.parameterType(i), type.parameterType(i))) {
-                return true;
-            }
-        }
-        return isSmall(type.returnType(), asked.returnType());
-    }
-
-    private static boolean isSmall(Class<?> from, Class<?> to) {
-        return SMALL.contains(from) && to.isPrimitive() && to != void.class;
     }
 }
 
@@ -1104,6 +1083,9 @@ final class Literals {
         String text = token.substring(2);
         return switch (token.charAt(0)) {
             case 'z', 'Z' -> Boolean.valueOf(text);
+            case 'b', 'B' -> Byte.valueOf(text);
+            case 'h', 'H' -> Short.valueOf(text);
+            case 'c', 'C' -> Character.valueOf((char) Integer.parseInt(text));
             case 'i', 'I' -> Integer.valueOf(text);
             case 'j', 'J' -> Long.valueOf(text);
             case 's' -> Texts.read(text);
@@ -1152,12 +1134,14 @@ final class Literals {
         } else if (objects.containsKey(value)) {
             return Texts.escaped(objects.get(value));
         }
-        return letter(value, type) + value;
+        return mark(value, type) + ":" + (value instanceof Character unit ? Integer.valueOf(unit) : value);
     }
 
-    private static String letter(Object value, Class<?> type) {
-        String letter = MethodType.methodType(value.getClass()).unwrap().returnType().descriptorString() + ":";
-        return type.isPrimitive() ? letter.toLowerCase() : letter;
+    /** The letter of a number's literal, which is the one of its type but for a short. */
+    private static String mark(Object value, Class<?> type) {
+        String letter = MethodType.methodType(value.getClass()).unwrap().returnType().descriptorString();
+        String mark = letter.equals("S") ? "H" : letter;
+        return type.isPrimitive() ? mark.toLowerCase() : mark;
     }
 
     private String arrayLiteral(Object array) {
@@ -1234,7 +1218,7 @@ final class Descriptors {
 
     private static final Pattern TYPE = Pattern.compile("\\[*(?:[BCDFIJSZV]|L[^;]+;)");
     private static final Pattern ARRAY = Pattern.compile("\\[{1,255}(?:[BCDFIJSZ]|L[^;.\\[]+;)");
-    private static final Pattern LEFT_OUT = Pattern.compile("\\[*[BCDFS]|\\[\\[.*", Pattern.DOTALL);
+    private static final Pattern LEFT_OUT = Pattern.compile("\\[*[DF]|\\[\\[.*", Pattern.DOTALL);
     private static final Pattern CLASS = Pattern.compile("L([^;]+);");
 
     private Descriptors() {}

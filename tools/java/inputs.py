@@ -8,15 +8,22 @@ import struct
 from typing import NamedTuple
 
 OBJECT, NUMBER, STRING = "java/lang/Object", "java/lang/Number", "java/lang/String"
-WRAPPERS = {"Z": "java/lang/Boolean", "I": "java/lang/Integer", "J": "java/lang/Long"}
-SMALL = ["java/lang/Byte", "java/lang/Short", "java/lang/Character"]
+WRAPPERS = {
+    "Z": "java/lang/Boolean", "B": "java/lang/Byte", "C": "java/lang/Character", "S": "java/lang/Short", "I": "java/lang/Integer",
+    "J": "java/lang/Long",
+}
+SMALL = ("B", "C", "S")
+# The letter of a literal of a primitive type; of a boxed one it is the capital.
+MARKS = {"Z": "z", "B": "b", "C": "c", "S": "h", "I": "i", "J": "j"}
+# The primitive types that each widens to (JLS SE 17, 5.1.2).
+WIDER = {"Z": "", "B": "SIJ", "C": "IJ", "S": "IJ", "I": "J", "J": ""}
 THROWABLE, ERROR = "java/lang/Throwable", "java/lang/Error"
 RUNTIME = "java/lang/RuntimeException"
 
 # The built-in classes, each with its superclass.
 BUILT_IN = {
-    OBJECT: None, NUMBER: OBJECT, WRAPPERS["I"]: NUMBER, WRAPPERS["J"]: NUMBER, SMALL[0]: NUMBER, SMALL[1]: NUMBER,
-    WRAPPERS["Z"]: OBJECT, SMALL[2]: OBJECT, STRING: OBJECT, THROWABLE: OBJECT, "java/lang/Exception": THROWABLE,
+    OBJECT: None, NUMBER: OBJECT, WRAPPERS["I"]: NUMBER, WRAPPERS["J"]: NUMBER, WRAPPERS["B"]: NUMBER, WRAPPERS["S"]: NUMBER,
+    WRAPPERS["Z"]: OBJECT, WRAPPERS["C"]: OBJECT, STRING: OBJECT, THROWABLE: OBJECT, "java/lang/Exception": THROWABLE,
     RUNTIME: "java/lang/Exception", ERROR: THROWABLE, "java/lang/LinkageError": ERROR,
     "java/lang/BootstrapMethodError": "java/lang/LinkageError", "java/lang/NoClassDefFoundError": "java/lang/LinkageError",
     "java/lang/IncompatibleClassChangeError": "java/lang/LinkageError",
@@ -28,14 +35,22 @@ BUILT_IN = {
     "java/lang/StackOverflowError": "java/lang/VirtualMachineError",
 }
 # Of these a virtual machine makes no subclass.
-FINAL = {STRING, *WRAPPERS.values(), *SMALL}
+FINAL = {STRING, *WRAPPERS.values()}
 BOOTSTRAP = ("(Ljava/lang/invoke/MethodHandles$Lookup;Ljava/lang/String;Ljava/lang/invoke/MethodType;)"
              "Ljava/lang/invoke/CallSite;")
 MOST_SLOTS = 254
 # A script has at most 64 lines, and ends a few after this many.
 SOME_LINES = 45
-INTS = [0, 1, -1, 2, 7, -2147483648, 2147483647]
-LONGS = [0, 1, -1, 5, 2147483648, -9223372036854775808, 9223372036854775807]
+# The least and the greatest number of each type but boolean (JLS SE 17, 4.2.1).
+BOUNDS = {
+    "B": (-128, 127), "C": (0, 65535), "S": (-32768, 32767), "I": (-2147483648, 2147483647),
+    "J": (-9223372036854775808, 9223372036854775807),
+}
+SMALL_NUMBERS = [0, 1, -1, 2, 7]
+# The bounds of all types, and the numbers next to them.
+NEAR_BOUNDS = sorted({number + more for bounds in BOUNDS.values() for number in bounds for more in (-1, 0, 1)})
+# The oldest and the newest class files that are read.
+MAJORS = 45, 65
 CHARACTERS = "abcxyz09 ,\n\\'\"#:;[]é\u0000\u20ac\U0001f600"
 
 
@@ -90,6 +105,28 @@ def takes_array(descriptor):
 
 def is_primitive(descriptor):
     return descriptor in WRAPPERS
+
+
+def narrower(primitive):
+    """A primitive type and those that widen to it."""
+    return [it for it in WRAPPERS if it == primitive or primitive in WIDER[it]]
+
+
+def boxed(primitive):
+    return of_class(WRAPPERS[primitive])
+
+
+def is_small(descriptor):
+    """Whether it is byte, short or char, or an array of it."""
+    return descriptor.lstrip("[") in SMALL
+
+
+def is_small_literal(literal):
+    """Whether it is a byte, a short or a char, boxed or not, or an array that has one or may have one."""
+    if literal[:2] != "a:":
+        return literal[:2].lower() in ("b:", "c:", "h:")
+    component, _, items = literal[2:-1].partition("[")
+    return component in SMALL or any(map(is_small_literal, items.split(",")))
 
 
 def slots(params):
@@ -148,14 +185,14 @@ class World:
     def any_type(self):
         roll = self.rng.random()
         if roll < 0.5:
-            return self.rng.choice("ZIIIJJ")
+            return self.rng.choice("ZBCSIIIIJJ")
         if roll < 0.62:
             return of_class(STRING)
         if roll < 0.72:
             return of_class(OBJECT)
         if roll < 0.92:
             return of_class(self.any_class())
-        return "[" + (self.rng.choice("ZIJ") if self.chance(0.5) else of_class(self.any_class()))
+        return "[" + (self.rng.choice("ZBCSIJ") if self.chance(0.5) else of_class(self.any_class()))
 
     def any_class(self):
         roll = self.rng.random()
@@ -178,12 +215,12 @@ class World:
         if self.chance(0.02):
             return self.any_type()
         if is_primitive(wanted):
-            others = [of_class(OBJECT), of_class(WRAPPERS[wanted]), wanted]
-            if wanted != "Z":
-                others += [of_class(NUMBER), "I" if wanted == "J" else wanted, of_class(WRAPPERS["I"])]
-            return of_class(self.rng.choice(SMALL)) if self.chance(0.02) else self.rng.choice(others)
-        boxed = [p for p, wrapper in WRAPPERS.items() if is_class(wanted) and self.is_below(wrapper, name_of(wanted))]
-        return self.rng.choice(boxed) if boxed and self.chance(0.3) else self.reference()
+            if self.chance(0.02):
+                return boxed(self.rng.choice(list(WRAPPERS)))
+            some = self.rng.choice(narrower(wanted))
+            return self.rng.choice([of_class(OBJECT), of_class(self.parents[WRAPPERS[wanted]]), boxed(wanted), some, boxed(some)])
+        below = [p for p, wrapper in WRAPPERS.items() if is_class(wanted) and self.is_below(wrapper, name_of(wanted))]
+        return self.rng.choice(below) if below and self.chance(0.3) else self.reference()
 
     def target_of(self, given):
         """A type that a result may be converted to, mostly."""
@@ -193,9 +230,10 @@ class World:
             return self.any_return()
         if is_primitive(given):
             above = [it for it in (OBJECT, NUMBER, WRAPPERS[given]) if self.is_below(WRAPPERS[given], it)]
-            return self.rng.choice([of_class(it) for it in above] + (["J"] if given == "I" else []))
+            return self.rng.choice([of_class(it) for it in above] + list(WIDER[given]))
         if is_class(given):
             unboxed = [p for p, wrapper in WRAPPERS.items() if self.is_below(wrapper, name_of(given))]
+            unboxed += [wider for p in unboxed for wider in WIDER[p]]
             return self.rng.choice(unboxed) if unboxed and self.chance(0.4) else self.reference()
         return self.reference()
 
@@ -224,18 +262,20 @@ class World:
     def number(self, primitive):
         if primitive == "Z":
             return self.rng.choice(["true", "false"])
-        known, bits = (INTS, 31) if primitive == "I" else (LONGS, 63)
-        return str(self.rng.choice(known) if self.chance(0.5) else self.rng.randint(-(2**bits), 2**bits - 1))
+        least, most = BOUNDS[primitive]
+        known = self.rng.choice([[least, most], SMALL_NUMBERS, NEAR_BOUNDS])
+        fitting = [it for it in known if least <= it <= most]
+        return str(self.rng.choice(fitting) if self.chance(0.6) else self.rng.randint(least, most))
 
     def literal(self, wanted, hint=None):
         """A literal of a type; mostly of the hinted one too, if it can be."""
         if hint and not is_primitive(wanted) and self.chance(0.75):
             if is_primitive(hint):
-                hint = of_class(WRAPPERS[self.rng.choice("IJ") if hint == "J" and self.chance(0.3) else hint])
+                hint = boxed(self.rng.choice(narrower(hint)) if self.chance(0.3) else hint)
             if self.type_is_below(hint, wanted):
                 return self.literal(hint)
         if is_primitive(wanted):
-            return f"{wanted.lower()}:{self.number(wanted)}"
+            return f"{MARKS[wanted]}:{self.number(wanted)}"
         if self.chance(0.1):
             return "null"
         return self.array(wanted[1:]) if wanted[0] == "[" else self.object(name_of(wanted))
@@ -245,17 +285,15 @@ class World:
         if name == OBJECT and self.chance(0.6):
             below = [OBJECT, STRING, *WRAPPERS.values(), *self.declared]
         found = self.rng.choice(below)
-        boxed = [p for p, wrapper in WRAPPERS.items() if wrapper == found]
-        if boxed:
-            return f"{boxed[0]}:{self.number(boxed[0])}"
-        if found in SMALL:
-            return "null"
+        for primitive, wrapper in WRAPPERS.items():
+            if wrapper == found:
+                return f"{MARKS[primitive].upper()}:{self.number(primitive)}"
         if found == STRING:
             return f"s:{escaped(self.text())}"
         if self.is_below(found, THROWABLE):
             return f"x:{found}"
         if found == OBJECT and arrays and self.chance(0.4):
-            return self.array(self.rng.choice(["I", "Z", "J", of_class(OBJECT), of_class(STRING)]))
+            return self.array(self.rng.choice([*WRAPPERS, of_class(OBJECT), of_class(STRING)]))
         return f"o:{found}#{self.rng.choice([0, 1, 2, 4294967295])}"
 
     def array(self, component, count=None):
@@ -389,17 +427,17 @@ class Script:
         if wanted == "J" and self.chance(0.2):
             self.lines.append("let n serial")
             return "n"
-        if wanted in ("I", "J", of_class(WRAPPERS["I"]), of_class(WRAPPERS["J"]), of_class(STRING)) and self.chance(0.3):
+        if wanted in ("I", "J", boxed("I"), boxed("J"), of_class(STRING)) and self.chance(0.3) or wanted in SMALL and self.chance(0.03):
             sort = {"I": "int", "J": "long"}.get(wanted) or ("text" if wanted == of_class(STRING) else "int")
             return self.argument("value", (sort, None))
         if wanted == of_class(STRING) and self.chance(0.2):
             return "name"
-        if wanted == "J" and self.chance(0.3):
-            wanted = "I"
-        boxed = of_class(WRAPPERS[wanted]) if is_primitive(wanted) else wanted
-        tries = [world.literal(boxed) for _ in range(6)]
-        fitting = [it for it in tries if it[:2] in ("Z:", "I:", "J:", "s:") or it == "null" and not is_primitive(wanted)]
-        return fitting[0] if fitting else "I:5" if is_primitive(wanted) else "null"
+        if is_primitive(wanted):
+            primitive = self.rng.choice(narrower(wanted)) if self.chance(0.3) else wanted
+            return f"{MARKS[primitive].upper()}:{world.number(primitive)}"
+        tries = [world.literal(wanted) for _ in range(6)]
+        fitting = [it for it in tries if it == "null" or it[0] in "ZBCHIJs"]
+        return fitting[0] if fitting else "null"
 
     def any_handle(self):
         if not self.handles or self.chance(0.15):
@@ -466,7 +504,7 @@ class Script:
 
     def spread(self, h, type):
         n = self.rng.randint(0, len(type.params))
-        component = type.params[-1] if n and self.chance(0.7) else self.rng.choice(["I", "J", of_class(OBJECT)])
+        component = type.params[-1] if n and self.chance(0.7) else self.rng.choice([*"BCSIJ", of_class(OBJECT)])
         if component[0] == "[":
             component = of_class(OBJECT)
         params = type.params[:len(type.params) - n] + ("[" + component,)
@@ -474,11 +512,11 @@ class Script:
 
     def gather(self, h, type):
         able = [it for it, held in self.handles.items() if held.params and takes_array(held.params[-1])]
-        h = self.rng.choice(able) if able else self.leaf(Type((*self.world.any_params(2), "[" + self.rng.choice("ZIJ")), "I"))
+        h = self.rng.choice(able) if able else self.leaf(Type((*self.world.any_params(2), "[" + self.rng.choice("ZBCSIJ")), "I"))
         type = self.handles[h]
         array = type.params[-1]
         if array == of_class(OBJECT):
-            array = "[" + self.rng.choice(["I", "J", "Z", of_class(OBJECT), of_class(STRING)])
+            array = "[" + self.rng.choice([*WRAPPERS, of_class(OBJECT), of_class(STRING)])
         n = self.rng.randint(0, 3)
         self.let(f"gather {h} {array} {n}", Type(type.params[:-1] + (array[1:],) * n, type.ret))
 
@@ -532,8 +570,8 @@ class Script:
         h, f, g = self.any_handle(), self.any_handle(), self.any_handle()
         p = rng.choice([0, 1, 2, 3, 255])
         name = rng.choice([*world.classes, "no/Such"])
-        some = rng.choice([world.any_type(), "V", "F", "B", "[[I", of_class("no/Such"), "a0"])
-        value = rng.choice(["null", "I:1", "J:2", "Z:true", "s:x", "name", "a0", "a7"])
+        some = rng.choice([world.any_type(), "V", "F", "D", "[[I", of_class("no/Such"), "a0"])
+        value = rng.choice(["null", "I:1", "J:2", "Z:true", "B:-128", "C:65535", "H:-32768", "s:x", "name", "a0", "a7"])
         type = rng.choice([str(Type(world.any_params(), world.any_return())), "type", "a0", "a3", "(D)V"])
         words = rng.choice([
             f"leaf {world.declared[0]}.absent:()V", "leaf no/Such.f:()V",
@@ -587,6 +625,10 @@ class Script:
             self.lines.append(f"return {register}")
         return type if not self.chance(0.03) else Type(self.world.any_params(), self.world.any_return())
 
+    def has_serial(self):
+        """Whether what it does depends on the number of the attempt."""
+        return any(line.startswith(("let n serial", "failmod")) for line in self.lines)
+
     def text(self):
         return "\n".join([f"script demo/Boot {self.name} {BOOTSTRAP}", *self.lines, "end", ""])
 
@@ -614,9 +656,9 @@ def modified_utf8(text):
 class ClassFile:
     """A class file with call sites (JVMS SE 17, chapter 4)."""
 
-    def __init__(self, name):
+    def __init__(self, name, major=61):
         self.entries, self.count, self.known = b"", 1, {}
-        self.name, self.bootstraps, self.code = name, [], b""
+        self.name, self.major, self.bootstraps, self.code = name, major, [], b""
 
     def entry(self, bytes, size=1):
         if bytes not in self.known:
@@ -674,17 +716,22 @@ class ClassFile:
         bootstraps = struct.pack(">H", len(self.bootstraps)) + b"".join(self.bootstraps)
         rest = struct.pack(">6H", 0x21, this, parent, 0, 0, 1) + method
         rest += struct.pack(">HHI", 1, fixed[3], len(bootstraps)) + bootstraps
-        return struct.pack(">IHHH", 0xCAFEBABE, 0, 61, self.count) + self.entries + rest
+        return struct.pack(">IHHH", 0xCAFEBABE, 0, self.major, self.count) + self.entries + rest
 
 
 class Input:
-    """One random input: the texts of its files by their names, the class files last."""
+    """One random input: the texts of its files by their names, the class files last; and how many of its calls have a byte, short or char.
+
+    Such a call has one of these types, or an array of it, in its type or its leaf's, or such a value as an argument, boxed or not."""
 
     def __init__(self, seed, size=1):
+        self.small_calls = 0
         self.rng = random.Random(seed)
         self.world = World(self.rng)
         scripts = [Script(self.world, f"link{number}") for number in range(size * self.rng.randint(1, 3))]
         types = [it.write() for it in scripts]
+        # (which thread comes first shows only where a script looks at the number of the attempt)
+        self.most_threads = 1 if any(it.has_serial() for it in scripts) else 3
         self.sites = [self.site(script, type) for script, type in zip(scripts, types) for _ in range(self.rng.randint(1, 2))]
         self.rng.shuffle(self.sites)
         for _ in range(self.rng.randint(0, 3)):
@@ -706,7 +753,7 @@ class Input:
         files = {}
         for number, sites in enumerate((self.sites[:cut], self.sites[cut:])):
             if sites or number == 0:
-                file = ClassFile(f"demo/Main{number}")
+                file = ClassFile(f"demo/Main{number}", self.rng.randint(*MAJORS))
                 for site in sites:
                     file.add(site)
                     if self.chance(0.2):
@@ -744,11 +791,11 @@ class Input:
     def faulty(self, site):
         """A site that names something that is not there, or that mh leaves out."""
         kind, owner, name, descriptor = site.handle
-        odd = self.rng.choice(["kind", "owner", "class", "name", "type", "small", "surrogate", "more"])
+        odd = self.rng.choice(["kind", "owner", "class", "name", "type", "left out", "surrogate", "more"])
         if odd == "type":
             return site._replace(descriptor=f"(I{of_class('no/Such')})V", type=None)
-        if odd == "small":
-            return site._replace(descriptor=self.rng.choice(["(F)V", "(I)B", "([[I)V"]), type=None)
+        if odd == "left out":
+            return site._replace(descriptor=self.rng.choice(["(F)V", "(I)D", "([[I)V"]), type=None)
         if odd == "surrogate":
             return site._replace(name=self.rng.choice(["\udc00", "n" * 4097]))
         if odd == "more":
@@ -763,7 +810,7 @@ class Input:
 
     def plan(self, size):
         lines = []
-        for _ in range(self.rng.randint(1, 3)):
+        for _ in range(self.rng.randint(1, self.most_threads)):
             lines.append("thread")
             lines += [self.call() for _ in range(size * self.rng.randint(4, 8))]
         lines += [self.site_call(number) for number in range(len(self.sites)) if self.chance(0.8)]
@@ -775,12 +822,21 @@ class Input:
         leaf = self.rng.choice(self.world.leaves)
         if self.chance(0.3):
             type = leaf.type if self.chance(0.85) else self.world.asked(leaf.type)
-            return " ".join(["exact", f"leaf:{leaf.reference}", str(type), *self.world.arguments(type.params)])
+            return self.leaf_call("exact", leaf, type, self.world.arguments(type.params))
         type = self.world.asked(leaf.type)
-        arguments = self.world.arguments(type.params, leaf.type.params)
-        return " ".join(["generic", f"leaf:{leaf.reference}", str(type), *arguments])
+        return self.leaf_call("generic", leaf, type, self.world.arguments(type.params, leaf.type.params))
+
+    def leaf_call(self, way, leaf, type, arguments):
+        self.count([leaf.type, type], arguments)
+        return " ".join([way, f"leaf:{leaf.reference}", str(type), *arguments])
+
+    def count(self, types, arguments):
+        """Counts a call if it has a byte, short or char."""
+        has_type = any(is_small(it) for type in types for it in (*type.params, type.ret))
+        self.small_calls += has_type or any(map(is_small_literal, arguments))
 
     def site_call(self, number):
         site = self.sites[number]
         arguments = self.world.arguments(site.type.params) if site.type else []
+        self.count([site.type] if site.type else [], arguments)
         return " ".join(["indy", str(number), *arguments])

@@ -8,13 +8,13 @@ ghost use Rattle.mh_handle.specs.Works.{GoesOn, IsReady, leaves_of};
 ghost use Rattle.mh_jobs.specs.Given.{IsJob};
 ghost use Rattle.mh_steps.specs.AnyTypes.{ExchangesAny};
 
+use crate::files::{Constants, LINKED, Site, class_file};
 use mh_attempt::{Linkage, Linked, WorkError, attempt};
 use mh_base::NoMemory;
 use mh_classfile::read;
 use mh_handle::{Answer, FormTable, Work};
 use mh_intern::{TypeSeat, TypeTable};
 use mh_jobs::{Job, Run, job_of};
-use mh_jobs_tests::files::{Constants, LINKED, Site, class_file};
 use mh_leaves::{Leaves, read_manifest};
 use mh_script::{Scripts, read_scripts};
 use mh_steps::{MANIFEST, Start, are_typed, items_of};

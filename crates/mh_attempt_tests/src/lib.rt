@@ -1,9 +1,9 @@
-//! Attempts: scripts that link call sites, with calls of what is linked, and scripts that throw.
+//! Attempts: how many keys the forms have of what scripts link, and the types that are held after.
 #![tactic(auto)]
 
 #[cfg(test)]
 mod cases;
 #[cfg(test)]
-mod links;
+mod files;
 #[cfg(test)]
-mod thrown;
+mod links;

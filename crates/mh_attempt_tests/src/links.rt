@@ -1,5 +1,5 @@
 use crate::cases::{Attempt, Case, first_failing};
-use mh_jobs_tests::files::{Constants, NONE};
+use crate::files::NONE;
 use std::test::Fail;
 
 /// The first attempt, without a static argument.
@@ -8,7 +8,7 @@ const FIRST: Attempt = Attempt {
     serial: 1,
 };
 
-static ROOTS: [Case; 4] = [
+static CASES: [Case; 19] = [
     Case {
         name: "a leaf",
         ty: "(II)I",
@@ -37,15 +37,6 @@ static ROOTS: [Case; 4] = [
         arguments: &["x:java/lang/ArithmeticException"],
         wanted: "throws java/lang/ArithmeticException s: calls keys 1",
     },
-];
-
-#[test]
-fn roots(rt: HostRuntime) -> Result<(), Fail> {
-    assert_eq!(rt; first_failing(&rt, rt.alloc(), FIRST, &ROOTS)?, None);
-    Ok(())
-}
-
-static ADAPTERS: [Case; 6] = [
     Case {
         name: "an argument bound",
         ty: "(I)I",
@@ -88,15 +79,6 @@ static ADAPTERS: [Case; 6] = [
         arguments: &["i:5"],
         wanted: "j:5 calls 4 keys 2",
     },
-];
-
-#[test]
-fn adapters(rt: HostRuntime) -> Result<(), Fail> {
-    assert_eq!(rt; first_failing(&rt, rt.alloc(), FIRST, &ADAPTERS)?, None);
-    Ok(())
-}
-
-static PARTS: [Case; 4] = [
     Case {
         name: "a filter",
         ty: "(II)I",
@@ -129,15 +111,6 @@ static PARTS: [Case; 4] = [
         arguments: &["i:1", "i:2"],
         wanted: "i:3 calls 5 0 keys 2",
     },
-];
-
-#[test]
-fn parts(rt: HostRuntime) -> Result<(), Fail> {
-    assert_eq!(rt; first_failing(&rt, rt.alloc(), FIRST, &PARTS)?, None);
-    Ok(())
-}
-
-static BRANCHES: [Case; 2] = [
     Case {
         name: "a test",
         ty: "(II)I",
@@ -155,86 +128,33 @@ static BRANCHES: [Case; 2] = [
         arguments: &["i:1", "i:0"],
         wanted: "i:1 calls 2 7 keys 1",
     },
-];
-
-#[test]
-fn branches(rt: HostRuntime) -> Result<(), Fail> {
-    assert_eq!(rt; first_failing(&rt, rt.alloc(), FIRST, &BRANCHES)?, None);
-    Ok(())
-}
-
-/// The first attempt, with the leaf `add` as static argument.
-const WITH_LEAF: Attempt = Attempt {
-    argument: Constants(
-        b"\x01\0\x09demo/Host\x07\0\x14\x01\0\x03add\x01\0\x05(II)I\
-        \x0C\0\x16\0\x17\x0A\0\x15\0\x18\x0F\x06\0\x19",
-        7,
-    ),
-    serial: 1,
-};
-
-static USES: [Case; 3] = [
     Case {
-        name: "a static argument returned",
-        ty: "(II)I",
-        lines: "return a0",
-        arguments: &["i:1", "i:2"],
-        wanted: "i:3 calls 0 keys 1",
-    },
-    Case {
-        name: "a static argument as an operand",
+        name: "a rule of a combinator",
         ty: "(I)I",
-        lines: "let r bind a0 1 I:10\nreturn r",
-        arguments: &["i:1"],
-        wanted: "i:11 calls 0 keys 2",
+        lines: "let a leaf demo/Host.add:(II)I\nlet r permute a (I)I 0\nreturn r",
+        arguments: &[],
+        wanted: "error java/lang/BootstrapMethodError s: \
+            cause java/lang/IllegalArgumentException s:permute",
     },
     Case {
-        name: "a static argument as the first of three operands, and as the last",
-        ty: "(II)I",
-        lines: "let c leaf demo/Host.less:(II)Z\nlet r guard c a0 a0\nreturn r",
-        arguments: &["i:1", "i:2"],
-        wanted: "i:3 calls 6 0 keys 1",
+        name: "a handle of another type returned",
+        ty: "(I)I",
+        lines: "let a leaf demo/Host.add:(II)I\nreturn a",
+        arguments: &[],
+        wanted: "error java/lang/BootstrapMethodError s: \
+            cause java/lang/invoke/WrongMethodTypeException s:have\\s(II)I\\swant\\s(I)I",
+    },
+    Case {
+        name: "no such leaf",
+        ty: "()V",
+        lines: "let r leaf demo/Host.add:()V\nreturn r",
+        arguments: &[],
+        wanted: "error java/lang/NoSuchMethodError s:demo/Host.add:()V",
     },
 ];
 
 #[test]
-fn a_leaf_may_be_a_static_argument(rt: HostRuntime) -> Result<(), Fail> {
-    assert_eq!(rt; first_failing(&rt, rt.alloc(), WITH_LEAF, &USES)?, None);
-    Ok(())
-}
-
-/// The seventh attempt.
-const SEVENTH: Attempt = Attempt {
-    argument: NONE,
-    serial: 7,
-};
-
-static NUMBERED: [Case; 3] = [
-    Case {
-        name: "the number of the attempt",
-        ty: "()Ljava/lang/Long;",
-        lines: "let n serial\nlet r constant Ljava/lang/Long; n\nreturn r",
-        arguments: &[],
-        wanted: "J:7 calls keys 1",
-    },
-    Case {
-        name: "a register assigned twice",
-        ty: "()J",
-        lines: "let n constant J J:1\nlet n serial\nlet r constant J n\nreturn r",
-        arguments: &[],
-        wanted: "j:7 calls keys 1",
-    },
-    Case {
-        name: "another remainder",
-        ty: "()J",
-        lines: "failmod 7 6\nlet n serial\nlet r constant J n\nreturn r",
-        arguments: &[],
-        wanted: "j:7 calls keys 1",
-    },
-];
-
-#[test]
-fn lines_see_the_number_of_the_attempt(rt: HostRuntime) -> Result<(), Fail> {
-    assert_eq!(rt; first_failing(&rt, rt.alloc(), SEVENTH, &NUMBERED)?, None);
+fn forms_have_their_keys_and_no_type_stays_held(rt: HostRuntime) -> Result<(), Fail> {
+    assert_eq!(rt; first_failing(&rt, rt.alloc(), FIRST, &CASES)?, None);
     Ok(())
 }

@@ -71,10 +71,10 @@ static MADE_ROWS: [Row; 44] = [
         answer: None,
     },
     Row {
-        name: "major version 62",
+        name: "major version 65",
         file: Made,
-        changes: &[Put(6, &[0, 62])],
-        answer: Some((BadVersion, 6)),
+        changes: &[Put(6, &[0, 65])],
+        answer: None,
     },
     Row {
         name: "major version 66",

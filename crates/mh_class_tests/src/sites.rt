@@ -41,15 +41,3 @@ pub fn one_site(alloc: Global, args: MadeArgs) -> Result<MadeSites, NoMemory>
     sites.push(link_site(alloc, args)?)?;
     Ok(sites)
 }
-
-/// So many call sites of the script `link` and the type `(II)I`, without static arguments.
-pub fn many_sites(alloc: Global, count: u32) -> Result<MadeSites, NoMemory>
-    requires { count ≤ 9000 }
-    ensures { IfOk result (λ sites. AreMakeable sites) }
-{
-    let mut sites = Seq::new(alloc);
-    for _ in 0..count {
-        sites.push(link_site(alloc, Seq::new(alloc))?)?;
-    }
-    Ok(sites)
-}

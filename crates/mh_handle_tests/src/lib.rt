@@ -1,4 +1,4 @@
-//! Handles that are made by the combinators, and called.
+//! Handles that are made by the combinators and called: no type stays held.
 #![tactic(auto)]
 
 #[cfg(test)]

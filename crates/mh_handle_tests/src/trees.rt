@@ -59,34 +59,6 @@ fn answer_on<'t, R: Wait>(
     Ok(answer?)
 }
 
-fn number_on<'t, R: Wait>(w: &mut Work<'_, 't>, rt: &R, making: &Making) -> Result<u64, HandleError>
-    requires ready { IsReady w.old 204 }
-    requires few { length making.now.steps.now ≤ 100 }
-    ensures goes_on { GoesOn 204 w.old w.new }
-    ensures types { ExchangesAny [] [] w.old.seat.now w.new.seat.now }
-{
-    let handle = made(w, rt, making.root, making.steps)?;
-    let number = handle.form().number();
-    handle.give_back(w);
-    Ok(number)
-}
-
-fn numbers_on<'t, R: Wait>(
-    w: &mut Work<'_, 't>,
-    rt: &R,
-    first: &Making,
-    second: &Making,
-) -> Result<(u64, u64), HandleError>
-    requires ready { IsReady w.old 408 }
-    requires first { length first.now.steps.now ≤ 100 }
-    requires second { length second.now.steps.now ≤ 100 }
-    ensures types { ExchangesAny [] [] w.old.seat.now w.new.seat.now }
-{
-    let one = number_on(w, rt, first)?;
-    let other = number_on(w, rt, second)?;
-    Ok((one, other))
-}
-
 fn answer_at<R: Wait>(
     rt: &R,
     start: Start<'_>,
@@ -127,70 +99,6 @@ fn answer_at<R: Wait>(
     answer
 }
 
-fn numbers_at<R: Wait>(
-    rt: &R,
-    start: Start<'_>,
-    held: &mut TypeSeat,
-    first: &Making,
-    second: &Making,
-) -> Result<(u64, u64), HandleError>
-    requires seat { start.seat ≡ seat_at start.table.now 0 }
-    requires held { held.old ≡ new_seat start.types.now limit }
-    requires first { length first.now.steps.now ≤ 100 }
-    requires second { length second.now.steps.now ≤ 100 }
-{
-    let Start {
-        alloc,
-        table,
-        seat,
-        types,
-        leaves,
-    } = start;
-    let mut pass = table.first_pass(alloc, seat)?;
-    let mut w = Work {
-        alloc,
-        types,
-        seat: held,
-        forms: table,
-        pass: &mut pass,
-        leaves,
-    };
-    let numbers = numbers_on(&mut w, rt, first, second);
-    let Work {
-        alloc: _,
-        types: _,
-        seat: _,
-        forms: _,
-        pass: _,
-        leaves: _,
-    } = w;
-    numbers
-}
-
-/// What a handle answers that is made on a table of its own, by up to 100 steps, to a call by its
-/// own type. Arguments are given as literals.
-pub(crate) fn answer_of<R: Wait>(
-    rt: &R,
-    alloc: Global,
-    leaves: &Leaves,
-    making: &Making,
-    arguments: &[&str],
-) -> Result<Answer, HandleError> {
-    if !has_few_steps(making) {
-        return Err(HandleError::NoMemory);
-    }
-    let (types, mut held) = TypeTable::new(alloc)?;
-    let (table, seat) = FormTable::new(alloc)?;
-    let start = Start {
-        alloc,
-        table: &table,
-        seat,
-        types: &types,
-        leaves,
-    };
-    answer_at(rt, start, &mut held, making, arguments)
-}
-
 /// How many types are held after such a handle was called and given back, or was refused.
 pub(crate) fn held_after<R: Wait>(
     rt: &R,
@@ -213,27 +121,4 @@ pub(crate) fn held_after<R: Wait>(
     };
     let _answer = answer_at(rt, start, &mut held, making, arguments);
     Ok(types.close(held))
-}
-
-/// The numbers of the forms of two handles that are made on one table, each by up to 100 steps.
-pub(crate) fn form_numbers<R: Wait>(
-    rt: &R,
-    alloc: Global,
-    leaves: &Leaves,
-    first: &Making,
-    second: &Making,
-) -> Result<(u64, u64), HandleError> {
-    if !has_few_steps(first) || !has_few_steps(second) {
-        return Err(HandleError::NoMemory);
-    }
-    let (types, mut held) = TypeTable::new(alloc)?;
-    let (table, seat) = FormTable::new(alloc)?;
-    let start = Start {
-        alloc,
-        table: &table,
-        seat,
-        types: &types,
-        leaves,
-    };
-    numbers_at(rt, start, &mut held, first, second)
 }

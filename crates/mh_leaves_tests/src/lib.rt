@@ -1,5 +1,5 @@
-//! Manifests, read line by line, and the leaves that are found in them.
+//! Leaves that are found in a manifest.
 #![tactic(auto)]
 
 #[cfg(test)]
-mod manifests;
+mod lookup;

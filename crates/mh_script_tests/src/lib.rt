@@ -1,8 +1,6 @@
-//! Scripts, read line by line, and found by their headers.
+//! What each line of a script is read to, and scripts that are found by their headers.
 #![tactic(auto)]
 
-#[cfg(test)]
-mod faults;
 #[cfg(test)]
 mod forms;
 #[cfg(test)]

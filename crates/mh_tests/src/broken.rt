@@ -1,5 +1,4 @@
 mod failing;
-mod limits;
 mod narrow;
 
 use mh_class_tests::files::{demo, made_site};
@@ -78,16 +77,6 @@ fn add_file(
         Ok(_) => Ok(()),
         Err(_) => Err(AllocError),
     }
-}
-
-/// All inputs as they are.
-fn all_files(alloc: Global) -> Result<BTreeMap<String, Vec<u8>>, AllocError> {
-    let mut files = BTreeMap::new(alloc);
-    for name in INPUTS {
-        let bytes = Vec::from_slice(alloc, bytes_of(name))?;
-        add_file(alloc, &mut files, name, bytes)?;
-    }
-    Ok(files)
 }
 
 /// The status of a run over these files, of which the reads of these numbers fail.

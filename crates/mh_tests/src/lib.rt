@@ -1,19 +1,12 @@
-//! Whole runs over inputs and a sink in memory, and reading and writing whole.
+//! Of whole runs what no case shows: threads that race, want of memory, each write that fails; and the
+//! outside.
 #![tactic(auto)]
 
 #[cfg(test)]
 mod broken;
-#[cfg(test)]
-mod classes;
-#[cfg(test)]
-mod generated;
 #[cfg(test)]
 mod outside;
 #[cfg(test)]
 mod racing;
 #[cfg(test)]
 mod runs;
-#[cfg(test)]
-mod sites;
-#[cfg(test)]
-mod words;

@@ -1,13 +1,15 @@
 use mh_outside::{
-    Gate, HonestInputs, HonestSink, Inputs, MemoryInputs, MemorySink, ReadWhole, RealInputs,
-    RealSink, Sink, TestGate, read_whole, write_whole,
+    Gate, HonestInputs, HonestSink, Inputs, MemoryInputs, MemorySink, ReadWhole, Sink, TestGate,
+    WriterSink, read_whole, real_inputs, real_sink, write_whole,
 };
 use std::alloc::Global;
 use std::collections::BTreeMap;
+use std::fs::OpenOptions;
+use std::rt::Files;
 use std::sync::atomic::{AtomicU64, Ordering};
 use std::test::Fail;
-use std::thread;
 use std::thread::Threads;
+use std::{fs, thread};
 
 /// A file of five bytes.
 fn five_bytes(alloc: Global) -> Result<MemoryInputs, Fail> {
@@ -69,14 +71,80 @@ fn honest_files_that_are_not_listed_have_no_bytes(rt: HostRuntime) {
 
 #[test]
 fn real_files_fail_where_they_are_not_there(rt: HostRuntime) {
-    let mut inputs = RealInputs::new(rt.alloc(), &rt);
+    let mut inputs = real_inputs(rt.alloc(), &rt);
     let mut buf = [0u8; 8];
     assert!(rt; inputs.read("no such file", 0, &mut buf).is_err() && inputs.faults == 1);
 }
 
+/// How many bytes of a real file are read with a limit, and how many reads failed.
+fn real_len<R: Files>(
+    rt: &R,
+    alloc: Global,
+    name: &str,
+    limit: usize,
+) -> (Result<usize, ReadWhole>, u64) {
+    let mut inputs = real_inputs(alloc, rt);
+    let len = read_whole(alloc, &mut inputs, name, limit).map(|v| v.len());
+    (len, inputs.faults)
+}
+
+#[test]
+fn real_files_are_read_up_to_the_limit(rt: HostRuntime) -> Result<(), Fail> {
+    fs::write(&rt, "five", b"bytes")?;
+    for (name, limit, want) in [
+        ("five", 5, (Ok(5), 0)),
+        ("five", 4, (Err(ReadWhole::TooLong), 0)),
+        ("/dev/null", 4, (Ok(0), 0)),
+        ("/dev/zero", 40_000, (Err(ReadWhole::TooLong), 0)),
+        (".", 4, (Err(ReadWhole::ReadFault), 1)),
+    ] {
+        let found = real_len(&rt, rt.alloc(), name, limit);
+        assert!(rt; found == want, "{name} with limit {limit}: {found:?}");
+    }
+    Ok(())
+}
+
+#[test]
+fn a_real_file_of_several_pieces_is_read_again_from_its_front(rt: HostRuntime) -> Result<(), Fail> {
+    let alloc = rt.alloc();
+    let mut bytes = Vec::new(alloc);
+    for at in 0..40_000u32 {
+        bytes.push((at % 251) as u8)?;
+    }
+    fs::write(&rt, "pieces", &bytes)?;
+    fs::write(&rt, "others", b"others")?;
+    let mut inputs = real_inputs(alloc, &rt);
+    let first = read_whole(alloc, &mut inputs, "pieces", 40_000)?;
+    let other = read_whole(alloc, &mut inputs, "others", 40_000)?;
+    let second = read_whole(alloc, &mut inputs, "others", 40_000)?;
+    let third = read_whole(alloc, &mut inputs, "pieces", 40_000)?;
+    assert!(rt; first.as_slice() == bytes.as_slice() && third.as_slice() == bytes.as_slice());
+    assert!(rt; other.as_slice() == b"others".as_slice() && second.as_slice() == other.as_slice());
+    assert!(rt; inputs.faults == 0);
+    Ok(())
+}
+
+#[test]
+fn a_real_file_is_read_from_the_middle(rt: HostRuntime) -> Result<(), Fail> {
+    fs::write(&rt, "middle", b"0123456789")?;
+    let mut inputs = real_inputs(rt.alloc(), &rt);
+    let mut buf = [0u8; 3];
+    let count = inputs.read("middle", 4, &mut buf)?;
+    assert!(rt; count == 3 && buf == [b'4', b'5', b'6']);
+    Ok(())
+}
+
+#[test]
+fn a_full_device_takes_nothing(rt: HostRuntime) -> Result<(), Fail> {
+    let file = OpenOptions::new().write(true).open(&rt, "/dev/full")?;
+    let mut sink = WriterSink::new(file);
+    assert!(rt; write_whole(&mut sink, b"text").is_err() && sink.faults == 1);
+    Ok(())
+}
+
 #[test]
 fn real_output_takes_a_piece(rt: HostRuntime) {
-    let mut sink = RealSink::new(&rt);
+    let mut sink = real_sink(&rt);
     assert!(rt; matches!(sink.write(b"taken\n"), Ok(1..=6)) && sink.faults == 0);
 }
 

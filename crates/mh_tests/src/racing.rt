@@ -313,7 +313,7 @@ fn each_site_is_linked_by_one_of_its_attempts(rt: HostRuntime) -> Result<(), Fai
     Ok(())
 }
 
-/// How many threads a plan may have.
+/// How many threads race for the site.
 const MOST_THREADS: usize = 64;
 
 /// Whether so many calls return, all of them the same.

@@ -1,13 +1,9 @@
-//! Types, values and their texts, conversions between them, and the kinds of leaves.
+//! Of types, values, conversions and the kinds of leaves, what no input of the program shows.
 #![tactic(auto)]
 
-#[cfg(test)]
-mod calls;
 #[cfg(test)]
 mod conversions;
 #[cfg(test)]
 mod leaves;
-#[cfg(test)]
-mod texts;
 #[cfg(test)]
 mod values;

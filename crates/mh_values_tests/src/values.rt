@@ -1,9 +1,8 @@
 ghost use Rattle.std.specs.Prelude.{◌<◌, length, OnOk};
 
-use mh_base::{Frozen, NoMemory};
+use mh_base::NoMemory;
 use mh_values::{
-    ClassId, Classes, Comp, DeclareError, DescriptorError, Num, Primitive, Ty, Value, has_type,
-    read_descriptor, read_type, read_types, slots,
+    ClassId, Classes, DeclareError, DescriptorError, Ty, read_descriptor, read_type, read_types,
 };
 use std::alloc::Global;
 use std::test::Fail;
@@ -143,24 +142,6 @@ fn constants_name_their_classes(rt: HostRuntime) -> Result<(), Fail> {
     Ok(())
 }
 
-/// Whether the first class stands below the second, and the second not below the first.
-fn is_below(classes: &Classes, below: ClassId, above: ClassId) -> bool {
-    classes.subclass(below, above) && !classes.subclass(above, below)
-}
-
-#[test]
-fn a_class_is_declared_once(rt: HostRuntime) -> Result<(), Fail> {
-    let mut classes = Classes::builtin(rt.alloc())?;
-    let host = ClassId(28);
-    assert!(rt; classes.declare(b"demo/Host", ClassId::EXCEPTION) == Ok(host));
-    let again = classes.declare(b"demo/Host", ClassId::OBJECT);
-    let built_in = classes.declare(b"java/lang/Long", host);
-    assert!(rt; again == Err(DeclareError::Twice) && built_in == Err(DeclareError::Twice));
-    assert!(rt; classes.find(b"demo/Host") == Some(host));
-    assert!(rt; is_below(&classes, host, ClassId::THROWABLE));
-    Ok(())
-}
-
 /// Declares so many classes with names of two bytes.
 fn declare_many(classes: &mut Classes, count: u16) -> Result<(), DeclareError>
     requires { 0 < length classes.old }
@@ -190,7 +171,7 @@ fn refusal(alloc: Global, text: &str) -> Result<Option<DescriptorError>, NoMemor
 }
 
 /// Method descriptors, and what is wrong with each.
-static REFUSALS: [(&str, Option<DescriptorError>); 6] = [
+static REFUSALS: [(&str, Option<DescriptorError>); 9] = [
     ("(I[[J)V", Some(DescriptorError::Unsupported { at: 2 })),
     (
         "(Lno/Such;)V",
@@ -198,7 +179,13 @@ static REFUSALS: [(&str, Option<DescriptorError>); 6] = [
     ),
     ("(I", Some(DescriptorError::Bad { at: 2 })),
     ("(V)V", Some(DescriptorError::Bad { at: 1 })),
-    ("(S)V", Some(DescriptorError::Unsupported { at: 1 })),
+    ("(D)V", Some(DescriptorError::Unsupported { at: 1 })),
+    ("([[B)V", Some(DescriptorError::Unsupported { at: 1 })),
+    (
+        "(BLno/Such;)V",
+        Some(DescriptorError::NoClass { at: 3, len: 7 }),
+    ),
+    ("(BC[S)S", None),
     ("(Z[Ljava/lang/String;)J", None),
 ];
 
@@ -207,27 +194,6 @@ fn descriptors_are_refused_at_their_places(rt: HostRuntime) -> Result<(), Fail> 
     for (text, want) in REFUSALS.iter().copied() {
         assert!(rt; refusal(rt.alloc(), text)? == want, "{text}");
     }
-    Ok(())
-}
-
-/// The slots of a method type with so many parameters of type `long`, and an `int` after them.
-fn slots_of_longs(alloc: Global, count: usize, more: &[u8]) -> Result<u32, DescriptorError> {
-    let mut text = Vec::new(alloc);
-    text.push(b'(').map_err(NoMemory::from)?;
-    for _ in 0..count {
-        text.push(b'J').map_err(NoMemory::from)?;
-    }
-    text.extend_from_slice(more).map_err(NoMemory::from)?;
-    let classes = Classes::builtin(alloc)?;
-    Ok(slots(&read_descriptor(alloc, &text, &classes)?))
-}
-
-#[test]
-fn slots_above_255_are_refused(rt: HostRuntime) -> Result<(), Fail> {
-    let alloc = rt.alloc();
-    let most = slots_of_longs(alloc, 127, b"I)V");
-    let more = slots_of_longs(alloc, 128, b")V");
-    assert!(rt; most == Ok(255) && more == Err(DescriptorError::Bad { at: 128 }));
     Ok(())
 }
 
@@ -252,40 +218,5 @@ fn types_are_read_one_by_one(rt: HostRuntime) -> Result<(), Fail> {
     assert!(rt; read_type(b"V", &classes) == void);
     assert!(rt; reads_types(rt.alloc(), b"I[ZJ", &classes, Ok(3)));
     assert!(rt; reads_types(rt.alloc(), b"J[Lx;", &classes, unknown));
-    Ok(())
-}
-
-const THROWABLES: Ty = Ty::Array(Comp::Class(ClassId::THROWABLE));
-
-/// The components of an array, a type, and whether the array has it.
-static ARRAYS: [(Comp, Ty, bool); 3] = [
-    (Comp::Prim(Primitive::I), OBJECT, true),
-    (Comp::Class(ClassId::ERROR), THROWABLES, true),
-    (Comp::Prim(Primitive::I), THROWABLES, false),
-];
-
-#[test]
-fn arrays_have_the_types_above_their_own(rt: HostRuntime) -> Result<(), Fail> {
-    let classes = Classes::builtin(rt.alloc())?;
-    for (comp, ty, has) in ARRAYS.iter().copied() {
-        let array = Value::Array(comp, Frozen::new());
-        assert!(rt; has_type(&array, ty, &classes) == has, "{comp:?} as {ty:?}");
-    }
-    Ok(())
-}
-
-#[test]
-fn null_has_the_types_of_references(rt: HostRuntime) -> Result<(), Fail> {
-    let classes = Classes::builtin(rt.alloc())?;
-    assert!(rt; has_type(&Value::Null, THROWABLES, &classes));
-    assert!(rt; !has_type(&Value::Null, Ty::Prim(Primitive::J), &classes));
-    Ok(())
-}
-
-#[test]
-fn a_boxed_int_is_no_long(rt: HostRuntime) -> Result<(), Fail> {
-    let classes = Classes::builtin(rt.alloc())?;
-    let boxed = Value::Boxed(Num::I(1));
-    assert!(rt; !has_type(&boxed, Ty::Class(ClassId::LONG), &classes));
     Ok(())
 }

@@ -1,74 +1,11 @@
 use super::narrow::NarrowSink;
-use super::{INPUTS, TEXT, add_file, all_files, bytes_of, run};
+use super::{INPUTS, TEXT, add_file, bytes_of, run};
 use mh_main::status::{DONE, REFUSED, UNREAD, WRITE_FAILED};
-use mh_outside::MemorySink;
 use std::alloc::{AllocError, Global};
 use std::collections::BTreeMap;
 use std::sync::Wait;
 use std::test::Fail;
 use std::thread::Threads;
-
-/// How many bytes the program asks for at a time.
-const PIECE: usize = 16_384;
-
-/// The input of each read of a run, in order. The manifest is longer than one piece, and the last
-/// read of each input finds its end.
-const READS: [&str; 11] = [
-    "leaves.txt",
-    "leaves.txt",
-    "leaves.txt",
-    "scripts.txt",
-    "scripts.txt",
-    "made.class",
-    "made.class",
-    "demo.class",
-    "demo.class",
-    "plan.txt",
-    "plan.txt",
-];
-
-/// All inputs, with a manifest that begins with a piece of empty lines.
-fn files(alloc: Global) -> Result<BTreeMap<String, Vec<u8>>, AllocError> {
-    let mut files = all_files(alloc)?;
-    let mut leaves = vec![in alloc; b'\n'; PIECE]?;
-    leaves.extend_from_slice(bytes_of("leaves.txt"))?;
-    add_file(alloc, &mut files, "leaves.txt", leaves)?;
-    Ok(files)
-}
-
-/// Whether a run of which a read fails has this status, and writes these pieces.
-fn answers<R: Threads + Wait + Sync>(
-    rt: &R,
-    alloc: Global,
-    read: u64,
-    status: u8,
-    pieces: &[&str],
-) -> Result<bool, Fail> {
-    let text = pieces.concat(alloc)?;
-    let fail = Vec::from_slice(alloc, &[read])?;
-    let mut sink = MemorySink {
-        bytes: Vec::new(alloc),
-        fail: Vec::new(alloc),
-        calls: 0,
-        faults: 0,
-    };
-    let found = run(rt, alloc, files(alloc)?, fail, &mut sink);
-    Ok(found == status && sink.bytes.as_slice() == text.as_bytes())
-}
-
-#[test]
-fn each_read_fails(rt: HostRuntime) -> Result<(), Fail> {
-    let alloc = rt.alloc();
-    for (read, name) in READS.iter().enumerate() {
-        let line = ["cannot read ", *name, "\n"];
-        assert!(rt;
-            answers(&rt, alloc, read as u64, UNREAD, &line)?,
-            "read {read}"
-        );
-    }
-    assert!(rt; answers(&rt, alloc, READS.len() as u64, DONE, &[TEXT])?);
-    Ok(())
-}
 
 /// What a run writes, a few bytes at a time.
 struct Text {
