@@ -1,12 +1,19 @@
--- A pass over a table of forms may go to another thread, and threads may share the table and its forms.
+-- A pass over a table of forms and an answer may go to another thread, and threads may share the table and its forms.
 use denote.Ref.{NamedLft}
-use denote.Param.Send.{IsSend, IsSync, sendable}
+use denote.Param.Send.{AllSend, IsSend, IsSync, recorded_send, sendable, struct_send, view_send}
+use denote.Struct.Declared.{shape}
+use denote.Struct.Struct.{Struct}
 use Rattle.std.proofs.Crossing.{crosses}
+use Rattle.mh_values.proofs.value.Exc.TheSendSync as exc
+use Rattle.mh_values.proofs.value.Value.TheSendSync as value
+use Rattle.mh_form.specs.contracts.calls.Calls as Calls
 use Rattle.mh_tickets.proofs.seat.TicketSeat.TheSendSync as tickets
 use Rattle.mh_handle.proofs.form.Form.TheSendSync as form
 use Rattle.mh_handle.proofs.table.FormTable.TheSendSync as table
 use Rattle.mh_handle.proofs.walks.FormWalks.TheSendSync as walks
 use Rattle.mh_handle.proofs.seen_forms.SeenForms.TheSendSync as seen
+use Rattle.mh_handle.specs.contracts.answer.Answer as Answer
+use Rattle.mh_handle.specs.contracts.answer.Answer.TheInside as inside
 use Rattle.mh_handle.specs.contracts.form.Form as Form
 use Rattle.mh_handle.specs.contracts.pass.FormPass as FormPass
 use Rattle.mh_handle.specs.contracts.seat.FormSeat as FormSeat
@@ -30,3 +37,17 @@ pass_send ℓ =
     let f = form.the_sync in
     let e = seat_send in
     search (crosses, sendable) depth 20
+
+-- of leaf calls Rattle shows nothing by itself, since they have snapshots of their arguments
+calls_send : IsSend Calls.the_row
+calls_send = search (crosses, sendable) depth 20
+
+-- the fields of an answer, and so the answer
+inside_send : IsSend inside.the_row
+inside_send =
+    let s = shape inside.the_type in
+    let parts : AllSend s.fields = (search (value.the_send, exc.the_send, crosses, sendable) depth 40, (calls_send, (search sendable, tt))) in
+    recorded_send (Struct s) inside.the_type.D inside.the_type.to inside.the_type.to_one (struct_send s parts)
+
+pub answer_send : IsSend Answer.the_row
+answer_send = view_send inside.the_row _ _ _ _ inside_send

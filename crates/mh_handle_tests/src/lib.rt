@@ -1,7 +1,24 @@
-//! Handles that are made by the combinators and called: no type stays held.
+//! Handles: no type stays held after they are made and called, attempts share forms, and values,
+//! forms, handles and answers go from thread to thread.
 #![tactic(auto)]
 
+#[cfg(test)]
+mod cases;
+mod edits;
+#[cfg(test)]
+mod files;
+#[cfg(test)]
+mod handles;
+#[cfg(test)]
+mod linkages;
+#[cfg(test)]
+mod links;
+#[cfg(test)]
+mod passes;
+mod racing;
 #[cfg(test)]
 mod trees;
 #[cfg(test)]
 mod trees_tests;
+#[cfg(test)]
+mod values;

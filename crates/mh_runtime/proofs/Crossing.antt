@@ -1,14 +1,12 @@
 -- A lane of a run may go to another thread, and threads may share what all of them use.
 use denote.RattleType.{RattleType}
 use denote.Ref.{NamedLft}
-use denote.Param.Send.{AllSend, IsSend, IsSync, recorded_send, sendable, struct_send, view_send}
-use denote.Struct.Declared.{shape}
-use denote.Struct.Struct.{Struct}
+use denote.Param.Send.{IsSend, IsSync, sendable}
 use Rattle.std.proofs.Crossing.{crosses}
 use Rattle.mh_setonce.proofs.chain.Chain.TheSendSync as chain
 use Rattle.mh_setonce.proofs.walk.Walk.TheSendSync as walk
 use Rattle.mh_tickets.proofs.seat.TicketSeat.TheSendSync as seat
-use Rattle.mh_handle.proofs.Crossing.{pass_send}
+use Rattle.mh_handle.proofs.Crossing.{answer_send, pass_send}
 use Rattle.mh_intern.proofs.seat.TypeSeat.TheSendSync as types
 use Rattle.mh_jobs.specs.declared.run.Run.{Ghosts}
 use Rattle.mh_attempt.proofs.Crossing.{linkage_send, linkage_sync}
@@ -16,11 +14,7 @@ use Rattle.mh_attempt.proofs.error.WorkError.TheSendSync as error
 use Rattle.mh_plan.proofs.attempt.Attempt.TheSendSync as attempt
 use Rattle.mh_base.proofs.seq.Seq.TheSendSync as seq
 use Rattle.mh_base.specs.contracts.seq.Seq as Plan
-use Rattle.mh_values.proofs.value.Value.TheSendSync as value
-use Rattle.mh_values.proofs.value.Exc.TheSendSync as exc
-use Rattle.mh_form.specs.contracts.calls.Calls as Calls
 use Rattle.mh_handle.specs.contracts.answer.Answer as Answer
-use Rattle.mh_handle.specs.contracts.answer.Answer.TheInside as inside
 use Rattle.mh_plan.specs.contracts.call.Call as Call
 use Rattle.mh_plan.proofs.call.Call.TheSendSync as call
 use Rattle.mh_jobs.proofs.jobs.Jobs.TheSendSync as jobs
@@ -45,22 +39,6 @@ links_send s t R g send sync =
     let a = attempt.the_send in
     let e = seat.the_send in
     search (crosses, sendable) depth 20
-
--- ---- answers
-
--- of leaf calls Rattle shows nothing by itself, since they have snapshots of their arguments
-calls_send : IsSend Calls.the_row
-calls_send = search (crosses, sendable) depth 20
-
--- the fields of an answer, and so the answer
-inside_send : IsSend inside.the_row
-inside_send =
-    let s = shape inside.the_type in
-    let parts : AllSend s.fields = (search (value.the_send, exc.the_send, crosses, sendable) depth 40, (calls_send, (search sendable, tt))) in
-    recorded_send (Struct s) inside.the_type.D inside.the_type.to inside.the_type.to_one (struct_send s parts)
-
-answer_send : IsSend Answer.the_row
-answer_send = view_send inside.the_row _ _ _ _ inside_send
 
 -- ---- lanes
 

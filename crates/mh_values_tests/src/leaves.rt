@@ -18,8 +18,9 @@ fn an_object_is_no_text(rt: HostRuntime) -> Result<(), Fail> {
         Value::Text(Frozen::new()),
         Value::Object(ClassId::OBJECT, 0),
     ];
+    let object = [Value::Object(ClassId::OBJECT, 0)];
     let joined = kind_does(rt.alloc(), Kind::Concat, &args, 0)?;
-    let measured = kind_does(rt.alloc(), Kind::Length, &args[1..], 0)?;
+    let measured = kind_does(rt.alloc(), Kind::Length, &object, 0)?;
     assert!(rt; is_cast(&joined) && is_cast(&measured));
     Ok(())
 }

@@ -1,0 +1,33 @@
+//! What threads share: chains, numbers that are drawn, the table of types, and items that workers
+//! link beside each other.
+#![tactic(auto)]
+
+mod both;
+#[cfg(test)]
+mod buckets;
+#[cfg(test)]
+mod chains;
+#[cfg(test)]
+mod drawing;
+#[cfg(test)]
+mod draws;
+#[cfg(test)]
+mod entry;
+#[cfg(test)]
+mod full;
+#[cfg(test)]
+mod held;
+#[cfg(test)]
+mod places;
+#[cfg(test)]
+mod playing;
+#[cfg(test)]
+mod prelinked;
+#[cfg(test)]
+mod races;
+#[cfg(test)]
+mod slots;
+#[cfg(test)]
+mod types;
+
+pub use both::release_both;

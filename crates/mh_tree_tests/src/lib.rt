@@ -1,7 +1,0 @@
-//! Types of combinators and their refusals, with the messages.
-#![tactic(auto)]
-
-#[cfg(test)]
-mod nodes;
-#[cfg(test)]
-mod rows;
