@@ -1,5 +1,5 @@
 -- Types below types: a value of the one has the other.
-use Rattle.std.proofs.Common.{◌≡◌, refl, sym, ap, subst, ◌∙◌, ◌==◌, Bool, true, false, ◌&&◌, ◌||◌, List, ◌++◌, drop}
+use Rattle.std.proofs.Common.{◌≡◌, refl, sym, ap, subst, ◌∙◌, ℕ, ◌==◌, Bool, true, false, ◌&&◌, ◌||◌, List, ◌++◌, drop}
 use Rattle.std.proofs.lemmas.Bool.{eqb-true, eq-eqb, and_parts, and_from}
 use Rattle.std.proofs.lemmas.List.{take-append-drop}
 use Rattle.mh_values.specs.declared.class.Class.{Class}
@@ -17,10 +17,11 @@ use Rattle.mh_values.specs.declared.value.Value.TheVariants as value
 use Rattle.mh_values.specs.Array.{value_of_item, item_type}
 use Rattle.mh_values.specs.Class.{is_subclass, builtin_classes, object_class, string_class, throwable_class, internal_error_class, wrong_method_type_class, class_cast_class, null_pointer_class, illegal_argument_class, arithmetic_class}
 use Rattle.mh_values.specs.Classes.{AreClasses}
-use Rattle.mh_values.specs.HasType.{is_component_below, is_item_of, are_items_of, has_type, is_type_below}
+use Rattle.mh_values.specs.HasType.{is_component_below, is_item_of, is_array_of, has_type, is_type_below}
 use Rattle.mh_values.proofs.Subclasses.{is_subclass-trans, is_subclass-itself}
 use Rattle.mh_values.specs.Primitives.{wrapper_of, primitive_of, is_within}
 use Rattle.mh_values.proofs.PrimitiveLaws.{same_primitive-is, same_primitive-itself}
+use Rattle.mh_values.specs.ValueLimits.{is_short_text}
 use Rattle.mh_values.proofs.SameTypes.{same_class-is}
 
 -- the built-in classes come first
@@ -80,19 +81,28 @@ component_below-trans classes are (comp.Prim p) (comp.Prim q) c h k =
 component_below-trans classes are (comp.Class a) (comp.Class b) (comp.Class c) h k = is_subclass-trans classes are.ordered.ascending a b c h k
 component_below-trans classes are a b c h k = absurd cc
 
--- a boxed number of a class is one of each class above it
+-- what is of a class and within its limits is also of each class above it
+within-below : (classes : List Class) → AreClasses classes → (own c d : ClassId) (within : Bool) → is_subclass classes c d ≡ true →
+    (is_subclass classes own c && within) ≡ true → (is_subclass classes own d && within) ≡ true
+within-below classes are own c d within h k =
+    let q = and_parts (is_subclass classes own c) within k in
+    and_from (is_subclass classes own d) within (is_subclass-trans classes are.ordered.ascending own c d q.0 h) q.1
+
+-- so is a boxed number, and so is a text
 boxed-below : (classes : List Class) → AreClasses classes → (n : Num) (c d : ClassId) → is_subclass classes c d ≡ true →
     (is_subclass classes (wrapper_of (primitive_of n)) c && is_within n) ≡ true → (is_subclass classes (wrapper_of (primitive_of n)) d && is_within n) ≡ true
-boxed-below classes are n c d h k =
-    let q = and_parts (is_subclass classes (wrapper_of (primitive_of n)) c) (is_within n) k in
-    and_from _ _ (is_subclass-trans classes are.ordered.ascending (wrapper_of (primitive_of n)) c d q.0 h) q.1
+boxed-below classes are n c d h k = within-below classes are (wrapper_of (primitive_of n)) c d (is_within n) h k
+
+text-below : (classes : List Class) → AreClasses classes → (s : List ℕ) (c d : ClassId) → is_subclass classes c d ≡ true →
+    (is_subclass classes string_class c && is_short_text s) ≡ true → (is_subclass classes string_class d && is_short_text s) ≡ true
+text-below classes are s c d h k = within-below classes are string_class c d (is_short_text s) h k
 
 pub item-below : (classes : List Class) → AreClasses classes → (c d : Comp) → is_component_below classes c d ≡ true → (i : Cell) → is_item_of classes c i ≡ true
     → is_item_of classes d i ≡ true
 item-below classes are (comp.Prim p) (comp.Prim q) h i k =
     let P : Primitive → Type 0 = λ r. is_item_of classes (comp.Prim r) i ≡ true in subst P (same_primitive-is p q h) k
 item-below classes are (comp.Class c) (comp.Class d) h (cell.Boxed n) k = boxed-below classes are n c d h k
-item-below classes are (comp.Class c) (comp.Class d) h (cell.Text s) k = is_subclass-trans classes are.ordered.ascending string_class c d k h
+item-below classes are (comp.Class c) (comp.Class d) h (cell.Text s) k = text-below classes are s c d h k
 item-below classes are (comp.Class c) (comp.Class d) h (cell.Object a n) k = is_subclass-trans classes are.ordered.ascending a c d k h
 item-below classes are (comp.Class c) (comp.Class d) h (cell.Thrown e) k = is_subclass-trans classes are.ordered.ascending e.class c d k h
 item-below classes are (comp.Class c) (comp.Class d) h cell.Null k = refl
@@ -115,19 +125,19 @@ pub value-below : (classes : List Class) → AreClasses classes → (s t : Ty) �
 value-below classes are (ty.Prim p) (ty.Prim q) h v k =
     let P : Primitive → Type 0 = λ r. has_type classes v (ty.Prim r) ≡ true in subst P (same_primitive-is p q h) k
 value-below classes are (ty.Class c) (ty.Class d) h (value.Boxed n) k = boxed-below classes are n c d h k
-value-below classes are (ty.Class c) (ty.Class d) h (value.Text s) k = is_subclass-trans classes are.ordered.ascending string_class c d k h
+value-below classes are (ty.Class c) (ty.Class d) h (value.Text s) k = text-below classes are s c d h k
 value-below classes are (ty.Class c) (ty.Class d) h (value.Object a n) k = is_subclass-trans classes are.ordered.ascending a c d k h
 value-below classes are (ty.Class c) (ty.Class d) h (value.Thrown e) k = is_subclass-trans classes are.ordered.ascending e.class c d k h
 value-below classes are (ty.Class c) (ty.Class d) h (value.Array a items) k =
-    let q = and_parts (c.0 == object_class.0) (are_items_of classes a items) k in
+    let q = and_parts (c.0 == object_class.0) (is_array_of classes a items) k in
     let P : ClassId → Type 0 = λ b. is_subclass classes b d ≡ true in
     and_from _ _ (object-top classes are d (subst P (same_class-is c object_class q.0) h)) q.1
 value-below classes are (ty.Class c) (ty.Class d) h value.Null k = refl
 value-below classes are (ty.Array c) (ty.Class d) h (value.Array a items) k =
-    and_from _ _ h (and_parts (is_component_below classes a c) (are_items_of classes a items) k).1
+    and_from _ _ h (and_parts (is_component_below classes a c) (is_array_of classes a items) k).1
 value-below classes are (ty.Array c) (ty.Class d) h value.Null k = refl
 value-below classes are (ty.Array c) (ty.Array d) h (value.Array a items) k =
-    let q = and_parts (is_component_below classes a c) (are_items_of classes a items) k in
+    let q = and_parts (is_component_below classes a c) (is_array_of classes a items) k in
     and_from _ _ (component_below-trans classes are a c d q.0 h) q.1
 value-below classes are (ty.Array c) (ty.Array d) h value.Null k = refl
 value-below classes are s t h v k = absurd cc

@@ -1,5 +1,5 @@
 -- Values within their limits: the texts and arrays that they hold are not too long.
-use Rattle.std.specs.Prelude.{ℕ, ◌≤◌, List, [], ◌∷◌, length}
+use Rattle.std.specs.Prelude.{ℕ, ◌≤◌, nat_le, Bool, List, [], ◌∷◌, length}
 use Rattle.mh_values.specs.declared.value.Cell.{Cell}
 use Rattle.mh_values.specs.declared.value.Cell.TheVariants as cell
 use Rattle.mh_values.specs.declared.value.Value.{Value}
@@ -12,6 +12,14 @@ most_characters = 4096
 -- how many items an array may have
 abbrev pub most_items : ℕ
 most_items = 254
+
+-- a text that is not too long
+abbrev pub is_short_text : List ℕ → Bool
+is_short_text s = nat_le (length s) most_characters
+
+-- items that are not too many for one array
+abbrev pub are_few_items : List Cell → Bool
+are_few_items items = nat_le (length items) most_items
 
 -- a text of an item is not too long
 abbrev pub IsItemWithinLimits : Cell → Type 0

@@ -1,8 +1,12 @@
-ghost use Rattle.std.specs.Prelude.{◌≡◌, ◌-◌, ◌^◌, min};
-ghost use Rattle.mh_values.specs.HasType.{is_component_below, is_item_of, are_items_of, has_class, has_primitive, has_component, has_type, is_type_below};
+ghost use Rattle.std.specs.Prelude.{◌≡◌, ◌-◌, ◌^◌, ◌&&◌, min};
+ghost use Rattle.mh_values.specs.Class.{is_subclass, string_class};
+ghost use Rattle.mh_values.specs.HasType.{is_component_below, is_item_of, are_items_of, is_array_of, has_class, has_primitive, has_component, has_type, is_type_below};
 ghost use Rattle.mh_values.specs.Slots.{slots_of, slots_of_all};
+ghost use Rattle.mh_values.specs.ValueLimits.{is_short_text};
 
-use crate::{Cell, ClassId, Classes, Comp, MethodTy, Primitive, Ty, Value};
+use crate::{
+    Cell, ClassId, Classes, Comp, MOST_CHARACTERS, MOST_ITEMS, MethodTy, Primitive, Str, Ty, Value,
+};
 
 /// The most slots that the parameters of a method handle take: one of the 255 of a method (JVMS
 /// SE 17, 4.3.3) is the handle's own.
@@ -68,6 +72,13 @@ pub fn is_type_below(from: Ty, to: Ty, classes: &Classes) -> bool
     }
 }
 
+/// Whether a text is of the class, and not too long for a value.
+fn is_text_of(text: &Str, class: ClassId, classes: &Classes) -> bool
+    ensures { result ≡ is_subclass classes.now string_class class && is_short_text text.now }
+{
+    classes.subclass(ClassId::STRING, class) && text.len() <= MOST_CHARACTERS
+}
+
 /// Whether an array of the component may have the item.
 pub fn is_item_of(component: Comp, item: &Cell, classes: &Classes) -> bool
     ensures { result ≡ is_item_of classes.now component item.now }
@@ -80,7 +91,7 @@ pub fn is_item_of(component: Comp, item: &Cell, classes: &Classes) -> bool
         Comp::Class(class) => match item {
             Cell::Prim(_) => false,
             Cell::Boxed(number) => classes.subclass(number.primitive().wrapper(), class),
-            Cell::Text(_) => classes.subclass(ClassId::STRING, class),
+            Cell::Text(text) => is_text_of(text, class, classes),
             Cell::Object(own, _) => classes.subclass(*own, class),
             Cell::Thrown(exc) => classes.subclass(exc.class(), class),
             Cell::Null => true,
@@ -95,6 +106,14 @@ pub fn are_items_of(component: Comp, items: &[Cell], classes: &Classes) -> bool
     items
         .iter()
         .all(|item| is_item_of(component, item, classes))
+}
+
+/// Whether an array of the component may have these items: none of them is of another type, and
+/// they are not too many.
+fn is_array_of(component: Comp, items: &[Cell], classes: &Classes) -> bool
+    ensures { result ≡ is_array_of classes.now component items.now }
+{
+    items.len() <= MOST_ITEMS && are_items_of(component, items, classes)
 }
 
 fn has_primitive(v: &Value, primitive: Primitive) -> bool
@@ -112,11 +131,11 @@ fn has_class(v: &Value, class: ClassId, classes: &Classes) -> bool
     match v {
         Value::Prim(_) => false,
         Value::Boxed(number) => classes.subclass(number.primitive().wrapper(), class),
-        Value::Text(_) => classes.subclass(ClassId::STRING, class),
+        Value::Text(text) => is_text_of(text, class, classes),
         Value::Object(own, _) => classes.subclass(*own, class),
         Value::Thrown(exc) => classes.subclass(exc.class(), class),
         Value::Array(own, items) => {
-            class == ClassId::OBJECT && are_items_of(*own, items.as_slice(), classes)
+            class == ClassId::OBJECT && is_array_of(*own, items.as_slice(), classes)
         }
         Value::Null => true,
     }
@@ -128,7 +147,7 @@ fn has_component(v: &Value, component: Comp, classes: &Classes) -> bool
     match v {
         Value::Array(own, items) => {
             is_component_below(*own, component, classes)
-                && are_items_of(*own, items.as_slice(), classes)
+                && is_array_of(*own, items.as_slice(), classes)
         }
         Value::Null => true,
         _ => false,
@@ -136,7 +155,8 @@ fn has_component(v: &Value, component: Comp, classes: &Classes) -> bool
 }
 
 /// Whether a value has a type: a number its primitive type, any other value each class at or above
-/// its own, an array also the arrays of such classes, and null each reference type.
+/// its own, an array also the arrays of such classes, and null each reference type. A text of more
+/// than [`MOST_CHARACTERS`] has no type, nor has an array of more than [`MOST_ITEMS`].
 pub fn has_type(v: &Value, ty: Ty, classes: &Classes) -> bool
     ensures { result ≡ has_type classes.now v.now ty }
 {
