@@ -1,5 +1,5 @@
 -- Conversions of values within their limits give values within their limits.
-use Rattle.std.proofs.Common.{Bool, true, false, ◌&&◌, cond, List, Result, Ok, Err}
+use Rattle.std.proofs.Common.{◌≡◌, refl, Bool, true, false, ◌&&◌, cond, List, Result, Ok, Err}
 use Rattle.mh_values.specs.declared.class.Class.{Class}
 use Rattle.mh_values.specs.declared.types.Primitive.{Primitive}
 use Rattle.mh_values.specs.declared.types.Ty.{Ty}
@@ -12,6 +12,7 @@ use Rattle.mh_values.specs.Exception.{bare}
 use Rattle.mh_values.specs.HasType.{has_type}
 use Rattle.mh_values.specs.Primitives.{primitive_of, is_within}
 use Rattle.mh_values.specs.ValueLimits.{IsValueWithinLimits}
+use Rattle.mh_values.proofs.TypedLimits.{typed-within}
 use Rattle.mh_convert.specs.Conversion.{serves_as, widened, widened_value, boxed, cast, unboxed, conv, fit, default_of}
 
 -- a value within its limits, or an exception
@@ -19,8 +20,8 @@ abbrev pub ConvertsWithinLimits : Result Value Exc → Type 0
 ConvertsWithinLimits (Ok v) = IsValueWithinLimits v
 ConvertsWithinLimits (Err e) = Unit {0}
 
-chosen : (b : Bool) (v : Value) (e : Exc) → IsValueWithinLimits v → ConvertsWithinLimits (cond b (Ok v) (Err e))
-chosen true v e h = h
+chosen : (b : Bool) (v : Value) (e : Exc) → (b ≡ true → IsValueWithinLimits v) → ConvertsWithinLimits (cond b (Ok v) (Err e))
+chosen true v e h = h refl
 chosen false v e h = tt
 
 widened-limits : (v : Value) (q : Primitive) → IsValueWithinLimits v → IsValueWithinLimits (widened_value v q)
@@ -33,11 +34,11 @@ boxed-limits v h = h
 
 unboxed-limits : (v : Value) (q : Primitive) → ConvertsWithinLimits (unboxed v q)
 unboxed-limits value.Null q = tt
-unboxed-limits (value.Boxed n) q = chosen (serves_as (primitive_of n) q && is_within n) (value.Prim (widened n q)) (bare class_cast_class) tt
+unboxed-limits (value.Boxed n) q = chosen (serves_as (primitive_of n) q && is_within n) (value.Prim (widened n q)) (bare class_cast_class) (λ is. tt)
 unboxed-limits v q = tt
 
-cast-limits : (classes : List Class) (v : Value) (t : Ty) → IsValueWithinLimits v → ConvertsWithinLimits (cast classes v t)
-cast-limits classes v t h = chosen (has_type classes v t) v (bare class_cast_class) h
+cast-limits : (classes : List Class) (v : Value) (t : Ty) → ConvertsWithinLimits (cast classes v t)
+cast-limits classes v t = chosen (has_type classes v t) v (bare class_cast_class) (typed-within classes v t)
 
 -- a converted value is within its limits
 pub conv-limits : (classes : List Class) (s t : Ty) (v : Value) → IsValueWithinLimits v → ConvertsWithinLimits (conv classes s t v)
@@ -46,12 +47,12 @@ conv-limits classes (ty.Prim p) (ty.Class c) v h = boxed-limits v h
 conv-limits classes (ty.Prim p) (ty.Array c) v h = boxed-limits v h
 conv-limits classes (ty.Class c) (ty.Prim q) v h = unboxed-limits v q
 conv-limits classes (ty.Array c) (ty.Prim q) v h = unboxed-limits v q
-conv-limits classes s t v h = cast-limits classes v t h
+conv-limits classes s t v h = cast-limits classes v t
 
--- and so is one that was bound, or is constant
-pub fit-limits : (classes : List Class) (v : Value) (t : Ty) → IsValueWithinLimits v → ConvertsWithinLimits (fit classes v t)
-fit-limits classes v (ty.Prim q) h = unboxed-limits v q
-fit-limits classes v t h = cast-limits classes v t h
+-- and so is one that was bound, or is constant, whatever it was before
+pub fit-limits : (classes : List Class) (v : Value) (t : Ty) → ConvertsWithinLimits (fit classes v t)
+fit-limits classes v (ty.Prim q) = unboxed-limits v q
+fit-limits classes v t = cast-limits classes v t
 
 -- the default of a type
 pub default-limits : (t : Ty) → IsValueWithinLimits (default_of t)
