@@ -20,7 +20,7 @@ use Rattle.mh_tree.specs.Tree as tree
 use Rattle.mh_tree.specs.Typing.{type_of, arity_of, with_type, sides}
 use Rattle.mh_tree.specs.Meaning.{Done, mean, or_throw, part_of}
 use Rattle.mh_tree.specs.Sound.{IsSound}
-use Rattle.mh_tree.proofs.RowParts.{gather_row-parts}
+use Rattle.mh_tree.proofs.RowParts.{gather_row-few, gather_row-parts}
 use Rattle.mh_tree.proofs.SoundAdapters.{one-taken}
 use Rattle.mh_tree.proofs.SoundGather.{array-converts, gather-sound, last-there}
 use Rattle.mh_tree.proofs.TypedLists.{types-length, types-part, types-splice}
@@ -53,6 +53,7 @@ pub gather-stands :
     Stands table h' (tree.Gather t array count)
 gather-stands table h h' t array count c u are st row some grows =
     let parts = gather_row-parts table.classes h.ty h.weight array count u row in
+    let few = gather_row-few table.classes h.ty h.weight array count u row in
     let same : Some parts.0 ≡ Some c = sym parts.1 ∙ some in
     let is : parts.0 ≡ c = cc in
     let place = length h.ty.params - 1 in
@@ -100,7 +101,7 @@ gather-stands table h h' t array count c u are st row some grows =
     let gathering : and_then (made_array table.classes c (take count (drop place slots))) n run ≡ erased_ran (or_throw (array_of c vs) next) =
     ap (λ r. and_then r n run) (ap (made_array table.classes c) (sym (part-map erased place count args)) ∙ array-erased table.classes c count vs
     (types-length table.classes vs items mine ∙ many) mine)
-    ∙ array-then table.classes (array_of c vs) (ty.Array c) n run next (array-converts table.classes are c count vs mine) each in
+    ∙ array-then table.classes (array_of c vs) (ty.Array c) n run next (array-converts table.classes are c count vs few mine) each in
     let means : mean table gather args n ≡ or_throw (array_of c vs) next =
     ap (λ o. found (component_of array) (λ d. or_throw (array_of d (part_of (arity_of o - 1) count args))
     (λ v. mean table t (spliced (arity_of o - 1) count (v ∷ []) args) n))) st.typed

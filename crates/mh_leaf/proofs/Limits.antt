@@ -1,8 +1,9 @@
 -- A leaf on arguments within their limits gives a result within its limits.
-use Rattle.std.proofs.Common.{◌≡◌, refl, subst, ℕ, zero, suc, ◌≤◌, ℤ, pos, negsuc, Bool, true, false, not, cond, List, [], ◌∷◌, ◌++◌, length, Option, Some, None, nat_lt, codes, arith}
+use Rattle.std.proofs.Common.{◌≡◌, refl, subst, ℕ, zero, suc, ◌≤◌, ℤ, pos, negsuc, Bool, true, false, not, cond, List, [], ◌∷◌, ◌++◌, length, Option, Some, None, codes}
 use Rattle.std.specs.Int.{w32, w64, int_wrap}
-use Rattle.std.specs.Prelude.{◌+ℤ◌, ◌-ℤ◌, ◌*ℤ◌, int_lt, option_map, slice_get}
-use Rattle.std.proofs.lemmas.Bool.Decides.{nat_tests}
+use Rattle.std.specs.Prelude.{◌+ℤ◌, ◌-ℤ◌, ◌*ℤ◌, int_lt, option_map, option_and_then, slice_get, sum_by}
+use Rattle.std.proofs.lemmas.Bool.{leb-true}
+use Rattle.mh_values.specs.declared.value.Exc.{Exc}
 use Rattle.mh_values.specs.declared.value.Num.TheVariants as num
 use Rattle.mh_values.specs.declared.value.Value.{Value}
 use Rattle.mh_values.specs.declared.value.Value.TheVariants as value
@@ -12,13 +13,13 @@ use Rattle.mh_values.specs.declared.value.LeafId.{LeafId}
 use Rattle.mh_values.specs.declared.calls.LeafCall.{LeafCall}
 use Rattle.mh_values.specs.Class.{internal_error_class, null_pointer_class}
 use Rattle.mh_values.specs.Exception.{bare, saying}
-use Rattle.mh_values.specs.ValueLimits.{AreValuesWithinLimits, most_characters}
+use Rattle.mh_values.specs.ValueLimits.{AreValuesWithinLimits, is_short_text, most_characters}
 use Rattle.mh_leaf.specs.declared.leaf.Kind.{Kind}
 use Rattle.mh_leaf.specs.declared.leaf.Kind.TheVariants as kind
 use Rattle.mh_leaf.specs.declared.leaf.Leaf.{Leaf}
 use Rattle.mh_leaf.specs.LeafTable.{LeafTable}
 use Rattle.mh_leaf.specs.Limits.{IsOutcomeWithinLimits, AreCallsWithinLimits, IsRunWithinLimits}
-use Rattle.mh_leaf.specs.Outcome.{returned, int, long, boolean, divided, is_same_int, characters_of, joined, measured, two_ints, two_longs, one_boolean, one_value, two_values, first_value, picked_value, kind_on, lacks_receiver, leaf_outcome, calls_of, ran_of_some, leaf_run, leaf_mean}
+use Rattle.mh_leaf.specs.Outcome.{returned, int, long, boolean, divided, is_same_int, characters_of, text, joined, units_of, measured, two_ints, two_longs, one_boolean, one_value, two_values, first_value, picked_value, kind_on, lacks_receiver, leaf_outcome, calls_of, ran_of_some, leaf_run, leaf_mean}
 
 -- the outcome, if there is one, is within the limits
 abbrev IsWithin : Option Outcome → Type 0
@@ -40,24 +41,31 @@ divided-within a (negsuc b) = tt
 
 -- ---- texts
 
-short : (b : Bool) (s : List ℕ) (refused : Outcome) → IsOutcomeWithinLimits refused → (b ≡ false → length s ≤ most_characters) →
-    IsOutcomeWithinLimits (cond b refused (returned (value.Text s)))
-short true s refused h k = h
-short false s refused h k = k refl
+chosen : (b : Bool) (s : List ℕ) (e : Exc) → (b ≡ true → length s ≤ most_characters) → IsOutcomeWithinLimits (cond b (returned (value.Text s)) (Throw e))
+chosen true s e h = h refl
+chosen false s e h = tt
 
-not_long : (s : List ℕ) → nat_lt most_characters (length s) ≡ false → length s ≤ most_characters
-not_long s h = grind (arith, nat_tests)
+text-within : (s : List ℕ) → IsOutcomeWithinLimits (text s)
+text-within s = chosen (is_short_text s) s (saying internal_error_class (codes "string too long")) (leb-true (length s) most_characters)
 
 joined-within : (s t : Option (List ℕ)) → IsOutcomeWithinLimits (joined s t)
-joined-within (Some s) (Some t) =
-    short (nat_lt most_characters (length (s ++ t))) (s ++ t) (Throw (saying internal_error_class (codes "string too long"))) tt (not_long (s ++ t))
+joined-within (Some s) (Some t) = text-within (s ++ t)
 joined-within (Some s) None = tt
 joined-within None t = tt
 
-measured-within : (v : Value) → IsOutcomeWithinLimits (measured v)
-measured-within (value.Text s) = tt
+-- the length of a text, if there is one, is no text
+counted : (b : Bool) (z : ℤ) → IsWithin (cond b (Some (int z)) None)
+counted true z = tt
+counted false z = tt
+
+measured-within : (v : Value) → IsWithin (measured v)
+measured-within (value.Text s) = counted (is_short_text s) (pos (sum_by units_of s))
 measured-within value.Null = tt
 measured-within v = tt
+
+length-within : (o : Option Value) → IsWithin (option_and_then measured o)
+length-within (Some v) = measured-within v
+length-within None = tt
 
 -- ---- arguments
 
@@ -90,7 +98,7 @@ kind-within kind.Not args n have = mapped-within (λ (b : Bool). boolean (not b)
 kind-within kind.Concat args n have =
     mapped-within (λ (p : Value × Value). joined (characters_of p.0) (characters_of p.1)) (two_values args)
     (λ p. joined-within (characters_of p.0) (characters_of p.1))
-kind-within kind.Length args n have = mapped-within measured (one_value args) measured-within
+kind-within kind.Length args n have = length-within (one_value args)
 kind-within kind.Same args n have = one-within args have
 kind-within kind.First args n have = first-within args have
 kind-within kind.Pick args n have = picked-within args have

@@ -19,8 +19,8 @@ use Rattle.mh_values.proofs.SameTypes.{same_return-is}
 use Rattle.mh_leaf.specs.declared.leaf.Kind.{Kind}
 use Rattle.mh_leaf.specs.declared.leaf.Kind.TheVariants as kind
 use Rattle.mh_leaf.specs.declared.leaf.Leaf.{Leaf}
-use Rattle.mh_leaf.proofs.ArgumentTypes.{longs_there, boolean_there, one_there, two_there}
-use Rattle.mh_leaf.specs.Outcome.{int, characters_of, measured, two_longs, one_boolean, one_value, two_values, kind_on, lacks_receiver, leaf_outcome, calls_of, ran_of, ran_of_some, leaf_run, int_type, long_type, boolean_type, string_type, returns_first, is_kind_type, throws_exceptions, is_well_typed}
+use Rattle.mh_leaf.proofs.ArgumentTypes.{longs_there, boolean_there, two_there}
+use Rattle.mh_leaf.specs.Outcome.{int, characters_of, two_longs, one_boolean, two_values, kind_on, lacks_receiver, leaf_outcome, calls_of, ran_of, ran_of_some, leaf_run, int_type, long_type, boolean_type, string_type, returns_first, is_kind_type, throws_exceptions, is_well_typed}
 pub use Rattle.mh_leaf.proofs.SingleOutcomes.{
   Ends,
   divided-returns,
@@ -30,9 +30,9 @@ pub use Rattle.mh_leaf.proofs.SingleOutcomes.{
   int-wrapped,
   ints-end,
   joined-returns,
+  length-ends,
   long-wrapped,
   mapped-ends,
-  measured-returns,
   pick-ends,
   same-ends,
 }
@@ -59,10 +59,7 @@ kind-ends classes are kind.Concat t args n is throws have =
     fixed classes t _ _ args _ is have (λ two.
     let q = two_there classes args string_type string_type two in
     mapped-ends classes _ (two_values args) q.0 (Some string_type) q.1 (joined-returns classes are (characters_of q.0.0) (characters_of q.0.1)))
-kind-ends classes are kind.Length t args n is throws have =
-    fixed classes t _ _ args _ is have (λ one.
-    let q = one_there classes args string_type one in
-    mapped-ends classes measured (one_value args) q.0 (Some int_type) q.1 (measured-returns classes are q.0))
+kind-ends classes are kind.Length t args n is throws have = fixed classes t _ _ args _ is have (length-ends classes are args)
 kind-ends classes are kind.Same t args n is throws have =
     let q = and_parts (length t.params == 1) (returns_first t) is in same-ends classes t.params t.ret args q.0 q.1 have
 kind-ends classes are kind.First t args n is throws have =

@@ -1,9 +1,9 @@
 -- How the kinds of leaves end on arguments of their types, kind by kind.
-use Rattle.std.proofs.Common.{◌≡◌, refl, sym, ap, subst, ℕ, zero, suc, ◌==◌, ℤ, pos, negsuc, Bool, true, false, ◌&&◌, cond, List, [], ◌∷◌, ◌++◌, length, Option, Some, None, nat_lt, nat_le, codes, FitsSigned, rules, ◌^◌, arith}
-use Rattle.std.proofs.lemmas.Bool.{eqb-true, and_parts, lt-ltb}
+use Rattle.std.proofs.Common.{◌≡◌, refl, sym, ap, subst, inl, inr, ℕ, zero, suc, ◌==◌, ℤ, pos, negsuc, Bool, true, false, ◌&&◌, if◌then◌else◌, cond, List, [], ◌∷◌, ◌++◌, length, Option, Some, None, nat_le, codes, FitsSigned, rules, ◌^◌, arith}
+use Rattle.std.proofs.lemmas.Bool.{cases_Bool, eqb-true, and_parts, and_from, lt-ltb}
 use Rattle.std.proofs.lemmas.Int.{SFits-int_wrap}
 use Rattle.std.specs.Int.{w32, w64, cast_signed, cast_unsigned, int_wrap}
-use Rattle.std.specs.Prelude.{option_map, slice_get, sum_by, int_div}
+use Rattle.std.specs.Prelude.{option_map, option_and_then, slice_get, sum_by, int_div}
 use Rattle.mh_values.specs.declared.class.Class.{Class}
 use Rattle.mh_values.specs.declared.types.Ty.{Ty}
 use Rattle.mh_values.specs.declared.types.MethodTy.{MethodTy}
@@ -13,20 +13,21 @@ use Rattle.mh_values.specs.declared.value.Value.TheVariants as value
 use Rattle.mh_values.specs.declared.value.Outcome.{Outcome}
 use Rattle.mh_values.specs.declared.value.Outcome.TheVariants.{Throw}
 use Rattle.mh_values.specs.declared.calls.LeafCall.{LeafCall}
-use Rattle.mh_values.specs.Class.{string_class, internal_error_class}
+use Rattle.mh_values.specs.Class.{is_subclass, string_class, class_cast_class, internal_error_class, null_pointer_class}
 use Rattle.mh_values.specs.Classes.{AreClasses}
 use Rattle.mh_values.specs.Computation.{Gave}
-use Rattle.mh_values.specs.Exception.{saying}
+use Rattle.mh_values.specs.Exception.{bare, saying}
 use Rattle.mh_values.specs.HasType.{has_type, HaveTypes}
 use Rattle.mh_values.specs.Primitives.{is_signed}
 use Rattle.mh_values.specs.Returns.{Returns}
 use Rattle.mh_values.specs.Same.{is_same_type, is_same_return}
-use Rattle.mh_values.specs.ValueLimits.{most_characters}
+use Rattle.mh_values.specs.ValueLimits.{is_short_text}
 use Rattle.mh_values.proofs.BelowTypes.{arithmetic-below, class_cast-below, internal_error-below, null_pointer-below}
 use Rattle.mh_values.proofs.SameTypes.{same_type-is, same_return-is, same_method_type-is, method_type}
 use Rattle.mh_values.proofs.Subclasses.{is_subclass-itself}
 use Rattle.mh_leaf.proofs.ArgumentTypes.{is_boolean, ints_there, one_there}
-use Rattle.mh_leaf.specs.Outcome.{units_of, returned, divided, text, joined, measured, two_ints, one_value, first_value, picked_value, ran_of, int_type, boolean_type, string_type, is_type, chooses}
+use Rattle.mh_leaf.proofs.TextUnits.{units-within}
+use Rattle.mh_leaf.specs.Outcome.{units_of, int, returned, divided, text, joined, measured, two_ints, one_value, first_value, picked_value, ran_of, int_type, boolean_type, string_type, is_type, chooses}
 
 -- ---- machine numbers
 
@@ -60,11 +61,12 @@ divided-returns classes are a (negsuc b) calls = int-cast (cast_unsigned w32 (in
 
 text-returns : (classes : List Class) → AreClasses classes → (s : List ℕ) (calls : List LeafCall) → Returns classes (ran_of (text s) calls) (Some string_type)
 text-returns classes are s calls =
-    elim (nat_lt most_characters (length s)) as
-    (λ b. Returns classes (ran_of (cond b (Throw (saying internal_error_class (codes "string too long"))) (returned (value.Text s))) calls)
-    (Some string_type)) [
-      | true ↦ internal_error-below classes are
-      | false ↦ is_subclass-itself classes string_class
+    let refused = Throw (saying internal_error_class (codes "string too long")) in
+    let P : Bool → Type 0 = λ b. Returns classes (ran_of (cond b (returned (value.Text s)) refused) calls) (Some string_type) in
+    elim (cases_Bool (is_short_text s)) [
+      | inl short ↦ subst P (sym short) (and_from (is_subclass classes string_class string_class) (is_short_text s)
+          (is_subclass-itself classes string_class) short)
+      | inr long ↦ subst P (sym long) (internal_error-below classes are)
     ]
 
 pub joined-returns : (classes : List Class) → AreClasses classes → (s t : Option (List ℕ)) (calls : List LeafCall) →
@@ -72,12 +74,6 @@ pub joined-returns : (classes : List Class) → AreClasses classes → (s t : Op
 joined-returns classes are (Some s) (Some t) calls = text-returns classes are (s ++ t) calls
 joined-returns classes are (Some s) None calls = class_cast-below classes are
 joined-returns classes are None t calls = class_cast-below classes are
-
-pub measured-returns : (classes : List Class) → AreClasses classes → (v : Value) (calls : List LeafCall) →
-    Returns classes (ran_of (measured v) calls) (Some int_type)
-measured-returns classes are (value.Text s) calls = int-wrapped (pos (sum_by units_of s))
-measured-returns classes are value.Null calls = null_pointer-below classes are
-measured-returns classes are v calls = class_cast-below classes are
 
 -- ---- kinds
 
@@ -89,6 +85,21 @@ Ends classes o ret = (outcome : Outcome) × (o ≡ Some outcome) × ((calls : Li
 pub mapped-ends : {A : Type 0} (classes : List Class) (f : A → Outcome) (o : Option A) (a : A) (ret : Option Ty) → o ≡ Some a →
     ((calls : List LeafCall) → Returns classes (ran_of (f a) calls) ret) → Ends classes (option_map f o) ret
 mapped-ends classes f o a ret is returns = (f a, ap (option_map f) is, returns)
+
+-- a length, of what has the type of texts
+measured-ends : (classes : List Class) → AreClasses classes → (v : Value) → has_type classes v string_type ≡ true → Ends classes (measured v) (Some int_type)
+measured-ends classes are (value.Text s) typed =
+    let short : is_short_text s ≡ true = (and_parts (is_subclass classes string_class string_class) (is_short_text s) typed).1 in
+    let units = int (pos (sum_by units_of s)) in
+    (units, ap (λ b. if b then Some units else None) short, λ calls. units-within s short)
+measured-ends classes are value.Null typed = (Throw (bare null_pointer_class), refl, λ calls. null_pointer-below classes are)
+measured-ends classes are v typed = (Throw (bare class_cast_class), refl, λ calls. class_cast-below classes are)
+
+pub length-ends : (classes : List Class) → AreClasses classes → (args : List Value) → HaveTypes classes args (string_type ∷ []) →
+    Ends classes (option_and_then measured (one_value args)) (Some int_type)
+length-ends classes are args have =
+    let q = one_there classes args string_type have in
+    subst (λ o. Ends classes (option_and_then measured o) (Some int_type)) (sym q.1) (measured-ends classes are q.0 q.2)
 
 -- a leaf with the only type that its kind allows
 pub fixed : (classes : List Class) (t : MethodTy) (params : List Ty) (ret : Ty) (args : List Value) (o : Option Outcome) → is_type t params ret ≡ true →

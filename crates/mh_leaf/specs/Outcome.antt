@@ -1,5 +1,5 @@
 -- What each kind of leaf does, and which types it may have.
-use Rattle.std.specs.Prelude.{ℕ, zero, ◌==◌, ℤ, pos, negsuc, ◌+ℤ◌, ◌-ℤ◌, ◌*ℤ◌, int_lt, nat_lt, nat_le, Bool, true, false, not, ◌&&◌, if◌then◌else◌, List, [], ◌∷◌, ◌++◌, length, codes, sum_by, Option, Some, None, option_map, slice_get}
+use Rattle.std.specs.Prelude.{ℕ, zero, ◌==◌, ℤ, pos, negsuc, ◌+ℤ◌, ◌-ℤ◌, ◌*ℤ◌, int_lt, nat_lt, nat_le, Bool, true, false, not, ◌&&◌, if◌then◌else◌, List, [], ◌∷◌, ◌++◌, length, codes, sum_by, Option, Some, None, option_map, option_and_then, slice_get}
 use Rattle.std.specs.Int.{w32, w64, int_wrap, int_wrapping_div, cast_signed}
 use Rattle.mh_values.specs.declared.class.Class.{Class}
 use Rattle.mh_values.specs.declared.types.Primitive.TheVariants as primitive
@@ -17,7 +17,7 @@ use Rattle.mh_values.specs.Class.{is_subclass, string_class, throwable_class, ar
 use Rattle.mh_values.specs.Computation.{Ran, Gave, Threw, Stuck}
 use Rattle.mh_values.specs.Exception.{bare, saying}
 use Rattle.mh_values.specs.Same.{is_same_type, is_same_return, is_same_method_type}
-use Rattle.mh_values.specs.ValueLimits.{most_characters}
+use Rattle.mh_values.specs.ValueLimits.{is_short_text}
 use Rattle.mh_leaf.specs.declared.leaf.Kind.{Kind}
 use Rattle.mh_leaf.specs.declared.leaf.Kind.TheVariants as kind
 use Rattle.mh_leaf.specs.declared.leaf.Leaf.{Leaf}
@@ -56,9 +56,9 @@ characters_of (value.Text s) = Some s
 characters_of value.Null = Some (codes "null")
 characters_of v = None
 
--- a text as a result, if it has no more characters than a text may have
+-- a text as a result, if it is not too long for a value
 abbrev pub text : List ℕ → Outcome
-text s = if nat_lt most_characters (length s) then Throw (saying internal_error_class (codes "string too long")) else returned (value.Text s)
+text s = if is_short_text s then returned (value.Text s) else Throw (saying internal_error_class (codes "string too long"))
 
 -- two texts joined
 abbrev pub joined : Option (List ℕ) → Option (List ℕ) → Outcome
@@ -69,12 +69,11 @@ joined _ _ = Throw (bare class_cast_class)
 abbrev pub units_of : ℕ → ℕ
 units_of c = if nat_lt c 65536 then 1 else 2
 
--- the number of UTF-16 units of a text, wrapped to 32 bits; null has none, and anything else is no text
--- of a text within its limits it is the number itself (`measured-is` of proofs/TextUnits)
-abbrev pub measured : Value → Outcome
-measured (value.Text s) = int (int_wrap w32 (pos (sum_by units_of s)))
-measured value.Null = Throw (bare null_pointer_class)
-measured v = Throw (bare class_cast_class)
+-- the number of UTF-16 units of a text; null has none, and anything else is no text; nothing is said of a text that is too long for a value
+abbrev pub measured : Value → Option Outcome
+measured (value.Text s) = if is_short_text s then Some (int (pos (sum_by units_of s))) else None
+measured value.Null = Some (Throw (bare null_pointer_class))
+measured v = Some (Throw (bare class_cast_class))
 
 -- two ints as arguments
 abbrev pub two_ints : List Value → Option (ℤ × ℤ)
@@ -123,7 +122,7 @@ kind_on kind.Ieq args n = option_map (λ p. boolean (is_same_int p.0 p.1)) (two_
 kind_on kind.Ilt args n = option_map (λ p. boolean (int_lt p.0 p.1)) (two_ints args)
 kind_on kind.Not args n = option_map (λ b. boolean (not b)) (one_boolean args)
 kind_on kind.Concat args n = option_map (λ p. joined (characters_of p.0) (characters_of p.1)) (two_values args)
-kind_on kind.Length args n = option_map measured (one_value args)
+kind_on kind.Length args n = option_and_then measured (one_value args)
 kind_on kind.Same args n = option_map returned (one_value args)
 kind_on kind.First args n = option_map returned (first_value args)
 kind_on kind.Pick args n = option_map returned (picked_value args)

@@ -1,8 +1,6 @@
 ghost use Rattle.std.specs.Prelude.{◌≡◌, IfOk, IsSome, Some, option_map, option_copied};
 ghost use Rattle.std.specs.Int.{cast_signed, w32};
-ghost use Rattle.mh_values.specs.ValueLimits.{AreValuesWithinLimits};
 ghost use Rattle.mh_leaf.specs.declared.leaf.Leaf.{Leaf as Called};
-ghost use Rattle.mh_leaf.specs.Limits.{IsOutcomeWithinLimits};
 ghost use Rattle.mh_leaf.specs.Outcome.{kind_on, leaf_outcome, lacks_receiver, divided, int, long, boolean, returned, is_same_int};
 
 use crate::arguments::{
@@ -150,8 +148,7 @@ fn concatenated(alloc: Global, args: &[Value]) -> Result<Option<Outcome>, NoMemo
 fn length(args: &[Value]) -> Option<Outcome>
     ensures { result ≡ kind_on Kind.Length args.now 0 }
 {
-    let value = one_value(args)?;
-    Some(measured(value))
+    measured(one_value(args)?)
 }
 
 /// What a leaf of a kind does with these arguments, where `n` leaf calls were made before in the
@@ -199,8 +196,7 @@ pub fn lacks_receiver(is_virtual: bool, args: &[Value]) -> bool
 /// A virtual leaf whose receiver is null throws `NullPointerException` and makes no leaf call.
 pub fn leaf_does(alloc: Global, leaf: &Leaf, args: &[Value], n: u32) -> Result<Outcome, NoMemory>
     requires { IsSome (leaf_outcome leaf.now args.now n) }
-    ensures outcome { IfOk result (λ outcome. leaf_outcome leaf.now args.now n ≡ Some outcome) }
-    ensures limits { AreValuesWithinLimits args.now → IfOk result IsOutcomeWithinLimits }
+    ensures { IfOk result (λ outcome. leaf_outcome leaf.now args.now n ≡ Some outcome) }
 {
     if lacks_receiver(leaf.is_virtual, args) {
         return Ok(Outcome::Throw(Exc::bare(ClassId::NULL_POINTER)));

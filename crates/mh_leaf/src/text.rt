@@ -1,5 +1,5 @@
-ghost use Rattle.std.specs.Prelude.{◌≡◌, ◌++◌, option_copied, sum_by, IfOk, pos};
-ghost use Rattle.std.specs.Int.{int_wrap, w32};
+ghost use Rattle.std.specs.Prelude.{◌≡◌, ◌≤◌, ◌++◌, length, option_copied, sum_by, IfOk, pos};
+ghost use Rattle.mh_values.specs.ValueLimits.{most_characters};
 ghost use Rattle.mh_leaf.specs.Outcome.{characters_of, joined, text, units_of, measured};
 
 use mh_base::{Frozen, NoMemory, Seq};
@@ -46,30 +46,42 @@ pub fn joined(alloc: Global, first: &Value, second: &Value) -> Result<Outcome, N
 }
 
 /// How many UTF-16 units a character takes.
-fn units_of(character: char) -> i32
-    ensures { result ≡ pos (units_of character) }
+fn units_of(character: char) -> u32
+    ensures { result ≡ units_of character }
 {
     if u32::from(character) < 65536 { 1 } else { 2 }
 }
 
-/// The number of UTF-16 units of a text, wrapped to 32 bits.
+/// The number of UTF-16 units of a text that is not too long for a value.
 fn units(text: &[char]) -> i32
-    ensures { result ≡ int_wrap w32 (pos (sum_by units_of text.now)) }
+    requires { length text.now ≤ most_characters }
+    ensures { result ≡ pos (sum_by units_of text.now) }
 {
-    let mut units = 0i32;
+    let mut units = 0u32;
     for character in text {
-        units = units.wrapping_add(units_of(*character));
+        units += units_of(*character);
     }
-    units
+    units as i32
 }
 
-/// `length`: the number of UTF-16 units of the argument.
-pub fn measured(value: &Value) -> Outcome
+/// The number of UTF-16 units as an outcome.
+fn measured_text(text: &[char]) -> Option<Outcome>
+    ensures { result ≡ measured (Value.Text text.now) }
+{
+    if text.len() > MOST_CHARACTERS {
+        return None;
+    }
+    Some(Outcome::Return(Some(Value::Prim(Num::I(units(text))))))
+}
+
+/// `length`: the number of UTF-16 units of the argument; `None` of a text that is too long for a
+/// value.
+pub fn measured(value: &Value) -> Option<Outcome>
     ensures { result ≡ measured value.now }
 {
     match value {
-        Value::Text(text) => Outcome::Return(Some(Value::Prim(Num::I(units(text.as_slice()))))),
-        Value::Null => Outcome::Throw(Exc::bare(ClassId::NULL_POINTER)),
-        _ => Outcome::Throw(Exc::bare(ClassId::CLASS_CAST)),
+        Value::Text(text) => measured_text(text.as_slice()),
+        Value::Null => Some(Outcome::Throw(Exc::bare(ClassId::NULL_POINTER))),
+        _ => Some(Outcome::Throw(Exc::bare(ClassId::CLASS_CAST))),
     }
 }

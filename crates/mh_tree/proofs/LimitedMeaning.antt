@@ -1,4 +1,4 @@
--- A tree that has a type, and whose own values are within their limits, keeps the limits of values, and so do calls of it.
+-- A tree that has a type keeps the limits of values, and so do calls of it.
 use Rattle.std.proofs.Common.{◌≡◌, refl, ◌-◌, [], length, Ok, Err}
 use Rattle.mh_values.specs.declared.types.MethodTy.{MethodTy}
 use Rattle.mh_values.specs.Computation.{Threw, spliced, is_caught}
@@ -10,7 +10,7 @@ use Rattle.mh_tree.specs.Tree.{Tree, weight}
 use Rattle.mh_tree.specs.Tree as tree
 use Rattle.mh_tree.specs.Rows.{TypeOrRefusal, component_of, mismatch, bind_row, drop_row, permute_row, filter_row, filterret_row, fold_row, collect_row, spread_row, gather_row, astype_row, guard_row, catch_row}
 use Rattle.mh_tree.specs.Typing.{with_type, type_of, arity}
-use Rattle.mh_tree.specs.Limited.{HasLimitedValues, KeepsLimits}
+use Rattle.mh_tree.specs.Limited.{KeepsLimits}
 use Rattle.mh_tree.specs.Meaning.{Done, mean, picked, exact_at, exact, unless_refused, generic_at, generic}
 use Rattle.mh_tree.proofs.RowParts.{with_type-parts, gather_row-few}
 use Rattle.mh_tree.proofs.LimitedLists.{splice-limits, picked-limits}
@@ -18,79 +18,79 @@ use Rattle.mh_tree.proofs.LimitedRuns.{known-limits, chosen}
 use Rattle.mh_tree.proofs.LimitedNodes.{constant-keeps, identity-keeps, throw-keeps, bind-keeps, then-keeps, filterret-keeps, spread-keeps, gather-keeps, astype-keeps, guard-keeps, catch-keeps}
 
 -- on arguments within their limits it gives a result within its limits, and calls leaves on such arguments
-pub mean-limits : (table : LeafTable) (t : Tree) (u : MethodTy) → type_of table t ≡ Ok u → HasLimitedValues t → KeepsLimits (mean table t)
-mean-limits table (tree.Leaf l) u typed own = leaf_mean-limits table l
-mean-limits table (tree.Constant t v) u typed own = constant-keeps table.classes t v own
-mean-limits table (tree.Identity t) u typed own = identity-keeps
-mean-limits table (tree.Throw ret class) u typed own = throw-keeps
-mean-limits table (tree.Bind t place v) u typed own =
+pub mean-limits : (table : LeafTable) (t : Tree) (u : MethodTy) → type_of table t ≡ Ok u → KeepsLimits (mean table t)
+mean-limits table (tree.Leaf l) u typed = leaf_mean-limits table l
+mean-limits table (tree.Constant t v) u typed = constant-keeps table.classes t v
+mean-limits table (tree.Identity t) u typed = identity-keeps
+mean-limits table (tree.Throw ret class) u typed = throw-keeps
+mean-limits table (tree.Bind t place v) u typed =
     let q = with_type-parts (type_of table t) (λ ty. bind_row table.classes ty (weight t) place v) u typed in
-    bind-keeps table.classes (mean table t) (type_of table t) place v own.0 (mean-limits table t q.0 q.1 own.1)
-mean-limits table (tree.Drop t place types) u typed own =
+    bind-keeps table.classes (mean table t) (type_of table t) place v (mean-limits table t q.0 q.1)
+mean-limits table (tree.Drop t place types) u typed =
     let q = with_type-parts (type_of table t) (λ ty. drop_row ty (weight t) place types) u typed in
-    let keeps = mean-limits table t q.0 q.1 own in
+    let keeps = mean-limits table t q.0 q.1 in
     λ args n have. keeps (spliced place (length types) [] args) n (splice-limits place (length types) [] args tt have)
-mean-limits table (tree.Permute t asked reorder) u typed own =
+mean-limits table (tree.Permute t asked reorder) u typed =
     let q = with_type-parts (type_of table t) (λ ty. permute_row ty (weight t) asked reorder) u typed in
-    let keeps = mean-limits table t q.0 q.1 own in
+    let keeps = mean-limits table t q.0 q.1 in
     λ args n have. keeps (picked args reorder) n (picked-limits args reorder have)
-mean-limits table (tree.FilterArg t place f) u typed own =
+mean-limits table (tree.FilterArg t place f) u typed =
     let q = with_type-parts (type_of table t) (λ ty. with_type (type_of table f) (λ part. filter_row ty (weight t) place part (weight f))) u typed in
     let r = with_type-parts (type_of table f) (λ part. filter_row q.0 (weight t) place part (weight f)) u q.2 in
-    then-keeps (mean table t) (mean table f) place 1 1 (mean-limits table t q.0 q.1 own.0) (mean-limits table f r.0 r.1 own.1)
-mean-limits table (tree.FilterRet t f) u typed own =
+    then-keeps (mean table t) (mean table f) place 1 1 (mean-limits table t q.0 q.1) (mean-limits table f r.0 r.1)
+mean-limits table (tree.FilterRet t f) u typed =
     let q = with_type-parts (type_of table t) (λ ty. with_type (type_of table f) (λ part. filterret_row ty (weight t) part (weight f))) u typed in
     let r = with_type-parts (type_of table f) (λ part. filterret_row q.0 (weight t) part (weight f)) u q.2 in
-    filterret-keeps (mean table t) (mean table f) (mean-limits table t q.0 q.1 own.0) (mean-limits table f r.0 r.1 own.1)
-mean-limits table (tree.Fold t place c) u typed own =
+    filterret-keeps (mean table t) (mean table f) (mean-limits table t q.0 q.1) (mean-limits table f r.0 r.1)
+mean-limits table (tree.Fold t place c) u typed =
     let q = with_type-parts (type_of table t) (λ ty. with_type (type_of table c) (λ part. fold_row ty (weight t) place part (weight c))) u typed in
     let r = with_type-parts (type_of table c) (λ part. fold_row q.0 (weight t) place part (weight c)) u q.2 in
-    then-keeps (mean table t) (mean table c) place 0 (arity table c) (mean-limits table t q.0 q.1 own.0) (mean-limits table c r.0 r.1 own.1)
-mean-limits table (tree.Collect t place f) u typed own =
+    then-keeps (mean table t) (mean table c) place 0 (arity table c) (mean-limits table t q.0 q.1) (mean-limits table c r.0 r.1)
+mean-limits table (tree.Collect t place f) u typed =
     let q = with_type-parts (type_of table t) (λ ty. with_type (type_of table f) (λ part. collect_row ty (weight t) place part (weight f))) u typed in
     let r = with_type-parts (type_of table f) (λ part. collect_row q.0 (weight t) place part (weight f)) u q.2 in
-    then-keeps (mean table t) (mean table f) place (arity table f) (arity table f) (mean-limits table t q.0 q.1 own.0) (mean-limits table f r.0 r.1 own.1)
-mean-limits table (tree.Spread t array count) u typed own =
+    then-keeps (mean table t) (mean table f) place (arity table f) (arity table f) (mean-limits table t q.0 q.1) (mean-limits table f r.0 r.1)
+mean-limits table (tree.Spread t array count) u typed =
     let q = with_type-parts (type_of table t) (λ ty. spread_row ty (weight t) array count) u typed in
-    spread-keeps (mean table t) (arity table t - count) count (mean-limits table t q.0 q.1 own)
-mean-limits table (tree.Gather t array count) u typed own =
+    spread-keeps (mean table t) (arity table t - count) count (mean-limits table t q.0 q.1)
+mean-limits table (tree.Gather t array count) u typed =
     let q = with_type-parts (type_of table t) (λ ty. gather_row table.classes ty (weight t) array count) u typed in
     let few = gather_row-few table.classes q.0 (weight t) array count u q.2 in
-    gather-keeps (mean table t) (component_of array) (arity table t - 1) count few (mean-limits table t q.0 q.1 own)
-mean-limits table (tree.AsType t asked) u typed own =
+    gather-keeps (mean table t) (component_of array) (arity table t - 1) count few (mean-limits table t q.0 q.1)
+mean-limits table (tree.AsType t asked) u typed =
     let q = with_type-parts (type_of table t) (λ ty. astype_row table.classes ty (weight t) asked) u typed in
-    astype-keeps table.classes (mean table t) (type_of table t) asked (mean-limits table t q.0 q.1 own)
-mean-limits table (tree.Guard c t e) u typed own =
+    astype-keeps table.classes (mean table t) (type_of table t) asked (mean-limits table t q.0 q.1)
+mean-limits table (tree.Guard c t e) u typed =
     let p = with_type-parts (type_of table c)
     (λ test. with_type (type_of table t) (λ ty. with_type (type_of table e) (λ other. guard_row test (weight c) ty (weight t) other (weight e)))) u typed in
     let q = with_type-parts (type_of table t) (λ ty. with_type (type_of table e) (λ other. guard_row p.0 (weight c) ty (weight t) other (weight e))) u p.2 in
     let r = with_type-parts (type_of table e) (λ other. guard_row p.0 (weight c) q.0 (weight t) other (weight e)) u q.2 in
-    guard-keeps (mean table c) (mean table t) (mean table e) (arity table c) (mean-limits table c p.0 p.1 own.0) (mean-limits table t q.0 q.1 own.1)
-    (mean-limits table e r.0 r.1 own.2)
-mean-limits table (tree.Catch t class h) u typed own =
+    guard-keeps (mean table c) (mean table t) (mean table e) (arity table c) (mean-limits table c p.0 p.1) (mean-limits table t q.0 q.1)
+    (mean-limits table e r.0 r.1)
+mean-limits table (tree.Catch t class h) u typed =
     let q = with_type-parts (type_of table t)
     (λ ty. with_type (type_of table h) (λ handler. catch_row table.classes ty (weight t) class handler (weight h))) u typed in
     let r = with_type-parts (type_of table h) (λ handler. catch_row table.classes q.0 (weight t) class handler (weight h)) u q.2 in
-    catch-keeps (mean table t) (mean table h) (is_caught table.classes class) (arity table h - 1) (mean-limits table t q.0 q.1 own.0)
-    (mean-limits table h r.0 r.1 own.1)
+    catch-keeps (mean table t) (mean table h) (is_caught table.classes class) (arity table h - 1) (mean-limits table t q.0 q.1)
+    (mean-limits table h r.0 r.1)
 
 -- ---- calls
 
 -- a call by a type that must be the tree's
-pub exact-limits : (table : LeafTable) (t : Tree) (asked : MethodTy) → HasLimitedValues t → KeepsLimits (exact table t asked)
-exact-limits table t asked own args n have =
+pub exact-limits : (table : LeafTable) (t : Tree) (asked : MethodTy) → KeepsLimits (exact table t asked)
+exact-limits table t asked args n have =
     known-limits (type_of table t) (λ ty. exact_at table t ty asked args n) (λ ty typed.
-    chosen (is_same_method_type ty asked) (mean table t args n) (Threw (mismatch table.classes ty asked) []) (mean-limits table t ty typed own args n have) tt)
+    chosen (is_same_method_type ty asked) (mean table t args n) (Threw (mismatch table.classes ty asked) []) (mean-limits table t ty typed args n have) tt)
 
 allowed : (r : TypeOrRefusal) (run : Done) → ((u : MethodTy) → r ≡ Ok u → IsRunWithinLimits run) → IsRunWithinLimits (unless_refused r run)
 allowed (Ok u) run h = h u refl
 allowed (Err e) run h = tt
 
 -- a call by a type as which the tree is used
-pub generic-limits : (table : LeafTable) (t : Tree) (asked : MethodTy) → HasLimitedValues t → KeepsLimits (generic table t asked)
-generic-limits table t asked own args n have =
+pub generic-limits : (table : LeafTable) (t : Tree) (asked : MethodTy) → KeepsLimits (generic table t asked)
+generic-limits table t asked args n have =
     let used = tree.AsType t asked in
     known-limits (type_of table t) (λ ty. generic_at table t ty asked args n) (λ ty typed.
     chosen (is_same_method_type ty asked) (mean table t args n) (unless_refused (type_of table used) (mean table used args n))
-    (mean-limits table t ty typed own args n have)
-    (allowed (type_of table used) (mean table used args n) (λ u is. mean-limits table used u is own args n have)))
+    (mean-limits table t ty typed args n have)
+    (allowed (type_of table used) (mean table used args n) (λ u is. mean-limits table used u is args n have)))

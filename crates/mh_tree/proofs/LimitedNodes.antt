@@ -11,7 +11,7 @@ use Rattle.mh_values.specs.declared.value.Value.{Value}
 use Rattle.mh_values.specs.declared.value.Value.TheVariants as value
 use Rattle.mh_values.specs.Array.{array_of, spread_values}
 use Rattle.mh_values.specs.Computation.{found, and_then, guarded, spliced}
-use Rattle.mh_values.specs.ValueLimits.{IsValueWithinLimits, most_items}
+use Rattle.mh_values.specs.ValueLimits.{most_items}
 use Rattle.mh_convert.specs.Conversion.{fit}
 use Rattle.mh_convert.proofs.Limits.{fit-limits}
 use Rattle.mh_tree.specs.Limited.{KeepsLimits}
@@ -22,11 +22,11 @@ use Rattle.mh_tree.proofs.LimitedLists.{take-limits, part-limits, splice-limits,
 use Rattle.mh_tree.proofs.LimitedRuns.{then-limits, guarded-limits, found-limits, known-limits, fitted-limits, throw-limits, thrown-limits, decided-limits}
 use Rattle.mh_tree.proofs.LimitedValues.{array-limits, spread-limits, conv_all-limits, conv_result-limits}
 
-pub constant-keeps : (classes : List Class) (o : Option Ty) (v : Value) → IsValueWithinLimits v →
+pub constant-keeps : (classes : List Class) (o : Option Ty) (v : Value) →
     KeepsLimits (λ args n. found o (λ r. fitted (fit classes v r) giving))
-constant-keeps classes o v own args n have =
+constant-keeps classes o v args n have =
     found-limits o (λ r. fitted (fit classes v r) giving)
-    (λ r is. fitted-limits (fit classes v r) giving (fit-limits classes v r own) (λ w h. (h, tt)))
+    (λ r is. fitted-limits (fit classes v r) giving (fit-limits classes v r) (λ w h. (h, tt)))
 
 pub identity-keeps : KeepsLimits (λ args n. found (slice_get args 0) giving)
 identity-keeps args n have = found-limits (slice_get args 0) giving (λ v is. (get-limits args 0 v have is, tt))
@@ -34,13 +34,13 @@ identity-keeps args n have = found-limits (slice_get args 0) giving (λ v is. (g
 pub throw-keeps : KeepsLimits (λ args n. found (slice_get args 0) thrown)
 throw-keeps args n have = found-limits (slice_get args 0) thrown (λ v is. thrown-limits v)
 
-pub bind-keeps : (classes : List Class) (body : Body) (c : TypeOrRefusal) (place : ℕ) (v : Value) → IsValueWithinLimits v → KeepsLimits body →
+pub bind-keeps : (classes : List Class) (body : Body) (c : TypeOrRefusal) (place : ℕ) (v : Value) → KeepsLimits body →
     KeepsLimits (λ args n. known c (λ ty. found (slice_get ty.params place) (λ p. fitted (fit classes v p) (λ w. body (spliced place 0 (w ∷ []) args) n))))
-bind-keeps classes body c place v own keeps args n have =
+bind-keeps classes body c place v keeps args n have =
     let run : Value → Done = λ w. body (spliced place 0 (w ∷ []) args) n in
     let at : Ty → Done = λ p. fitted (fit classes v p) run in
     known-limits c (λ ty. found (slice_get ty.params place) at) (λ ty is. found-limits (slice_get ty.params place) at (λ p there.
-    fitted-limits (fit classes v p) run (fit-limits classes v p own) (λ w h.
+    fitted-limits (fit classes v p) run (fit-limits classes v p) (λ w h.
     keeps (spliced place 0 (w ∷ []) args) n (splice-limits place 0 (w ∷ []) args (h, tt) have))))
 
 -- a part, and then a body with the part's result in place of so many arguments

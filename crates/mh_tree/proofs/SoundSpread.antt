@@ -17,9 +17,10 @@ use Rattle.mh_values.specs.Class.{is_subclass, throwable_class, null_pointer_cla
 use Rattle.mh_values.specs.Classes.{AreClasses}
 use Rattle.mh_values.specs.Computation.{Ran, Gave, Threw, Stuck, raised, found, and_then, spliced}
 use Rattle.mh_values.specs.Exception.{bare, saying}
-use Rattle.mh_values.specs.HasType.{has_type, HaveTypes, is_component_below, is_item_of, are_items_of}
+use Rattle.mh_values.specs.HasType.{has_type, HaveTypes, is_component_below, is_item_of, are_items_of, is_array_of}
 use Rattle.mh_values.specs.Returns.{Returns}
 use Rattle.mh_values.specs.Same.{is_same_type}
+use Rattle.mh_values.specs.ValueLimits.{are_few_items}
 use Rattle.mh_values.proofs.BelowTypes.{item-below, item-typed, null_pointer-below, illegal_argument-below}
 use Rattle.mh_values.proofs.SameTypes.{same_type-is}
 use Rattle.mh_tree.specs.Rows.{spread_row}
@@ -72,9 +73,10 @@ pub spreads : (classes : List Class) → AreClasses classes → (d : Comp) (coun
 spreads classes are d count value.Null types typed same e =
     of_null classes are (count == 0) types (λ zero_count. no_types types (e ∙ eqb-true count 0 zero_count))
 spreads classes are d count (value.Array c items) types typed same e =
-    let q = and_parts (is_component_below classes c d) (are_items_of classes c items) typed in
+    let q = and_parts (is_component_below classes c d) (is_array_of classes c items) typed in
+    let own = and_parts (are_few_items items) (are_items_of classes c items) q.1 in
     of_items classes are (length items == count) (map value_of_item items) types (λ of_count.
-    items-typed classes are c d q.0 items types q.1 same (eqb-true (length items) count of_count ∙ sym e))
+    items-typed classes are c d q.0 items types own.1 same (eqb-true (length items) count of_count ∙ sym e))
 spreads classes are d count v types typed same e = absurd cc
 
 spread-then : (classes : List Class) (r : Ran (List Value)) (types : List Ty) (ret : Option Ty) (n : ℕ) (next : List Value → ℕ → Done) → Spreads classes r types
