@@ -15,7 +15,7 @@ use Rattle.mh_handle.specs.SameRecipes.{same_recipe}
 use Rattle.mh_handle.specs.Works.{Makes}
 use Rattle.mh_handle.proofs.SameRecipes.{same_recipe-decides}
 use Rattle.mh_astype.specs.Use.{AsksNothing, MakesFrom}
-use Rattle.mh_branch.specs.Spreading.{MakesBoth}
+use Rattle.mh_spread.specs.Spreading.{MakesBoth}
 use Rattle.mh_attempt.specs.Asked.{AsksIfMade, HasAskedMore, HasStopped}
 use Rattle.mh_attempt.proofs.AskedAfter.{asked_more-none, asked_more-both, full-after, full-first, stopped-after, stopped-first, stopped-still}
 use Rattle.mh_attempt.proofs.AskedForms.{asked-full, asked-more, drawn-more}

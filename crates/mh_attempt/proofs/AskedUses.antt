@@ -18,7 +18,7 @@ use Rattle.mh_handle.specs.Recipe.{recipe}
 use Rattle.mh_handle.specs.SameRecipes.{same_recipe}
 use Rattle.mh_handle.specs.Stands.{Stands}
 use Rattle.mh_astype.specs.Use.{MakesFrom}
-use Rattle.mh_branch.specs.Spreading.{MakesSpread}
+use Rattle.mh_spread.specs.Spreading.{MakesSpread}
 use Rattle.mh_jobs.specs.Thrown.{◌>>◌, require}
 use Rattle.mh_jobs.proofs.Parts.{bound-parts, require-parts}
 use Rattle.mh_link.specs.Operations.{spread_of, use_of}

@@ -21,7 +21,7 @@ use Rattle.mh_handle.specs.declared.work.Work.{Work}
 use Rattle.mh_handle.specs.Stands.{Stands}
 use Rattle.mh_handle.specs.Works.{TradesTypes, types_in}
 use Rattle.mh_astype.specs.Use.{used_types}
-use Rattle.mh_branch.specs.Spreading.{spread_types}
+use Rattle.mh_spread.specs.Spreading.{spread_types}
 use Rattle.mh_jobs.specs.Thrown.{◌>>=◌}
 use Rattle.mh_link.specs.Made.{nodes_of, types_of}
 use Rattle.mh_link.specs.Operations.{spread_of, use_of}

@@ -1,6 +1,6 @@
 mod ArrayAnswers
-mod ArrayFits
-mod ArrayShapes
+pub mod ArrayFits
+pub mod ArrayShapes
 mod Branching
 mod CatchAnswers
 mod CatchStands
@@ -12,10 +12,5 @@ mod GuardAnswers
 mod GuardStands
 mod RootAnswers
 mod RootStands
-mod Rooted
-mod SpreadCall
-mod SpreadRules
-mod SpreadEdits
-mod SpreadItems
-mod SpreadStands
+pub mod Rooted
 pub mod Trading

@@ -27,10 +27,6 @@ guard_key t test = key.GuardRoot (shape_of t) (length test.params)
 abbrev pub catch_key : MethodTy → MethodTy → Key
 catch_key t handler = key.CatchRoot (shape_of t) (length handler.params - 1)
 
--- the key of a spread of an array type's items; none where the type is no array
-abbrev pub spread_keys : Option Ty → ℕ → List Key
-spread_keys array count = at_some (component_of array) (λ c. key.Spread count (basic_of (item_type c)))
-
 -- the key of a gather of an array type's items; none where the type is no array
 abbrev pub gather_keys : Option Ty → ℕ → List Key
 gather_keys array count = at_some (component_of array) (λ c. key.Gather count (basic_of (item_type c)))

@@ -1,14 +1,12 @@
-//! Roots, branches and arrays: constants, identities, throws, guards, catches, spreads and gathers.
+//! Roots, branches and arrays: constants, identities, throws, guards, catches and gathers.
 #![tactic(auto)]
 
 mod arrays;
 mod branches;
 mod growths;
 mod roots;
-mod spreading;
 
 pub use arrays::{Gathered, gather, gather_of};
 pub use branches::{catch, catch_of, guard, guard_of};
 pub use growths::{Branches, Caught};
 pub use roots::{constant, identity, throw};
-pub use spreading::{check_spread_use, spread};

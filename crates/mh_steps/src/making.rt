@@ -11,8 +11,9 @@ use crate::step::{Joined, Root, Step, Typed};
 use mh_adapt::{bind, collect, drop_args, filter, filterret, fold, permute};
 use mh_astype::as_type;
 use mh_base::NoMemory;
-use mh_branch::{catch, constant, gather, guard, identity, spread, throw};
+use mh_branch::{catch, constant, gather, guard, identity, throw};
 use mh_handle::{Handle, HandleError, Work, leaf};
+use mh_spread::spread;
 use mh_values::{ClassId, LeafId, MethodTy};
 use std::sync::Wait;
 

@@ -42,7 +42,7 @@ use Rattle.mh_handle.specs.Stands.{HandleView, Stands, handle_body}
 use Rattle.mh_handle.proofs.Erasing.{returns-runs, spliced-map}
 use Rattle.mh_handle.proofs.Standing.{stands-grown}
 use Rattle.mh_branch.proofs.ArrayShapes.{spread-shaped}
-use Rattle.mh_branch.proofs.SpreadItems.{items-then, spread-erased}
+use Rattle.mh_spread.proofs.SpreadItems.{items-then, spread-erased}
 use Rattle.mh_branch.proofs.Rooted.{made-named}
 
 pub spread-stands :

@@ -1,5 +1,5 @@
-use Rattle.mh_branch.proofs.SpreadRules.{refusal-tells, spreading-row}
-use Rattle.mh_branch.proofs.spreading.check_spread_use.Goals as goal
+use Rattle.mh_spread.proofs.SpreadRules.{refusal-tells, spreading-row}
+use Rattle.mh_spread.proofs.spreading.check_spread_use.Goals as goal
 
 pub returns : goal.returns
 returns c =

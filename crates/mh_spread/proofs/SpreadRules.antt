@@ -23,8 +23,8 @@ use Rattle.mh_handle.specs.Errors.{of_check}
 use Rattle.mh_handle.specs.Obeys.{Obeys}
 use Rattle.mh_handle.specs.Works.{GoesOn, IsReady, types_in}
 use Rattle.mh_astype.specs.Use.{used_types}
-use Rattle.mh_branch.specs.declared.spreading.Spreading.{Spreading}
-use Rattle.mh_branch.specs.Spreading.{IsSpreading, TellsSpreading, spread_types}
+use Rattle.mh_spread.specs.declared.spreading.Spreading.{Spreading}
+use Rattle.mh_spread.specs.Spreading.{IsSpreading, TellsSpreading, spread_types}
 
 module _ (classes : List Class) (t : MethodTy) (weight : ℕ) (array : Option Ty) (count : ℕ) where
   refusal : Exc

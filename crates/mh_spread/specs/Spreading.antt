@@ -4,20 +4,23 @@ use Rattle.std.specs.Option.{option_map_or}
 use Rattle.mh_values.specs.declared.class.Class.{Class}
 use Rattle.mh_values.specs.declared.types.Ty.{Ty}
 use Rattle.mh_values.specs.declared.types.MethodTy.{MethodTy}
+use Rattle.mh_values.specs.Array.{item_type}
 use Rattle.mh_tree.specs.Rows.{component_of, spread_row}
 use Rattle.mh_tree.specs.Tree.{Tree}
 use Rattle.mh_tree.specs.Tree as tree
 use Rattle.mh_tree.specs.Use.{items_used_as, use_row, use_weight, taking_items, spread_use_row}
 use Rattle.mh_tree.specs.declared.error.CheckError.{CheckError}
 use Rattle.mh_tree.specs.declared.error.CheckError.TheVariants as check
+use Rattle.mh_form.specs.Erasure.{basic_of}
 use Rattle.mh_edit.specs.declared.key.Key.{Key}
+use Rattle.mh_edit.specs.declared.key.Key.TheVariants as key
 use Rattle.mh_handle.specs.declared.error.HandleError.{HandleError}
 use Rattle.mh_handle.specs.declared.error.HandleError.TheVariants.{Refused}
 use Rattle.mh_handle.specs.declared.handle.Handle.{Handle}
 use Rattle.mh_handle.specs.declared.work.Work.{Work}
-use Rattle.mh_handle.specs.Recipe.{recipe}
+use Rattle.mh_handle.specs.Recipe.{at_some, recipe}
 use Rattle.mh_handle.specs.Works.{IsUnchanged, Makes, types_in}
-use Rattle.mh_branch.specs.declared.spreading.Spreading.{Spreading}
+use Rattle.mh_spread.specs.declared.spreading.Spreading.{Spreading}
 use Rattle.mh_astype.specs.Use.{MakesFrom, used_types}
 
 -- what a spread is found to be: the array's component, the type as which the handle is used, and the type of the new handle
@@ -38,6 +41,10 @@ TellsSpreading classes t weight array count (Err check.NoMemory) = Unit {0}
 abbrev pub spread_types : List Class → MethodTy → ℕ → Option Ty → ℕ → List MethodTy
 spread_types classes t weight array count =
     option_map_or (λ c. used_types classes t weight (taking_items t c count)) (component_of array) [] ++ types_in (spread_use_row classes t weight array count)
+
+-- the key of a spread of an array type's items; none if the type is no array
+abbrev pub spread_keys : Option Ty → ℕ → List Key
+spread_keys array count = at_some (component_of array) (λ c. key.Spread count (basic_of (item_type c)))
 
 -- the weight of a use as a type, or its very refusal
 abbrev pub TellsUse : List Class → MethodTy → ℕ → MethodTy → Result ℕ CheckError → Type 0

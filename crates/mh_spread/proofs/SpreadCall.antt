@@ -34,14 +34,13 @@ use Rattle.mh_handle.specs.Works.{IsAccepted, Makes}
 use Rattle.mh_handle.proofs.Limits.{limited-low}
 use Rattle.mh_handle.proofs.Obeying.{grown-obeys}
 use Rattle.mh_astype.specs.Use.{IsUse, MakesFrom}
-use Rattle.mh_branch.specs.declared.spreading.Spreading.{Spreading}
-use Rattle.mh_branch.specs.Growths.{spread_keys}
-use Rattle.mh_branch.specs.Spreading.{IsSpreading, MakesSpread}
+use Rattle.mh_spread.specs.declared.spreading.Spreading.{Spreading}
+use Rattle.mh_spread.specs.Spreading.{IsSpreading, MakesSpread, spread_keys}
 use Rattle.mh_branch.proofs.ArrayFits.{spread-fits}
 use Rattle.mh_branch.proofs.ArrayShapes.{spread-shaped}
-use Rattle.mh_branch.proofs.SpreadRules.{items-are, spreading-row}
-use Rattle.mh_branch.proofs.SpreadEdits.{makes-second}
-use Rattle.mh_branch.proofs.SpreadStands.{spread-stands}
+use Rattle.mh_spread.proofs.SpreadRules.{items-are, spreading-row}
+use Rattle.mh_spread.proofs.SpreadEdits.{makes-second}
+use Rattle.mh_spread.proofs.SpreadStands.{spread-stands}
 
 spread-light : (t : MethodTy) (weight : ℕ) (array : Option Ty) (count : ℕ) (u : MethodTy) → spread_row t weight array count ≡ Ok u → 1 + weight ≤ 256
 spread-light t weight array count u row =

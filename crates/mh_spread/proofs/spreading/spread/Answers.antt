@@ -10,12 +10,12 @@ use Rattle.mh_handle.specs.Works.{HoldsTypes, TradesTypes}
 use Rattle.mh_handle.proofs.Going.{goes_on-both}
 use Rattle.mh_handle.proofs.Trading.{trades-checked}
 use Rattle.mh_astype.specs.Use.{MakesFrom, used_types}
-use Rattle.mh_branch.specs.Spreading.{spread_types}
-use Rattle.mh_branch.proofs.SpreadCall.{call-fits, call-light, call-makes, call-obeys, call-shaped, call-sides, call-stands}
-use Rattle.mh_branch.proofs.SpreadRules.{items-are, ready-left, spreading-refused, spreading-row, types-are, used-error}
-use Rattle.mh_branch.proofs.SpreadEdits.{makes-first, makes-none}
+use Rattle.mh_spread.specs.Spreading.{spread_types}
+use Rattle.mh_spread.proofs.SpreadCall.{call-fits, call-light, call-makes, call-obeys, call-shaped, call-sides, call-stands}
+use Rattle.mh_spread.proofs.SpreadRules.{items-are, ready-left, spreading-refused, spreading-row, types-are, used-error}
+use Rattle.mh_spread.proofs.SpreadEdits.{makes-first, makes-none}
 use Rattle.mh_branch.proofs.Trading.{trades-first, trades-then}
-use Rattle.mh_branch.proofs.spreading.spread.Goals as goal
+use Rattle.mh_spread.proofs.spreading.spread.Goals as goal
 
 pub returns-in_err-used-clause-obeys : goal.returns-in_err-used-clause-obeys
 returns-in_err-used-clause-obeys g c =

@@ -3,7 +3,7 @@ use Rattle.mh_values.specs.Same.{is_same_method_type}
 use Rattle.mh_values.proofs.SameTypes.{same_method_type-is}
 use Rattle.mh_tree.specs.Rows.{TypeOrRefusal, astype_row}
 use Rattle.mh_tree.proofs.RowParts.{astype_row-parts}
-use Rattle.mh_branch.proofs.spreading.check_use.Goals as goal
+use Rattle.mh_spread.proofs.spreading.check_use.Goals as goal
 
 pub returns-then-is_same_method_type : goal.returns-then-is_same_method_type
 returns-then-is_same_method_type c =

@@ -7,7 +7,7 @@ ghost use Rattle.mh_tree.specs.Use.{items_used_as, spread_use_row, taking_items}
 ghost use Rattle.mh_handle.specs.Obeys.{Obeys};
 ghost use Rattle.mh_handle.specs.Works.{GoesOn, HoldsTypes, IsReady, StandsIn};
 ghost use Rattle.mh_handle.specs.Works.{TradesTypes, classes_of};
-ghost use Rattle.mh_branch.specs.Spreading.{TellsUse, TellsSpreading, MakesSpread, spread_types};
+ghost use Rattle.mh_spread.specs.Spreading.{TellsUse, TellsSpreading, MakesSpread, spread_types};
 
 use mh_astype::as_type;
 use mh_base::{NoMemory, Seq};

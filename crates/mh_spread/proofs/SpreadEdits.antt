@@ -25,7 +25,7 @@ use Rattle.mh_handle.specs.Works.{IsAccepted, IsUnchanged, Makes}
 use Rattle.mh_handle.specs.Recipe.{at_type, convert_keys, recipe}
 use Rattle.mh_astype.specs.Use.{MakesFrom}
 use Rattle.mh_astype.proofs.Using.{makes-refused}
-use Rattle.mh_branch.specs.Spreading.{MakesBoth, MakesSpread}
+use Rattle.mh_spread.specs.Spreading.{MakesBoth, MakesSpread}
 
 -- ---- the two edits
 

@@ -1,0 +1,5 @@
+mod SpreadCall
+mod SpreadRules
+mod SpreadEdits
+mod SpreadItems
+mod SpreadStands

@@ -1,0 +1,6 @@
+//! Handles that take an array in the place of their last arguments.
+#![tactic(auto)]
+
+mod spreading;
+
+pub use spreading::{check_spread_use, spread};
