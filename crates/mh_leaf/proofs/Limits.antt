@@ -1,5 +1,5 @@
 -- A leaf on arguments within their limits gives a result within its limits.
-use Rattle.std.proofs.Common.{◌≡◌, refl, subst, ℕ, zero, suc, ◌≤◌, ℤ, pos, negsuc, Bool, true, false, not, cond, List, [], ◌∷◌, ◌++◌, length, Option, Some, None, codes}
+use Rattle.std.proofs.Common.{◌≡◌, refl, ℕ, zero, suc, ◌≤◌, ℤ, pos, negsuc, Bool, true, false, not, cond, List, [], ◌∷◌, ◌++◌, length, Option, Some, None, codes}
 use Rattle.std.specs.Int.{w32, w64, int_wrap}
 use Rattle.std.specs.Prelude.{◌+ℤ◌, ◌-ℤ◌, ◌*ℤ◌, int_lt, option_map, option_and_then, slice_get, sum_by}
 use Rattle.std.proofs.lemmas.Bool.{leb-true}
@@ -115,20 +115,6 @@ chosen-within false x y h k = k
 leaf-within : (leaf : Leaf) (args : List Value) (n : ℕ) → AreValuesWithinLimits args → IsWithin (leaf_outcome leaf args n)
 leaf-within leaf args n have =
     chosen-within (lacks_receiver leaf args) (Some (Throw (bare null_pointer_class))) (kind_on leaf.kind args n) tt (kind-within leaf.kind args n have)
-
-there : (o : Option Outcome) (outcome : Outcome) → o ≡ Some outcome → IsWithin o → IsOutcomeWithinLimits outcome
-there None outcome is h = absurd cc
-there (Some own) outcome is h = let e : own ≡ outcome = cc in subst IsOutcomeWithinLimits e h
-
--- on arguments within their limits a leaf of a kind gives an outcome within its limits
-pub kind_on-limits : (k : Kind) (args : List Value) (n : ℕ) (outcome : Outcome) → AreValuesWithinLimits args → kind_on k args n ≡ Some outcome →
-    IsOutcomeWithinLimits outcome
-kind_on-limits k args n outcome have is = there (kind_on k args n) outcome is (kind-within k args n have)
-
--- and so does a leaf
-pub leaf_outcome-limits : (leaf : Leaf) (args : List Value) (n : ℕ) (outcome : Outcome) → AreValuesWithinLimits args → leaf_outcome leaf args n ≡ Some outcome →
-    IsOutcomeWithinLimits outcome
-leaf_outcome-limits leaf args n outcome have is = there (leaf_outcome leaf args n) outcome is (leaf-within leaf args n have)
 
 calls-within : (b : Bool) (l : LeafId) (args : List Value) → AreValuesWithinLimits args →
     AreCallsWithinLimits (cond b [] (record { leaf = l; args = args } ∷ []))
