@@ -1,4 +1,3 @@
--- proofs/text/units/Invariants.antt
 use Rattle.std.proofs.Common.{◌≡◌, ◌≤◌, ◌*◌, take, sum_by}
 use Rattle.mh_leaf.specs.Outcome.{units_of}
 use Rattle.mh_leaf.proofs.text.units.Given as goal
