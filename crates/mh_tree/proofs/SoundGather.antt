@@ -101,8 +101,8 @@ gather-sound classes are body t weight array count u sound typed args n have =
     subst (λ m. HaveTypes classes (part_of place m args) items) e (types-part classes args t.params items place 1 low have') in
     let run : Value → Done = λ v. body (spliced place count (v ∷ []) args) n in
     let done : Returns classes (or_throw (array_of q.0 (part_of place count args)) run) t.ret =
-    throw-value classes (array_of q.0 (part_of place count args)) (ty.Array q.0) t.ret run (array-converts classes are q.0 count (part_of place count args) few own)
-    (λ v made.
+    throw-value classes (array_of q.0 (part_of place count args)) (ty.Array q.0) t.ret run
+    (array-converts classes are q.0 count (part_of place count args) few own) (λ v made.
     let one : HaveTypes classes (v ∷ []) (take 1 (drop place t.params)) =
     subst (HaveTypes classes (v ∷ [])) (sym (one-taken t.params place last.0 last.1)) (value-below classes are (ty.Array q.0) last.0 last.2 v made, tt) in
     let put = types-splice classes args (v ∷ []) t.params items place 1 low have' one in
