@@ -1,0 +1,5 @@
+pub mod Bounds
+pub mod Hexadecimal
+pub mod Joins
+mod Rows
+pub mod Taken

@@ -1,0 +1,3 @@
+pub mod Joined
+pub mod Recipe
+pub mod ValueText
