@@ -36,10 +36,12 @@ module _ (classes : List Class) (t : HandleView) (u : MethodTy) where
   pub adapter-suited : IsShaped t → (d : Adapter) → adapter_row classes d t.ty t.weight ≡ Ok u → IsSuited u t (adapter_key d)
   adapter-suited shaped (adapter.Bind place v) row = record {
     fit = bind-fits classes t place v u row shaped;
-    shaped = bind-shaped classes t place v u row shaped }
+    shaped = bind-shaped classes t place v u row shaped;
+  }
   adapter-suited shaped (adapter.Drop place types) row = record {
     fit = drop-fits t place types.now u row shaped;
-    shaped = drop-shaped t place types.now u row shaped }
+    shaped = drop-shaped t place types.now u row shaped;
+  }
   adapter-suited shaped (adapter.Permute asked order) row = record {
     fit = permute-fits t asked.now order.now u row shaped;
     shaped = permute-shaped t asked.now order.now u row shaped;
