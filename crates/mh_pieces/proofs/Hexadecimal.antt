@@ -62,6 +62,9 @@ pub hexadecimal_length_more : (n : ℕ) → 16 ≤ n → n < 2 ^ 32 → length (
 hexadecimal_length_more n h small =
     ap (λ (ds : List ℕ). length ds) (hexadecimal_more n h small) ∙ length-append (digits 16 false (n / 16)) (digit_glyph false (n % 16) ∷ [])
 
+-- how long the digits are
+pub ruleset length_steps = (hexadecimal_length_one, hexadecimal_length_more)
+
 -- the last digit behind the others, behind what stands before them
 pub hexadecimal_written : (before front : List ℕ) (n d : ℕ) → 16 ≤ n → n < 2 ^ 32 → front ≡ before ++ digits 16 false (n / 16) → d ≡ digit_glyph false (n % 16) →
     front ++ d ∷ [] ≡ before ++ digits 16 false n

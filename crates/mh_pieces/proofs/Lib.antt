@@ -1,5 +1,6 @@
 pub mod Bounds
 pub mod Hexadecimal
 pub mod Joins
+pub mod Returned
 mod Rows
 pub mod Taken

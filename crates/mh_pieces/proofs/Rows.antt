@@ -1,5 +1,5 @@
 -- Recipes and joined texts, by computation.
-use Rattle.std.proofs.Common.{◌≡◌, refl, ℕ, pos, negsuc, true, false, List, [], ◌∷◌, ◌++◌, codes, replicate, None, Some, Result, Ok, Err}
+use Rattle.std.proofs.Common.{◌≡◌, refl, ℕ, pos, negsuc, true, false, List, [], ◌∷◌, ◌++◌, codes, nat_le, replicate, None, Some, Result, Ok, Err}
 use Rattle.std.specs.Fmt.{digits}
 use Rattle.mh_values.specs.declared.class.Class.{Class}
 use Rattle.mh_values.specs.declared.types.Comp.TheVariants as comp
@@ -12,12 +12,14 @@ use Rattle.mh_values.specs.declared.value.Num.TheVariants as num
 use Rattle.mh_values.specs.declared.value.Outcome.TheVariants.{Throw}
 use Rattle.mh_values.specs.declared.value.Value.TheVariants as value
 use Rattle.mh_values.specs.Class.{builtin_classes, class_at, class_below, internal_error_class, object_class, string_class, throwable_class}
+use Rattle.mh_values.specs.Classes.{class_named}
 use Rattle.mh_values.specs.Exception.{bare, saying}
+use Rattle.mh_values.specs.Slots.{slots_of_all}
 use Rattle.mh_leaf.specs.Outcome.{returned, int_type, string_type}
 use Rattle.mh_pieces.specs.declared.piece.Piece.{Piece}
 use Rattle.mh_pieces.specs.declared.piece.Piece.TheVariants as piece
 use Rattle.mh_pieces.specs.Joined.{joined}
-use Rattle.mh_pieces.specs.Recipe.{pieces_of, string_concat_class}
+use Rattle.mh_pieces.specs.Recipe.{most_concat_slots, pieces_of, string_concat_class}
 use Rattle.mh_pieces.specs.ValueText.{text_of}
 
 -- the built-in classes, and one of a package
@@ -62,6 +64,9 @@ constants_are_apart = refl
 
 -- ---- refusals
 
+exception_named : class_named builtin_classes (codes "java/lang/invoke/StringConcatException") ≡ Some string_concat_class
+exception_named = refl
+
 abbrev refused : List ℕ → Result (List Piece) Exc
 refused message = Err (saying string_concat_class message)
 
@@ -100,10 +105,14 @@ arguments_before_constants = refl
 return_before_constants : pieces_of classes (2 ∷ []) [] (returning_int []) ≡ refused (codes "return")
 return_before_constants = refl
 
--- two hundred slots are allowed, and a return type above String
-most_slots : pieces_of classes (1 ∷ []) [] (record { params = ty.Prim primitive.J ∷ []; ret = Some (ty.Class object_class) }) ≡ Ok
-    (piece.Arg (ty.Prim primitive.J) ∷ [])
+-- two hundred slots are allowed
+most_slots : nat_le (slots_of_all (replicate 100 (ty.Prim primitive.J))) most_concat_slots ≡ true
 most_slots = refl
+
+-- and so is a return type above String
+object_returned : pieces_of classes (1 ∷ []) [] (record { params = ty.Prim primitive.J ∷ []; ret = Some (ty.Class object_class) }) ≡ Ok
+    (piece.Arg (ty.Prim primitive.J) ∷ [])
+object_returned = refl
 
 -- ---- texts of values
 

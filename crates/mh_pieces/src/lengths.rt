@@ -35,7 +35,7 @@ fn number_length(number: Num) -> usize
 }
 
 /// The number of hexadecimal digits of a number.
-#[tactic(auto, using(crate::proofs::Hexadecimal::hexadecimal_length_one, crate::proofs::Hexadecimal::hexadecimal_length_more))]
+#[tactic(auto, using(crate::proofs::Hexadecimal::length_steps))]
 fn hexadecimal_length(number: u32) -> usize
     ensures is { result ≡ length (hexadecimal number) }
     ensures few { result ≤ number + 1 }

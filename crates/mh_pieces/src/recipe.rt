@@ -92,7 +92,10 @@ fn push_run(alloc: Global, pieces: &mut Seq<Piece>, run: Seq<char>) -> Result<Se
     ensures put { OnOk result (pieces.new ≡ pieces.old ++ lit_of run) }
     ensures empty { IfOk result (λ next. next ≡ []) }
 {
-    push_lit(pieces, Frozen::of(alloc, run)?)?;
+    if run.is_empty() {
+        return Ok(run);
+    }
+    pieces.push(Piece::Lit(Frozen::of(alloc, run)?))?;
     Ok(Seq::new(alloc))
 }
 

@@ -85,7 +85,7 @@ fn digit(value: u32) -> u8
 }
 
 /// Writes a number in hexadecimal.
-#[tactic(auto, using(crate::proofs::Hexadecimal::hexadecimal_one, crate::proofs::Hexadecimal::hexadecimal_more))]
+#[tactic(auto, using(crate::proofs::Hexadecimal::hexadecimal_one))]
 fn push_hexadecimal(chars: &mut Vec<char>, number: u32) -> Result<(), NoMemory>
     ensures { OnOk result (chars.new.items ≡ chars.old.items ++ hexadecimal number) }
 {
