@@ -21,7 +21,7 @@ use crate::{Output, Program, TopAnswer};
 use mh_base::{NoMemory, Seq};
 use mh_outside::Gate;
 use mh_plan::{Attempts, Recorded, Serials, Summary, Table, report};
-use mh_runtime::{RunInput, RunReport, WorkError, run_plan};
+use mh_runtime::{RunInput, RunReport, WorkError, run_all};
 use mh_values::Classes;
 use std::alloc::Global;
 use std::sync::Wait;
@@ -87,7 +87,10 @@ fn run<R: Threads + Wait + Sync, G: Gate + Sync>(
         scripts: &program.scripts,
         jobs: &program.jobs,
     };
-    run_plan(rt, alloc, &input, &program.plan, gate)
+    match run_all(rt, alloc, &input, &program.plan, gate) {
+        Ok(run) => Ok(run),
+        Err(stop) => Err(stop.error),
+    }
 }
 
 // The report on a run.

@@ -1,4 +1,5 @@
 pub mod UsedRecipes
+pub mod Answering
 pub mod Calling
 pub mod Counted
 pub mod Crossing
@@ -50,3 +51,6 @@ pub mod ThreadRuns
 pub mod ThreadSteps
 pub mod TypeLists
 pub mod WholeJoin
+pub mod ToldStops
+pub mod OutsideStops
+pub mod LowestStops

@@ -154,9 +154,19 @@ BeginsAttempt site serial old new =
       seat = new.seat;
     })
 
--- the pass has recorded nothing more, or this attempt
-abbrev pub RecordsAtMost : Attempt → LinkPass → LinkPass → Type 0
-RecordsAtMost a old new = (new.recorded ≡ old.recorded) ⊎ (new.recorded ≡ old.recorded ++ a ∷ [])
+-- the pass has recorded nothing more, since this linkage was recorded before; or it has recorded the attempt that made ours, which is this linkage then
+abbrev pub RecordsOurs : LinkageView → LinkageView → LinkPass → LinkPass → Type 0
+RecordsOurs ours l old new = (new.recorded ≡ old.recorded) ⊎ ((l ≡ ours) × (new.recorded ≡ old.recorded ++ attempt_of old.thread ours ∷ []))
+
+-- the pass has recorded nothing more, or the attempt that made this linkage, which is the latest that it has made
+abbrev pub RecordsLatest : LinkageView → LinkPass → LinkPass → Type 0
+RecordsLatest l old new =
+    (new.recorded ≡ old.recorded)
+    ⊎ ((new.attempts ≡ old.attempts ++ attempt_of old.thread l ∷ []) × (new.recorded ≡ old.recorded ++ attempt_of old.thread l ∷ []))
+
+-- the attempts that came are of sites of which the pass had learnt no linkage
+abbrev pub AttemptsUnlearnt : LinkPass → LinkPass → Type 0
+AttemptsUnlearnt old new = (more : List Attempt) × (new.attempts ≡ old.attempts ++ more) × All (λ a. serial_at old.linked a.site ≡ None) more
 
 -- the pass has what it had and what the other one had
 pub record HasBoth (old other new : LinkPass) : Type 0 where

@@ -19,10 +19,10 @@ ghost use Rattle.mh_runtime.specs.Asking.{RunsOn, RunsOnTypes, call_draws};
 ghost use Rattle.mh_runtime.specs.Attempts.{AreLinked, AttemptsMore, GoesOnLinking};
 ghost use Rattle.mh_runtime.specs.Keys.{IsAnswerOf, keys_of};
 ghost use Rattle.mh_runtime.specs.Linking.{KeepsOthers, KeepsTypes};
-ghost use Rattle.mh_runtime.specs.Passes.{HasSerials};
+ghost use Rattle.mh_runtime.specs.Passes.{AttemptsUnlearnt, HasSerials};
 
 use crate::context::Context;
-use crate::pass::Pass;
+use crate::site_pass::SitePass;
 use mh_astype::{invoke_exact_with, invoke_generic_with};
 use mh_attempt::WorkError;
 use mh_form::Machine;
@@ -109,14 +109,14 @@ fn call_generic<'t, R: Wait>(
     Ok(answer?)
 }
 
-impl<'s, 't, J: Run, G: Gate> Context<'s, 't, J, G> {
+impl<'s, 'g, 't, J: Run, G: Gate> Context<'s, 'g, 't, J, G> {
     // Calls a site: its target is called, or the recorded error is thrown.
     fn call_site<R: Wait>(
         &self,
         machine: &mut Machine,
         w: &mut Work<'_, 't>,
         rt: &R,
-        pass: &mut Pass<'s, 't, J>,
+        pass: &mut SitePass<'s, 't, J>,
         site: u32,
         args: &Items,
     ) -> Result<Answer, WorkError>
@@ -129,6 +129,7 @@ impl<'s, 't, J: Run, G: Gate> Context<'s, 't, J, G> {
         ensures goes_on { GoesOn 256 w.old w.new }
         ensures pass { GoesOnLinking 1 pass.old pass.new }
         ensures attempts { AttemptsMore (site ∷ []) pass.old pass.new }
+        ensures unlearnt { AttemptsUnlearnt pass.old pass.new }
         ensures answer { IfOk result (IsAnswerOf J.given pass.new.linked site args.now) }
         ensures types { KeepsOthers J.given pass.old.recorded pass.new.recorded w.old w.new }
         ensures runs { RunsOn J.given pass.old.attempts pass.new.attempts []
@@ -150,7 +151,7 @@ impl<'s, 't, J: Run, G: Gate> Context<'s, 't, J, G> {
         machine: &mut Machine,
         w: &mut Work<'_, 't>,
         rt: &R,
-        pass: &mut Pass<'s, 't, J>,
+        pass: &mut SitePass<'s, 't, J>,
         call: &Call,
     ) -> Result<Answer, WorkError>
         requires pass { pass.old.linker ≡ self.now.linker.now }
@@ -161,6 +162,7 @@ impl<'s, 't, J: Run, G: Gate> Context<'s, 't, J, G> {
         ensures goes_on { GoesOn call_draws w.old w.new }
         ensures pass { GoesOnLinking 1 pass.old pass.new }
         ensures attempts { AttemptsMore (sites_named call.now) pass.old pass.new }
+        ensures unlearnt { AttemptsUnlearnt pass.old pass.new }
         ensures linked { OnOk result (AreLinked pass.new.linked (sites_named call.now)) }
         ensures types { KeepsOthers J.given pass.old.recorded pass.new.recorded w.old w.new }
 
