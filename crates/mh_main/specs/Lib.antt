@@ -3,6 +3,7 @@ pub mod Due
 pub mod Input
 pub mod Kinds
 pub mod Program
+pub mod Reading
 pub mod Runnable
 pub mod Status
 pub mod Stops

@@ -1,9 +1,11 @@
-ghost use Rattle.std.specs.Prelude.{◌≡◌, ◌≤◌, ◌-◌, List, ℕ, IfOk, IfErr, OnOk, length};
+ghost use Rattle.std.specs.Prelude.{◌≡◌, ◌≤◌, ◌+◌, ◌-◌, List, ℕ, IfOk, IfErr, OnOk, length};
 ghost use Rattle.mh_jobs.specs.Jobs.{jobs_of};
 ghost use Rattle.mh_outside.specs.Causes.{AreSame};
 ghost use Rattle.mh_outside.specs.Kept.{KeepsInputs};
+ghost use Rattle.mh_outside.specs.Reach.{ReadsOnce};
 ghost use Rattle.mh_words.specs.Options.{said};
 ghost use Rattle.mh_runtime.specs.Passes.{most_sites};
+ghost use Rattle.mh_main.specs.Input.{class_limit};
 ghost use Rattle.mh_main.specs.Classes.{MakesJobs, MakesAllJobs, HasJobs};
 ghost use Rattle.mh_main.specs.Stops.{IsStopAmong, IsStopOf, ReachesClass, StopsClass, StopsClasses};
 
@@ -44,6 +46,8 @@ fn read_class<'a, I: Inputs>(
         (MakesJobs methods.now.leaves.now methods.now.scripts.now (most_sites - length jobs)
         (I.told inputs.old name.now) jobs) }
     ensures few { IfOk result (λ all. length all ≤ most_sites) }
+    ensures reads { ReadsOnce (class_limit + 1) 1 (I.reached inputs.old) (I.reached inputs.new)
+        (I.starts inputs.old) (I.starts inputs.new) }
 {
     let room = MOST_SITES - jobs.len() as u32;
     let bytes = read_input(alloc, inputs, name, CLASS_LIMIT)?;
@@ -74,6 +78,9 @@ fn read_classes<'a, I: Inputs>(
         (MakesAllJobs methods.now.leaves.now methods.now.scripts.now (most_sites - length jobs)
         (said names.now) (I.told inputs.old) jobs) }
     ensures few { IfOk result (λ all. length all ≤ most_sites) }
+    ensures reads { ReadsOnce (class_limit + 1) (length (said names.now))
+        (I.reached inputs.old) (I.reached inputs.new)
+        (I.starts inputs.old) (I.starts inputs.new) }
 {
     let Some((name, others)) = names.split_first() else {
         return Ok(jobs);
@@ -102,6 +109,9 @@ pub fn read_jobs<'a, I: Inputs>(
     ensures ok { IfOk result
         (HasJobs leaves.now scripts.now (said names.now) (I.told inputs.old)) }
     ensures few { IfOk result (λ jobs. length jobs ≤ most_sites) }
+    ensures reads { ReadsOnce (class_limit + 1) (length (said names.now))
+        (I.reached inputs.old) (I.reached inputs.new)
+        (I.starts inputs.old) (I.starts inputs.new) }
 {
     let methods = Methods { leaves, scripts };
     read_classes(alloc, inputs, names, &methods, Jobs::new(alloc))

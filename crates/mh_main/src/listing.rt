@@ -1,11 +1,14 @@
-ghost use Rattle.std.specs.Prelude.{◌≡◌, ◌≤◌, ◌-◌, List, ℕ, IfOk, IfErr, OnOk};
+ghost use Rattle.std.specs.Prelude.{◌≡◌, ◌≤◌, ◌+◌, ◌-◌, List, ℕ, IfOk, IfErr, OnOk, Some, length};
 ghost use Rattle.mh_listing.specs.Listing.{listing};
 ghost use Rattle.mh_outside.specs.Causes.{AreSame};
 ghost use Rattle.mh_outside.specs.Kept.{KeepsInputs};
+ghost use Rattle.mh_outside.specs.Reach.{ReadsOnce};
 ghost use Rattle.mh_words.specs.Options.{said};
+ghost use Rattle.mh_words.specs.Words.{sites};
 ghost use Rattle.mh_runtime.specs.Passes.{most_sites};
-ghost use Rattle.mh_main.specs.Input.{AreListed, IfAccepted, listing_input};
+ghost use Rattle.mh_main.specs.Input.{AreListed, IfAccepted, class_limit, listing_input};
 ghost use Rattle.mh_main.specs.Classes.{ListsClass, ListsClasses};
+ghost use Rattle.mh_main.specs.Reading.{ReadsInputs};
 ghost use Rattle.mh_main.specs.Stops.{IsStopAmong, IsStopOf, ReachesClass, Refuses, StopsClass, StopsClasses};
 
 use crate::classes::{CLASS_LIMIT, MOST_SITES, class_of};
@@ -36,6 +39,8 @@ fn list_class<'a, I: Inputs>(
         (λ next. ListsClass (most_sites - first) (I.told inputs.old name.now) first next
         text.old.items text.new.items) }
     ensures few { IfOk result (λ next. next ≤ most_sites) }
+    ensures reads { ReadsOnce (class_limit + 1) 1 (I.reached inputs.old) (I.reached inputs.new)
+        (I.starts inputs.old) (I.starts inputs.new) }
 {
     let bytes = read_input(alloc, inputs, name, CLASS_LIMIT)?;
     let view = class_of(alloc, name, &bytes, MOST_SITES - first)?;
@@ -64,6 +69,9 @@ fn list_classes<'a, I: Inputs>(
     ensures ok { OnOk result
         (ListsClasses (most_sites - first) (said names.now) (I.told inputs.old) first
         text.old.items text.new.items) }
+    ensures reads { ReadsOnce (class_limit + 1) (length (said names.now))
+        (I.reached inputs.old) (I.reached inputs.new)
+        (I.starts inputs.old) (I.starts inputs.new) }
 {
     let Some((name, others)) = names.split_first() else {
         return Ok(push_count(text, first)?);
@@ -89,6 +97,9 @@ pub fn list_sites<'a, I: Inputs>(
     ensures ok { IfOk result
         (λ text. IfAccepted (listing_input most_sites (said names.now) (I.told inputs.old))
         (AreListed (λ classes. text.items ≡ listing classes))) }
+    ensures reads { ReadsInputs (Some (sites (said names.now)))
+        (I.reached inputs.old) (I.reached inputs.new)
+        (I.starts inputs.old) (I.starts inputs.new) }
 {
     let mut text = Vec::new(alloc);
     list_classes(alloc, inputs, names, 0, &mut text)?;

@@ -1,6 +1,7 @@
-ghost use Rattle.std.specs.Prelude.{◌≡◌, ◌≤◌, List, ℕ, IfOk, IfErr, OnOk, length};
+ghost use Rattle.std.specs.Prelude.{◌≡◌, ◌≤◌, ◌+◌, List, ℕ, Some, IfOk, IfErr, OnOk, length};
 ghost use Rattle.mh_outside.specs.Causes.{AreSame};
 ghost use Rattle.mh_outside.specs.Kept.{KeepsInputs};
+ghost use Rattle.mh_outside.specs.Reach.{ReadsOnce};
 ghost use Rattle.mh_outside.specs.Told.{IsWhole};
 ghost use Rattle.mh_leaves.specs.Manifest.{manifest, kind_word as manifest_word};
 ghost use Rattle.mh_script.specs.Kinds.{kind_word as script_word};
@@ -8,9 +9,10 @@ ghost use Rattle.mh_script.specs.Scripts.{scripts};
 ghost use Rattle.mh_plan.specs.Limits.{IsWithinLimits};
 ghost use Rattle.mh_plan.specs.Results.{AreCallsOf};
 ghost use Rattle.mh_plan.specs.Plan.{plan, kind_word as plan_word};
-ghost use Rattle.mh_words.specs.Words.{held_names};
+ghost use Rattle.mh_words.specs.Words.{held_names, run};
 ghost use Rattle.mh_main.specs.Runnable.{IsRunnable};
 ghost use Rattle.mh_main.specs.Input.{HasMeaning, IfAccepted, named_input, program, leaves_limit, plan_limit};
+ghost use Rattle.mh_main.specs.Reading.{ReadsInputs};
 ghost use Rattle.mh_main.specs.Stops.{IsStopAmong, IsStopOf, ReachesInput, Refuses, StopsFile, StopsText};
 
 use crate::jobs::read_jobs;
@@ -30,7 +32,8 @@ const LEAVES_LIMIT: usize = 262_144;
 /// How many bytes a plan may have.
 const PLAN_LIMIT: usize = 1_048_576;
 
-/// Reads an input of at most `limit` bytes whole.
+/// Reads an input of at most `limit` bytes whole, from its front, once: it asks for one byte past
+/// the limit, and for none after it.
 pub(crate) fn read_input<'a, I: Inputs>(
     alloc: Global,
     inputs: &mut I,
@@ -45,6 +48,8 @@ pub(crate) fn read_input<'a, I: Inputs>(
     ensures unread { IfErr result (λ stop. StopsFile limit (I.told inputs.old name.now) stop) }
     ensures file { IfOk result (λ bytes. IsWhole (I.told inputs.old name.now) bytes.items) }
     ensures within { IfOk result (λ bytes. length bytes.items ≤ limit) }
+    ensures reads { ReadsOnce (limit + 1) 1 (I.reached inputs.old) (I.reached inputs.new)
+        (I.starts inputs.old) (I.starts inputs.new) }
 {
     match read_whole(alloc, inputs, name, limit) {
         Ok(bytes) => Ok(bytes),
@@ -69,6 +74,8 @@ fn read_leaves<'a, I: Inputs>(
         (λ stop. StopsText leaves_limit manifest_word manifest (I.told inputs.old name.now) stop) }
     ensures ok { IfOk result
         (λ leaves. HasMeaning leaves_limit manifest (I.told inputs.old name.now) leaves) }
+    ensures reads { ReadsOnce (leaves_limit + 1) 1 (I.reached inputs.old) (I.reached inputs.new)
+        (I.starts inputs.old) (I.starts inputs.new) }
 {
     let bytes = read_input(alloc, inputs, name, LEAVES_LIMIT)?;
     match read_manifest(alloc, &bytes) {
@@ -93,6 +100,8 @@ fn read_scripts<'a, I: Inputs>(
         (λ stop. StopsText leaves_limit script_word scripts (I.told inputs.old name.now) stop) }
     ensures ok { IfOk result
         (λ all. HasMeaning leaves_limit scripts (I.told inputs.old name.now) all) }
+    ensures reads { ReadsOnce (leaves_limit + 1) 1 (I.reached inputs.old) (I.reached inputs.new)
+        (I.starts inputs.old) (I.starts inputs.new) }
 {
     let bytes = read_input(alloc, inputs, name, LEAVES_LIMIT)?;
     match mh_script::read_scripts(alloc, &bytes) {
@@ -123,6 +132,8 @@ fn read_calls<'a, I: Inputs>(
         (I.told inputs.old name.now) calls) }
     ensures calls { IfOk result (AreCallsOf leaves.now jobs.now) }
     ensures limits { IfOk result IsWithinLimits }
+    ensures reads { ReadsOnce (plan_limit + 1) 1 (I.reached inputs.old) (I.reached inputs.new)
+        (I.starts inputs.old) (I.starts inputs.new) }
 {
     let bytes = read_input(alloc, inputs, name, PLAN_LIMIT)?;
     match read_plan(alloc, &bytes, leaves, jobs) {
@@ -152,6 +163,9 @@ pub fn read_program<'a, I: Inputs>(
         (λ p. IfAccepted (named_input output (held_names names.now) (I.told inputs.old))
         (λ a. a ≡ program p)) }
     ensures runnable { IfOk result IsRunnable }
+    ensures reads { ReadsInputs (Some (run (held_names names.now)))
+        (I.reached inputs.old) (I.reached inputs.new)
+        (I.starts inputs.old) (I.starts inputs.new) }
 {
     let leaves = read_leaves(alloc, inputs, names.leaves)?;
     let scripts = read_scripts(alloc, inputs, names.scripts)?;

@@ -7,6 +7,7 @@ ghost use Rattle.mh_words.specs.Options.{said};
 ghost use Rattle.mh_words.specs.Words.{command_of};
 ghost use Rattle.mh_main.specs.Runnable.{IsRunnable};
 ghost use Rattle.mh_main.specs.Input.{input, IsRefused, AreAccepted, IsMissing, FitsTables};
+ghost use Rattle.mh_main.specs.Reading.{ReadsInputs};
 ghost use Rattle.mh_main.specs.Stops.{stop_line, stop_status, InputsStill};
 ghost use Rattle.mh_main.specs.Status.{done, refused, usage_wanted, no_memory, forms_full, types_full, unread, write_failed, IsStatus, IsUsageOrWant, IsRefusedOrWant, IsUnreadOrWant, IsDoneOrWant, IsDoneFullOrWant, FailsWhere};
 ghost use Rattle.mh_main.specs.Due.{AnswersCalls, AreAnswersOf, FailsToRead, FillsForms, FillsTypes, IsDue, IsDueOf, IsFullOf, IsGenerated, IsEmptyAnswer, IsListing, IsListingOf, IsOverfullOf, IsReportOf, RefusesInput, RefusesWords, Reports, Writes, WritesPart};
@@ -266,6 +267,10 @@ pub fn top<'a, R: Threads + Wait + Sync, I: Inputs, S: Sink, G: Gate + Sync>(
     // An input that is told not to be there cannot be read.
     ensures unread_wanted { IsMissing (input (said words.now) (I.told inputs.old))
         → IsStill (S.faults sink.old) (S.faults sink.new) → IsUnreadOrWant result.status }
+
+    // How far files are read: each once, from its front, and one byte past its limit at most.
+    ensures reads { ReadsInputs (command_of (said words.now)) (I.reached inputs.old)
+        (I.reached inputs.new) (I.starts inputs.old) (I.starts inputs.new) }
 {
     let Ok(command) = read_words(alloc, words) else {
         return nothing_ran(alloc, NO_MEMORY);
