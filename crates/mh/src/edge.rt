@@ -3,6 +3,7 @@
 ghost use Rattle.std.specs.Prelude.{◌≡◌, ◌≢◌, [], drop, map, string_bytes, IfOk, IfErr, IsErr};
 ghost use Rattle.std.specs.Iterator.{Drains, IsFinite};
 ghost use Rattle.std.specs.IoError.{error_kind};
+ghost use Rattle.std.specs.Result.{IsOkAnd};
 ghost use Rattle.std.specs.declared.io.ErrorKind.TheVariants.{OutOfMemory};
 ghost use Rattle.std.specs.Process.{exit_status};
 ghost use Rattle.mh_outside.specs.Causes.{IsStill};
@@ -27,7 +28,7 @@ fn words_of<W: Iterator<Item = String> + Drop>(
     requires { IfOk args (λ args. W.can_next args × IsFinite (W.remaining args)) }
     ensures all { IfOk args (λ args. IfOk result (λ words. Drains W.next_gives args words.items)) }
     ensures no_text { IfErr args (λ error. error_kind error ≢ OutOfMemory
-        → IfOk result (λ words. words.items ≡ [])) }
+        → IsOkAnd result (λ words. words.items ≡ [])) }
     ensures memory { IfErr args (λ error. error_kind error ≡ OutOfMemory → IsErr result) }
 {
     match args {
