@@ -4,14 +4,9 @@ use Rattle.mh_handle_tests.proofs.trees.answer_on.Goals as goal
 
 pub give_back-requires-clause-held : goal.give_back-requires-clause-held
 give_back-requires-clause-held g c =
-    adds-held c.in_ok-handle.handle.held c.args.w.now.seat.now c.made.new.w.seat.now c.in_ok-handle.ensures.types
+    rw c.answer_by.ensures.seat (adds-held c.in_ok-handle.handle.held c.args.w.now.seat.now c.made.new.w.seat.now c.in_ok-handle.ensures.types)
 
 pub returns-clause-types : goal.returns-clause-types
 returns-clause-types g c =
     adds-next [] c.in_ok-handle.handle.held [] c.args.w.now.seat.now c.made.new.w.seat.now c.give_back.new.w.seat.now c.in_ok-handle.ensures.types
-    ([], c.give_back.ensures.types)
-
-pub returns-in_err-answer-clause-types : goal.returns-in_err-answer-clause-types
-returns-in_err-answer-clause-types g c =
-    adds-next [] c.in_ok-handle.handle.held [] c.args.w.now.seat.now c.made.new.w.seat.now c.give_back.new.w.seat.now c.in_ok-handle.ensures.types
-    ([], c.give_back.ensures.types)
+    ([], rw c.answer_by.ensures.seat at c.give_back.ensures.types)
