@@ -24,6 +24,13 @@ use mh_tree::{CheckError, Joint};
 use mh_values::MethodTy;
 use std::sync::Wait;
 
+/// A handle, and the part that joins it.
+#[derive(Drop)]
+pub struct Pair<'t> {
+    pub target: Handle<'t>,
+    pub part: Handle<'t>,
+}
+
 /// Gives back a handle that is not adapted, and the part, and says why.
 pub(crate) fn refused_with<'t>(
     w: &mut Work<'_, 't>,
@@ -79,25 +86,28 @@ pub(crate) fn grown_with<'t, R: Wait>(
 pub fn join<'t, R: Wait>(
     w: &mut Work<'_, 't>,
     rt: &R,
-    target: Handle<'t>,
+    pair: Pair<'t>,
     joint: Joint,
-    part: Handle<'t>,
     ty: MethodTy,
 ) -> Result<Handle<'t>, HandleError>
-    requires ruled { joint_row joint target.ty target.weight part.ty part.weight ≡ Ok ty }
+    requires ruled { joint_row joint pair.target.ty pair.target.weight
+        pair.part.ty pair.part.weight ≡ Ok ty }
     requires ready { IsReady w.old 1 }
-    requires held { HoldsTypes w.old (target.held ++ part.held) }
+    requires held { HoldsTypes w.old (pair.target.held ++ pair.part.held) }
     ensures goes_on { GoesOn 1 w.old w.new }
     ensures accepted { IsAccepted result }
     ensures typed { IfOk result (λ h. h.ty ≡ ty) }
-    ensures makes { (a b : Tree) → StandsIn w.old target.entry a → StandsIn w.old part.entry b
+    ensures makes { (a b : Tree) → StandsIn w.old pair.entry.target a
+        → StandsIn w.old pair.entry.part b
         → Makes (recipe (leaves_of w.old) (joint_tree joint a b)) w.old w.new result }
-    ensures types { TradesTypes (ty ∷ []) (target.entry.held ++ part.entry.held)
+    ensures types { TradesTypes (ty ∷ []) (pair.entry.target.held ++ pair.entry.part.held)
         w.old w.new result }
-    ensures gains { IfOk result (GainsPart part.entry target.entry) }
-    ensures stands { (a b : Tree) → StandsIn w.old target.entry a → StandsIn w.old part.entry b
+    ensures gains { IfOk result (GainsPart pair.entry.part pair.entry.target) }
+    ensures stands { (a b : Tree) → StandsIn w.old pair.entry.target a
+        → StandsIn w.old pair.entry.part b
         → IfOk result (λ h. StandsIn w.old h (joint_tree joint a b)) }
 {
+    let Pair { target, part } = pair;
     match joint_growth(w.alloc, ty, &target, joint, &part) {
         Ok(by) => grown_with(w, rt, target, by, part),
         Err(NoMemory) => refused_with(w, target, part, CheckError::NoMemory),
@@ -127,7 +137,7 @@ pub(crate) fn joined<'t, R: Wait>(
         → IfOk result (λ h. StandsIn w.old h (joint_tree joint a b)) }
 {
     match joint_type(w, &target, joint, &part) {
-        Ok(ty) => join(w, rt, target, joint, part, ty),
+        Ok(ty) => join(w, rt, Pair { target, part }, joint, ty),
         Err(error) => refused_with(w, target, part, error),
     }
 }

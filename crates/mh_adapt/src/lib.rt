@@ -12,5 +12,5 @@ mod types;
 
 pub use adapting::adapt;
 pub use inserting::{bind, drop_args, permute};
-pub use joining::join;
+pub use joining::{Pair, join};
 pub use parts::{collect, filter, filterret, fold};

@@ -64,7 +64,7 @@ unmade-node old new t own (FormsFull drawn) is h = (t, typed-is old.leaves.now t
 unmade-node old new t own (TypesFull bucket) is h = (t, typed-is old.leaves.now t own is)
 unmade-node old new t own (Refused e) is h = absurd h
 
-pub is_refused : (own : MethodTy) (e : Exc) (m : TypeOrRefusal) → m ≡ Ok own → m ≡ Err e → ⊥
+is_refused : (own : MethodTy) (e : Exc) (m : TypeOrRefusal) → m ≡ Ok own → m ≡ Err e → ⊥
 is_refused own e m h k = absurd cc
 
 -- the handle that a combinator makes by its rule, after the work went on

@@ -1,28 +1,20 @@
 -- What the rules of combinators give, by the number of their handles.
-use Rattle.std.proofs.Common.{◌≡◌, refl, sym, ◌∙◌, subst, ℕ, List, [], ◌∷◌, Result, Ok, Err}
+use Rattle.std.proofs.Common.{◌≡◌, refl, sym, ◌∙◌, ℕ, List, [], ◌∷◌}
 use Rattle.mh_values.specs.declared.class.Class.{Class}
 use Rattle.mh_values.specs.declared.types.MethodTy.{MethodTy}
-use Rattle.mh_intern.specs.Views.{HoldView}
 use Rattle.mh_leaf.specs.LeafTable.{LeafTable}
 use Rattle.mh_tree.specs.declared.joints.Joint.TheVariants as joint
-use Rattle.mh_tree.specs.Rows.{TypeOrRefusal, guard_row}
+use Rattle.mh_tree.specs.Rows.{guard_row}
 use Rattle.mh_tree.specs.Tree.{Tree, weight}
 use Rattle.mh_tree.specs.Tree as tree
 use Rattle.mh_tree.specs.Typing.{type_of, with_type}
-use Rattle.mh_handle.specs.declared.error.HandleError.{HandleError}
-use Rattle.mh_handle.specs.declared.error.HandleError.TheVariants.{NoMemory, FormsFull, TypesFull, Refused}
-use Rattle.mh_handle.specs.declared.handle.Handle.{Handle}
-use Rattle.mh_handle.specs.declared.work.Work.{Work}
-use Rattle.mh_handle.specs.Obeys.{Obeys}
 use Rattle.mh_handle.specs.Stands.{HandleView, Stands}
-use Rattle.mh_handle.specs.Works.{IsAccepted, TradesTypes, types_in}
 use Rattle.mh_link.specs.Made.{nodes_of}
 use Rattle.mh_attempt.specs.declared.lines.nodes.OfOne.{OfOne}
 use Rattle.mh_attempt.specs.declared.lines.nodes.OfOne.TheVariants as one
 use Rattle.mh_attempt.specs.declared.lines.nodes.OfTwo.{OfTwo}
 use Rattle.mh_attempt.specs.declared.lines.nodes.OfTwo.TheVariants as two
 use Rattle.mh_attempt.specs.Nodes.{IsTypedAs, one_row, one_tree, two_row, two_tree}
-use Rattle.mh_attempt.proofs.LineNodes.{is_refused}
 
 -- a handle has the type and the weight of its tree
 pub typed-handle : (leaves : LeafTable) (h : HandleView) (t : Tree) → Stands leaves h t → IsTypedAs leaves t h.ty h.weight
@@ -81,17 +73,3 @@ pub guard-ruled : (leaves : LeafTable) (c t e : Tree) (test ty other : MethodTy)
 guard-ruled leaves c t e test ty other l n m first second third =
     λ i. with_type (first.typed i) (λ a. with_type (second.typed i) (λ b. with_type (third.typed i)
     (λ d. guard_row a (sym first.weighed i) b (sym second.weighed i) d (sym third.weighed i))))
-
--- ---- a rule that was asked before
-
--- it refuses nothing then
-pub accepted-ruled : (rule : TypeOrRefusal) (ty : MethodTy) (r : Result Handle HandleError) → rule ≡ Ok ty → Obeys rule r → IsAccepted r
-accepted-ruled rule ty (Ok h) ruled obeys = tt
-accepted-ruled rule ty (Err NoMemory) ruled obeys = tt
-accepted-ruled rule ty (Err (FormsFull drawn)) ruled obeys = tt
-accepted-ruled rule ty (Err (TypesFull bucket)) ruled obeys = tt
-accepted-ruled rule ty (Err (Refused e)) ruled obeys = absurd (is_refused ty e rule ruled obeys)
-
-pub traded-ruled : (rule : TypeOrRefusal) (ty : MethodTy) (gone : List HoldView) (old new : Work) (r : Result Handle HandleError) → rule ≡ Ok ty →
-    TradesTypes (types_in rule) gone old new r → TradesTypes (ty ∷ []) gone old new r
-traded-ruled rule ty gone old new r ruled trades = subst (λ m. TradesTypes (types_in m) gone old new r) ruled trades

@@ -9,11 +9,11 @@ ghost use Rattle.mh_handle.specs.Works.{StandsIn, TradesTypes, classes_of, leave
 ghost use Rattle.mh_attempt.specs.Nodes.{one_row, one_tree, two_row, two_tree};
 
 use crate::lines::nodes::{OfOne, OfTwo};
-use mh_adapt::{bind, drop_args, join, permute};
-use mh_branch::{catch, gather};
+use mh_adapt::{Pair, adapt, join};
+use mh_branch::{Caught, Gathered, catch_of, gather_of};
 use mh_handle::{Handle, HandleError, Work};
 use mh_tree::{
-    CheckError, Typed, check_bind, check_catch, check_drop, check_gather, check_joint,
+    Adapter, CheckError, Typed, check_bind, check_catch, check_drop, check_gather, check_joint,
     check_permute,
 };
 use mh_values::{Classes, MethodTy};
@@ -67,24 +67,30 @@ pub(crate) fn of_one<'t, R: Wait>(
     rt: &R,
     target: Handle<'t>,
     by: OfOne<'_>,
-    _ty: MethodTy,
+    ty: MethodTy,
 ) -> Result<Handle<'t>, HandleError>
-    requires ruled { one_row (classes_of w.old) by target.ty target.weight ≡ Ok _ty }
+    requires ruled { one_row (classes_of w.old) by target.ty target.weight ≡ Ok ty }
     requires ready { IsReady w.old 1 }
     requires held { HoldsTypes w.old target.held }
     ensures goes_on { GoesOn 1 w.old w.new }
     ensures accepted { IsAccepted result }
     ensures makes { (t : Tree) → StandsIn w.old target.entry t
         → Makes (recipe (leaves_of w.old) (one_tree by.entry t)) w.old w.new result }
-    ensures types { TradesTypes (_ty ∷ []) target.entry.held w.old w.new result }
+    ensures types { TradesTypes (ty ∷ []) target.entry.held w.old w.new result }
     ensures stands { (t : Tree) → StandsIn w.old target.entry t
         → IfOk result (λ h. StandsIn w.old h (one_tree by.entry t)) }
 {
     match by {
-        OfOne::Bind(position, value) => bind(w, rt, target, position, value),
-        OfOne::Drop(position, types) => drop_args(w, rt, target, position, &types),
-        OfOne::Permute(asked, order) => permute(w, rt, target, asked.get(), order),
-        OfOne::Gather(array, count) => gather(w, rt, target, array, count),
+        OfOne::Bind(position, value) => adapt(w, rt, target, Adapter::Bind { position, value }, ty),
+        OfOne::Drop(position, types) => {
+            let types = &types;
+            adapt(w, rt, target, Adapter::Drop { position, types }, ty)
+        }
+        OfOne::Permute(asked, order) => {
+            let asked = asked.get();
+            adapt(w, rt, target, Adapter::Permute { asked, order }, ty)
+        }
+        OfOne::Gather(array, count) => gather_of(w, rt, target, Gathered { array, count }, ty),
     }
 }
 
@@ -111,7 +117,14 @@ pub(crate) fn of_two<'t, R: Wait>(
 {
     let (target, part) = parts;
     match by {
-        OfTwo::Joint(joint) => join(w, rt, target, joint, part, ty),
-        OfTwo::Catch(class) => catch(w, rt, target, class, part),
+        OfTwo::Joint(joint) => join(w, rt, Pair { target, part }, joint, ty),
+        OfTwo::Catch(class) => {
+            let caught = Caught {
+                target,
+                class,
+                handler: part,
+            };
+            catch_of(w, rt, caught, ty)
+        }
     }
 }

@@ -1,5 +1,5 @@
 //! The handle of a node, by the number of its handles. A call that makes a handle of no other asks
-//! the rule itself; else the rule is asked before any handle is made.
+//! the rule itself; else the rule is asked once, before any handle is made.
 
 ghost use Rattle.std.specs.Prelude.{List, [], ◌∷◌};
 ghost use Rattle.mh_tree.specs.Tree.{Tree};
@@ -16,7 +16,7 @@ use crate::lines::combining::{check_one, check_two, of_one, of_two};
 use crate::lines::nodes::{NodeOperand, OfOne, OfTwo};
 use crate::lines::several::{both_made, three_made};
 use crate::lines::uses::{spread_out, used};
-use mh_branch::{constant, guard, identity, throw};
+use mh_branch::{Branches, constant, guard_of, identity, throw};
 use mh_handle::{Handle, HandleError, Work, leaf};
 use mh_tree::check_guard;
 use std::sync::Wait;
@@ -107,7 +107,7 @@ fn guarded<'t, R: Wait>(
     let first = test.typed(w.leaves);
     let own = target.typed(w.leaves);
     let last = fallback.typed(w.leaves);
-    check_guard(
+    let ty = check_guard(
         w.alloc,
         first.ty,
         first.weight,
@@ -118,5 +118,10 @@ fn guarded<'t, R: Wait>(
         w.classes(),
     )?;
     let made = three_made(w, rt, test, target, fallback)?;
-    guard(w, rt, made.0, made.1, made.2)
+    let branches = Branches {
+        test: made.0,
+        target: made.1,
+        fallback: made.2,
+    };
+    guard_of(w, rt, branches, ty)
 }
