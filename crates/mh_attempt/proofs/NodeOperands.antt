@@ -7,13 +7,13 @@ use Rattle.mh_handle.specs.declared.error.HandleError.{HandleError}
 use Rattle.mh_handle.specs.declared.handle.Handle.{Handle}
 use Rattle.mh_handle.specs.declared.work.Work.{Work}
 use Rattle.mh_jobs.specs.Thrown.{OrThrown}
-use Rattle.mh_attempt.specs.declared.lines.nodes.NodeOperand.{NodeOperand}
-use Rattle.mh_attempt.specs.declared.lines.nodes.NodeOperand.TheVariants as node
+use Rattle.mh_attempt.specs.declared.lines.nodes.Node.{Node}
+use Rattle.mh_attempt.specs.declared.lines.nodes.Node.TheVariants as node
 use Rattle.mh_attempt.specs.Nodes.{AreHeldIn, AreOperands, IsAsked, parts_of}
 use Rattle.mh_attempt.specs.Operations.{MakesAsked}
 
 -- handles can be made of the operands
-pub are-operands : (leaves : LeafTable) (seat : SeatView) (n : NodeOperand) (m : OrThrown Tree) (itself : Tree → List Tree) → IsAsked leaves n m itself →
+pub are-operands : (leaves : LeafTable) (seat : SeatView) (n : Node) (m : OrThrown Tree) (itself : Tree → List Tree) → IsAsked leaves n m itself →
     AreHeldIn seat n → AreOperands leaves seat n
 are-operands leaves seat (node.Leaf l) m itself is held = is.0
 are-operands leaves seat (node.Constant ty v) m itself is held = tt
@@ -28,7 +28,7 @@ are-operands leaves seat (node.Spread h array count) m itself is held = record {
 are-operands leaves seat (node.AsType h asked) m itself is held = record { stands = (is.0, is.1); held = held }
 
 -- where the node is known
-pub made-for : (old new : Work) (r : Result Handle HandleError) (n known : NodeOperand) (m : OrThrown Tree) (itself : Tree → List Tree) → n ≡ known →
+pub made-for : (old new : Work) (r : Result Handle HandleError) (n known : Node) (m : OrThrown Tree) (itself : Tree → List Tree) → n ≡ known →
     (IsAsked old.leaves.now known m itself → MakesAsked (parts_of known) m itself old new r) → IsAsked old.leaves.now n m itself →
     MakesAsked (parts_of n) m itself old new r
 made-for old new r n known m itself is makes =

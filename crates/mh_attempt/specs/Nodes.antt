@@ -1,27 +1,33 @@
 -- What the operation of a line asks for, as a value: a combinator with its operands, by the number of its handles.
-use Rattle.std.specs.Prelude.{◌≡◌, ℕ, ◌<◌, List, [], ◌∷◌, length, Result, Ok, Err}
+use Rattle.std.specs.Prelude.{◌≡◌, ℕ, ◌<◌, List, [], ◌∷◌, length, flat_map, Result, Ok, Err, IfOk}
 use Rattle.mh_values.specs.declared.class.Class.{Class}
 use Rattle.mh_values.specs.declared.types.MethodTy.{MethodTy}
 use Rattle.mh_intern.specs.Views.{SeatView}
 use Rattle.mh_leaf.specs.LeafTable.{LeafTable}
 use Rattle.mh_tree.specs.declared.error.CheckError.{CheckError}
 use Rattle.mh_tree.specs.declared.error.CheckError.TheVariants as check
+use Rattle.mh_tree.specs.declared.joints.Joint.{Joint}
 use Rattle.mh_tree.specs.Joints.{joint_row, joint_tree}
 use Rattle.mh_tree.specs.Rows.{TypeOrRefusal, bind_row, catch_row, drop_row, gather_row, permute_row}
 use Rattle.mh_tree.specs.Tree.{Tree, weight}
 use Rattle.mh_tree.specs.Tree as tree
 use Rattle.mh_tree.specs.Typing.{type_of}
-use Rattle.mh_jobs.specs.Thrown.{OrThrown}
-use Rattle.mh_link.specs.Operations.{spread_of, use_of}
+use Rattle.mh_script.specs.declared.operand.Register.{Register}
+use Rattle.mh_script.specs.declared.script.Operation.{Operation}
+use Rattle.mh_jobs.specs.Thrown.{OrThrown, ◌>>=◌}
+use Rattle.mh_link.specs.Made.{nodes_of_uses}
+use Rattle.mh_link.specs.Operands.{Frame, handle_in}
+use Rattle.mh_link.specs.Operations.{asked_by, spread_of, use_of}
 use Rattle.mh_attempt.specs.declared.handle.HandleOperand.{HandleOperand}
-use Rattle.mh_attempt.specs.declared.lines.nodes.NodeOperand.{NodeOperand}
-use Rattle.mh_attempt.specs.declared.lines.nodes.NodeOperand.TheVariants as node
+use Rattle.mh_attempt.specs.declared.lines.nodes.Node.{Node}
+use Rattle.mh_attempt.specs.declared.lines.nodes.Node.TheVariants as node
 use Rattle.mh_attempt.specs.declared.lines.nodes.OfOne.{OfOne}
 use Rattle.mh_attempt.specs.declared.lines.nodes.OfOne.TheVariants as one
 use Rattle.mh_attempt.specs.declared.lines.nodes.OfTwo.{OfTwo}
 use Rattle.mh_attempt.specs.declared.lines.nodes.OfTwo.TheVariants as two
+use Rattle.mh_attempt.specs.declared.registers.Registers.{Registers}
 use Rattle.mh_attempt.specs.Recipes.{spread_asked, use_asked}
-use Rattle.mh_attempt.specs.Registers.{IsHeldIn, StandsFor, StandsForSome}
+use Rattle.mh_attempt.specs.Registers.{AreHeldBy, Hold, IsHeldIn, StandsFor, StandsForSome, node_made}
 
 -- ---- combinators
 
@@ -57,7 +63,7 @@ pub record IsAlone (m : OrThrown Tree) (itself : Tree → List Tree) (n : Tree) 
   pub forms : itself ≡ (λ (t : Tree). t ∷ [])
 
 -- the node asks for a tree, or for what is thrown in its place, and for the forms of the nodes that it makes itself
-abbrev pub IsAsked : LeafTable → NodeOperand → OrThrown Tree → (Tree → List Tree) → Type 0
+abbrev pub IsAsked : LeafTable → Node → OrThrown Tree → (Tree → List Tree) → Type 0
 IsAsked leaves (node.Leaf l) m itself = (l.0 < length leaves.leaves) × IsAlone m itself (tree.Leaf l)
 IsAsked leaves (node.Constant ty v) m itself = IsAlone m itself (tree.Constant ty v)
 IsAsked leaves (node.Identity ty) m itself = IsAlone m itself (tree.Identity ty)
@@ -71,7 +77,7 @@ IsAsked leaves (node.Spread h array count) m itself =
 IsAsked leaves (node.AsType h asked) m itself = (t : Tree) × StandsFor leaves h t × (m ≡ use_of leaves t asked) × (itself ≡ use_asked leaves t)
 
 -- the node that is asked for, or what an operand throws; want of memory tells nothing
-abbrev pub TellsNode : LeafTable → Result NodeOperand CheckError → OrThrown Tree → (Tree → List Tree) → Type 0
+abbrev pub TellsNode : LeafTable → Result Node CheckError → OrThrown Tree → (Tree → List Tree) → Type 0
 TellsNode leaves (Ok n) m itself = IsAsked leaves n m itself
 TellsNode leaves (Err (check.Refused e)) m itself = m ≡ Err e
 TellsNode leaves (Err check.NoMemory) m itself = Unit {0}
@@ -79,7 +85,7 @@ TellsNode leaves (Err check.NoMemory) m itself = Unit {0}
 -- ---- its operands
 
 -- the handles of a node, from left to right
-abbrev pub parts_of : NodeOperand → List HandleOperand
+abbrev pub parts_of : Node → List HandleOperand
 parts_of (node.One h by) = h ∷ []
 parts_of (node.Two h by k) = h ∷ k ∷ []
 parts_of (node.Guard f h k) = f ∷ h ∷ k ∷ []
@@ -88,13 +94,41 @@ parts_of (node.AsType h asked) = h ∷ []
 parts_of _ = []
 
 -- the seat holds their types
-abbrev pub AreHeldIn : SeatView → NodeOperand → Type 0
+abbrev pub AreHeldIn : SeatView → Node → Type 0
 AreHeldIn seat (node.One h by) = IsHeldIn seat h
 AreHeldIn seat (node.Two h by k) = IsHeldIn seat h × IsHeldIn seat k
 AreHeldIn seat (node.Guard f h k) = IsHeldIn seat f × IsHeldIn seat h × IsHeldIn seat k
 AreHeldIn seat (node.Spread h array count) = IsHeldIn seat h
 AreHeldIn seat (node.AsType h asked) = IsHeldIn seat h
 AreHeldIn seat _ = Unit {0}
+
+-- ---- where registers stand for frames
+
+-- what an operation asks for in a frame
+abbrev pub asked_of : LeafTable → Operation → Frame → OrThrown Tree
+asked_of leaves op frame = asked_by leaves frame op
+
+-- what a joint of the handles of two registers asks for
+abbrev pub joint_asked : Register → Joint → Register → Frame → OrThrown Tree
+joint_asked h joint f frame = do
+  target ← handle_in frame h
+  part ← handle_in frame f
+  Ok (joint_tree joint target part)
+
+-- the node is told that is asked for, and of what this makes itself its own form alone is asked for
+abbrev pub TellsAlone : (Frame → OrThrown Tree) → LeafTable → Registers → Result Node CheckError → Type 0
+TellsAlone m leaves registers r = (frame : Frame) → Hold leaves registers frame → TellsNode leaves r (m frame) (λ (t : Tree). t ∷ [])
+
+-- the handles of the node make the nodes that the uses of these registers make
+abbrev pub MakesUses : List Register → Registers → Result Node CheckError → Type 0
+MakesUses used registers r =
+    (leaves : LeafTable) (frame : Frame) → Hold leaves registers frame → IfOk r (λ n. flat_map node_made (parts_of n) ≡ nodes_of_uses frame used)
+
+-- a seat that holds the types of all registers holds those of the node
+abbrev pub KeepsTypes : Registers → Result Node CheckError → Type 0
+KeepsTypes registers r = (seat : SeatView) → AreHeldBy seat registers → IfOk r (AreHeldIn seat)
+
+-- ---- operands of which handles are made
 
 -- the type and the weight of a tree
 pub record IsTypedAs (leaves : LeafTable) (t : Tree) (ty : MethodTy) (n : ℕ) : Type 0 where
@@ -107,7 +141,7 @@ pub record IsOperand (leaves : LeafTable) (seat : SeatView) (h : HandleOperand) 
   pub held : IsHeldIn seat h
 
 -- the same of all operands of a node; a leaf is a leaf of the table
-abbrev pub AreOperands : LeafTable → SeatView → NodeOperand → Type 0
+abbrev pub AreOperands : LeafTable → SeatView → Node → Type 0
 AreOperands leaves seat (node.Leaf l) = l.0 < length leaves.leaves
 AreOperands leaves seat (node.One h by) = IsOperand leaves seat h
 AreOperands leaves seat (node.Two h by k) = IsOperand leaves seat h × IsOperand leaves seat k

@@ -36,6 +36,6 @@ pub(crate) fn node<'t, R: Wait>(
     ensures line { (frame : Frame) → Hold (leaves_of w.old) registers.now frame
         → MakesOperation frame operation.now w.old w.new result }
 {
-    let node = operands(w.alloc, w.leaves, registers, operation)?;
+    let node = operands(w.leaves, registers, operation)?;
     made(w, rt, node)
 }

@@ -59,6 +59,7 @@ pub(crate) struct Assignment<'f, 't> {
 /// attempt, and what its lines have assigned, with one assignment for each name.
 #[derive(Drop)]
 pub(crate) struct Registers<'f, 't> {
+    pub alloc: Global,
     pub call: &'f BootstrapCall,
     pub serial: u64,
     pub assigned: Vec<Assignment<'f, 't>>,
@@ -197,6 +198,7 @@ impl<'f, 't> Registers<'f, 't> {
         ensures assigned { result.assigned.items ≡ [] }
     {
         Registers {
+            alloc,
             call,
             serial,
             assigned: Vec::new(alloc),
@@ -262,7 +264,7 @@ impl<'f, 't> Registers<'f, 't> {
     }
 
     // What the register of a static argument holds.
-    fn argument(&self, alloc: Global, number: u64) -> Result<Content<'_, 'f, 't>, CheckError>
+    fn argument(&self, number: u64) -> Result<Content<'_, 'f, 't>, CheckError>
         ensures holds { (leaves : LeafTable) (frame : Frame) → Hold leaves self.now frame
             → TellsBy (IsContent leaves) result (content frame (register.Argument number)) }
         ensures makes { (leaves : LeafTable) (frame : Frame) → Hold leaves self.now frame
@@ -272,15 +274,15 @@ impl<'f, 't> Registers<'f, 't> {
     {
         match self.call.arguments.as_slice().get(number as usize) {
             Some(argument) => {
-                let held = content_of(alloc, argument)?;
+                let held = content_of(self.alloc, argument)?;
                 Ok(held)
             }
-            None => Err(no_argument(alloc)),
+            None => Err(no_argument(self.alloc)),
         }
     }
 
     // What a register that a line assigned holds.
-    fn assigned(&self, alloc: Global, name: &[u8]) -> Result<Content<'_, 'f, 't>, CheckError>
+    fn assigned(&self, name: &[u8]) -> Result<Content<'_, 'f, 't>, CheckError>
         ensures holds { (leaves : LeafTable) (frame : Frame) → Hold leaves self.now frame
             → TellsBy (IsContent leaves) result (content frame (register.Assigned name.now)) }
         ensures makes { IfOk result (λ found. node_held found ≡ []) }
@@ -288,13 +290,13 @@ impl<'f, 't> Registers<'f, 't> {
     {
         match held_under(self.assigned.as_slice(), name) {
             Some(held) => Ok(content_held(held)),
-            None => Err(no_argument(alloc)),
+            None => Err(no_argument(self.alloc)),
         }
     }
 
     // What a register holds; of those that a script may name, only the register of a static
     // argument may hold nothing.
-    fn content(&self, alloc: Global, register: &Register) -> Result<Content<'_, 'f, 't>, CheckError>
+    fn content(&self, register: &Register) -> Result<Content<'_, 'f, 't>, CheckError>
         ensures holds { (leaves : LeafTable) (frame : Frame) → Hold leaves self.now frame
             → TellsBy (IsContent leaves) result (content frame register.now) }
         ensures makes { (leaves : LeafTable) (frame : Frame) → Hold leaves self.now frame
@@ -304,68 +306,59 @@ impl<'f, 't> Registers<'f, 't> {
         match register {
             Register::SiteType => Ok(Content::MethodType(&self.call.ty)),
             Register::SiteName => Ok(Content::Value(Value::Text(self.call.name.copy()?))),
-            Register::Argument(number) => self.argument(alloc, *number),
-            Register::Assigned(name) => self.assigned(alloc, name.as_slice()),
+            Register::Argument(number) => self.argument(*number),
+            Register::Assigned(name) => self.assigned(name.as_slice()),
         }
     }
 
     /// The method handle of a register. Thrown where it holds nothing, or something else.
-    pub fn handle(
-        &self,
-        alloc: Global,
-        register: &Register,
-    ) -> Result<HandleOperand<'_, 't>, CheckError>
+    pub fn handle(&self, register: &Register) -> Result<HandleOperand<'_, 't>, CheckError>
         ensures stands { (leaves : LeafTable) (frame : Frame) → Hold leaves self.now frame
             → TellsBy (StandsFor leaves) result (handle_in frame register.now) }
         ensures makes { (leaves : LeafTable) (frame : Frame) → Hold leaves self.now frame
             → IfOk result (λ operand. node_made operand ≡ node_of_use frame register.now) }
         ensures kept { (seat : SeatView) → AreHeldBy seat self.now → IfOk result (IsHeldIn seat) }
     {
-        let held = self.content(alloc, register)?;
-        as_handle(alloc, held)
+        let held = self.content(register)?;
+        as_handle(self.alloc, held)
     }
 
     /// The value of an operand.
-    pub fn value(&self, alloc: Global, operand: &ValueOperand) -> Result<Value, CheckError>
+    pub fn value(&self, operand: &ValueOperand) -> Result<Value, CheckError>
         ensures { (leaves : LeafTable) (frame : Frame) → Hold leaves self.now frame
             → Tells result (value_in frame operand.now) }
     {
         match operand {
-            ValueOperand::Literal(value) => Ok(value.copy(alloc)?),
+            ValueOperand::Literal(value) => Ok(value.copy(self.alloc)?),
             ValueOperand::Register(register) => {
-                let held = self.content(alloc, register)?;
-                as_value(alloc, held)
+                let held = self.content(register)?;
+                as_value(self.alloc, held)
             }
         }
     }
 
     // The class that a register holds.
-    fn class(&self, alloc: Global, register: &Register) -> Result<Ty, CheckError>
+    fn class(&self, register: &Register) -> Result<Ty, CheckError>
         ensures { (leaves : LeafTable) (frame : Frame) → Hold leaves self.now frame
             → Tells result (class_in frame register.now) }
     {
-        let held = self.content(alloc, register)?;
-        as_class(alloc, held)
+        let held = self.content(register)?;
+        as_class(self.alloc, held)
     }
 
     /// The type of an operand, nothing being void.
-    pub fn ty(
-        &self,
-        alloc: Global,
-        classes: &Classes,
-        operand: &TypeOperand,
-    ) -> Result<Option<Ty>, CheckError>
+    pub fn ty(&self, classes: &Classes, operand: &TypeOperand) -> Result<Option<Ty>, CheckError>
         ensures { (leaves : LeafTable) (frame : Frame) → Hold leaves self.now frame
             → Tells result (type_in classes.now frame operand.now) }
     {
         match operand {
             TypeOperand::Void => Ok(None),
             TypeOperand::Descriptor(text) => {
-                let ty = type_of_text(alloc, classes, text.as_slice())?;
+                let ty = type_of_text(self.alloc, classes, text.as_slice())?;
                 Ok(Some(ty))
             }
             TypeOperand::Register(register) => {
-                let ty = self.class(alloc, register)?;
+                let ty = self.class(register)?;
                 Ok(Some(ty))
             }
         }
@@ -374,7 +367,6 @@ impl<'f, 't> Registers<'f, 't> {
     /// The method type of an operand.
     pub fn method_type(
         &self,
-        alloc: Global,
         classes: &Classes,
         operand: &MethodTypeOperand,
     ) -> Result<Shared<MethodTy>, CheckError>
@@ -383,11 +375,11 @@ impl<'f, 't> Registers<'f, 't> {
     {
         match operand {
             MethodTypeOperand::Descriptor(text) => {
-                method_type_of_text(alloc, classes, text.as_slice())
+                method_type_of_text(self.alloc, classes, text.as_slice())
             }
             MethodTypeOperand::Register(register) => {
-                let held = self.content(alloc, register)?;
-                as_method_type(alloc, held)
+                let held = self.content(register)?;
+                as_method_type(self.alloc, held)
             }
         }
     }

@@ -73,7 +73,7 @@ fn returned<'t, R: Wait>(
     ensures asked { (frame : Frame) → Hold (leaves_of w.old) registers.now frame → AsksTypesOrThrows
         (end_types (leaves_of w.old) (end.Return register.now) frame) w.old w.new result }
 {
-    let target = registers.handle(w.alloc, register)?;
+    let target = registers.handle(register)?;
     let (own, asked) = (target.ty(w.leaves), registers.call.ty.get());
     if !is_same_method_type(own, asked) {
         return Err(HandleError::Refused(mismatch(w.alloc, own, asked, w.classes())?));

@@ -1,23 +1,24 @@
 //! What the operation of a line asks for, as a value: a combinator with its operands.
 
-ghost use Rattle.std.specs.Prelude.{◌≡◌, flat_map, IfOk};
-ghost use Rattle.mh_intern.specs.Views.{SeatView};
-ghost use Rattle.mh_link.specs.Made.{handles_of, nodes_of_uses};
+ghost use Rattle.std.specs.Prelude.{[], ◌∷◌};
+ghost use Rattle.mh_leaf.specs.LeafTable.{LeafTable};
+ghost use Rattle.mh_script.specs.declared.script.Operation.TheVariants as operation;
+ghost use Rattle.mh_link.specs.Made.{handles_of};
 ghost use Rattle.mh_link.specs.Operands.{Frame};
 ghost use Rattle.mh_link.specs.Operations.{asked_by};
-ghost use Rattle.mh_attempt.specs.Nodes.{AreHeldIn, TellsNode, parts_of};
+ghost use Rattle.mh_attempt.specs.Nodes.{KeepsTypes, MakesUses, TellsAlone, TellsNode};
+ghost use Rattle.mh_attempt.specs.Nodes.{asked_of, joint_asked};
 ghost use Rattle.mh_attempt.specs.Recipes.{asked_itself};
-ghost use Rattle.mh_attempt.specs.Registers.{AreHeldBy, Hold, node_made};
+ghost use Rattle.mh_attempt.specs.Registers.{Hold};
 
 use crate::handle::HandleOperand;
 use crate::names::{class_of, leaf_named, types_of_text};
 use crate::registers::Registers;
-use mh_base::Shared;
+use mh_base::{Seq, Shared};
 use mh_leaves::Leaves;
-use mh_script::Operation;
+use mh_script::{Operation, Register};
 use mh_tree::{CheckError, Joint};
 use mh_values::{ClassId, LeafId, MethodTy, Ty, Tys, Value};
-use std::alloc::Global;
 
 /// What makes a handle of one other.
 #[derive(Drop)]
@@ -38,7 +39,7 @@ pub(crate) enum OfTwo {
 /// A combinator with its operands, by the number of its handles. A spread and a use as another type
 /// stand by themselves: each may ask for other forms than that of its node.
 #[derive(Drop)]
-pub(crate) enum NodeOperand<'a, 't> {
+pub(crate) enum Node<'a, 't> {
     Leaf(LeafId),
     Constant(Option<Ty>, Value),
     Identity(Option<Ty>),
@@ -51,103 +52,131 @@ pub(crate) enum NodeOperand<'a, 't> {
     AsType(HandleOperand<'a, 't>, Shared<MethodTy>),
 }
 
+/// A target, and types that are dropped at a position.
+fn dropped<'a, 't>(
+    leaves: &Leaves,
+    registers: &'a Registers<'_, 't>,
+    target: &Register,
+    position: u8,
+    types: &Seq<u8>,
+) -> Result<Node<'a, 't>, CheckError>
+    ensures asked { TellsAlone
+        (asked_of leaves.now (operation.Drop target.now position types.now))
+        leaves.now registers.now result }
+    ensures makes { MakesUses (target.now ∷ []) registers.now result }
+    ensures kept { KeepsTypes registers.now result }
+{
+    let target = registers.handle(target)?;
+    let types = types_of_text(registers.alloc, leaves.classes(), types.as_slice())?;
+    Ok(Node::One(target, OfOne::Drop(position, types)))
+}
+
+/// A target and the part that joins it.
+fn pair<'a, 't>(
+    registers: &'a Registers<'_, 't>,
+    target: &Register,
+    joint: Joint,
+    part: &Register,
+) -> Result<Node<'a, 't>, CheckError>
+    ensures asked { (leaves : LeafTable)
+        → TellsAlone (joint_asked target.now joint part.now) leaves registers.now result }
+    ensures makes { MakesUses (target.now ∷ part.now ∷ []) registers.now result }
+    ensures kept { KeepsTypes registers.now result }
+{
+    let target = registers.handle(target)?;
+    let part = registers.handle(part)?;
+    Ok(Node::Two(target, OfTwo::Joint(joint), part))
+}
+
+/// A target, a class of exceptions, and their handler.
+fn caught<'a, 't>(
+    leaves: &Leaves,
+    registers: &'a Registers<'_, 't>,
+    target: &Register,
+    class: &Seq<u8>,
+    part: &Register,
+) -> Result<Node<'a, 't>, CheckError>
+    ensures asked { TellsAlone
+        (asked_of leaves.now (operation.Catch target.now class.now part.now))
+        leaves.now registers.now result }
+    ensures makes { MakesUses (target.now ∷ part.now ∷ []) registers.now result }
+    ensures kept { KeepsTypes registers.now result }
+{
+    let target = registers.handle(target)?;
+    let class = class_of(registers.alloc, leaves.classes(), class.as_slice())?;
+    let part = registers.handle(part)?;
+    Ok(Node::Two(target, OfTwo::Catch(class), part))
+}
+
+/// A test, a target and a fallback.
+fn guarded<'a, 't>(
+    registers: &'a Registers<'_, 't>,
+    test: &Register,
+    target: &Register,
+    fallback: &Register,
+) -> Result<Node<'a, 't>, CheckError>
+    ensures asked { (leaves : LeafTable) → TellsAlone
+        (asked_of leaves (operation.Guard test.now target.now fallback.now))
+        leaves registers.now result }
+    ensures makes { MakesUses (test.now ∷ target.now ∷ fallback.now ∷ []) registers.now result }
+    ensures kept { KeepsTypes registers.now result }
+{
+    let test = registers.handle(test)?;
+    let target = registers.handle(target)?;
+    let fallback = registers.handle(fallback)?;
+    Ok(Node::Guard(test, target, fallback))
+}
+
 /// The node that an operation asks for. Its operands are looked up from left to right.
 pub(crate) fn operands<'a, 't>(
-    alloc: Global,
     leaves: &Leaves,
     registers: &'a Registers<'_, 't>,
     operation: &'a Operation,
-) -> Result<NodeOperand<'a, 't>, CheckError>
+) -> Result<Node<'a, 't>, CheckError>
     ensures asked { (frame : Frame) → Hold leaves.now registers.now frame
         → TellsNode leaves.now result (asked_by leaves.now frame operation.now)
         (asked_itself leaves.now frame operation.now) }
-    ensures makes { (frame : Frame) → Hold leaves.now registers.now frame
-        → IfOk result (λ node. flat_map node_made (parts_of node)
-        ≡ nodes_of_uses frame (handles_of operation.now)) }
-    ensures kept { (seat : SeatView) → AreHeldBy seat registers.now
-        → IfOk result (AreHeldIn seat) }
+    ensures makes { MakesUses (handles_of operation.now) registers.now result }
+    ensures kept { KeepsTypes registers.now result }
 {
-    let classes = leaves.classes();
+    let (alloc, classes) = (registers.alloc, leaves.classes());
     match operation {
-        Operation::Leaf(method) => {
-            let leaf = leaf_named(alloc, leaves, method)?;
-            Ok(NodeOperand::Leaf(leaf))
-        }
+        Operation::Leaf(method) => Ok(Node::Leaf(leaf_named(alloc, leaves, method)?)),
         Operation::Constant(ty, value) => {
-            let ty = registers.ty(alloc, classes, ty)?;
-            let value = registers.value(alloc, value)?;
-            Ok(NodeOperand::Constant(ty, value))
+            Ok(Node::Constant(registers.ty(classes, ty)?, registers.value(value)?))
         }
-        Operation::Identity(ty) => {
-            let ty = registers.ty(alloc, classes, ty)?;
-            Ok(NodeOperand::Identity(ty))
-        }
+        Operation::Identity(ty) => Ok(Node::Identity(registers.ty(classes, ty)?)),
         Operation::Throw(ret, class) => {
-            let ret = registers.ty(alloc, classes, ret)?;
-            let class = class_of(alloc, classes, class.as_slice())?;
-            Ok(NodeOperand::Throw(ret, class))
+            let ret = registers.ty(classes, ret)?;
+            Ok(Node::Throw(ret, class_of(alloc, classes, class.as_slice())?))
         }
-        Operation::Bind(target, position, value) => {
-            let target = registers.handle(alloc, target)?;
-            let value = registers.value(alloc, value)?;
-            Ok(NodeOperand::One(target, OfOne::Bind(*position, value)))
+        Operation::Bind(target, at, value) => {
+            let target = registers.handle(target)?;
+            Ok(Node::One(target, OfOne::Bind(*at, registers.value(value)?)))
         }
-        Operation::Drop(target, position, types) => {
-            let target = registers.handle(alloc, target)?;
-            let types = types_of_text(alloc, classes, types.as_slice())?;
-            Ok(NodeOperand::One(target, OfOne::Drop(*position, types)))
-        }
+        Operation::Drop(target, at, types) => dropped(leaves, registers, target, *at, types),
         Operation::Permute(target, asked, order) => {
-            let target = registers.handle(alloc, target)?;
-            let asked = registers.method_type(alloc, classes, asked)?;
-            Ok(NodeOperand::One(target, OfOne::Permute(asked, order.as_slice())))
+            let target = registers.handle(target)?;
+            let asked = registers.method_type(classes, asked)?;
+            Ok(Node::One(target, OfOne::Permute(asked, order.as_slice())))
         }
-        Operation::Filter(target, position, filter) => {
-            let target = registers.handle(alloc, target)?;
-            let part = registers.handle(alloc, filter)?;
-            Ok(NodeOperand::Two(target, OfTwo::Joint(Joint::Filter(*position)), part))
-        }
-        Operation::FilterReturn(target, filter) => {
-            let target = registers.handle(alloc, target)?;
-            let part = registers.handle(alloc, filter)?;
-            Ok(NodeOperand::Two(target, OfTwo::Joint(Joint::FilterReturn), part))
-        }
-        Operation::Fold(target, position, combiner) => {
-            let target = registers.handle(alloc, target)?;
-            let part = registers.handle(alloc, combiner)?;
-            Ok(NodeOperand::Two(target, OfTwo::Joint(Joint::Fold(*position)), part))
-        }
-        Operation::Collect(target, position, filter) => {
-            let target = registers.handle(alloc, target)?;
-            let part = registers.handle(alloc, filter)?;
-            Ok(NodeOperand::Two(target, OfTwo::Joint(Joint::Collect(*position)), part))
-        }
+        Operation::Filter(target, at, part) => pair(registers, target, Joint::Filter(*at), part),
+        Operation::FilterReturn(target, part) => pair(registers, target, Joint::FilterReturn, part),
+        Operation::Fold(target, at, part) => pair(registers, target, Joint::Fold(*at), part),
+        Operation::Collect(target, at, part) => pair(registers, target, Joint::Collect(*at), part),
         Operation::Spread(target, array, count) => {
-            let target = registers.handle(alloc, target)?;
-            let array = registers.ty(alloc, classes, array)?;
-            Ok(NodeOperand::Spread(target, array, *count))
+            let target = registers.handle(target)?;
+            Ok(Node::Spread(target, registers.ty(classes, array)?, *count))
         }
         Operation::Gather(target, array, count) => {
-            let target = registers.handle(alloc, target)?;
-            let array = registers.ty(alloc, classes, array)?;
-            Ok(NodeOperand::One(target, OfOne::Gather(array, *count)))
+            let target = registers.handle(target)?;
+            Ok(Node::One(target, OfOne::Gather(registers.ty(classes, array)?, *count)))
         }
         Operation::AsType(target, asked) => {
-            let target = registers.handle(alloc, target)?;
-            let asked = registers.method_type(alloc, classes, asked)?;
-            Ok(NodeOperand::AsType(target, asked))
+            let target = registers.handle(target)?;
+            Ok(Node::AsType(target, registers.method_type(classes, asked)?))
         }
-        Operation::Guard(test, target, fallback) => {
-            let test = registers.handle(alloc, test)?;
-            let target = registers.handle(alloc, target)?;
-            let fallback = registers.handle(alloc, fallback)?;
-            Ok(NodeOperand::Guard(test, target, fallback))
-        }
-        Operation::Catch(target, class, handler) => {
-            let target = registers.handle(alloc, target)?;
-            let class = class_of(alloc, classes, class.as_slice())?;
-            let part = registers.handle(alloc, handler)?;
-            Ok(NodeOperand::Two(target, OfTwo::Catch(class), part))
-        }
+        Operation::Guard(test, target, fallback) => guarded(registers, test, target, fallback),
+        Operation::Catch(target, class, part) => caught(leaves, registers, target, class, part),
     }
 }

@@ -13,7 +13,7 @@ ghost use Rattle.mh_attempt.specs.Registers.{StandsFor};
 
 use crate::handle::HandleOperand;
 use crate::lines::combining::{check_one, check_two, of_one, of_two};
-use crate::lines::nodes::{NodeOperand, OfOne, OfTwo};
+use crate::lines::nodes::{Node, OfOne, OfTwo};
 use crate::lines::several::{both_made, three_made};
 use crate::lines::uses::{spread_out, used};
 use mh_branch::{Branches, constant, guard_of, identity, throw};
@@ -25,7 +25,7 @@ use std::sync::Wait;
 pub(crate) fn made<'t, R: Wait>(
     w: &mut Work<'_, 't>,
     rt: &R,
-    node: NodeOperand<'_, 't>,
+    node: Node<'_, 't>,
 ) -> Result<Handle<'t>, HandleError>
     requires ready { IsReady w.old 4 }
     requires operands { AreOperands (leaves_of w.old) w.old.seat.now node }
@@ -34,15 +34,15 @@ pub(crate) fn made<'t, R: Wait>(
         → MakesAsked (parts_of node.entry) m itself w.old w.new result }
 {
     match node {
-        NodeOperand::Leaf(id) => leaf(w, rt, id),
-        NodeOperand::Constant(ty, value) => constant(w, rt, ty, value),
-        NodeOperand::Identity(ty) => identity(w, rt, ty),
-        NodeOperand::Throw(ret, class) => throw(w, rt, ret, class),
-        NodeOperand::One(target, by) => made_of_one(w, rt, &target, by),
-        NodeOperand::Two(target, by, part) => made_of_two(w, rt, &target, by, &part),
-        NodeOperand::Guard(test, target, fallback) => guarded(w, rt, &test, &target, &fallback),
-        NodeOperand::Spread(target, array, count) => spread_out(w, rt, &target, array, count),
-        NodeOperand::AsType(target, asked) => used(w, rt, &target, asked.get()),
+        Node::Leaf(id) => leaf(w, rt, id),
+        Node::Constant(ty, value) => constant(w, rt, ty, value),
+        Node::Identity(ty) => identity(w, rt, ty),
+        Node::Throw(ret, class) => throw(w, rt, ret, class),
+        Node::One(target, by) => made_of_one(w, rt, &target, by),
+        Node::Two(target, by, part) => made_of_two(w, rt, &target, by, &part),
+        Node::Guard(test, target, fallback) => guarded(w, rt, &test, &target, &fallback),
+        Node::Spread(target, array, count) => spread_out(w, rt, &target, array, count),
+        Node::AsType(target, asked) => used(w, rt, &target, asked.get()),
     }
 }
 
