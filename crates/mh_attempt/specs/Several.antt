@@ -7,6 +7,10 @@ use Rattle.mh_handle.specs.declared.error.HandleError.{HandleError}
 use Rattle.mh_handle.specs.declared.error.HandleError.TheVariants.{Refused}
 use Rattle.mh_handle.specs.declared.handle.Handle.{Handle}
 use Rattle.mh_handle.specs.declared.work.Work.{Work}
+use Rattle.mh_attempt.specs.declared.handle.HandleOperand.{HandleOperand}
+use Rattle.mh_attempt.specs.Asked.{AsksIfMade}
+use Rattle.mh_attempt.specs.AskedTypes.{AsksTypesOrThrows, types_made}
+use Rattle.mh_attempt.specs.Recipes.{recipes_made}
 
 -- nothing is refused by a rule
 abbrev pub NothingRefused : {A : Type 0} → Result A HandleError → Type 0
@@ -31,3 +35,11 @@ AddsBoth old new (Err error) = Adds [] old new
 abbrev pub AddsThree : {E : Type 0} → Work → Work → Result (Handle × Handle × Handle) E → Type 0
 AddsThree old new (Ok made) = Adds (made.0.held ++ made.1.held ++ made.2.held) old new
 AddsThree old new (Err error) = Adds [] old new
+
+-- the forms of operands that are leaves are asked for, and no others
+abbrev pub AsksForms : {A : Type 0} → List HandleOperand → Work → Work → Result A HandleError → Type 0
+AsksForms operands old new r = AsksIfMade (recipes_made old.leaves.now operands []) old new r
+
+-- and their types
+abbrev pub AsksTheirTypes : {A : Type 0} → List HandleOperand → Work → Work → Result A HandleError → Type 0
+AsksTheirTypes operands old new r = AsksTypesOrThrows (types_made old.leaves.now operands []) old new r

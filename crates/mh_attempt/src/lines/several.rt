@@ -3,11 +3,10 @@
 ghost use Rattle.std.specs.Prelude.{[], ◌∷◌, IfOk};
 ghost use Rattle.mh_tree.specs.Tree.{Tree};
 ghost use Rattle.mh_handle.specs.Works.{GoesOn, IsReady, StandsIn, leaves_of};
-ghost use Rattle.mh_attempt.specs.Asked.{AsksIfMade};
-ghost use Rattle.mh_attempt.specs.AskedTypes.{AsksTypesOrThrows, types_made};
-ghost use Rattle.mh_attempt.specs.Recipes.{recipes_made};
-ghost use Rattle.mh_attempt.specs.Registers.{IsHeldIn, StandsFor, StandsForSome};
-ghost use Rattle.mh_attempt.specs.Several.{AddsBoth, AddsThree, NothingRefused};
+ghost use Rattle.mh_attempt.specs.Nodes.{IsOperand};
+ghost use Rattle.mh_attempt.specs.Registers.{StandsFor};
+ghost use Rattle.mh_attempt.specs.Several.{AddsBoth, AddsThree, AsksForms, AsksTheirTypes};
+ghost use Rattle.mh_attempt.specs.Several.{NothingRefused};
 
 use crate::handle::HandleOperand;
 use mh_handle::{Handle, HandleError, Work};
@@ -21,17 +20,13 @@ pub(crate) fn both_made<'t, R: Wait>(
     second: &HandleOperand<'_, 't>,
 ) -> Result<(Handle<'t>, Handle<'t>), HandleError>
     requires ready { IsReady w.old 2 }
-    requires first { StandsForSome (leaves_of w.old) first.now }
-    requires first_held { IsHeldIn w.old.seat.now first.now }
-    requires second { StandsForSome (leaves_of w.old) second.now }
-    requires second_held { IsHeldIn w.old.seat.now second.now }
+    requires first { IsOperand (leaves_of w.old) w.old.seat.now first.now }
+    requires second { IsOperand (leaves_of w.old) w.old.seat.now second.now }
     ensures goes_on { GoesOn 2 w.old w.new }
     ensures accepted { NothingRefused result }
     ensures types { AddsBoth w.old w.new result }
-    ensures asks { AsksIfMade (recipes_made (leaves_of w.old) (first.now ∷ second.now ∷ []) [])
-        w.old w.new result }
-    ensures asked { AsksTypesOrThrows (types_made (leaves_of w.old)
-        (first.now ∷ second.now ∷ []) []) w.old w.new result }
+    ensures asks { AsksForms (first.now ∷ second.now ∷ []) w.old w.new result }
+    ensures asked { AsksTheirTypes (first.now ∷ second.now ∷ []) w.old w.new result }
     ensures first { (t : Tree) → StandsFor (leaves_of w.old) first.now t
         → IfOk result (λ made. StandsIn w.old made.0 t) }
     ensures second { (t : Tree) → StandsFor (leaves_of w.old) second.now t
@@ -56,19 +51,14 @@ pub(crate) fn three_made<'t, R: Wait>(
     third: &HandleOperand<'_, 't>,
 ) -> Result<(Handle<'t>, Handle<'t>, Handle<'t>), HandleError>
     requires ready { IsReady w.old 3 }
-    requires first { StandsForSome (leaves_of w.old) first.now }
-    requires first_held { IsHeldIn w.old.seat.now first.now }
-    requires second { StandsForSome (leaves_of w.old) second.now }
-    requires second_held { IsHeldIn w.old.seat.now second.now }
-    requires third { StandsForSome (leaves_of w.old) third.now }
-    requires third_held { IsHeldIn w.old.seat.now third.now }
+    requires first { IsOperand (leaves_of w.old) w.old.seat.now first.now }
+    requires second { IsOperand (leaves_of w.old) w.old.seat.now second.now }
+    requires third { IsOperand (leaves_of w.old) w.old.seat.now third.now }
     ensures goes_on { GoesOn 3 w.old w.new }
     ensures accepted { NothingRefused result }
     ensures types { AddsThree w.old w.new result }
-    ensures asks { AsksIfMade (recipes_made (leaves_of w.old)
-        (first.now ∷ second.now ∷ third.now ∷ []) []) w.old w.new result }
-    ensures asked { AsksTypesOrThrows (types_made (leaves_of w.old)
-        (first.now ∷ second.now ∷ third.now ∷ []) []) w.old w.new result }
+    ensures asks { AsksForms (first.now ∷ second.now ∷ third.now ∷ []) w.old w.new result }
+    ensures asked { AsksTheirTypes (first.now ∷ second.now ∷ third.now ∷ []) w.old w.new result }
     ensures first { (t : Tree) → StandsFor (leaves_of w.old) first.now t
         → IfOk result (λ made. StandsIn w.old made.0 t) }
     ensures second { (t : Tree) → StandsFor (leaves_of w.old) second.now t

@@ -35,7 +35,7 @@ returns-in-Err-clause-asks g c =
 
 pub made-requires-2-clause-held : goal.made-requires-2-clause-held
 made-requires-2-clause-held g c =
-    operand-yet c.args.second.now c.in_ok-first.first.held c.args.w.now c.made.new.w c.in_ok-first.ensures.types c.requires.second_held
+    operand-yet c.args.second.now c.in_ok-first.first.held c.args.w.now c.made.new.w c.in_ok-first.ensures.types c.requires.second.held
 
 pub returns-in-Ok-clause-types : goal.returns-in-Ok-clause-types
 returns-in-Ok-clause-types g c =

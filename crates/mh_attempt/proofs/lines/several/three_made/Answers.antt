@@ -49,7 +49,7 @@ returns-in-Err-clause-asks g c =
 pub made-requires-clause-held : goal.made-requires-clause-held
 made-requires-clause-held g c =
     operand-yet c.args.third.now (c.in_ok-first.first.held ++ c.in_ok-first.second.held) c.args.w.now c.both_made.new.w c.in_ok-first.ensures.types
-    c.requires.third_held
+    c.requires.third.held
 
 pub returns-in-Ok-clause-types : goal.returns-in-Ok-clause-types
 returns-in-Ok-clause-types g c =
