@@ -40,11 +40,15 @@ const TURNS: u64 = 2_000_000_000;
 pub struct TestGate {
     loser_came: AtomicBool,
     winner_recorded: AtomicBool,
-    /// Whether a thread was let go because it had waited too long.
-    pub gave_up: AtomicBool,
+    gave_up: AtomicBool,
 }
 
 impl TestGate {
+    /// Whether a thread was let go because it had waited too long.
+    pub fn gave_up(&self) -> bool {
+        self.gave_up.load(Ordering::SeqCst)
+    }
+
     // Holds the caller until it is told to go on.
     fn hold(&self, go_on: &AtomicBool) {
         for _ in 0..TURNS {

@@ -169,12 +169,12 @@ fn both_recorded_after<R: Threads>(rt: &R, gate: &TestGate) -> (u64, u64) {
 #[test]
 fn a_test_gate_lets_thread_1_record_before_thread_0(rt: HostRuntime) {
     let gate = TestGate::default();
-    assert!(rt; both_recorded_after(&rt, &gate) == (1, 0) && !gate.gave_up.load(Ordering::SeqCst));
+    assert!(rt; both_recorded_after(&rt, &gate) == (1, 0) && !gate.gave_up());
 }
 
 #[test]
 fn a_test_gate_lets_other_threads_pass(rt: HostRuntime) {
     let gate = TestGate::default();
     let count = AtomicU64::new(0);
-    assert!(rt; recorded_after(&gate, &count, 2) == 0 && !gate.gave_up.load(Ordering::SeqCst));
+    assert!(rt; recorded_after(&gate, &count, 2) == 0 && !gate.gave_up());
 }

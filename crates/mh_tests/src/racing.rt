@@ -10,7 +10,6 @@ use mh_outside::{Gate, MemoryInputs, MemorySink, OpenGate, TestGate};
 use std::alloc::{AllocError, Global};
 use std::collections::BTreeMap;
 use std::sync::Wait;
-use std::sync::atomic::Ordering;
 use std::test::Fail;
 use std::thread::Threads;
 
@@ -215,7 +214,7 @@ fn is_won_by_thread_1<R: Threads + Wait + Sync>(
         plan: "thread\nindy 0\nthread\nindy 0\n",
     };
     let (answer, bytes) = run(rt, alloc, &input, &gate)?;
-    let ended = answer.status == DONE && !gate.gave_up.load(Ordering::SeqCst);
+    let ended = answer.status == DONE && !gate.gave_up();
     Ok(ended && is_either(&answer, bytes.as_slice(), race))
 }
 
