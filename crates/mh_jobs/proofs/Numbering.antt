@@ -10,7 +10,7 @@ use Rattle.mh_classfile.specs.Class as class_file
 use Rattle.mh_script.specs.declared.script.Script.{Script}
 use Rattle.mh_jobs.specs.declared.job.Job.{Job}
 use Rattle.mh_jobs.specs.Job.{site_job}
-use Rattle.mh_jobs.specs.Jobs.{jobs_from, jobs_of, with_class}
+use Rattle.mh_jobs.specs.Jobs.{HasMore, jobs_from, jobs_of, with_class}
 use Rattle.mh_jobs.proofs.Arguments.{drop-here}
 
 -- the jobs of the call sites before a place are made, after those that were there, and the others are what is left
@@ -48,3 +48,11 @@ pub more_classes : (leaves : LeafTable) (scripts : List Script) (class : class_f
     all ≡ jobs_of leaves scripts (classes ++ class ∷ [])
 more_classes leaves scripts class before all is classes are =
     is ∙ ap (λ (jobs : List Job). with_class leaves scripts jobs class) are ∙ sym (one_more_class leaves scripts classes class)
+
+-- one more job stands after those before, too
+pub more_after : (before all new : List Job) (job : Job) → HasMore before all → new ≡ all ++ job ∷ [] → HasMore before new
+more_after before all new job has is = (has.0 ++ job ∷ [], is ∙ ap (λ jobs. jobs ++ job ∷ []) has.1 ∙ append_assoc before has.0 (job ∷ []))
+
+-- the jobs before stand before themselves
+pub no_more : (jobs : List Job) → HasMore jobs jobs
+no_more jobs = ([], sym (append-nil jobs))

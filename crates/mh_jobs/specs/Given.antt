@@ -16,6 +16,10 @@ pub record Given : Type 0 where
 abbrev pub IsJob : LeafTable → List Script → Job → Type 0
 IsJob leaves scripts job = (class : Class) × (k : ℕ) × (job_of leaves scripts class k job.site ≡ Some job)
 
+-- each of these jobs is that of a call site of a class, over these leaves and scripts
+abbrev pub AreJobsOf : LeafTable → List Script → List Job → Type 0
+AreJobsOf leaves scripts jobs = (site : ℕ) (job : Job) → slice_get jobs site ≡ Some job → IsJob leaves scripts job
+
 -- each job of the run is that of a call site of a class, over the run's leaves and scripts
 abbrev pub AreJobs : Given → Type 0
-AreJobs given = (site : ℕ) (job : Job) → slice_get given.jobs site ≡ Some job → IsJob given.leaves given.scripts job
+AreJobs given = AreJobsOf given.leaves given.scripts given.jobs

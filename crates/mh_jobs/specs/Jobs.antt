@@ -23,6 +23,10 @@ with_class leaves scripts jobs class = jobs ++ jobs_from leaves scripts class (l
 abbrev pub jobs_of : LeafTable → List Script → List class_file.Class → List Job
 jobs_of leaves scripts classes = fold (with_class leaves scripts) [] classes
 
+-- the jobs are these, and more after them
+abbrev pub HasMore : List Job → List Job → Type 0
+HasMore before jobs = (more : List Job) × (jobs ≡ before ++ more)
+
 -- the number of each call site is its place
 abbrev pub AreInPlace : List Job → Type 0
 AreInPlace jobs = (k : ℕ) (job : Job) → slice_get jobs k ≡ Some job → job.site ≡ k

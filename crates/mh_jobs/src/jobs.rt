@@ -1,6 +1,9 @@
-ghost use Rattle.std.specs.Prelude.{◌≡◌, ◌<◌, List, [], ◌∷◌, ◌++◌, length, slice_get, Some, IfOk, OnOk};
+ghost use Rattle.std.specs.Prelude.{◌≡◌, ◌<◌, List, [], ◌∷◌, ◌++◌, length, slice_get, Some, IfOk, OnErr, OnOk};
+ghost use Rattle.mh_leaf.specs.LeafTable.{LeafTable};
 ghost use Rattle.mh_classfile.specs.Class.{Class};
-ghost use Rattle.mh_jobs.specs.Jobs.{jobs_of, with_class};
+ghost use Rattle.mh_script.specs.declared.script.Script.{Script};
+ghost use Rattle.mh_jobs.specs.Given.{AreJobsOf};
+ghost use Rattle.mh_jobs.specs.Jobs.{HasMore, jobs_of, with_class};
 
 use crate::Job;
 use crate::call::Resolving;
@@ -41,8 +44,11 @@ fn next_number(count: usize) -> Result<u32, NoMemory>
 
 impl Jobs {
     /// No jobs.
+    #[tactic(auto, using(crate::proofs::OfClasses::none_are))]
     pub fn new(alloc: Global) -> Jobs
-        ensures { result ≡ [] }
+        ensures none { result ≡ [] }
+        ensures are_jobs { (leaves : LeafTable) (scripts : List Script)
+            → AreJobsOf leaves scripts result }
     {
         Jobs {
             jobs: Seq::new(alloc),
@@ -65,31 +71,41 @@ impl Jobs {
         self.jobs.get(site as usize)
     }
 
-    /// Puts the job of the next call site after the others.
-    fn push(&mut self, job: Job) -> Result<(), NoMemory>
+    /// Puts the job of the next call site after the others. If memory runs out, the jobs are as they
+    /// were.
+    pub fn push(&mut self, job: Job) -> Result<(), NoMemory>
         requires { job.site ≡ length self.old }
-        ensures { OnOk result (self.new ≡ self.old ++ job ∷ []) }
+        ensures ok { OnOk result (self.new ≡ self.old ++ job ∷ []) }
+        ensures err { OnErr result (self.new ≡ self.old) }
     {
         self.jobs.push(job)
     }
 }
 
-/// These jobs and those of the call sites of one more class, numbered on. A call site that no `u32`
-/// can number is want of memory. Equal descriptors of the class
-/// are read once, and so are the static arguments of each bootstrap method.
-#[tactic(auto, using(crate::proofs::Numbering::all_made, crate::proofs::Numbering::more_classes))]
+/// Puts the jobs of the call sites of one more class after the others, numbered on. Equal descriptors
+/// of the class are read once, and so are the static arguments of each bootstrap method.
+///
+/// A call site that no `u32` can number is want of memory. If memory runs out, the jobs are those
+/// before, and some of the class's after them.
+#[tactic(auto, using(crate::proofs::Numbering::all_made, crate::proofs::Numbering::no_more, crate::proofs::Numbering::more_classes, crate::proofs::OfClasses::are_more))]
 pub fn push_jobs(
     alloc: Global,
-    jobs: Jobs,
+    jobs: &mut Jobs,
     view: &ClassView<'_>,
     scripts: &Scripts,
     leaves: &Leaves,
-) -> Result<Jobs, NoMemory>
-    ensures more { IfOk result (λ all. all ≡ with_class leaves.now scripts.now jobs view.now) }
+) -> Result<(), NoMemory>
+    ensures more { OnOk result
+        (jobs.new ≡ with_class leaves.now scripts.now jobs.old view.now) }
+    ensures before { HasMore jobs.old jobs.new }
 
     // The jobs of classes become those of the classes and this one.
-    ensures run { (classes : List Class) → jobs ≡ jobs_of leaves.now scripts.now classes
-        → IfOk result (λ all. all ≡ jobs_of leaves.now scripts.now (classes ++ view.now ∷ [])) }
+    ensures run { (classes : List Class) → jobs.old ≡ jobs_of leaves.now scripts.now classes
+        → OnOk result (jobs.new ≡ jobs_of leaves.now scripts.now (classes ++ view.now ∷ [])) }
+
+    // Jobs of call sites stay such jobs.
+    ensures are_jobs { AreJobsOf leaves.now scripts.now jobs.old
+        → OnOk result (AreJobsOf leaves.now scripts.now jobs.new) }
 {
     let entries = entries_of(alloc, view, leaves)?;
     let from = Resolving {
@@ -98,15 +114,14 @@ pub fn push_jobs(
         leaves,
         entries: &entries,
     };
-    let mut all = jobs;
     let mut types = no_types(alloc);
     for k in 0..view.sites() {
-        let number = next_number(all.len())?;
+        let number = next_number(jobs.len())?;
         let site = view.site(k);
         let read = read_once(alloc, leaves.classes(), types, site.descriptor.bytes())?;
         types = read.0;
         let job = site_job(alloc, &from, number, &site, read.1)?;
-        all.push(job)?;
+        jobs.push(job)?;
     }
-    Ok(all)
+    Ok(())
 }

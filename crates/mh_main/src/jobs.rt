@@ -9,12 +9,13 @@ ghost use Rattle.mh_main.specs.Input.{class_limit};
 ghost use Rattle.mh_main.specs.Classes.{MakesJobs, MakesAllJobs, HasJobs};
 ghost use Rattle.mh_main.specs.Stops.{IsStopAmong, IsStopOf, ReachesClass, StopsClass, StopsClasses};
 
-use crate::classes::{CLASS_LIMIT, MOST_SITES, class_of};
+use crate::classes::{CLASS_LIMIT, class_of};
 use crate::reading::read_input;
 use crate::stop::Stop;
 use mh_jobs::{Jobs, push_jobs};
 use mh_leaves::Leaves;
 use mh_outside::Inputs;
+use mh_runtime::MOST_SITES;
 use mh_script::Scripts;
 use std::alloc::Global;
 
@@ -52,7 +53,9 @@ fn read_class<'a, I: Inputs>(
     let room = MOST_SITES - jobs.len() as u32;
     let bytes = read_input(alloc, inputs, name, CLASS_LIMIT)?;
     let view = class_of(alloc, name, &bytes, room)?;
-    Ok(push_jobs(alloc, jobs, &view, methods.scripts, methods.leaves)?)
+    let mut jobs = jobs;
+    push_jobs(alloc, &mut jobs, &view, methods.scripts, methods.leaves)?;
+    Ok(jobs)
 }
 
 // Reads class files in order, and puts the jobs of their call sites after the others.
