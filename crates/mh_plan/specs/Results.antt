@@ -1,9 +1,11 @@
 -- The result of each call of a plan.
-use Rattle.std.specs.Prelude.{ℕ, ◌<◌, List, length, map, All, Option, slice_get}
+use Rattle.std.specs.Prelude.{ℕ, ◌<◌, Bool, true, false, ◌&&◌, List, [], ◌∷◌, length, map, All, Option, slice_get}
 use Rattle.std.specs.Option.{option_flatten, option_map_or}
+use Rattle.mh_values.specs.declared.class.Class.{Class}
+use Rattle.mh_values.specs.declared.types.Ty.{Ty}
 use Rattle.mh_values.specs.declared.value.Value.{Value}
 use Rattle.mh_values.specs.Computation.{Ran, Stuck}
-use Rattle.mh_values.specs.HasType.{HaveTypes}
+use Rattle.mh_values.specs.HasType.{HaveTypes, has_type}
 use Rattle.mh_leaf.specs.LeafTable.{LeafTable}
 use Rattle.mh_leaf.specs.Outcome.{ran_of}
 use Rattle.mh_tree.specs.Tree as tree
@@ -42,6 +44,12 @@ abbrev pub IsCallOf : LeafTable → List Job → Call → Type 0
 IsCallOf leaves jobs (Exact leaf ty args) = (leaf.0 < length leaves.leaves) × HaveTypes leaves.classes args ty.params
 IsCallOf leaves jobs (Generic leaf ty args) = (leaf.0 < length leaves.leaves) × HaveTypes leaves.classes args ty.params
 IsCallOf leaves jobs (Indy site args) = (site < length jobs) × HaveTypes leaves.classes args (params_at jobs site)
+
+-- whether the values of a list have the types of another list, one for each
+abbrev pub have_types : List Class → List Value → List Ty → Bool
+have_types classes [] [] = true
+have_types classes (v ∷ vs) (t ∷ ts) = has_type classes v t && have_types classes vs ts
+have_types classes _ _ = false
 
 -- the calls of each thread can be made
 abbrev pub AreCallsOf : LeafTable → List Job → List (List Call) → Type 0

@@ -1,5 +1,12 @@
+ghost use Rattle.std.specs.Prelude.{◌≡◌, ◌<◌, length, IsTrue};
+ghost use Rattle.mh_values.specs.HasType.{HaveTypes};
+ghost use Rattle.mh_jobs.specs.Jobs.{params_at};
+ghost use Rattle.mh_plan.specs.Results.{IsCallOf, have_types};
+
 use mh_base::Seq;
-use mh_values::{Items, LeafId, MethodTy};
+use mh_jobs::Jobs;
+use mh_leaves::Leaves;
+use mh_values::{Classes, Items, LeafId, MethodTy, Ty, Value, has_type};
 
 /// A call that a thread makes.
 #[derive(Debug, Drop)]
@@ -13,6 +20,79 @@ pub enum Call {
     /// A call of a call site, as `invokedynamic` makes it: the site's number, and arguments of the
     /// parameters of the site's type; none where that type cannot be read.
     Indy(u32, Items),
+}
+
+// Whether values have these types, one for each.
+fn have_types(values: &[Value], types: &[Ty], classes: &Classes) -> bool
+    ensures { result ≡ have_types classes.now values.now types.now }
+{
+    let [value, values @ ..] = values else {
+        return match types {
+            [] => true,
+            [_, ..] => false,
+        };
+    };
+    let [ty, types @ ..] = types else {
+        return false;
+    };
+    has_type(value, *ty, classes) && have_types(values, types, classes)
+}
+
+// Whether arguments have these types, one for each.
+#[tactic(auto, using(crate::proofs::MadeCalls::found_typed, crate::proofs::MadeCalls::typed_found))]
+fn are_typed(args: &Items, types: &[Ty], classes: &Classes) -> bool
+    ensures yes { IsTrue result → HaveTypes classes.now args.now types.now }
+    ensures no { HaveTypes classes.now args.now types.now → IsTrue result }
+{
+    have_types(args.as_slice(), types, classes)
+}
+
+/// The types of the arguments that a call of a site takes.
+pub(crate) fn params_at(jobs: &Jobs, site: u32) -> &[Ty]
+    requires { site < length jobs.now }
+    ensures { result.now ≡ params_at jobs.now site }
+{
+    match jobs.get(site).ty() {
+        Some(ty) => ty.params.as_slice(),
+        None => &[],
+    }
+}
+
+// Whether a leaf is there, and arguments have the types of a call's type.
+fn is_leaf_call(leaves: &Leaves, leaf: LeafId, ty: &MethodTy, args: &Items) -> bool
+    ensures yes { IsTrue result → (leaf.0 < length leaves.now.leaves)
+        × HaveTypes leaves.now.classes args.now ty.now.params }
+    ensures no { (leaf.0 < length leaves.now.leaves)
+        × HaveTypes leaves.now.classes args.now ty.now.params → IsTrue result }
+{
+    leaf.0 < leaves.count() && are_typed(args, ty.params.as_slice(), leaves.classes())
+}
+
+// Whether a site is there, and arguments have the types of its parameters.
+fn is_site_call(leaves: &Leaves, jobs: &Jobs, site: u32, args: &Items) -> bool
+    ensures yes { IsTrue result → (site < length jobs.now)
+        × HaveTypes leaves.now.classes args.now (params_at jobs.now site) }
+    ensures no { (site < length jobs.now)
+        × HaveTypes leaves.now.classes args.now (params_at jobs.now site) → IsTrue result }
+{
+    (site as usize) < jobs.len() && are_typed(args, params_at(jobs, site), leaves.classes())
+}
+
+impl Call {
+    /// Whether the call can be made of these leaves and call sites: its leaf or its site is there,
+    /// and its arguments have the types of its type, or of the site's. A site whose type cannot be
+    /// read takes no arguments. A maker of calls asks this where no plan's reader has.
+    pub fn can_be_made(&self, leaves: &Leaves, jobs: &Jobs) -> bool
+        ensures yes { IsTrue result → IsCallOf leaves.now jobs.now self.now }
+        ensures no { IsCallOf leaves.now jobs.now self.now → IsTrue result }
+    {
+        match self {
+            Call::Exact(leaf, ty, args) | Call::Generic(leaf, ty, args) => {
+                is_leaf_call(leaves, *leaf, ty, args)
+            }
+            Call::Indy(site, args) => is_site_call(leaves, jobs, *site, args),
+        }
+    }
 }
 
 /// The calls of one thread, in order.

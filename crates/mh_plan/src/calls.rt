@@ -1,10 +1,10 @@
 ghost use Rattle.std.specs.Prelude.{◌≡◌, ◌<◌, [], ◌∷◌, ◌++◌, map, length, OnOk};
 ghost use Rattle.mh_base.specs.Lines.{TakesLine, TellsLine, built_from};
-ghost use Rattle.mh_jobs.specs.Jobs.{params_at};
 ghost use Rattle.mh_plan.specs.Plan.{leaf_named, call_by, leaf_call, site_numbered, indy_call, call_meaning, with_call, tokens_meaning, line_meaning};
 ghost use Rattle.mh_plan.specs.Fault.{TellsLines};
 
 use crate::arguments::read_arguments;
+use crate::call::params_at;
 use crate::grammar::leaf_texts;
 use crate::kinds::LineResult;
 use crate::{Call, PlanError, PlanKind, ThreadCalls};
@@ -12,7 +12,7 @@ use mh_base::{LineError, LineFault, NoMemory, Seq, is_passed, split_at_byte};
 use mh_jobs::Jobs;
 use mh_leaves::{How, Leaves, type_of};
 use mh_texts::read_unsigned;
-use mh_values::{Classes, Items, LeafId, MethodTy, Ty};
+use mh_values::{Classes, Items, LeafId, MethodTy};
 use std::alloc::Global;
 
 /// What the calls of a plan may be of.
@@ -85,17 +85,6 @@ fn site_numbered(jobs: &Jobs, token: &[u8]) -> Option<u32>
         Some(number)
     } else {
         None
-    }
-}
-
-// The types of the arguments that a call of a site takes.
-fn params_at(jobs: &Jobs, site: u32) -> &[Ty]
-    requires { site < length jobs.now }
-    ensures { result.now ≡ params_at jobs.now site }
-{
-    match jobs.get(site).ty() {
-        Some(ty) => ty.params.as_slice(),
-        None => &[],
     }
 }
 

@@ -17,6 +17,6 @@ pub use answer::{Answers, ThreadAnswers};
 pub use attempt::{Attempt, Attempts, Serials};
 pub use call::{Call, Plan, ThreadCalls};
 pub use kinds::{PlanError, PlanFault, PlanKind};
-pub use printing::{Summary, report};
+pub use printing::{Summary, push_answer, report};
 pub use reading::read_plan;
 pub use table::{Recorded, Shown, Table};

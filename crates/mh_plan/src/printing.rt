@@ -159,8 +159,10 @@ fn push_outcome(
     }
 }
 
-// The line of a call.
-fn push_answer(
+/// Puts the line of a call after a text: `returns VALUE calls LEAVES`, or `throws EXC calls LEAVES`.
+/// `VALUE` is a literal or `void`; `LEAVES` are the numbers of the leaf calls in order, with a space
+/// between, or `-` for none.
+pub fn push_answer(
     alloc: Global,
     text: &mut Vec<u8>,
     answer: &Answer,
