@@ -7,7 +7,8 @@ use Rattle.mh_main.specs.declared.program.Program.{Program}
 use Rattle.mh_words.specs.Words.{Command}
 use Rattle.mh_main.specs.Program.{given_of}
 use Rattle.mh_main.specs.Status.{IsDoneFullOrWant, IsDoneOrWant, forms_full, types_full}
-use Rattle.mh_main.specs.Input.{Accepted, AreAccepted, FitsTables, IfAccepted, Input, IsMissing, IsRefused, NeedsFew, ProgramFits, accepted, command_input, input_of, missing, most_forms, program, refused, untold, usage}
+use Rattle.mh_runtime.specs.Passes.{most_forms}
+use Rattle.mh_main.specs.Input.{Accepted, AreAccepted, FitsTables, IfAccepted, Input, IsMissing, IsRefused, NeedsFew, ProgramFits, accepted, command_input, input_of, missing, program, refused, untold, usage}
 
 not-refused : (i : Input) (P : Accepted → Type 0) → IfAccepted i P → IsRefused i → ⊥
 not-refused usage P holds is = is

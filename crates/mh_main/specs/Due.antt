@@ -16,7 +16,8 @@ use Rattle.mh_main.specs.declared.answer.TopAnswer.{TopAnswer}
 use Rattle.mh_main.specs.declared.program.Program.{Program}
 use Rattle.mh_words.specs.Words.{Command, command_of, sites, generate}
 use Rattle.mh_main.specs.Program.{given_of, text}
-use Rattle.mh_main.specs.Input.{Accepted, program, listed, input, IfAccepted, IfRefused, most_forms}
+use Rattle.mh_runtime.specs.Passes.{most_forms}
+use Rattle.mh_main.specs.Input.{Accepted, program, listed, input, IfAccepted, IfRefused}
 use Rattle.mh_main.specs.Stops.{IsReachedInput, unread_line}
 
 -- the line for refused words

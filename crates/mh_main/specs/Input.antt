@@ -16,7 +16,7 @@ use Rattle.mh_plan.specs.Forms.{draws_needed}
 use Rattle.mh_plan.specs.Plan.{plan, kind_word as plan_word}
 use Rattle.mh_plan.specs.Types.{FitBuckets, all_types}
 use Rattle.mh_generated.specs.Files.{files_of}
-use Rattle.mh_runtime.specs.Passes.{most_sites}
+use Rattle.mh_runtime.specs.Passes.{most_forms, most_sites}
 use Rattle.mh_main.specs.declared.program.Output.{Output}
 use Rattle.mh_main.specs.declared.program.Output.TheVariants.{Report, Line}
 use Rattle.mh_main.specs.declared.program.Program.{Program}
@@ -174,10 +174,6 @@ IsMissing untold = ⊥
 abbrev pub AreListed : (List Class → Type 0) → Accepted → Type 0
 AreListed P (program p) = ⊥
 AreListed P (listed classes) = P classes
-
--- how many forms there are numbers for
-abbrev pub most_forms : ℕ
-most_forms = 16384
 
 -- there are numbers for all forms that the threads of a program can draw, and slots for all types that it can need
 abbrev pub ProgramFits : Program → Type 0

@@ -11,9 +11,6 @@ use std::alloc::Global;
 /// How many bytes a class file may have.
 pub const CLASS_LIMIT: usize = 1_048_576;
 
-/// How many call sites all class files may have together.
-pub const MOST_SITES: u32 = 4096;
-
 // The name of a kind of fault, as a refusal prints it.
 fn class_word(kind: ClassKind) -> &'static str
     ensures { result.now ≡ class_word kind }

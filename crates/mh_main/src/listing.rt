@@ -11,11 +11,12 @@ ghost use Rattle.mh_main.specs.Classes.{ListsClass, ListsClasses};
 ghost use Rattle.mh_main.specs.Reading.{ReadsInputs};
 ghost use Rattle.mh_main.specs.Stops.{IsStopAmong, IsStopOf, ReachesClass, Refuses, StopsClass, StopsClasses};
 
-use crate::classes::{CLASS_LIMIT, MOST_SITES, class_of};
+use crate::classes::{CLASS_LIMIT, class_of};
 use crate::reading::read_input;
 use crate::stop::Stop;
 use mh_listing::{push_count, push_sites};
 use mh_outside::Inputs;
+use mh_runtime::MOST_SITES;
 use std::alloc::Global;
 
 // Reads a class file, lists its call sites from number `first` on, and gives the number after the

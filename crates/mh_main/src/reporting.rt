@@ -9,7 +9,7 @@ ghost use Rattle.mh_plan.specs.Types.{Overfill, all_types};
 ghost use Rattle.mh_runtime.specs.Asking.{IfFull, IfTypesFull};
 ghost use Rattle.mh_runtime.specs.Ledger.{Ledger};
 ghost use Rattle.mh_main.specs.Program.{given_of, text, written};
-ghost use Rattle.mh_main.specs.Input.{most_forms};
+ghost use Rattle.mh_runtime.specs.Passes.{most_forms};
 ghost use Rattle.mh_main.specs.Runnable.{IsRunnable};
 ghost use Rattle.mh_main.specs.Status.{done};
 ghost use Rattle.mh_main.specs.Due.{AreAnswersOf};
@@ -21,7 +21,7 @@ use crate::{Output, Program, TopAnswer};
 use mh_base::{NoMemory, Seq};
 use mh_outside::Gate;
 use mh_plan::{Attempts, Recorded, Serials, Summary, Table, report};
-use mh_runtime::{RunInput, RunReport, WorkError, run_plan};
+use mh_runtime::{RunInput, RunReport, WorkError, run_all};
 use mh_values::Classes;
 use std::alloc::Global;
 use std::sync::Wait;
@@ -87,7 +87,10 @@ fn run<R: Threads + Wait + Sync, G: Gate + Sync>(
         scripts: &program.scripts,
         jobs: &program.jobs,
     };
-    run_plan(rt, alloc, &input, &program.plan, gate)
+    match run_all(rt, alloc, &input, &program.plan, gate) {
+        Ok(run) => Ok(run),
+        Err(stop) => Err(stop.error),
+    }
 }
 
 // The report on a run.

@@ -1,5 +1,5 @@
 -- Which recipes calls ask for, by what they answer.
-use Rattle.std.proofs.Common.{◌≡◌, sym, ◌∙◌, ap, subst, ◌||◌, List, [], ◌∷◌, ◌++◌, append-nil, append_assoc, Result, Ok, Err, ◌⊎◌, ⊎_elim}
+use Rattle.std.proofs.Common.{◌≡◌, sym, ◌∙◌, ap, subst, ◌||◌, List, [], ◌∷◌, ◌++◌, append-nil, append_assoc, Result, Ok, Err, ⊎_elim}
 use Rattle.std.specs.Prelude.{IsErrAnd}
 use Rattle.mh_base.proofs.Tests.{or_true}
 use Rattle.mh_values.specs.declared.types.MethodTy.{MethodTy}

@@ -1,13 +1,17 @@
 -- A lane of a run may go to another thread, and threads may share what all of them use.
 use denote.RattleType.{RattleType}
 use denote.Ref.{NamedLft}
-use denote.Param.Send.{IsSend, IsSync, sendable}
+use denote.Param.Send.{AllSend, IsSend, IsSync, recorded_send, sendable, struct_send}
+use denote.Struct.Declared.{shape}
+use denote.Struct.Struct.{Struct}
 use Rattle.std.proofs.Crossing.{crosses}
 use Rattle.mh_setonce.proofs.chain.Chain.TheSendSync as chain
 use Rattle.mh_setonce.proofs.walk.Walk.TheSendSync as walk
 use Rattle.mh_tickets.proofs.seat.TicketSeat.TheSendSync as seat
-use Rattle.mh_handle.proofs.Crossing.{answer_send, pass_send}
+use Rattle.mh_handle.proofs.Crossing.{answer_send, table_sync, pass_send as form_pass_send}
 use Rattle.mh_intern.proofs.seat.TypeSeat.TheSendSync as types
+use Rattle.mh_intern.proofs.table.TypeTable.TheSendSync as type_table
+use Rattle.mh_leaves.proofs.leaves.Leaves.TheSendSync as leaves
 use Rattle.mh_jobs.specs.declared.run.Run.{Ghosts}
 use Rattle.mh_attempt.proofs.Crossing.{linkage_send, linkage_sync}
 use Rattle.mh_attempt.proofs.error.WorkError.TheSendSync as error
@@ -23,6 +27,9 @@ use Rattle.mh_tickets.proofs.tickets.Tickets.TheSendSync as tickets
 use Rattle.mh_runtime.specs.contracts.lane.Lane as Lane
 use Rattle.mh_runtime.specs.contracts.linker.Linker as Linker
 use Rattle.mh_runtime.specs.contracts.pass.Pass as Pass
+use Rattle.mh_runtime.specs.contracts.site_linker.SiteLinker as SiteLinker
+use Rattle.mh_runtime.specs.contracts.site_pass.SitePass as SitePass
+use Rattle.mh_runtime.specs.contracts.stops.ThreadRun as ThreadRun
 use Rattle.mh_runtime.specs.contracts.walks.SiteWalks as SiteWalks
 
 -- ---- passes, by what was shown of their parts, since a search that goes down through them all runs out of steps
@@ -33,35 +40,65 @@ walks_send s t R g send sync =
     let m = linkage_sync t R g send sync in
     search (walk.the_send, chain.the_sync, crosses, sendable) depth 40
 
-pub links_send : (s t : NamedLft) (R : RattleType) (g : Ghosts R.Denot) → IsSend R → IsSync R → IsSend (Pass.the_row s t R g)
+pub links_send : (s t : NamedLft) (R : RattleType) (g : Ghosts R.Denot) → IsSend R → IsSync R → IsSend (SitePass.the_row s t R g)
 links_send s t R g send sync =
     let w = walks_send s t R g send sync in
     let a = attempt.the_send in
     let e = seat.the_send in
     search (crosses, sendable) depth 20
 
+-- a pass, for a thread that is given it; and as a field of what has one
+pub pass_send : (s t : NamedLft) (R : RattleType) (g : Ghosts R.Denot) → IsSend R → IsSync R → IsSend (Pass.the_row s t R g)
+pass_send s t R g send sync =
+    let l = links_send s t R g send sync in
+    let f = form_pass_send t in
+    let h = types.the_send in
+    search (crosses, sendable) depth 20
+
+pass_field_send : (s t : NamedLft) (R : RattleType) (g : Ghosts R.Denot) → IsSend R → IsSync R → IsSend (Pass.the_field s t R g).row
+pass_field_send s t R g send sync =
+    let l = links_send s t R g send sync in
+    let f = form_pass_send t in
+    let h = types.the_send in
+    search (crosses, sendable) depth 20
+
+-- what the calls of a thread gave, as a field
+run_field_send : IsSend ThreadRun.the_field.row
+run_field_send =
+    let a = seq.the_send Answer.the_row answer_send in
+    let e = error.the_send in
+    search (crosses, sendable) depth 20
+
 -- ---- lanes
 
 pub lane_send : (s t : NamedLft) (R : RattleType) (g : Ghosts R.Denot) → IsSend R → IsSync R → IsSend (Lane.the_row s t R g)
 lane_send s t R g send sync =
-    let l = links_send s t R g send sync in
-    let f = pass_send t in
-    let h = types.the_send in
+    let lane = Lane.the_type s t R g in
+    let fields = shape lane in
     let c = seq.the_sync Call.the_row call.the_sync in
-    let a = seq.the_send Answer.the_row answer_send in
-    let e = error.the_send in
-    search (crosses, sendable) depth 40
+    let ran = run_field_send in
+    let parts : AllSend fields.fields =
+    (pass_field_send s t R g send sync, (search (crosses, sendable) depth 20, (search (crosses, sendable) depth 20, tt))) in
+    recorded_send (Struct fields) lane.D lane.to lane.to_one (struct_send fields parts)
 
 -- ---- what threads share
 
-pub linker_sync : (t : NamedLft) (R : RattleType) (g : Ghosts R.Denot) → IsSend R → IsSync R → IsSync (Linker.the_row t R g)
-linker_sync t R g send sync =
+sites_sync : (t : NamedLft) (R : RattleType) (g : Ghosts R.Denot) → IsSend R → IsSync R → IsSync (SiteLinker.the_row t R g)
+sites_sync t R g send sync =
     let l = linkage_send t R g send sync in
     let m = linkage_sync t R g send sync in
     let j = jobs.the_sync in
     let p = scripts.the_sync in
     let k = tickets.the_sync in
     search (chain.the_sync, crosses, sendable) depth 40
+
+-- a linker, which threads share
+pub linker_sync : (t : NamedLft) (R : RattleType) (g : Ghosts R.Denot) → IsSend R → IsSync R → IsSync (Linker.the_row t R g)
+linker_sync t R g send sync =
+    let s = sites_sync t R g send sync in
+    let l = leaves.the_sync in
+    let y = type_table.the_sync in
+    search (table_sync, crosses, sendable) depth 40
 
 pub plan_sync : IsSync (Plan.the_row (Plan.the_row Call.the_row))
 plan_sync = seq.the_sync (Plan.the_row Call.the_row) (seq.the_sync Call.the_row call.the_sync)

@@ -9,9 +9,10 @@ use Rattle.mh_plan.specs.declared.call.Call.{Call}
 use Rattle.mh_plan.specs.Plan.{most_calls}
 use Rattle.mh_runtime.specs.declared.joining.Joined.{Joined}
 use Rattle.mh_runtime.specs.declared.lane.Lane.{Lane}
-use Rattle.mh_runtime.specs.Joining.{JoinsLane, AreForked, AreFresh, AreJoinedTo, IsFreshFor, IsUnused, IsUnusedForms, IsUnusedTypes, calls_of}
+use Rattle.mh_runtime.specs.Joining.{JoinsLane, AreForked, AreFresh, AreJoinedTo, IsFreshFor, IsUnused, calls_of}
 use Rattle.mh_runtime.specs.Lanes.{HasRun, Tables}
-use Rattle.mh_runtime.specs.Passes.{LinkerView, split_room}
+use Rattle.mh_runtime.specs.Linkers.{CanSplit, HasLessRoom}
+use Rattle.mh_runtime.specs.Passes.{LinkerView}
 use Rattle.mh_runtime.proofs.JoiningSteps.{joined-push}
 use Rattle.mh_runtime.proofs.MoreThreads.{few-each, fresh-push}
 
@@ -33,23 +34,27 @@ module _ {J : Type 0} (given : Given) (linker : LinkerView) (tables : Tables) (t
     pub next-few : length calls ≤ most_calls
     next-few = omega (arith, few-each threads (length lanes) calls at, forked.limits.few_calls)
 
+    -- so there is room for it
+    pub can-split : CanSplit old.pass
+    can-split = record {
+      serials = omega (arith, forked.links_room, next-within, forked.limits.few_threads);
+      forms = omega (arith, forked.forms_room, next-within, forked.limits.few_threads);
+      holds = omega (arith, forked.types_room, next-within, forked.limits.few_threads);
+    }
+
     -- one lane more was forked off
     pub forked-push : (new : Joined J) (lane : Lane J) → IsFreshFor given linker tables (length lanes) calls lane →
-        IsUnused given linker new.links → new.links.seat.room + split_room ≡ old.links.seat.room →
-        IsUnusedForms tables.forms new.forms → new.forms.seat.room + split_room ≡ old.forms.seat.room →
-        IsUnusedTypes tables.types new.types → new.types.room + split_room ≡ old.types.room →
-        new.threads ≡ old.threads → new.full ≡ old.full → AreForked given linker tables threads new (lanes ++ lane ∷ [])
-    forked-push new lane fresh links links_room forms_are forms_room types_are types_room same_threads same_full =
+        IsUnused given linker tables new.pass → HasLessRoom old.pass new.pass → new.threads ≡ old.threads → new.stop ≡ old.stop →
+        AreForked given linker tables threads new (lanes ++ lane ∷ [])
+    forked-push new lane fresh unused less same_threads same_stop =
         let more : length (lanes ++ lane ∷ []) ≡ length lanes + 1 = length-append lanes (lane ∷ []) in
         let first : length (take (length lanes) threads) ≡ length lanes = length-first threads (length lanes) (omega (arith, next-within)) in
         record {
-          links = links;
-          links_room = omega (arith, more, links_room, forked.links_room);
-          forms = forms_are;
-          forms_room = omega (arith, more, forms_room, forked.forms_room);
-          types = types_are;
-          types_room = omega (arith, more, types_room, forked.types_room);
-          nothing = (same_threads ∙ forked.nothing.0, same_full ∙ forked.nothing.1);
+          pass = unused;
+          links_room = omega (arith, more, less.serials, forked.links_room);
+          forms_room = omega (arith, more, less.forms, forked.forms_room);
+          types_room = omega (arith, more, less.holds, forked.types_room);
+          nothing = (same_threads ∙ forked.nothing.0, same_stop ∙ forked.nothing.1);
           lanes_are = subst (λ ts. AreFresh given linker tables ts (lanes ++ lane ∷ []))
               (sym (ap (λ n. take n threads) more ∙ take-next threads (length lanes) calls at))
               (fresh-push given linker tables (take (length lanes) threads) lanes calls lane forked.lanes_are
@@ -59,15 +64,12 @@ module _ {J : Type 0} (given : Given) (linker : LinkerView) (tables : Tables) (t
         }
 
     -- what a lane's making tells
-    pub forked-told : {E : Type 0} (P : Type 0) (new : Joined J) (r : Result (Lane J) E) → P →
-        IfOk r (IsFreshFor given linker tables (length lanes) calls) →
-        OnOk r (IsUnused given linker new.links) → OnOk r (new.links.seat.room + split_room ≡ old.links.seat.room) →
-        OnOk r (IsUnusedForms tables.forms new.forms) → OnOk r (new.forms.seat.room + split_room ≡ old.forms.seat.room) →
-        OnOk r (IsUnusedTypes tables.types new.types) → OnOk r (new.types.room + split_room ≡ old.types.room) →
-        new.threads ≡ old.threads → new.full ≡ old.full → IfOk r (λ lane. P × AreForked given linker tables threads new (lanes ++ lane ∷ []))
-    forked-told P new (Err e) kept fresh links links_room forms_are forms_room types_are types_room same_threads same_full = tt
-    forked-told P new (Ok lane) kept fresh links links_room forms_are forms_room types_are types_room same_threads same_full =
-        (kept, forked-push new lane fresh links links_room forms_are forms_room types_are types_room same_threads same_full)
+    pub forked-reported : {E : Type 0} (P : Type 0) (new : Joined J) (r : Result (Lane J) E) → P →
+        IfOk r (IsFreshFor given linker tables (length lanes) calls) → OnOk r (IsUnused given linker tables new.pass) →
+        OnOk r (HasLessRoom old.pass new.pass) → new.threads ≡ old.threads → new.stop ≡ old.stop →
+        IfOk r (λ lane. P × AreForked given linker tables threads new (lanes ++ lane ∷ []))
+    forked-reported P new (Err e) kept fresh unused less same_threads same_stop = tt
+    forked-reported P new (Ok lane) kept fresh unused less same_threads same_stop = (kept, forked-push new lane fresh unused less same_threads same_stop)
 
   module _ (before after : List (Lane J)) (lane : Lane J) (old new : Joined J) (joined : AreJoinedTo given linker tables threads before after old)
       (within : length after < length before) where
@@ -79,14 +81,14 @@ module _ {J : Type 0} (given : Given) (linker : LinkerView) (tables : Tables) (t
 
     -- the lane has run as the thread of its place
     pub next-ran : (calls : List Call) → slice_get threads (length after) ≡ Some calls → lane.calls ≡ forked.calls →
-        HasRun given linker tables forked.links.thread forked.calls.now lane → HasRun given linker tables (length after) lane.calls.now lane
+        HasRun given linker tables forked.pass.links.thread forked.calls.now lane → HasRun given linker tables (length after) lane.calls.now lane
     next-ran calls at same ran =
         subst (λ (cs : List Call). HasRun given linker tables (length after) cs lane) (sym (ap (λ b. b.now) same))
         (subst (λ n. HasRun given linker tables n forked.calls.now lane) (next-fresh calls at).thread_is ran)
 
     -- one lane more was joined
     pub joined-next : (calls : List Call) → slice_get threads (length after) ≡ Some calls → lane.calls ≡ forked.calls →
-        HasRun given linker tables forked.links.thread forked.calls.now lane → JoinsLane old lane new →
+        HasRun given linker tables forked.pass.links.thread forked.calls.now lane → JoinsLane old lane new →
         AreJoinedTo given linker tables threads before (after ++ lane ∷ []) new
     joined-next calls at same ran adds =
         let more : length (after ++ lane ∷ []) ≡ length after + 1 = length-append after (lane ∷ []) in
@@ -99,12 +101,13 @@ module _ {J : Type 0} (given : Given) (linker : LinkerView) (tables : Tables) (t
         }
 
     -- what a lane's joining tells
-    pub joined-told : {A E : Type 0} (r : Result A E) → (lane.calls ≡ forked.calls) × HasRun given linker tables forked.links.thread forked.calls.now lane →
-        OnOk r (JoinsLane old lane new) → OnOk r (AreJoinedTo given linker tables threads before (after ++ lane ∷ []) new)
-    joined-told (Err e) ran adds = tt
-    joined-told (Ok a) ran adds =
+    pub joined-reported : {A E : Type 0} (P : Type 0) (r : Result A E) → P →
+        (lane.calls ≡ forked.calls) × HasRun given linker tables forked.pass.links.thread forked.calls.now lane →
+        OnOk r (JoinsLane old lane new) → OnOk r (P × AreJoinedTo given linker tables threads before (after ++ lane ∷ []) new)
+    joined-reported P (Err e) kept ran adds = tt
+    joined-reported P (Ok a) kept ran adds =
         let calls = slice_get-within threads (length after) (omega (arith, within, joined.fresh.count)) in
-        joined-next calls.0 calls.1 ran.0 ran.1 adds
+        (kept, joined-next calls.0 calls.1 ran.0 ran.1 adds)
 
 -- the calls of all lanes are those of the threads
 pub all-calls : {J : Type 0} (given : Given) (linker : LinkerView) (tables : Tables) (threads : List (List Call)) (before after : List (Lane J))

@@ -1,8 +1,10 @@
 -- What a lane has after its calls, where it began with passes that had learnt nothing.
-use Rattle.std.proofs.Common.{◌≡◌, refl, sym, ◌∙◌, ap, subst, ℕ, ◌+◌, List, [], length, Some, Result, Ok, Err, arith}
-use Rattle.std.specs.Prelude.{IfOk, IsSome, OnOk}
+use Rattle.std.proofs.Common.{◌≡◌, refl, sym, ◌∙◌, ap, subst, ℕ, ◌+◌, List, [], length, drop, Option, None, Some, arith}
+use Rattle.std.specs.Prelude.{IsSome}
 use Rattle.std.specs.List.{flat_map, IsDistinct}
+use Rattle.std.proofs.lemmas.List.{take_all}
 use Rattle.std.proofs.lemmas.List.Elements.{All-nil}
+use Rattle.mh_edit.specs.declared.key.Key.{Key}
 use Rattle.mh_handle.specs.declared.answer.Answer.{Answer}
 use Rattle.mh_handle.specs.Passes.{PassView, TableView}
 use Rattle.mh_handle.specs.SameRecipes.{same_recipe}
@@ -13,22 +15,28 @@ use Rattle.mh_attempt.proofs.AskedAfter.{asked-drawn}
 use Rattle.mh_attempt.specs.Asked.{DrawsWithin, HasAsked}
 use Rattle.mh_plan.specs.declared.attempt.Attempt.{Attempt}
 use Rattle.mh_plan.specs.declared.call.Call.{Call}
-use Rattle.mh_plan.specs.Forms.{thread_edits}
+use Rattle.mh_plan.specs.Forms.{call_edits, thread_edits}
 use Rattle.mh_plan.specs.Naming.{sites_named}
-use Rattle.mh_plan.specs.Results.{Serials, serial_at, thread_keys_said, thread_results, thread_said}
-use Rattle.mh_plan.specs.Types.{thread_types}
+use Rattle.mh_plan.specs.Results.{serial_at}
+use Rattle.mh_plan.specs.Types.{call_types, thread_types}
 use Rattle.mh_runtime.specs.declared.lane.Lane.{Lane}
-use Rattle.mh_runtime.specs.Asking.{RunsOn, RunsOnTypes, WasAsked, run_edits, run_types}
-use Rattle.mh_runtime.specs.Attempts.{AreLinked, AttemptsMore, GoesOnLinking, IsThreadRun}
-use Rattle.mh_runtime.specs.Keys.{thread_keys}
-use Rattle.mh_runtime.specs.Lanes.{IsReadyLane, EndsAs, EndsWithoutSlot, HasRun, Tables, fresh_forms, fresh_links, passes_of}
+use Rattle.mh_runtime.specs.declared.stops.ThreadRun.{ThreadRun}
+use Rattle.mh_runtime.specs.Asking.{HasAskedOn, HasRunOn, HasRunOut, RunsOn, RunsOnTypes, WasAsked, run_edits, run_types}
+use Rattle.mh_runtime.specs.Attempts.{AreLinked, AttemptsMore, IsThreadRun}
+use Rattle.mh_runtime.specs.Lanes.{HasAnswered, IsReadyLane, EndsAs, EndsBy, EndsWithoutSlot, HasRun, Tables, fresh_forms, fresh_links, passes_of}
+use Rattle.mh_runtime.specs.Linkers.{HasRoom, RunsThread}
 use Rattle.mh_runtime.specs.Linking.{HoldsRecorded}
+use Rattle.mh_runtime.specs.Passes.{LinkPass, LinkerView, split_room}
+use Rattle.mh_runtime.specs.Stops.{EndAt, answered, begun, end_in, ending}
 use Rattle.mh_values.specs.declared.types.MethodTy.{MethodTy}
 use Rattle.mh_intern.specs.Held.{times_type}
 use Rattle.mh_intern.specs.Views.{SeatView}
 use Rattle.mh_runtime.proofs.AskedAnswers.{asked-on}
+use Rattle.mh_runtime.proofs.Items.{flat-parts}
 use Rattle.mh_runtime.proofs.RecordedTypes.{just-recorded}
-use Rattle.mh_runtime.specs.Passes.{HasSerials, LinkPass, LinkerView, split_room}
+use Rattle.mh_runtime.proofs.RunSteps.{out-early}
+use Rattle.mh_runtime.proofs.SeatAsked.{on-early}
+use Rattle.mh_runtime.proofs.ThreadSteps.{attempts-early}
 
 -- ---- passes that have learnt nothing
 
@@ -55,69 +63,109 @@ asked-fresh given table = record { once = none-apart; same = λ recipe. refl }
 
 -- ---- how calls end
 
-module _ (given : Given) (calls : List Call) where
-  -- what calls gave, whose sites are linked where they were made to their end
-  pub record Gave (links : LinkPass) (r : Result (List Answer) WorkError) : Type 0 where
-    pub linked : OnOk r (AreLinked links.linked (flat_map sites_named calls))
-    pub results : (table : Serials) → HasSerials links.linked table → IfOk r (λ answers. thread_said answers ≡ thread_results given table calls)
-    pub keys : (table : Serials) → HasSerials links.linked table → IfOk r (λ answers. thread_keys_said answers ≡ thread_keys given table calls)
+module _ (given : Given) (calls : List Call) (answers : List Answer) where
+  -- where all calls are answered, they are those that were begun
+  all-begun : length answers ≡ length calls → begun answers calls ≡ calls
+  all-begun whole = take_all (length answers + 1) calls (omega (arith, whole))
 
-  ends-as : (table : TableView) (links : LinkPass) (forms : PassView) (r : Result (List Answer) WorkError) → Gave links r →
-      RunsOn given [] links.attempts (thread_edits given.leaves calls) (fresh_forms table) forms r →
-      EndsAs given calls (record { links = links; forms = forms }) (Some r)
-  ends-as table links forms (Ok answers) gave runs =
-      let asked : HasAsked (run_edits given links.attempts (thread_edits given.leaves calls)) forms = runs.asked [] (asked-fresh given table) in (
+  all-answered : length answers ≡ length calls → answered answers calls ≡ calls
+  all-answered whole = take_all (length answers) calls (omega (arith, whole))
+
+  -- calls that have stopped, of all those of the thread
+  out-whole : (a b : List Attempt) (old new : PassView) → HasRunOut given a b (thread_edits given.leaves (begun answers calls)) old new →
+      HasRunOut given a b (thread_edits given.leaves calls) old new
+  out-whole a b old new out =
+      subst (λ rs. HasRunOut given a b rs old new) (flat-parts (call_edits given.leaves) calls (length answers + 1))
+      (out-early given (thread_edits given.leaves (begun answers calls)) (flat_map (call_edits given.leaves) (drop (length answers + 1) calls)) a b old new
+      out)
+
+  -- and their attempts
+  attempts-whole : (old new : LinkPass) → AttemptsMore (flat_map sites_named (begun answers calls)) old new →
+      AttemptsMore (flat_map sites_named calls) old new
+  attempts-whole old new made =
+      subst (λ sites. AttemptsMore sites old new) (flat-parts sites_named calls (length answers + 1))
+      (attempts-early (flat_map sites_named (begun answers calls)) (flat_map sites_named (drop (length answers + 1) calls)) old new made)
+
+  -- and their types
+  types-whole : (a b : List Attempt) (old new : SeatView) → HasAskedOn given a b (thread_types given.leaves (begun answers calls)) old new →
+      HasAskedOn given a b (thread_types given.leaves calls) old new
+  types-whole a b old new made =
+      subst (λ ts. HasAskedOn given a b ts old new) (flat-parts (call_types given.leaves) calls (length answers + 1))
+      (on-early given (thread_types given.leaves (begun answers calls)) (flat_map (call_types given.leaves) (drop (length answers + 1) calls)) a b old new
+      made)
+
+  ends-by : (table : TableView) (links : LinkPass) (forms : PassView) (stop : Option WorkError) → EndAt calls answers stop →
+      AreLinked links.linked (flat_map sites_named (answered answers calls)) → HasAnswered given (answered answers calls) links answers →
+      RunsOn given [] links.attempts (thread_edits given.leaves (begun answers calls)) (fresh_forms table) forms (ending stop) →
+      EndsBy given calls (record { links = links; forms = forms }) answers stop
+  ends-by table links forms None ended linked reported runs =
+      let on : HasRunOn given [] links.attempts (thread_edits given.leaves calls) (fresh_forms table) forms =
+      subst (λ cs. HasRunOn given [] links.attempts (thread_edits given.leaves cs) (fresh_forms table) forms) (all-begun ended) runs in
+      let asked : HasAsked (run_edits given links.attempts (thread_edits given.leaves calls)) forms = on.asked [] (asked-fresh given table) in (
         asked-drawn split_room (run_edits given links.attempts (thread_edits given.leaves calls)) forms asked
-            (runs.within split_room (within-fresh table)),
-        record { linked = gave.linked; asked = asked },
-        record { results = gave.results; keys = gave.keys },
+            (on.within split_room (within-fresh table)),
+        record { linked = subst (λ cs. AreLinked links.linked (flat_map sites_named cs)) (all-answered ended) linked; asked = asked },
+        subst (λ cs. HasAnswered given cs links answers) (all-answered ended) reported,
       )
-  ends-as table links forms (Err (FormsFull drawn)) gave runs =
-      (runs.0 split_room (within-fresh table) [] (asked-fresh given table), runs.1)
-  ends-as table links forms (Err (TypesFull bucket)) gave runs = runs split_room (within-fresh table) [] (asked-fresh given table)
-  ends-as table links forms (Err NoMemory) gave runs = tt
+  ends-by table links forms (Some (FormsFull drawn)) ended linked reported runs =
+      (out-whole [] links.attempts (fresh_forms table) forms runs.0 split_room (within-fresh table) [] (asked-fresh given table), runs.1)
+  ends-by table links forms (Some (TypesFull bucket)) ended linked reported runs =
+      out-whole [] links.attempts (fresh_forms table) forms runs split_room (within-fresh table) [] (asked-fresh given table)
+  ends-by table links forms (Some NoMemory) ended linked reported runs = tt
 
 -- where the calls have stopped for want of a slot
-no-slot : (given : Given) (a b : List Attempt) (more : List MethodTy) (old new : SeatView) (r : Result (List Answer) WorkError) →
-    RunsOnTypes given a b more old new r → EndsWithoutSlot (Some r) new
-no-slot given a b more old new (Ok answers) runs = tt
-no-slot given a b more old new (Err NoMemory) runs = tt
-no-slot given a b more old new (Err (FormsFull drawn)) runs = tt
-no-slot given a b more old new (Err (TypesFull bucket)) runs = runs.1
+no-slot : (given : Given) (a b : List Attempt) (more : List MethodTy) (old new : SeatView) (stop : Option WorkError) →
+    RunsOnTypes given a b more old new (ending stop) → EndsWithoutSlot stop new
+no-slot given a b more old new None runs = tt
+no-slot given a b more old new (Some NoMemory) runs = tt
+no-slot given a b more old new (Some (FormsFull drawn)) runs = tt
+no-slot given a b more old new (Some (TypesFull bucket)) runs = runs.1
 
--- a lane that could be run has run
-pub has-run : {J : Type 0} (given : Given) (linker : LinkerView) (tables : Tables) (before after : Lane J) (serials : ℕ)
-    (r : Result (List Answer) WorkError) → IsReadyLane given linker tables before → after.ran ≡ Some r → GoesOnLinking serials before.links after.links →
-    after.forms.table ≡ before.forms.table → HoldsRecorded given before.links.recorded after.links.recorded before.types after.types →
-    AttemptsMore (flat_map sites_named before.calls.now) before.links after.links →
-    Gave given before.calls.now after.links r →
-    RunsOn given before.links.attempts after.links.attempts (thread_edits given.leaves before.calls.now) before.forms after.forms r →
-    RunsOnTypes given before.links.attempts after.links.attempts (thread_types given.leaves before.calls.now) before.types after.types r →
-    HasRun given linker tables before.links.thread before.calls.now after
-has-run given linker tables before after serials r can ran goes same holds attempts gave runs asked =
-    let calls : List Call = before.calls.now in
-    let fresh : IsThreadRun [] before.links =
-    subst (IsThreadRun []) (sym can.links) (run-fresh linker (length given.jobs) before.links.thread) in
-    let room : before.links.seat.room + length before.links.seat.numbers ≡ split_room + 0 =
-    ap (λ (p : LinkPass). p.seat.room + length p.seat.numbers) can.links in
-    record {
-      linker_is = goes.linker ∙ ap (λ (p : LinkPass). p.linker) can.links;
-      table_is = same ∙ ap (λ (p : PassView). p.table) can.forms_are;
-      thread_is = goes.thread;
-      run = attempts [] (All-nil (λ site. IsSome (serial_at before.links.linked site))) fresh;
-      whole = omega (arith, goes.whole, room);
-      types_is = holds.table ∙ ap (λ (s : SeatView). s.table) can.types_are;
-      types_whole = holds.whole ∙ ap (λ (s : SeatView). s.room + length s.holds) can.types_are;
-      types_held = just-recorded given after.links.recorded before.types after.types (ap (λ (s : SeatView). s.holds) can.types_are)
-          (subst (λ (p : LinkPass). HoldsRecorded given p.recorded after.links.recorded before.types after.types) can.links holds);
-      types_asked = asked-on given before.links.attempts after.links.attempts (thread_types given.leaves calls) before.types after.types r asked []
-          (subst (λ (p : LinkPass). WasAsked (run_types given p.attempts []) before.types) (sym can.links)
-          (λ t none. ap (λ (s : SeatView). times_type t s.asked) can.types_are));
-      no_slot = subst (λ how. EndsWithoutSlot how after.types) (sym ran)
-          (no-slot given before.links.attempts after.links.attempts (thread_types given.leaves calls) before.types after.types r asked);
-      ends = subst (EndsAs given calls (passes_of after)) (sym ran)
-          (ends-as given calls tables.forms after.links after.forms r gave
-          (subst (λ (p : PassView). RunsOn given [] after.links.attempts (thread_edits given.leaves calls) p after.forms r) can.forms_are
-          (subst (λ (p : LinkPass). RunsOn given p.attempts after.links.attempts (thread_edits given.leaves calls) before.forms after.forms r) can.links
-          runs)));
-    }
+-- ---- a lane
+
+module _ {J : Type 0} (given : Given) (linker : LinkerView) (tables : Tables) (before after : Lane J) (can : IsReadyLane given linker tables before) where
+  -- its seats have room for its calls
+  pub lane-room : HasRoom (length before.calls.now) before.pass
+  lane-room = record {
+    serials = omega (arith, can.few, ap (λ (p : LinkPass). p.seat.room) can.links);
+    forms = omega (arith, can.few, ap (λ (p : PassView). p.seat.room) can.forms_are);
+    holds = omega (arith, can.few, ap (λ (s : SeatView). s.room) can.types_are);
+  }
+
+  -- it has run
+  pub has-run : (run : ThreadRun) → after.ran ≡ Some run → RunsThread given before.calls.now before.pass after.pass run →
+      HasRun given linker tables before.pass.links.thread before.calls.now after
+  has-run run ran gave =
+      let calls : List Call = before.calls.now in
+      let goes = gave.goes_on.links in
+      let holds = gave.types in
+      let fresh : IsThreadRun [] before.pass.links =
+      subst (IsThreadRun []) (sym can.links) (run-fresh linker (length given.jobs) before.pass.links.thread) in
+      let room : before.pass.links.seat.room + length before.pass.links.seat.numbers ≡ split_room + 0 =
+      ap (λ (p : LinkPass). p.seat.room + length p.seat.numbers) can.links in
+      let edits : List (List Key) = thread_edits given.leaves (begun run.answers calls) in
+      record {
+        linker_is = goes.linker ∙ ap (λ (p : LinkPass). p.linker) can.links;
+        table_is = gave.goes_on.table ∙ ap (λ (p : PassView). p.table) can.forms_are;
+        thread_is = goes.thread;
+        run = attempts-whole given calls run.answers before.pass.links after.pass.links gave.attempts []
+            (All-nil (λ site. IsSome (serial_at before.pass.links.linked site))) fresh;
+        whole = omega (arith, goes.whole, room);
+        types_is = holds.table ∙ ap (λ (s : SeatView). s.table) can.types_are;
+        types_whole = holds.whole ∙ ap (λ (s : SeatView). s.room + length s.holds) can.types_are;
+        types_held = just-recorded given after.pass.links.recorded before.pass.types after.pass.types (ap (λ (s : SeatView). s.holds) can.types_are)
+            (subst (λ (p : LinkPass). HoldsRecorded given p.recorded after.pass.links.recorded before.pass.types after.pass.types) can.links holds);
+        types_asked = types-whole given calls run.answers before.pass.links.attempts after.pass.links.attempts before.pass.types after.pass.types
+            (asked-on given before.pass.links.attempts after.pass.links.attempts (thread_types given.leaves (begun run.answers calls)) before.pass.types
+            after.pass.types (ending run.stop) gave.asked) []
+            (subst (λ (p : LinkPass). WasAsked (run_types given p.attempts []) before.pass.types) (sym can.links)
+            (λ t none. ap (λ (s : SeatView). times_type t s.asked) can.types_are));
+        no_slot = subst (λ (how : Option ThreadRun). EndsWithoutSlot (end_in how) after.pass.types) (sym ran)
+            (no-slot given before.pass.links.attempts after.pass.links.attempts (thread_types given.leaves (begun run.answers calls)) before.pass.types
+            after.pass.types run.stop gave.asked);
+        ends = subst (EndsAs given calls (passes_of after)) (sym ran)
+            (ends-by given calls run.answers tables.forms after.pass.links after.pass.forms run.stop gave.ended gave.linked gave.answers
+            (subst (λ (p : PassView). RunsOn given [] after.pass.links.attempts edits p after.pass.forms (ending run.stop)) can.forms_are
+            (subst (λ (p : LinkPass). RunsOn given p.attempts after.pass.links.attempts edits before.pass.forms after.pass.forms (ending run.stop)) can.links
+            gave.runs)));
+      }

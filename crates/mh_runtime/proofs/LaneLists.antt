@@ -13,17 +13,17 @@ use Rattle.mh_runtime.specs.Joining.{lanes_edits, lanes_types}
 use Rattle.mh_runtime.specs.Lanes.{passes_of}
 
 pub edits-push : {J : Type 0} (given : Given) (lanes : List (Lane J)) (lane : Lane J) →
-    lanes_edits given (lanes ++ lane ∷ []) ≡ lanes_edits given lanes ++ run_edits given lane.links.attempts (thread_edits given.leaves lane.calls.now)
+    lanes_edits given (lanes ++ lane ∷ []) ≡ lanes_edits given lanes ++ run_edits given lane.pass.links.attempts (thread_edits given.leaves lane.calls.now)
 edits-push {J} given lanes lane =
-    flat_map-append (λ (l : Lane J). run_edits given l.links.attempts (thread_edits given.leaves l.calls.now)) lanes (lane ∷ [])
-    ∙ ap (λ rs. lanes_edits given lanes ++ rs) (append-nil (run_edits given lane.links.attempts (thread_edits given.leaves lane.calls.now)))
+    flat_map-append (λ (l : Lane J). run_edits given l.pass.links.attempts (thread_edits given.leaves l.calls.now)) lanes (lane ∷ [])
+    ∙ ap (λ rs. lanes_edits given lanes ++ rs) (append-nil (run_edits given lane.pass.links.attempts (thread_edits given.leaves lane.calls.now)))
 
 -- the types of one lane more
 pub types-push : {J : Type 0} (given : Given) (lanes : List (Lane J)) (lane : Lane J) →
-    lanes_types given (lanes ++ lane ∷ []) ≡ lanes_types given lanes ++ run_types given lane.links.attempts (thread_types given.leaves lane.calls.now)
+    lanes_types given (lanes ++ lane ∷ []) ≡ lanes_types given lanes ++ run_types given lane.pass.links.attempts (thread_types given.leaves lane.calls.now)
 types-push {J} given lanes lane =
-    flat_map-append (λ (l : Lane J). run_types given l.links.attempts (thread_types given.leaves l.calls.now)) lanes (lane ∷ [])
-    ∙ ap (λ ts. lanes_types given lanes ++ ts) (append-nil (run_types given lane.links.attempts (thread_types given.leaves lane.calls.now)))
+    flat_map-append (λ (l : Lane J). run_types given l.pass.links.attempts (thread_types given.leaves l.calls.now)) lanes (lane ∷ [])
+    ∙ ap (λ ts. lanes_types given lanes ++ ts) (append-nil (run_types given lane.pass.links.attempts (thread_types given.leaves lane.calls.now)))
 
 pub flat-push : {J X : Type 0} (f : ThreadPasses → List X) (lanes : List (Lane J)) (lane : Lane J) →
     flat_map f (map passes_of (lanes ++ lane ∷ [])) ≡ flat_map f (map passes_of lanes) ++ f (passes_of lane)

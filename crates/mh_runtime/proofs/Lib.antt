@@ -1,4 +1,6 @@
 pub mod UsedRecipes
+pub mod Answering
+pub mod CallRoom
 pub mod Calling
 pub mod Counted
 pub mod Crossing
@@ -50,3 +52,6 @@ pub mod ThreadRuns
 pub mod ThreadSteps
 pub mod TypeLists
 pub mod WholeJoin
+pub mod ReportedStops
+pub mod OutsideStops
+pub mod LowestStops

@@ -1,15 +1,17 @@
 -- What steps of a thread leave of its pass over the call sites.
-use Rattle.std.proofs.Common.{◌≡◌, ◌≢◌, refl, sym, ◌∙◌, ap, ap₂, subst, ℕ, ◌+◌, ◌<◌, List, [], ◌∷◌, ◌++◌, length, map, None, arith}
-use Rattle.std.specs.Prelude.{All, AllPairs, Contains, filter}
+use Rattle.std.proofs.Common.{◌≡◌, ◌≢◌, refl, sym, ◌∙◌, ap, ap₂, subst, ℕ, ◌+◌, ◌<◌, false, List, [], ◌∷◌, ◌++◌, length, map, Option, None, Result, Ok, Err, ⊎_elim, inl, inr, arith}
+use denote.Ref.{Bor}
+use Rattle.std.specs.Prelude.{All, AllPairs, Contains, IfOk, IsSome, OnErr, filter, is_some}
 use Rattle.std.proofs.lemmas.List.{length-append}
-use Rattle.std.proofs.lemmas.List.Elements.{Contains-push}
+use Rattle.std.proofs.lemmas.List.Elements.{All-nil, All-push, Contains-push}
 use Rattle.mh_tickets.specs.Seats.{Draws, SeatView}
+use Rattle.mh_attempt.specs.declared.error.WorkError.{WorkError}
 use Rattle.mh_attempt.specs.Linkage.{LinkageView}
 use Rattle.mh_plan.specs.declared.attempt.Attempt.{Attempt}
 use Rattle.mh_plan.specs.Naming.{first_places}
 use Rattle.mh_plan.specs.Results.{serial_at}
 use Rattle.mh_runtime.specs.Attempts.{AttemptsMore, GoesOnLinking, IsThreadRun, sites_of}
-use Rattle.mh_runtime.specs.Passes.{BeginsAttempt, LearnsSites, LinkPass, attempt_of}
+use Rattle.mh_runtime.specs.Passes.{AttemptsUnlearnt, BeginsAttempt, LearnsSites, LinkPass, RecordsLatest, RecordsOurs, attempt_of}
 use Rattle.mh_runtime.proofs.Sites.{is_in}
 use Rattle.mh_runtime.proofs.ThreadRuns.{not-linked, run-more, run-same}
 use Rattle.mh_runtime.proofs.ThreadSteps.{linked-on}
@@ -81,3 +83,55 @@ module _ (site serial : ℕ) (old mid new : LinkPass) (begins : BeginsAttempt si
       run-more sites site old new run (learns.thread ∙ ap (λ (p : LinkPass). p.thread) begins.1) serial (not-linked old.linked sites site linked none)
       (subst (λ (s : SeatView). Draws serial old.seat s) (sym learns.seat) begins.0)
       (learns.attempts ∙ ap (λ (p : LinkPass). p.attempts) begins.1)
+
+  -- the attempt was of a site that was not learnt
+  pub unlearnt-begun : serial_at old.linked site ≡ None → AttemptsUnlearnt old new
+  unlearnt-begun none = (
+    begun_by old site serial ∷ [],
+    learns.attempts ∙ begun-attempts site serial old mid begins,
+    All-push (λ (a : Attempt). serial_at old.linked a.site ≡ None) [] (begun_by old site serial)
+        (All-nil (λ (a : Attempt). serial_at old.linked a.site ≡ None)) none,
+  )
+
+  -- a linkage that was recorded is that of the attempt
+  pub latest-begun : (ours l : LinkageView) → ours.job.site ≡ site → ours.serial ≡ serial → RecordsOurs ours l mid new → RecordsLatest l old new
+  latest-begun ours l own number records =
+      let kept : mid.recorded ≡ old.recorded = ap (λ (p : LinkPass). p.recorded) begins.1 in
+      let thread : mid.thread ≡ old.thread = ap (λ (p : LinkPass). p.thread) begins.1 in
+      ⊎_elim
+      (λ (none : new.recorded ≡ mid.recorded). inl (none ∙ kept))
+      (λ (one : (l ≡ ours) × (new.recorded ≡ mid.recorded ++ attempt_of mid.thread ours ∷ [])).
+      let same : attempt_of old.thread l ≡ begun_by old site serial =
+      ap (attempt_of old.thread) one.0 ∙ ap₂ (λ s n. record { thread = old.thread; site = s; serial = n }) own number in
+      let ours_same : attempt_of mid.thread ours ≡ attempt_of old.thread l =
+      ap (λ t. attempt_of t ours) thread ∙ sym (ap (attempt_of old.thread) one.0) in
+      inr (
+        learns.attempts ∙ (begun-attempts site serial old mid begins ∙ sym (ap (λ a. old.attempts ++ a ∷ []) same)),
+        one.1 ∙ ap₂ (λ xs a. xs ++ a ∷ []) kept ours_same,
+      ))
+      records
+
+-- ---- what is known of a site by then
+
+-- a site that is not linked is not among those that are
+pub learnt-not : {A : Type 0} (o : Option ℕ) → o ≡ None → IsSome o → A
+learnt-not o none some = let none_some : is_some o ≡ false = ap is_some none in absurd cc
+
+-- a fact that holds whatever a call answered holds where it was refused
+pub on-err : {A E : Type 0} (r : Result A E) (P : Type 0) → P → OnErr r P
+on-err (Ok x) P p = tt
+on-err (Err e) P p = p
+
+-- a linkage that was recorded after more was learnt
+pub latest-learnt : (old mid new : LinkPass) (r : Result (Bor LinkageView) WorkError) → LearnsSites old mid → mid.recorded ≡ old.recorded →
+    IfOk r (λ l. RecordsLatest l.now mid new) → IfOk r (λ l. RecordsLatest l.now old new)
+latest-learnt old mid new (Err e) learns kept latest = tt
+latest-learnt old mid new (Ok l) learns kept latest =
+    ⊎_elim
+    (λ (none : new.recorded ≡ mid.recorded). inl (none ∙ kept))
+    (λ (one : (new.attempts ≡ mid.attempts ++ attempt_of mid.thread l.now ∷ []) × (new.recorded ≡ mid.recorded ++ attempt_of mid.thread l.now ∷ [])).
+    inr (
+      one.0 ∙ ap₂ (λ xs t. xs ++ attempt_of t l.now ∷ []) learns.attempts learns.thread,
+      one.1 ∙ ap₂ (λ xs t. xs ++ attempt_of t l.now ∷ []) kept learns.thread,
+    ))
+    latest

@@ -8,7 +8,7 @@ use Rattle.mh_plan.specs.declared.call.Call.{Call}
 use Rattle.mh_plan.specs.Limits.{calls_in}
 use Rattle.mh_runtime.specs.Lanes.{Tables}
 use Rattle.mh_runtime.specs.declared.lane.Lane.{Lane}
-use Rattle.mh_runtime.specs.Joined.{AreDone, AreUsed, IsDoneBy, IsUsedBy, ThreadPasses}
+use Rattle.mh_runtime.specs.Joined.{AreDone, AreUsed, HasDrawnFew, HaveDrawnFew, IsDoneBy, IsUsedBy, ThreadPasses}
 use Rattle.mh_runtime.specs.Joining.{AreFresh, IsFreshFor}
 use Rattle.mh_runtime.specs.Passes.{LinkerView}
 
@@ -48,6 +48,10 @@ used-push given threads all calls p used one = record {
 pub done-push : (given : Given) (threads : List (List Call)) (all : List ThreadPasses) (calls : List Call) (p : ThreadPasses) →
     length all ≡ length threads → AreDone given threads all → IsDoneBy given calls p → AreDone given (threads ++ calls ∷ []) (all ++ p ∷ [])
 done-push given threads all calls p same done one = each-push (λ thread calls p. IsDoneBy given calls p) threads all calls p same done one
+
+pub drawn-push : (given : Given) (threads : List (List Call)) (all : List ThreadPasses) (calls : List Call) (p : ThreadPasses) →
+    length all ≡ length threads → HaveDrawnFew given threads all → HasDrawnFew given calls p → HaveDrawnFew given (threads ++ calls ∷ []) (all ++ p ∷ [])
+drawn-push given threads all calls p same drawn one = each-push (λ thread calls p. HasDrawnFew given calls p) threads all calls p same drawn one
 
 -- ---- lanes
 

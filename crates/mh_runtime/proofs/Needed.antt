@@ -21,7 +21,7 @@ use Rattle.mh_plan.specs.declared.call.Call.{Call}
 use Rattle.mh_plan.specs.Forms.{all_edits, attempt_edits, draws_needed, forms_needed, plan_edits, sites_edits, thread_edits}
 use Rattle.mh_plan.specs.Naming.{Naming, naming_of, pairs_named}
 use Rattle.mh_runtime.specs.Asking.{run_edits}
-use Rattle.mh_runtime.specs.Joined.{AreFormsJoined, AreJoined, AreUsed, ThreadPasses}
+use Rattle.mh_runtime.specs.Joined.{AreFormsJoined, AreJoined, AreUsed, HaveDrawnFew, ThreadPasses}
 use Rattle.mh_runtime.specs.Ledger.{IsReached}
 use Rattle.mh_runtime.specs.Passes.{LinkPass}
 use Rattle.mh_runtime.proofs.Numbers.{number-within, serial-within}
@@ -94,11 +94,11 @@ module _ (given : Given) (threads : List (List Call)) (all : List ThreadPasses) 
       (in-flat (same_recipe q) (λ cs. thread_edits given.leaves cs) threads is.calls (place-Contains threads thread is.calls is.named) there))
 
   -- so it draws at most one number for each form that the run can need
-  pub draws-few : (thread : ℕ) (passes : ThreadPasses) → slice_get all thread ≡ Some passes →
+  pub draws-few : HaveDrawnFew given threads all → (thread : ℕ) (passes : ThreadPasses) → slice_get all thread ≡ Some passes →
       length passes.forms.seat.numbers ≤ forms_needed given threads
-  draws-few thread passes at =
+  draws-few drawn thread passes at =
       let is = thread-of given threads all used thread passes at in
-      let few = is.used.drawn.1.few in
+      let few = (drawn thread is.calls passes is.named at).1.few in
       omega (
         arith,
         few,
@@ -107,14 +107,14 @@ module _ (given : Given) (threads : List (List Call)) (all : List ThreadPasses) 
       )
 
   -- a number that was drawn is at most the number of those that all threads can draw
-  pub full : (forms : PassView) (drawn : ℕ) → AreFormsJoined all forms → Contains forms.seat.numbers drawn → 16384 < drawn →
-      16384 < draws_needed given threads
-  full forms drawn are_joined there over =
+  pub full : HaveDrawnFew given threads all → (forms : PassView) (drawn : ℕ) → AreFormsJoined all forms → Contains forms.seat.numbers drawn →
+      16384 < drawn → 16384 < draws_needed given threads
+  full few_each forms drawn are_joined there over =
       let within = number-within forms.seat.numbers drawn are_joined.each_once there in
       let whole : length forms.seat.numbers ≡ sum_by (λ (p : ThreadPasses). length p.forms.seat.numbers) all =
       ap length are_joined.numbers ∙ length-flat_map (λ (p : ThreadPasses). p.forms.seat.numbers) all in
       let few : sum_by (λ (p : ThreadPasses). length p.forms.seat.numbers) all ≤ length all * forms_needed given threads =
       sum_by-le (λ (p : ThreadPasses). length p.forms.seat.numbers) (forms_needed given threads) all
-      (λ k d within. draws-few k (get_or all k d) (slice_get-get_or all k d within)) in
+      (λ k d within. draws-few few_each k (get_or all k d) (slice_get-get_or all k d within)) in
       let threads_are : length all * forms_needed given threads ≡ draws_needed given threads = ap (λ n. n * forms_needed given threads) used.count in
       omega (arith, over, within.1, whole, few, threads_are)

@@ -44,6 +44,15 @@ module _ (given : Given) where
     stops-second more (FormsFull drawn) stopped = (out-second more stopped.0, stopped.1)
     stops-second more (TypesFull bucket) stopped = out-second more stopped
 
+  -- calls have stopped, after which there could have been more
+  pub out-early : (some rest : List (List Key)) (a b : List Attempt) (old new : PassView) → HasRunOut given a b some old new →
+      HasRunOut given a b (some ++ rest) old new
+  out-early some rest a b old new out = λ whole within edits has.
+      drawn-within whole (run_edits given b (edits ++ some)) (run_edits given b (edits ++ (some ++ rest))) new
+      (subst (λ rs. AreAmong (run_edits given b (edits ++ some)) (run_edits given b rs)) (append_assoc edits some rest)
+      (each-among _ (edits ++ some) _ ((edits ++ some) ++ rest) (λ q there. there) (among-first (edits ++ some) rest)))
+      (out whole within edits has)
+
   -- an error that is handed on
   pub stops-run : {A : Type 0} (a b : List Attempt) (more : List (List Key)) (old new : PassView) (e : WorkError) (r : Result A WorkError) →
       IsErrAnd r (λ x. x ≡ e) → RunStops given a b more old new e → RunsOn given a b more old new r

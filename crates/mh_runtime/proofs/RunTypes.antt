@@ -48,9 +48,9 @@ module _ {J : Type 0} (given : Given) (lanes : List (Lane J)) (used : AreUsed gi
     place = slice_get-get_or lanes at.0 lane at.1 ∙ ap Some at.2
 
     -- those of the lane's attempts
-    made-among : list_any p (flat_map (attempt_types given) lane.links.attempts) ≡ true → list_any p linked ≡ true
+    made-among : list_any p (flat_map (attempt_types given) lane.pass.links.attempts) ≡ true → list_any p linked ≡ true
     made-among there =
-        among-named p (λ site serial. types_at given site serial) (naming_of (calls_of lanes)) lane.links.attempts (pairs_named (calls_of lanes))
+        among-named p (λ site serial. types_at given site serial) (naming_of (calls_of lanes)) lane.pass.links.attempts (pairs_named (calls_of lanes))
         (λ a h.
         let whole : Contains (attempts_in (map passes_of lanes)) a =
         part-in (λ (x : ThreadPasses). x.links.attempts) (map passes_of lanes) at.0 (passes_of lane) a (at-map passes_of lanes at.0 lane place) h in
@@ -65,21 +65,21 @@ module _ {J : Type 0} (given : Given) (lanes : List (Lane J)) (used : AreUsed gi
         (place-Contains (calls_of lanes) at.0 lane.calls.now (at-map (λ (l : Lane J). l.calls.now) lanes at.0 lane place)) there
 
     -- and all of them
-    lane-among : list_any p (run_types given lane.links.attempts (thread_types given.leaves lane.calls.now)) ≡ true →
+    lane-among : list_any p (run_types given lane.pass.links.attempts (thread_types given.leaves lane.calls.now)) ≡ true →
         list_any p (all_types given (calls_of lanes)) ≡ true
     lane-among there =
         list_any-append p called linked
         ∙ ⊎_elim
-        (λ (made : list_any p (flat_map (attempt_types given) lane.links.attempts) ≡ true).
+        (λ (made : list_any p (flat_map (attempt_types given) lane.pass.links.attempts) ≡ true).
         or_right (list_any p called) (list_any p linked) (made-among made))
         (λ (own : list_any p (thread_types given.leaves lane.calls.now) ≡ true). or_left (list_any p called) (list_any p linked) (called-among own))
-        (or_cases (list_any p (flat_map (attempt_types given) lane.links.attempts)) (list_any p (thread_types given.leaves lane.calls.now))
-        (sym (list_any-append p (flat_map (attempt_types given) lane.links.attempts) (thread_types given.leaves lane.calls.now)) ∙ there))
+        (or_cases (list_any p (flat_map (attempt_types given) lane.pass.links.attempts)) (list_any p (thread_types given.leaves lane.calls.now))
+        (sym (list_any-append p (flat_map (attempt_types given) lane.pass.links.attempts) (thread_types given.leaves lane.calls.now)) ∙ there))
 
   -- what all lanes have asked for
   lanes-among : (p : MethodTy → Bool) → list_any p (lanes_types given lanes) ≡ true → list_any p (all_types given (calls_of lanes)) ≡ true
   lanes-among p there =
-      let found = of-flat p (λ (lane : Lane J). run_types given lane.links.attempts (thread_types given.leaves lane.calls.now)) lanes there in
+      let found = of-flat p (λ (lane : Lane J). run_types given lane.pass.links.attempts (thread_types given.leaves lane.calls.now)) lanes there in
       lane-among p found.0 found.1 found.2
 
   -- so is all that a seat was asked for, where that is what the lanes have asked for

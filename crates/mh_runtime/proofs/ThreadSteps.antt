@@ -1,10 +1,11 @@
 -- What calls of a thread leave of its pass over the call sites, one after the other.
-use Rattle.std.proofs.Common.{◌≡◌, refl, sym, ◌∙◌, subst, ℕ, ◌+◌, List, [], ◌++◌, append-nil, append_assoc, None, Some, arith}
+use Rattle.std.proofs.Common.{◌≡◌, refl, sym, ◌∙◌, ap, subst, ℕ, ◌+◌, List, [], ◌++◌, append-nil, append_assoc, None, Some, arith}
 use Rattle.std.specs.Prelude.{IsSome, Option}
-use Rattle.std.proofs.lemmas.List.Elements.{All-append, All-weaker}
+use Rattle.std.proofs.lemmas.List.Elements.{All-append, All-nil, All-weaker}
+use Rattle.mh_plan.specs.declared.attempt.Attempt.{Attempt}
 use Rattle.mh_plan.specs.Results.{Serials, serial_at}
 use Rattle.mh_runtime.specs.Attempts.{AreLinked, AttemptsMore, GoesOnLinking, IsThreadRun}
-use Rattle.mh_runtime.specs.Passes.{HasSerials, LinkPass}
+use Rattle.mh_runtime.specs.Passes.{AttemptsUnlearnt, HasSerials, LinkPass}
 use Rattle.mh_runtime.proofs.NamedSites.{more-named}
 
 -- ---- serials
@@ -23,6 +24,14 @@ linked-on a b sites h all =
     one : (site : ℕ) (o : Option ℕ) → serial_at a site ≡ o → IsSome o → IsSome (serial_at b site)
     one site None is some = absurd (cc some)
     one site (Some serial) is some = subst IsSome (sym (h site serial is)) refl
+
+-- what is not linked was not linked before
+pub unlearnt-before : (a b : Serials) (site : ℕ) → HasSerials a b → serial_at b site ≡ None → serial_at a site ≡ None
+unlearnt-before a b site has none = by (serial_at a site) refl
+  where
+    by : (o : Option ℕ) → serial_at a site ≡ o → serial_at a site ≡ None
+    by None is = is
+    by (Some serial) is = let there = has site serial is in absurd (cc none)
 
 -- ---- steps
 
@@ -63,3 +72,19 @@ pub attempts-within : (all before own rest : List ℕ) (p q r : LinkPass) → (b
 attempts-within all before own rest p q r is goes_on done first second =
     subst (λ sites. AttemptsMore sites p r) is
     (attempts-early (before ++ own) rest p r (attempts-both before own p q r goes_on done first second))
+
+-- ---- the attempts that came
+
+-- none came
+pub unlearnt-same : (old new : LinkPass) → new.attempts ≡ old.attempts → AttemptsUnlearnt old new
+unlearnt-same old new same = ([], same ∙ sym (append-nil old.attempts), All-nil (λ (a : Attempt). serial_at old.linked a.site ≡ None))
+
+-- those of two steps
+pub unlearnt-both : (p q r : LinkPass) → HasSerials p.linked q.linked → AttemptsUnlearnt p q → AttemptsUnlearnt q r → AttemptsUnlearnt p r
+unlearnt-both p q r has x y = (
+  x.0 ++ y.0,
+  y.1 ∙ (ap (λ made. made ++ y.0) x.1 ∙ append_assoc p.attempts x.0 y.0),
+  All-append (λ (a : Attempt). serial_at p.linked a.site ≡ None) x.0 y.0 x.2
+      (All-weaker (λ (a : Attempt). serial_at q.linked a.site ≡ None) (λ (a : Attempt). serial_at p.linked a.site ≡ None)
+      (λ a none. unlearnt-before p.linked q.linked a.site has none) y.0 y.2),
+)

@@ -20,11 +20,14 @@ pub record ThreadPasses : Type 0 where
   pub links : LinkPass
   pub forms : PassView
 
--- this thread has made these calls: its attempts are of the sites that they name, and it has drawn at most one number for each form that it needs
+-- this thread has made these calls: its attempts are of the sites that they name
 pub record IsUsedBy (given : Given) (thread : ℕ) (calls : List Call) (passes : ThreadPasses) : Type 0 where
   pub thread_is : passes.links.thread ≡ thread
   pub run : IsThreadRun (flat_map sites_named calls) passes.links
-  pub drawn : (whole : ℕ) × HasDrawn whole (run_edits given passes.links.attempts (thread_edits given.leaves calls)) passes.forms
+
+-- it has drawn at most one number for each form that its calls and its attempts need
+abbrev pub HasDrawnFew : Given → List Call → ThreadPasses → Type 0
+HasDrawnFew given calls passes = (whole : ℕ) × HasDrawn whole (run_edits given passes.links.attempts (thread_edits given.leaves calls)) passes.forms
 
 -- it has made them to their end: each site that they name is linked, and the forms that they need were asked for
 pub record IsDoneBy (given : Given) (calls : List Call) (passes : ThreadPasses) : Type 0 where
@@ -41,6 +44,11 @@ pub record AreUsed (given : Given) (threads : List (List Call)) (all : List Thre
 abbrev pub AreDone : Given → List (List Call) → List ThreadPasses → Type 0
 AreDone given threads all = (thread : ℕ) (calls : List Call) (passes : ThreadPasses) → slice_get threads thread ≡ Some calls
     → slice_get all thread ≡ Some passes → IsDoneBy given calls passes
+
+-- each of these threads has drawn at most one number for each form that it needs
+abbrev pub HaveDrawnFew : Given → List (List Call) → List ThreadPasses → Type 0
+HaveDrawnFew given threads all = (thread : ℕ) (calls : List Call) (passes : ThreadPasses) → slice_get threads thread ≡ Some calls
+    → slice_get all thread ≡ Some passes → HasDrawnFew given calls passes
 
 -- passes over the call sites are joined to one: it has all their attempts, the serials that they drew, and what each has linked
 pub record AreJoined (all : List ThreadPasses) (joined : LinkPass) : Type 0 where

@@ -6,6 +6,8 @@ pub mod Joining
 pub mod Keys
 pub mod Lanes
 pub mod Ledger
+pub mod Linkers
 pub mod Linking
 pub mod Passes
 pub mod Report
+pub mod Stops

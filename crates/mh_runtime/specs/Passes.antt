@@ -18,6 +18,10 @@ use Rattle.mh_plan.specs.Results.{Serials, serial_at}
 abbrev pub most_sites : ℕ
 most_sites = 4096
 
+-- how many forms there are numbers for
+abbrev pub most_forms : ℕ
+most_forms = 16384
+
 -- ---- linkers
 
 -- the chains of the call sites, one for each, and the counter of the serials of attempts
@@ -129,7 +133,7 @@ PutsLinkage linked ours (Ok (Mine l)) = (l.now ≡ ours) × IsLinkageOf linked o
 PutsLinkage linked ours (Ok (Theirs l back)) = (back ≡ ours) × IsLinkageOf linked ours.job.site l.now
 PutsLinkage linked ours (Err back) = back ≡ ours
 
--- the pass has learnt more of its linker's sites, and else is as it was, but for what it has recorded
+-- the pass has learnt more of its linker's sites, and is as it was otherwise, except what it has recorded
 pub record LearnsSites (old new : LinkPass) : Type 0 where
   pub linker : new.linker ≡ old.linker
   pub thread : new.thread ≡ old.thread
@@ -154,9 +158,19 @@ BeginsAttempt site serial old new =
       seat = new.seat;
     })
 
--- the pass has recorded nothing more, or this attempt
-abbrev pub RecordsAtMost : Attempt → LinkPass → LinkPass → Type 0
-RecordsAtMost a old new = (new.recorded ≡ old.recorded) ⊎ (new.recorded ≡ old.recorded ++ a ∷ [])
+-- the pass has recorded nothing more, since this linkage was recorded before; or it has recorded the attempt that made ours, which is this linkage then
+abbrev pub RecordsOurs : LinkageView → LinkageView → LinkPass → LinkPass → Type 0
+RecordsOurs ours l old new = (new.recorded ≡ old.recorded) ⊎ ((l ≡ ours) × (new.recorded ≡ old.recorded ++ attempt_of old.thread ours ∷ []))
+
+-- the pass has recorded nothing more, or the attempt that made this linkage, which is the latest that it has made
+abbrev pub RecordsLatest : LinkageView → LinkPass → LinkPass → Type 0
+RecordsLatest l old new =
+    (new.recorded ≡ old.recorded)
+    ⊎ ((new.attempts ≡ old.attempts ++ attempt_of old.thread l ∷ []) × (new.recorded ≡ old.recorded ++ attempt_of old.thread l ∷ []))
+
+-- the attempts that came are of sites of which the pass had learnt no linkage
+abbrev pub AttemptsUnlearnt : LinkPass → LinkPass → Type 0
+AttemptsUnlearnt old new = (more : List Attempt) × (new.attempts ≡ old.attempts ++ more) × All (λ a. serial_at old.linked a.site ≡ None) more
 
 -- the pass has what it had and what the other one had
 pub record HasBoth (old other new : LinkPass) : Type 0 where

@@ -1,4 +1,4 @@
--- What a run tells.
+-- What a run reports.
 use Rattle.std.specs.Prelude.{◌≡◌, ◌+◌, List, length}
 use Rattle.mh_jobs.specs.Given.{Given}
 use Rattle.mh_plan.specs.declared.call.Call.{Call}
@@ -24,7 +24,7 @@ pub record IsReport (given : Given) (plan : List (List Call)) (run : RunReport) 
   pub forms_are : run.forms ≡ forms given plan run.attempts
   pub types_are : run.types ≡ types given (serials_of run.table)
 
--- the run before its types are counted: all that the report tells but them, and a seat that holds what is recorded, while nothing else of the table is held
+-- the run before its types are counted: all that the report says except them, and a seat that holds what is recorded, while nothing else of the table is held
 pub record IsLinkedRun (given : Given) (plan : List (List Call)) (types : TypesId) (run : Linked) (seat : SeatView) : Type 0 where
   pub ledger : Ledger (naming_of plan) (length given.jobs) (serials_of run.table) run.attempts
   pub table : run.table ≡ recorded given (serials_of run.table)

@@ -19,10 +19,10 @@ ghost use Rattle.mh_runtime.specs.Asking.{RunsOn, RunsOnTypes, call_draws};
 ghost use Rattle.mh_runtime.specs.Attempts.{AreLinked, AttemptsMore, GoesOnLinking};
 ghost use Rattle.mh_runtime.specs.Keys.{IsAnswerOf, keys_of};
 ghost use Rattle.mh_runtime.specs.Linking.{KeepsOthers, KeepsTypes};
-ghost use Rattle.mh_runtime.specs.Passes.{HasSerials};
+ghost use Rattle.mh_runtime.specs.Passes.{AttemptsUnlearnt, HasSerials};
 
 use crate::context::Context;
-use crate::pass::Pass;
+use crate::site_pass::SitePass;
 use mh_astype::{invoke_exact_with, invoke_generic_with};
 use mh_attempt::WorkError;
 use mh_form::Machine;
@@ -109,14 +109,14 @@ fn call_generic<'t, R: Wait>(
     Ok(answer?)
 }
 
-impl<'s, 't, J: Run, G: Gate> Context<'s, 't, J, G> {
+impl<'s, 'g, 't, J: Run, G: Gate> Context<'s, 'g, 't, J, G> {
     // Calls a site: its target is called, or the recorded error is thrown.
     fn call_site<R: Wait>(
         &self,
         machine: &mut Machine,
         w: &mut Work<'_, 't>,
         rt: &R,
-        pass: &mut Pass<'s, 't, J>,
+        pass: &mut SitePass<'s, 't, J>,
         site: u32,
         args: &Items,
     ) -> Result<Answer, WorkError>
@@ -124,11 +124,12 @@ impl<'s, 't, J: Run, G: Gate> Context<'s, 't, J, G> {
         requires site { site < length J.given.jobs }
         requires leaves { leaves_of w.old ≡ J.given.leaves }
         requires typed { HaveTypes J.given.leaves.classes args.now (params_at J.given.jobs site) }
-        requires ready { IsReady w.old 256 }
+        requires ready { IsReady w.old call_draws }
         requires room { 1 ≤ pass.old.seat.room }
-        ensures goes_on { GoesOn 256 w.old w.new }
+        ensures goes_on { GoesOn call_draws w.old w.new }
         ensures pass { GoesOnLinking 1 pass.old pass.new }
         ensures attempts { AttemptsMore (site ∷ []) pass.old pass.new }
+        ensures unlearnt { AttemptsUnlearnt pass.old pass.new }
         ensures answer { IfOk result (IsAnswerOf J.given pass.new.linked site args.now) }
         ensures types { KeepsOthers J.given pass.old.recorded pass.new.recorded w.old w.new }
         ensures runs { RunsOn J.given pass.old.attempts pass.new.attempts []
@@ -143,14 +144,14 @@ impl<'s, 't, J: Run, G: Gate> Context<'s, 't, J, G> {
     /// Makes a call of a thread, in the machine that its calls have in common: of a leaf by a handle
     /// of it, as the first of its invocation, or of a call site by what is linked there, which is
     /// attempted now where the pass has learnt no linkage of it. Each handle that is made is given
-    /// back, also where no memory, no form or no slot of a type was left, but for those of recorded
+    /// back, also if no memory, no form or no slot of a type was left, except those of recorded
     /// targets.
     pub(crate) fn call<R: Wait>(
         &self,
         machine: &mut Machine,
         w: &mut Work<'_, 't>,
         rt: &R,
-        pass: &mut Pass<'s, 't, J>,
+        pass: &mut SitePass<'s, 't, J>,
         call: &Call,
     ) -> Result<Answer, WorkError>
         requires pass { pass.old.linker ≡ self.now.linker.now }
@@ -161,6 +162,7 @@ impl<'s, 't, J: Run, G: Gate> Context<'s, 't, J, G> {
         ensures goes_on { GoesOn call_draws w.old w.new }
         ensures pass { GoesOnLinking 1 pass.old pass.new }
         ensures attempts { AttemptsMore (sites_named call.now) pass.old pass.new }
+        ensures unlearnt { AttemptsUnlearnt pass.old pass.new }
         ensures linked { OnOk result (AreLinked pass.new.linked (sites_named call.now)) }
         ensures types { KeepsOthers J.given pass.old.recorded pass.new.recorded w.old w.new }
 

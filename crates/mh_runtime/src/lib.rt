@@ -1,5 +1,6 @@
-//! Runs of plans: each call by a handle, over one table of forms; each call site is linked once, by
-//! whichever thread records first.
+//! Threads that link call sites and call them: each call is by a handle, over one table of forms, and
+//! each call site is linked once, by whichever thread records first. A thread has a [`Pass`] of its
+//! own, and shares the [`Linker`]. A whole plan is run by [`run_all`].
 #![tactic(auto)]
 
 mod calls;
@@ -10,10 +11,22 @@ mod lane;
 mod linker;
 mod ordering;
 mod pass;
+mod plan_run;
 mod recording;
 mod running;
+mod site_linker;
+mod site_pass;
+mod stops;
+mod tables;
+mod thread;
 mod walks;
 
 pub use input::RunInput;
-pub use mh_attempt::WorkError;
-pub use running::{RunReport, run_plan};
+pub use linker::{Linker, MOST_SITES};
+pub use mh_attempt::{Linkage, Linked, WorkError};
+pub use pass::Pass;
+pub use running::{RunReport, run_all};
+pub use site_linker::SiteLinker;
+pub use site_pass::SitePass;
+pub use stops::{Stop, ThreadRun};
+pub use tables::{Seats, Tables};

@@ -1,174 +1,280 @@
-ghost use Rattle.std.specs.Prelude.{◌≡◌, ◌+◌, ◌<◌, ◌≤◌, ◌∷◌, [], length, IfOk, OnErr, None};
-ghost use Rattle.mh_handle.specs.Works.{GoesOn, IsReady, leaves_of};
-ghost use Rattle.mh_tickets.specs.Seats.{new_seat};
-ghost use Rattle.mh_seats.specs.Room.{limit};
+ghost use Rattle.std.specs.Prelude.{◌≡◌, ℕ, ◌+◌, ◌<◌, ◌≤◌, All, length, IfOk, OnOk, IsTrue};
+ghost use Rattle.mh_tickets.specs.Seats as serials_seat;
+ghost use Rattle.mh_handle.specs.Seats as forms_seat;
+ghost use Rattle.mh_intern.specs.Views as types_seat;
 ghost use Rattle.mh_jobs.specs.Given.{AreJobs};
-ghost use Rattle.mh_plan.specs.Results.{serial_at};
-ghost use Rattle.mh_runtime.specs.Asking.{RunsOn, RunsOnTypes};
-ghost use Rattle.mh_runtime.specs.Attempts.{AttemptsMore, GoesOnLinking};
-ghost use Rattle.mh_runtime.specs.Linking.{KeepsOthers};
-ghost use Rattle.mh_runtime.specs.Passes.{IsLinkageOf, most_sites};
+ghost use Rattle.mh_plan.specs.Results.{IsCallOf};
+ghost use Rattle.mh_runtime.specs.Input.{given_by};
+ghost use Rattle.mh_runtime.specs.Linkers.{AreSeats, BeginsPass, CanSplit, HasLessRoom, HasRoom, IsOf, JoinsPass, MakesCall, Resolves, RunsThread, SplitsPass};
+ghost use Rattle.mh_runtime.specs.Passes.{most_sites};
 
+use crate::context::Context;
+use crate::input::RunInput;
 use crate::pass::Pass;
-use mh_attempt::{Linkage, WorkError, attempt};
+use crate::site_linker::SiteLinker;
+use crate::site_pass::SitePass;
+use crate::stops::ThreadRun;
+use crate::tables::{Seats, Tables};
+use mh_attempt::{Linkage, WorkError};
 use mh_base::NoMemory;
-use mh_handle::Work;
-use mh_jobs::{Jobs, Run};
+use mh_form::Machine;
+use mh_handle::{Answer, FormTable, Work};
+use mh_intern::TypeTable;
+use mh_jobs::Run;
+use mh_leaves::Leaves;
 use mh_outside::Gate;
-use mh_script::Scripts;
-use mh_setonce::Chain;
-use mh_tickets::{TicketSeat, Tickets};
+use mh_plan::{Call, ThreadCalls};
 use std::alloc::Global;
-use std::marker::Model;
 use std::sync::Wait;
 
-/// Links the call sites of a run, for threads that share it. Each site has a chain of one cell: what
-/// is put there first is the linkage of the site, an error too (JVMS SE 17, 5.4.3.6). Contracts see
-/// the chains, and the counter of the attempts' serials.
+/// How many call sites a run has at most.
+pub const MOST_SITES: u32 = 4096;
+
+/// How much room for types a seat has that was split off.
+const SPLIT_ROOM: u64 = 1 << 32;
+
+/// Links the call sites of a run and makes calls of them, for threads that share it. What is recorded
+/// first at a site is the linkage of the site for all threads, an error too (JVMS SE 17, 5.4.3.6).
+///
+/// Each thread has a [`Pass`]: the first is made by `first_pass`, and one for each further thread is
+/// split off one that there is. Once threads are done, their passes are joined.
 #[derive(Drop)]
-pub(crate) struct Linker<'t, J: Run> {
-    jobs: &'t Jobs,
-    scripts: &'t Scripts,
-    serials: Tickets,
-    chains: Vec<Chain<Linkage<'t, J>>>,
-}
-
-impl<'t, J: Run> Model for Linker<'t, J> {
-    ghost use Rattle.mh_runtime.specs.Passes.{IsLinker, LinkerView};
-
-    ghost Value = { LinkerView };
-
-    ghost view = { λ l. record { chains = l.chains.items; serials = l.serials } };
-
-    ghost invariant = { λ l. IsLinker J.given l.jobs.now l.scripts.now
-        (record { chains = l.chains.items; serials = l.serials }) };
-}
-
-// A chain of one cell for each of so many sites.
-fn site_chains<'t, J: Run>(
+pub struct Linker<'t, J: Run> {
     alloc: Global,
-    sites: usize,
-) -> Result<Vec<Chain<Linkage<'t, J>>>, NoMemory>
-    ensures { IfOk result (λ chains. length chains.items ≡ sites) }
-{
-    let mut chains = Vec::with_capacity(alloc, sites)?;
-    for _ in 0..sites {
-        chains.push(Chain::new(alloc, 1)?)?;
-    }
-    Ok(chains)
+    /// The call sites, and the counter of the attempts' serials.
+    pub sites: SiteLinker<'t, J>,
+    /// The leaves of the run, with their classes.
+    pub leaves: &'t Leaves,
+    /// The table of the types that handles and targets hold.
+    pub types: &'t TypeTable,
+    /// The table of the forms that handles and targets share.
+    pub forms: &'t FormTable,
 }
 
 impl<'t, J: Run> Linker<'t, J> {
-    /// A linker that has linked nothing, and the seat that has the room for all serials: 2^62.
-    pub(crate) fn new(
+    /// A linker of these jobs, scripts and leaves that has linked nothing. Its targets have forms and
+    /// types of these tables, and its attempts have serials of their counter.
+    pub fn new(
         alloc: Global,
-        jobs: &'t Jobs,
-        scripts: &'t Scripts,
-    ) -> Result<(Linker<'t, J>, TicketSeat), NoMemory>
-        requires jobs { jobs.now ≡ J.given.jobs }
-        requires scripts { scripts.now ≡ J.given.scripts }
-        requires are_jobs { AreJobs J.given }
+        input: &RunInput<'t>,
+        tables: &'t Tables,
+    ) -> Result<Linker<'t, J>, NoMemory>
+        requires named { given_by input.now ≡ J.given }
+        requires jobs { AreJobs J.given }
         requires few { length J.given.jobs ≤ most_sites }
-        ensures { IfOk result (λ made. made.1 ≡ new_seat made.0.serials limit) }
+        ensures leaves { IfOk result (λ linker. linker.leaves.now ≡ J.given.leaves) }
+        ensures types { IfOk result (λ linker. linker.types.now ≡ tables.entry.now.types) }
+        ensures forms { IfOk result (λ linker. linker.forms.now ≡ tables.entry.now.forms) }
+        ensures serials { IfOk result (λ linker. linker.sites.serials ≡ tables.entry.now.serials) }
     {
-        let (serials, seat) = Tickets::new(alloc)?;
-        let linker = Linker {
-            jobs,
-            scripts,
+        Ok(Linker {
+            alloc,
+            sites: SiteLinker::new(alloc, input.jobs, input.scripts, &tables.serials)?,
+            leaves: input.leaves,
+            types: &tables.types,
+            forms: &tables.forms,
+        })
+    }
+
+    /// The first pass, of thread 0, with seats of the linker's tables.
+    pub fn first_pass<'s>(&'s self, seats: Seats) -> Result<Pass<'s, 't, J>, NoMemory>
+        requires leaves { self.now.leaves.now ≡ J.given.leaves }
+        requires seats { AreSeats self.now seats }
+        ensures begins { IfOk result (BeginsPass (length J.given.jobs) self.entry.now seats) }
+        ensures pass { IfOk result (IsOf J.given self.entry.now) }
+    {
+        let Seats {
+            types,
+            forms,
             serials,
-            chains: site_chains(alloc, jobs.len())?,
+        } = seats;
+        Ok(Pass {
+            links: SitePass::new(self.alloc, &self.sites, serials, 0)?,
+            forms: self.forms.first_pass(self.alloc, forms)?,
+            types,
+        })
+    }
+
+    /// A pass for another thread. It has learnt the sites and the forms that this pass has, and has
+    /// attempted nothing and holds no type. It has room for 2^32 serials, form numbers and holds,
+    /// which this pass must have: that is room for 65,536 calls.
+    pub fn split<'s>(
+        &'s self,
+        pass: &mut Pass<'s, 't, J>,
+        thread: u32,
+    ) -> Result<Pass<'s, 't, J>, NoMemory>
+        requires pass { IsOf J.given self.now pass.old }
+        requires room { CanSplit pass.old }
+        ensures splits { IfOk result (SplitsPass thread pass.old pass.new) }
+        ensures left { OnOk result (HasLessRoom pass.old pass.new) }
+        ensures room { IfOk result (HasRoom 65536) }
+        ensures pass { OnOk result (IsOf J.given self.entry.now pass.new) }
+        ensures other { IfOk result (IsOf J.given self.entry.now) }
+    {
+        Ok(Pass {
+            links: pass.links.split(self.alloc, &self.sites, thread)?,
+            forms: self.forms.split(self.alloc, &mut pass.forms)?,
+            types: self.types.split(&mut pass.types, SPLIT_ROOM),
+        })
+    }
+
+    /// Adds what another pass has learnt, attempted, recorded, drawn and held. If memory runs out,
+    /// the pass has the serials, the form numbers and the holds of both, and the other's attempts are
+    /// lost.
+    pub fn join<'s>(
+        &'s self,
+        pass: &mut Pass<'s, 't, J>,
+        other: Pass<'s, 't, J>,
+    ) -> Result<(), NoMemory>
+        requires pass { IsOf J.given self.now pass.old }
+        requires other { IsOf J.given self.now other }
+        ensures ok { OnOk result (JoinsPass pass.old other.entry pass.new) }
+        ensures pass { OnOk result (IsOf J.given self.entry.now pass.new) }
+        ensures serials { pass.new.links.seat
+            ≡ serials_seat.joined_seats pass.old.links.seat other.entry.links.seat }
+        ensures numbers { pass.new.forms.seat
+            ≡ forms_seat.joined_seats pass.old.forms.seat other.entry.forms.seat }
+        ensures types { pass.new.types ≡ types_seat.joined_seats pass.old.types other.entry.types }
+    {
+        let Pass {
+            links,
+            forms,
+            types,
+        } = other;
+        self.types.join(&mut pass.types, types);
+        let linked = pass.links.join(&self.sites, links);
+        let formed = self.forms.join(&mut pass.forms, forms);
+        linked?;
+        formed?;
+        Ok(())
+    }
+
+    /// The linkage of a site: that which the pass has learnt, or the site shows, or that of an attempt
+    /// that is made now, unless another thread has recorded one meanwhile. One that the pass has
+    /// learnt takes no memory and changes nothing. If it is refused nothing was recorded, and the
+    /// serial of an attempt is spent. The gate is called before and after a linkage is recorded.
+    pub fn resolve<'s, R: Wait, G: Gate>(
+        &'s self,
+        rt: &R,
+        pass: &mut Pass<'s, 't, J>,
+        gate: &G,
+        site: u32,
+    ) -> Result<&'s Linkage<'t, J>, WorkError>
+        requires pass { IsOf J.given self.now pass.old }
+        requires site { site < length J.given.jobs }
+        requires room { HasRoom 1 pass.old }
+        ensures pass { IsOf J.given self.entry.now pass.new }
+        ensures resolves { Resolves J.given site pass.old pass.new result }
+        ensures left { (more : ℕ) → HasRoom (more + 1) pass.old → HasRoom more pass.new }
+    {
+        let mut w = Work {
+            alloc: self.alloc,
+            types: self.types,
+            seat: &mut pass.types,
+            forms: self.forms,
+            pass: &mut pass.forms,
+            leaves: self.leaves,
         };
-        Ok((linker, seat))
+        let linkage = self.sites.resolve(&mut w, rt, &mut pass.links, gate, site);
+        let Work {
+            alloc: _,
+            types: _,
+            seat: _,
+            forms: _,
+            pass: _,
+            leaves: _,
+        } = w;
+        linkage
     }
 
-    /// How many call sites the run has.
-    pub(crate) fn sites(&self) -> usize
-        ensures sites { result ≡ length J.given.jobs }
-        ensures few { result ≤ most_sites }
+    /// Whether a call can be made: its leaf or its site is there, and its arguments have the types of
+    /// its type, or of the site's. A site whose type cannot be read takes no arguments.
+    pub fn can_make(&self, call: &Call) -> bool
+        requires { self.now.leaves.now ≡ J.given.leaves }
+        ensures yes { IsTrue result → IsCallOf J.given.leaves J.given.jobs call.now }
+        ensures no { IsCallOf J.given.leaves J.given.jobs call.now → IsTrue result }
     {
-        self.jobs.len()
+        call.can_be_made(self.leaves, self.sites.jobs())
     }
 
-    /// The counter of the attempts' serials.
-    pub(crate) fn serials(&self) -> &Tickets
-        ensures { result.now ≡ self.now.serials }
-    {
-        &self.serials
-    }
-
-    /// The chains of the sites, in the order of the sites' numbers.
-    pub(crate) fn chains(&self) -> &[Chain<Linkage<'t, J>>]
-        ensures chains { result.now ≡ self.now.chains }
-        ensures count { length self.now.chains ≡ length J.given.jobs }
-    {
-        self.chains.as_slice()
-    }
-
-    // Attempts a site of which the pass has learnt no linkage, and records what that gives unless
-    // another thread has recorded before.
-    fn attempt<'s, R: Wait, G: Gate>(
+    /// Makes a call in a machine, whose memory the calls of a thread have in common: of a leaf by a
+    /// handle of it, or of a call site by its linkage, which is resolved first. An error that is
+    /// linked there is thrown with no leaf call.
+    pub fn call<'s, R: Wait, G: Gate>(
         &'s self,
-        w: &mut Work<'_, 't>,
+        rt: &R,
+        machine: &mut Machine,
+        pass: &mut Pass<'s, 't, J>,
+        gate: &G,
+        call: &Call,
+    ) -> Result<Answer, WorkError>
+        requires pass { IsOf J.given self.now pass.old }
+        requires call { IsCallOf J.given.leaves J.given.jobs call.now }
+        requires room { HasRoom 1 pass.old }
+        ensures pass { IsOf J.given self.entry.now pass.new }
+        ensures makes { MakesCall J.given call.now pass.old pass.new result }
+        ensures left { (more : ℕ) → HasRoom (more + 1) pass.old → HasRoom more pass.new }
+    {
+        let mut w = Work {
+            alloc: self.alloc,
+            types: self.types,
+            seat: &mut pass.types,
+            forms: self.forms,
+            pass: &mut pass.forms,
+            leaves: self.leaves,
+        };
+        let context = Context {
+            linker: &self.sites,
+            gate,
+        };
+        let answer = context.call(machine, &mut w, rt, &mut pass.links, call);
+        let Work {
+            alloc: _,
+            types: _,
+            seat: _,
+            forms: _,
+            pass: _,
+            leaves: _,
+        } = w;
+        answer
+    }
+
+    /// Makes the calls of a thread, in order, up to the first that stops. The calls before that one
+    /// are answered.
+    pub fn run_thread<'s, R: Wait, G: Gate>(
+        &'s self,
         rt: &R,
         pass: &mut Pass<'s, 't, J>,
         gate: &G,
-        site: u32,
-    ) -> Result<&'s Linkage<'t, J>, WorkError>
-        requires pass { pass.old.linker ≡ self.now }
-        requires new { serial_at pass.old.linked site ≡ None }
-        requires site { site < length J.given.jobs }
-        requires leaves { leaves_of w.old ≡ J.given.leaves }
-        requires ready { IsReady w.old 256 }
-        requires room { 1 ≤ pass.old.seat.room }
-        ensures goes_on { GoesOn 256 w.old w.new }
-        ensures pass { GoesOnLinking 1 pass.old pass.new }
-        ensures attempts { AttemptsMore (site ∷ []) pass.old pass.new }
-        ensures linked { IfOk result (λ l. IsLinkageOf pass.new.linked site l.now) }
-        ensures types { KeepsOthers J.given pass.old.recorded pass.new.recorded w.old w.new }
-        ensures runs { RunsOn J.given pass.old.attempts pass.new.attempts []
-            w.old.pass.now w.new.pass.now result }
-        ensures asked { RunsOnTypes J.given pass.old.attempts pass.new.attempts
-            [] w.old.seat.now w.new.seat.now result }
+        calls: &ThreadCalls,
+    ) -> ThreadRun
+        requires pass { IsOf J.given self.now pass.old }
+        requires calls { All (IsCallOf J.given.leaves J.given.jobs) calls.now }
+        requires room { HasRoom (length calls.now) pass.old }
+        ensures pass { IsOf J.given self.entry.now pass.new }
+        ensures runs { RunsThread J.given calls.now pass.old pass.new result }
     {
-        let serial = pass.begin(self, site)?;
-        let linkage = attempt(w, rt, self.scripts, self.jobs.get(site), serial)?;
-        gate.before_record(pass.thread(), site);
-        let linkage = pass.record(w, rt, self, linkage)?;
-        gate.after_record(pass.thread(), site);
-        Ok(linkage)
-    }
-
-    /// The linkage of a site: that which the pass has learnt, or its chain shows, or that of an
-    /// attempt that is made now, unless another thread has recorded one meanwhile. One that the pass
-    /// has learnt takes no memory. After a refusal nothing was recorded, and the serial of the
-    /// attempt is spent.
-    pub(crate) fn resolve<'s, R: Wait, G: Gate>(
-        &'s self,
-        w: &mut Work<'_, 't>,
-        rt: &R,
-        pass: &mut Pass<'s, 't, J>,
-        gate: &G,
-        site: u32,
-    ) -> Result<&'s Linkage<'t, J>, WorkError>
-        requires pass { pass.old.linker ≡ self.now }
-        requires site { site < length J.given.jobs }
-        requires leaves { leaves_of w.old ≡ J.given.leaves }
-        requires ready { IsReady w.old 256 }
-        requires room { 1 ≤ pass.old.seat.room }
-        ensures goes_on { GoesOn 256 w.old w.new }
-        ensures pass { GoesOnLinking 1 pass.old pass.new }
-        ensures attempts { AttemptsMore (site ∷ []) pass.old pass.new }
-        ensures linked { IfOk result (λ l. IsLinkageOf pass.new.linked site l.now) }
-        ensures resolved { OnErr result (serial_at pass.old.linked site ≡ None) }
-        ensures types { KeepsOthers J.given pass.old.recorded pass.new.recorded w.old w.new }
-        ensures runs { RunsOn J.given pass.old.attempts pass.new.attempts []
-            w.old.pass.now w.new.pass.now result }
-        ensures asked { RunsOnTypes J.given pass.old.attempts pass.new.attempts
-            [] w.old.seat.now w.new.seat.now result }
-    {
-        if let Some(found) = pass.find(self, site)? {
-            return Ok(found);
-        }
-        self.attempt(w, rt, pass, gate, site)
+        let mut w = Work {
+            alloc: self.alloc,
+            types: self.types,
+            seat: &mut pass.types,
+            forms: self.forms,
+            pass: &mut pass.forms,
+            leaves: self.leaves,
+        };
+        let context = Context {
+            linker: &self.sites,
+            gate,
+        };
+        let run = context.run_thread(&mut w, rt, &mut pass.links, calls);
+        let Work {
+            alloc: _,
+            types: _,
+            seat: _,
+            forms: _,
+            pass: _,
+            leaves: _,
+        } = w;
+        run
     }
 }

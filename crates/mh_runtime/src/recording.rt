@@ -6,7 +6,7 @@ ghost use Rattle.mh_plan.specs.Recorded.{recorded, recorded_at, shown_of};
 ghost use Rattle.mh_plan.specs.Results.{serial_at};
 ghost use Rattle.mh_runtime.specs.Attempts.{AreRecorded};
 
-use crate::pass::Pass;
+use crate::site_pass::SitePass;
 use mh_attempt::{Linkage, Linked};
 use mh_base::{Copied, NoMemory, Seq};
 use mh_jobs::Run;
@@ -37,7 +37,7 @@ fn recorded<J: Run>(alloc: Global, linkage: &Linkage<'_, J>) -> Result<Recorded,
 }
 
 // For each site the serial of an attempt that the pass has recorded there, if it has.
-fn owners<J: Run>(alloc: Global, pass: &Pass<'_, '_, J>) -> Result<Vec<Option<u64>>, NoMemory>
+fn owners<J: Run>(alloc: Global, pass: &SitePass<'_, '_, J>) -> Result<Vec<Option<u64>>, NoMemory>
     ensures count { IfOk result (λ owners. length owners.items ≡ length J.given.jobs) }
     ensures own { IfOk result (λ owners. AreRecorded pass.now owners.items) }
 {
@@ -53,7 +53,7 @@ fn owners<J: Run>(alloc: Global, pass: &Pass<'_, '_, J>) -> Result<Vec<Option<u6
 fn recorded_site<J: Run, R: Wait>(
     rt: &R,
     alloc: Global,
-    pass: &Pass<'_, '_, J>,
+    pass: &SitePass<'_, '_, J>,
     site: u32,
     owner: Option<u64>,
 ) -> Result<Option<Recorded>, NoMemory>
@@ -79,7 +79,7 @@ fn recorded_site<J: Run, R: Wait>(
 pub(crate) fn table<J: Run, R: Wait>(
     rt: &R,
     alloc: Global,
-    pass: &Pass<'_, '_, J>,
+    pass: &SitePass<'_, '_, J>,
 ) -> Result<Table, NoMemory>
     ensures table { IfOk result (λ table. table ≡ recorded J.given pass.now.linked) }
 

@@ -1,4 +1,4 @@
-ghost use Rattle.std.specs.Prelude.{◌≡◌, ◌*◌, ◌<◌, ◌≤◌, length, IfOk};
+ghost use Rattle.std.specs.Prelude.{◌≡◌, ◌*◌, ◌<◌, ◌≤◌, length, IfErr, IfOk};
 ghost use Rattle.mh_jobs.specs.Given.{AreJobs};
 ghost use Rattle.mh_plan.specs.Forms.{draws_needed, forms};
 ghost use Rattle.mh_plan.specs.Limits.{IsWithinLimits};
@@ -6,28 +6,31 @@ ghost use Rattle.mh_plan.specs.Naming.{naming_of};
 ghost use Rattle.mh_plan.specs.Types.{Overfill, all_types};
 ghost use Rattle.mh_plan.specs.Recorded.{recorded, serials_of, types};
 ghost use Rattle.mh_plan.specs.Results.{AreCallsOf, keys_said, results_of, results_said};
-ghost use Rattle.mh_intern.specs.Views.{new_seat};
+ghost use Rattle.mh_handle.specs.Seats as forms_seat;
+ghost use Rattle.mh_intern.specs.Views as types_seat;
+ghost use Rattle.mh_tickets.specs.Seats as serials_seat;
 ghost use Rattle.mh_seats.specs.Room.{limit};
 ghost use Rattle.mh_runtime.specs.Asking.{IfFull, IfTypesFull};
 ghost use Rattle.mh_runtime.specs.Input.{given_by};
 ghost use Rattle.mh_runtime.specs.Keys.{plan_keys};
 ghost use Rattle.mh_runtime.specs.Ledger.{Ledger};
-ghost use Rattle.mh_runtime.specs.Joining.{AreAllJoined, IsUnused, IsUnusedForms, IsUnusedTypes};
+ghost use Rattle.mh_runtime.specs.Joining.{AreAllJoined, HasAllRoom, IsUnused};
 ghost use Rattle.mh_runtime.specs.Lanes.{tables_at};
-ghost use Rattle.mh_runtime.specs.Passes.{most_sites};
+ghost use Rattle.mh_runtime.specs.Passes.{most_forms, most_sites};
 ghost use Rattle.mh_runtime.specs.Report.{IsLinkedRun, IsReport};
+ghost use Rattle.mh_runtime.specs.Stops.{IsStopOf, error_of};
 
-use crate::context::Context;
 use crate::input::RunInput;
-use crate::joining::{Full, Joined};
+use crate::joining::Joined;
 use crate::linker::Linker;
 use crate::ordering::by_serial;
 use crate::pass::Pass;
+use crate::plan_run::PlanRun;
 use crate::recording::table;
-use mh_attempt::WorkError;
+use crate::stops::Stop;
+use crate::tables::{Seats, Tables};
 use mh_base::Seq;
-use mh_handle::{FormPass, FormTable};
-use mh_intern::{TypeSeat, TypeTable};
+use mh_intern::TypeSeat;
 use mh_jobs::Run;
 use mh_outside::Gate;
 use mh_plan::{Attempts, Plan, Table, ThreadAnswers};
@@ -61,7 +64,7 @@ struct Input<'a, G> {
     gate: &'a G,
 }
 
-/// What a run gave, but for the count of types.
+/// What a run gave, except the count of types.
 #[derive(Drop)]
 struct Linked {
     threads: ThreadAnswers,
@@ -71,132 +74,128 @@ struct Linked {
 }
 
 // What a run gave whose threads were joined, and the seat of types that holds what is recorded.
+#[tactic(auto, using(crate::proofs::OutsideStops::outside_reported, crate::proofs::OutsideStops::outside_full, crate::proofs::OutsideStops::outside_types))]
 fn report<'s, 't, J: Run, R: Wait, G>(
     rt: &R,
-    context: &Context<'s, 't, J, G>,
+    run: &PlanRun<'s, 't, J, G>,
     joined: Joined<'s, 't, J>,
-) -> Result<(Linked, TypeSeat), WorkError>
-    requires joined { AreAllJoined J.given context.now.linker.now
-        (tables_at context.now.forms.now context.now.types.now) context.now.plan.now joined }
-    ensures run { IfOk result
-        (λ run. IsLinkedRun J.given context.now.plan.now context.now.types.now run.0 run.1) }
-    ensures full { IfFull result (16384 < draws_needed J.given context.now.plan.now) }
-    ensures no_slot { IfTypesFull result
-        (λ bucket. Overfill bucket (all_types J.given context.now.plan.now)) }
+) -> Result<(Linked, TypeSeat), Stop>
+    requires joined { AreAllJoined J.given run.now.linker.now.sites
+        (tables_at run.now.linker.now.forms.now run.now.linker.now.types.now) run.now.plan.now
+        joined }
+    ensures run { IfOk result (λ reported. IsLinkedRun J.given run.now.plan.now
+        run.now.linker.now.types.now reported.0 reported.1) }
+    ensures stop { IfErr result (IsStopOf run.now.plan.now) }
+    ensures full { IfFull (error_of result) (most_forms < draws_needed J.given run.now.plan.now) }
+    ensures no_slot { IfTypesFull (error_of result)
+        (λ bucket. Overfill bucket (all_types J.given run.now.plan.now)) }
 {
     let Joined {
+        pass,
+        threads,
+        stop,
+    } = joined;
+    if let Some(stop) = stop {
+        return Err(stop);
+    }
+    let Pass {
         links,
         forms,
         types,
+    } = pass;
+
+    // What a thread has recorded is what is linked.
+    let _recorded = links.recorded();
+    let linked = Linked {
         threads,
-        full,
-    } = joined;
-    match full {
-        Some(Full::Forms { drawn }) => Err(WorkError::FormsFull { drawn }),
-        Some(Full::Types { bucket }) => Err(WorkError::TypesFull { bucket }),
-        None => {
-            // What a thread has recorded is what is linked.
-            let _recorded = links.recorded();
-            let run = Linked {
-                threads,
-                table: table(rt, context.alloc, &links)?,
-                forms: forms.len(),
-                attempts: by_serial(links.into_attempts()),
-            };
-            Ok((run, types))
-        }
-    }
+        table: table(rt, run.alloc, &links)?,
+        forms: forms.len(),
+        attempts: by_serial(links.into_attempts()),
+    };
+    Ok((linked, types))
 }
 
-// Runs the plan with passes that are new.
-fn run_passes<'s, 't, J: Run + Send + Sync, R: Threads + Wait + Sync, G: Gate + Sync>(
+// Runs the plan with a pass that is new.
+#[tactic(auto, using(crate::proofs::OutsideStops::outside_reported, crate::proofs::OutsideStops::outside_full, crate::proofs::OutsideStops::outside_types))]
+fn run_pass<'s, 't, J: Run + Send + Sync, R: Threads + Wait + Sync, G: Gate + Sync>(
     rt: &R,
-    context: &Context<'s, 't, J, G>,
-    links: Pass<'s, 't, J>,
-    forms: FormPass<'t>,
-    types: TypeSeat,
-) -> Result<(Linked, TypeSeat), WorkError>
-    requires leaves { context.now.leaves.now ≡ J.given.leaves }
-    requires calls { AreCallsOf J.given.leaves J.given.jobs context.now.plan.now }
-    requires limits { IsWithinLimits context.now.plan.now }
-    requires links { IsUnused J.given context.now.linker.now links }
-    requires links_room { links.seat.room ≡ limit }
-    requires forms { IsUnusedForms context.now.forms.now forms }
-    requires forms_room { forms.seat.room ≡ limit }
-    requires types { IsUnusedTypes context.now.types.now types }
-    requires types_room { types.room ≡ limit }
-    ensures run { IfOk result
-        (λ run. IsLinkedRun J.given context.now.plan.now context.now.types.now run.0 run.1) }
-    ensures full { IfFull result (16384 < draws_needed J.given context.now.plan.now) }
-    ensures no_slot { IfTypesFull result
-        (λ bucket. Overfill bucket (all_types J.given context.now.plan.now)) }
+    run: &PlanRun<'s, 't, J, G>,
+    pass: Pass<'s, 't, J>,
+) -> Result<(Linked, TypeSeat), Stop>
+    requires leaves { run.now.linker.now.leaves.now ≡ J.given.leaves }
+    requires calls { AreCallsOf J.given.leaves J.given.jobs run.now.plan.now }
+    requires limits { IsWithinLimits run.now.plan.now }
+    requires pass { IsUnused J.given run.now.linker.now.sites
+        (tables_at run.now.linker.now.forms.now run.now.linker.now.types.now) pass }
+    requires room { HasAllRoom pass }
+    ensures run { IfOk result (λ reported. IsLinkedRun J.given run.now.plan.now
+        run.now.linker.now.types.now reported.0 reported.1) }
+    ensures stop { IfErr result (IsStopOf run.now.plan.now) }
+    ensures full { IfFull (error_of result) (most_forms < draws_needed J.given run.now.plan.now) }
+    ensures no_slot { IfTypesFull (error_of result)
+        (λ bucket. Overfill bucket (all_types J.given run.now.plan.now)) }
 {
     let mut joined = Joined {
-        links,
-        forms,
-        types,
-        threads: Seq::new(context.alloc),
-        full: None,
+        pass,
+        threads: Seq::new(run.alloc),
+        stop: None,
     };
-    fork_join(rt, context.alloc, context, &mut joined)?;
-    report(rt, context, joined)
+    fork_join(rt, run.alloc, run, &mut joined)?;
+    report(rt, run, joined)
 }
 
-// Runs a plan over a table of types of which a seat has all the room, with a linker and a table of
-// forms that are new.
-fn run_linked<J: Run + Send + Sync, R: Threads + Wait + Sync, G: Gate + Sync>(
+// Runs a plan with a linker that is new, and with seats that have all the room.
+#[tactic(auto, using(crate::proofs::OutsideStops::outside_reported, crate::proofs::OutsideStops::outside_full, crate::proofs::OutsideStops::outside_types))]
+fn run_linked<'t, J: Run + Send + Sync, R: Threads + Wait + Sync, G: Gate + Sync>(
     rt: &R,
-    types: &TypeTable,
-    seat: TypeSeat,
+    linker: Linker<'t, J>,
+    seats: Seats,
     input: &Input<'_, G>,
-) -> Result<(Linked, TypeSeat), WorkError>
-    requires named { given_by input.now.given.now ≡ J.given }
+) -> Result<(Linked, TypeSeat), Stop>
+    requires leaves { linker.leaves.now ≡ J.given.leaves }
     requires calls { AreCallsOf J.given.leaves J.given.jobs input.now.plan.now }
     requires limits { IsWithinLimits input.now.plan.now }
-    requires jobs { AreJobs J.given }
-    requires few { length J.given.jobs ≤ most_sites }
-    requires seat { seat ≡ new_seat types.now limit }
+    requires types { seats.types ≡ types_seat.new_seat linker.types.now limit }
+    requires forms { seats.forms ≡ forms_seat.new_seat linker.forms.now limit }
+    requires serials { seats.serials ≡ serials_seat.new_seat linker.sites.serials limit }
     ensures run { IfOk result
-        (λ run. IsLinkedRun J.given input.now.plan.now types.now run.0 run.1) }
-    ensures full { IfFull result (16384 < draws_needed J.given input.now.plan.now) }
-    ensures no_slot { IfTypesFull result
+        (λ run. IsLinkedRun J.given input.now.plan.now linker.entry.types.now run.0 run.1) }
+    ensures stop { IfErr result (IsStopOf input.now.plan.now) }
+    ensures full { IfFull (error_of result) (most_forms < draws_needed J.given input.now.plan.now) }
+    ensures no_slot { IfTypesFull (error_of result)
         (λ bucket. Overfill bucket (all_types J.given input.now.plan.now)) }
 {
-    let alloc = input.alloc;
-    let (table, numbers) = FormTable::new(alloc)?;
-    let forms = table.first_pass(alloc, numbers)?;
-    let (linker, serials) = Linker::<J>::new(alloc, input.given.jobs, input.given.scripts)?;
-    let links = Pass::new(alloc, &linker, serials, 0)?;
-    let context = Context {
-        alloc,
+    let pass = linker.first_pass(seats)?;
+    let run = PlanRun {
+        alloc: input.alloc,
         linker: &linker,
-        types,
-        forms: &table,
-        leaves: input.given.leaves,
         plan: input.plan,
         gate: input.gate,
     };
-    run_passes(rt, &context, links, forms, seat)
+    run_pass(rt, &run, pass)
 }
 
 // Runs a plan of what the run's type parameter names. Once all is joined, the table of types has the
 // types of the recorded targets and no others.
+#[tactic(auto, using(crate::proofs::OutsideStops::outside_reported, crate::proofs::OutsideStops::outside_full, crate::proofs::OutsideStops::outside_types))]
 fn run_named<J: Run + Send + Sync, R: Threads + Wait + Sync, G: Gate + Sync>(
     rt: &R,
     input: &Input<'_, G>,
-) -> Result<RunReport, WorkError>
+) -> Result<RunReport, Stop>
     requires named { given_by input.now.given.now ≡ J.given }
     requires calls { AreCallsOf J.given.leaves J.given.jobs input.now.plan.now }
     requires limits { IsWithinLimits input.now.plan.now }
     requires jobs { AreJobs J.given }
     requires few { length J.given.jobs ≤ most_sites }
     ensures run { IfOk result (IsReport J.given input.now.plan.now) }
-    ensures full { IfFull result (16384 < draws_needed J.given input.now.plan.now) }
-    ensures no_slot { IfTypesFull result
+    ensures stop { IfErr result (IsStopOf input.now.plan.now) }
+    ensures full { IfFull (error_of result) (most_forms < draws_needed J.given input.now.plan.now) }
+    ensures no_slot { IfTypesFull (error_of result)
         (λ bucket. Overfill bucket (all_types J.given input.now.plan.now)) }
 {
-    let (types, seat) = TypeTable::new(input.alloc)?;
-    let (run, seat) = run_linked::<J, R, G>(rt, &types, seat, input)?;
+    let (tables, seats) = Tables::new(input.alloc)?;
+    let linker = Linker::<J>::new(input.alloc, input.given, &tables)?;
+    let (run, seat) = run_linked(rt, linker, seats, input)?;
     let Linked {
         threads,
         table,
@@ -208,7 +207,7 @@ fn run_named<J: Run + Send + Sync, R: Threads + Wait + Sync, G: Gate + Sync>(
         table,
         attempts,
         forms,
-        types: types.close(seat),
+        types: tables.types.close(seat),
     })
 }
 
@@ -220,15 +219,17 @@ fn run_named<J: Run + Send + Sync, R: Threads + Wait + Sync, G: Gate + Sync>(
 /// recorded first stays, an error too, and each caller of the site gets it. The gate is called by a
 /// thread before and after it records.
 ///
-/// Where a thread had no memory, that is the answer; else it is the error of the lowest thread that
-/// stopped: no number was left for a form, or no slot for a type.
-pub fn run_plan<R: Threads + Wait + Sync, G: Gate + Sync>(
+/// If a thread stopped, the answer is the lowest one that did, and its error: no memory was left, no
+/// number for a form, or no slot for a type. Only if that one had no number and a higher one no
+/// memory, the answer is the lowest that had no memory. If memory runs out outside the threads, the
+/// answer is thread 0.
+pub fn run_all<R: Threads + Wait + Sync, G: Gate + Sync>(
     rt: &R,
     alloc: Global,
     input: &RunInput<'_>,
     plan: &Plan,
     gate: &G,
-) -> Result<RunReport, WorkError>
+) -> Result<RunReport, Stop>
     requires calls { AreCallsOf input.now.leaves.now input.now.jobs.now plan.now }
     requires limits { IsWithinLimits plan.now }
     requires jobs { AreJobs (given_by input.now) }
@@ -245,8 +246,9 @@ pub fn run_plan<R: Threads + Wait + Sync, G: Gate + Sync>(
         (λ run. run.forms ≡ forms (given_by input.now) plan.now run.attempts) }
     ensures types { IfOk result
         (λ run. run.types ≡ types (given_by input.now) (serials_of run.table)) }
-    ensures full { IfFull result (16384 < draws_needed (given_by input.now) plan.now) }
-    ensures no_slot { IfTypesFull result
+    ensures stop { IfErr result (IsStopOf plan.now) }
+    ensures full { IfFull (error_of result) (most_forms < draws_needed (given_by input.now) plan.now) }
+    ensures no_slot { IfTypesFull (error_of result)
         (λ bucket. Overfill bucket (all_types (given_by input.now) plan.now)) }
 {
     let input = Input {

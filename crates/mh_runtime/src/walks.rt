@@ -4,7 +4,7 @@ ghost use Rattle.mh_setonce.specs.ManyWalks.{DoMeet, IsLonger, chains_of};
 ghost use Rattle.mh_plan.specs.Results.{serial_at};
 ghost use Rattle.mh_runtime.specs.Passes.{FindsLinkage, HasSerials, PutsLinkage, PutsNode, linked_by, site_of};
 
-use crate::linker::Linker;
+use crate::site_linker::SiteLinker;
 use mh_attempt::Linkage;
 use mh_base::NoMemory;
 use mh_jobs::Run;
@@ -36,7 +36,7 @@ impl<'s, 't, J: Run> SiteWalks<'s, 't, J> {
     /// Walks that have learnt nothing yet.
     pub(crate) fn new(
         alloc: Global,
-        linker: &'s Linker<'t, J>,
+        linker: &'s SiteLinker<'t, J>,
     ) -> Result<SiteWalks<'s, 't, J>, NoMemory>
         ensures chains { IfOk result (λ walks. chains_of walks ≡ linker.entry.now.chains) }
         ensures linked { IfOk result
@@ -79,7 +79,7 @@ impl<'s, 't, J: Run> SiteWalks<'s, 't, J> {
     /// The linkage of a site, if it was learnt, which takes no memory, or its chain shows one now.
     pub(crate) fn find(
         &mut self,
-        linker: &'s Linker<'t, J>,
+        linker: &'s SiteLinker<'t, J>,
         site: u32,
     ) -> Result<Option<&'s Linkage<'t, J>>, NoMemory>
         requires chains { chains_of self.old ≡ linker.now.chains }
@@ -99,7 +99,7 @@ impl<'s, 't, J: Run> SiteWalks<'s, 't, J> {
         &mut self,
         rt: &R,
         alloc: Global,
-        linker: &'s Linker<'t, J>,
+        linker: &'s SiteLinker<'t, J>,
         linkage: Linkage<'t, J>,
     ) -> Result<Put<'s, Linkage<'t, J>>, Linkage<'t, J>>
         requires { chains_of self.old ≡ linker.now.chains }
@@ -118,7 +118,7 @@ impl<'s, 't, J: Run> SiteWalks<'s, 't, J> {
     }
 
     /// Of two walks of one chain, one begins with the other. It changes nothing.
-    pub(crate) fn meet(&self, linker: &Linker<'t, J>, other: &SiteWalks<'s, 't, J>)
+    pub(crate) fn meet(&self, linker: &SiteLinker<'t, J>, other: &SiteWalks<'s, 't, J>)
         requires walks { chains_of self.now ≡ linker.now.chains }
         requires other { chains_of other.now ≡ linker.now.chains }
         ensures { DoMeet self.now other.now }

@@ -1,4 +1,4 @@
-use Rattle.std.proofs.Common.{sym, subst, [], ◌∷◌}
+use Rattle.std.proofs.Common.{refl, sym, subst, [], ◌∷◌}
 use Rattle.mh_leaf.specs.LeafTable.{LeafTable}
 use Rattle.mh_tree.specs.Tree as tree
 use Rattle.mh_handle.specs.Recipe.{recipe}
@@ -11,6 +11,7 @@ use Rattle.mh_plan.specs.Forms.{call_edits, used_edits}
 use Rattle.mh_plan.specs.Types.{call_types}
 use Rattle.mh_runtime.specs.Asking.{RunsOn, RunsOnTypes}
 use Rattle.mh_runtime.proofs.RunningCalls.{call-runs}
+use Rattle.mh_runtime.proofs.ThreadSteps.{unlearnt-same}
 use Rattle.mh_runtime.proofs.AskedAnswers.{call-asks}
 use Rattle.mh_runtime.proofs.context.Context.call.Goals as goal
 
@@ -70,3 +71,11 @@ pub returns-in-Indy-clause-asked : goal.returns-in-Indy-clause-asked
 returns-in-Indy-clause-asked g c =
     subst (λ (call : Call). RunsOnTypes g.J.Run.given c.args.pass.now.attempts c.call_site.new.pass.attempts (call_types g.J.Run.given.leaves call)
     c.args.w.now.seat.now c.call_site.new.w.seat.now c.call_site.result) (sym c.in-Indy.is) c.call_site.ensures.asked
+
+-- ---- a call of a leaf attempts nothing
+
+pub returns-in-Exact-clause-unlearnt : goal.returns-in-Exact-clause-unlearnt
+returns-in-Exact-clause-unlearnt g c = unlearnt-same c.args.pass.now c.args.pass.now refl
+
+pub returns-in-Generic-clause-unlearnt : goal.returns-in-Generic-clause-unlearnt
+returns-in-Generic-clause-unlearnt g c = unlearnt-same c.args.pass.now c.args.pass.now refl

@@ -1,31 +1,44 @@
-use Rattle.std.proofs.Common.{sym, subst, [], ◌∷◌}
-use Rattle.mh_runtime.specs.Asking.{HasAskedOn}
-use Rattle.mh_runtime.proofs.LinkSteps.{attempts-learn, attempts-learnt}
-use Rattle.mh_runtime.proofs.SeatAsked.{on-none}
-use Rattle.mh_runtime.proofs.AskedAnswers.{memory-on}
+use Rattle.std.proofs.Common.{◌∙◌}
+use Rattle.mh_runtime.proofs.CallRoom.{room_left}
 use Rattle.mh_runtime.proofs.linker.Linker.resolve.Goals as goal
 
-pub returns-in_err-found-clause-attempts : goal.returns-in_err-found-clause-attempts
-returns-in_err-found-clause-attempts g c = attempts-learn c.args.site c.args.pass.now c.find.new.self c.in_err-found.ensures.learns
+pub resolve-linkage-requires-clause-ready : goal.resolve-linkage-requires-clause-ready
+resolve-linkage-requires-clause-ready g c =
+    record { of_table = c.requires.pass.forms; room = c.requires.room.forms; of_types = c.requires.pass.types; holds = c.requires.room.holds }
 
-pub returns-in-Some-clause-attempts : goal.returns-in-Some-clause-attempts
-returns-in-Some-clause-attempts g c = attempts-learn c.args.site c.args.pass.now c.find.new.self c.in_ok-found.ensures.learns
+pub returns-clause-resolves : goal.returns-clause-resolves
+returns-clause-resolves g c =
+    let reported = c.resolve-linkage.ensures in
+    record {
+      goes_on = record {
+        links = reported.pass;
+        table = reported.goes_on.table;
+        learnt = reported.goes_on.learnt;
+        room = reported.goes_on.room;
+        seat = reported.goes_on.seat;
+        holds = reported.goes_on.holds;
+      };
+      linked = reported.linked;
+      resolved = reported.resolved;
+      learnt = λ some. let all = reported.learnt some in record { learns = all.learns; recorded = all.recorded; forms = all.forms; types = all.types };
+      attempts = reported.attempts;
+      unlearnt = reported.unlearnt;
+      latest = reported.latest;
+      failed = reported.failed;
+      types = reported.types;
+      runs = reported.runs;
+      asked = reported.asked;
+    }
 
-pub returns-clause-attempts : goal.returns-clause-attempts
-returns-clause-attempts g c =
-    attempts-learnt (c.args.site ∷ []) c.args.pass.now c.find.new.self c.attempt.new.pass c.in_ok-found.ensures.learns c.attempt.ensures.attempts
+pub returns-clause-pass : goal.returns-clause-pass
+returns-clause-pass g c =
+    let reported = c.resolve-linkage.ensures in
+    record {
+      leaves = c.requires.pass.leaves;
+      links = reported.pass.linker ∙ c.requires.pass.links;
+      forms = reported.goes_on.table ∙ c.requires.pass.forms;
+      types = reported.goes_on.seat ∙ c.requires.pass.types;
+    }
 
-pub returns-in_err-found-clause-asked : goal.returns-in_err-found-clause-asked
-returns-in_err-found-clause-asked g c =
-    let attempts = c.args.pass.now.attempts in
-    let seat = c.args.w.now.seat.now in
-    memory-on g.J.Run.given attempts c.find.new.self.attempts [] seat seat c.from_residual.result c.from_residual.ensures.1
-    (subst (λ after. HasAskedOn g.J.Run.given attempts after [] seat seat) (sym c.in_err-found.ensures.learns.attempts)
-    (on-none g.J.Run.given attempts seat))
-
-pub returns-in-Some-clause-asked : goal.returns-in-Some-clause-asked
-returns-in-Some-clause-asked g c =
-    let attempts = c.args.pass.now.attempts in
-    let seat = c.args.w.now.seat.now in
-    subst (λ after. HasAskedOn g.J.Run.given attempts after [] seat seat) (sym c.in_ok-found.ensures.learns.attempts)
-    (on-none g.J.Run.given attempts seat)
+pub returns-clause-left : goal.returns-clause-left
+returns-clause-left g c = room_left _ _ (returns-clause-resolves g c).goes_on

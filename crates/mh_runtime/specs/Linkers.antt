@@ -1,0 +1,170 @@
+-- What the calls of a linker need of a thread's pass, and what they leave of it.
+use Rattle.std.specs.Prelude.{◌≡◌, ℕ, ◌+◌, ◌*◌, ◌<◌, ◌≤◌, List, [], ◌∷◌, length, None, Result, IfOk, IsSome, OnErr, OnOk}
+use Rattle.std.specs.List.{flat_map}
+use denote.Ref.{Bor}
+use Rattle.mh_handle.specs.declared.answer.Answer.{Answer}
+use Rattle.mh_handle.specs.Answers.{IsAnswer}
+use Rattle.mh_handle.specs.Joins as form_joins
+use Rattle.mh_handle.specs.Passes as form_pass
+use Rattle.mh_handle.specs.Passes.{IsPassOf, PassView, StaysLearnt}
+use Rattle.mh_handle.specs.Seats as forms_seat
+use Rattle.mh_handle.specs.Works.{most_held}
+use Rattle.mh_intern.specs.Seats.{Knows}
+use Rattle.mh_intern.specs.Views as types_seat
+use Rattle.mh_intern.specs.Views.{SeatView}
+use Rattle.mh_tickets.specs.Seats as serials_seat
+use Rattle.mh_seats.specs.Room.{limit}
+use Rattle.mh_jobs.specs.Given.{Given}
+use Rattle.mh_attempt.specs.declared.error.WorkError.{WorkError}
+use Rattle.mh_attempt.specs.Linkage.{LinkageView}
+use Rattle.mh_plan.specs.declared.call.Call.{Call}
+use Rattle.mh_plan.specs.Forms.{call_edits, thread_edits}
+use Rattle.mh_plan.specs.Naming.{sites_named}
+use Rattle.mh_plan.specs.Results.{Serials, result_of, serial_at}
+use Rattle.mh_plan.specs.Types.{call_types, thread_types}
+use Rattle.mh_runtime.specs.declared.linker.Linker.{Linker}
+use Rattle.mh_runtime.specs.declared.pass.Pass.{Pass}
+use Rattle.mh_runtime.specs.declared.stops.ThreadRun.{ThreadRun}
+use Rattle.mh_runtime.specs.declared.tables.Seats.{Seats}
+use Rattle.mh_runtime.specs.declared.tables.Tables.{Tables}
+use Rattle.mh_runtime.specs.Asking.{RunsOn, RunsOnTypes, call_draws}
+use Rattle.mh_runtime.specs.Attempts.{AreLinked, AttemptsMore, GoesOnLinking}
+use Rattle.mh_runtime.specs.Keys.{keys_of}
+use Rattle.mh_runtime.specs.Lanes.{HasAnswered}
+use Rattle.mh_runtime.specs.Linking.{HoldsRecorded}
+use Rattle.mh_runtime.specs.Passes.{AttemptsUnlearnt, HasBoth, HasSerials, IsLinkageOf, LearnsSites, RecordsLatest, pass_at, split_pass, split_room, with_seat}
+use Rattle.mh_runtime.specs.Stops.{EndAt, answered, begun, ending}
+
+-- ---- what is needed
+
+-- the seats are of the linker's tables
+pub record AreSeats {J : Type 0} (linker : Linker J) (seats : Seats) : Type 0 where
+  pub types : seats.types.table ≡ linker.types.now
+  pub forms : seats.forms.table ≡ linker.forms.now
+  pub serials : seats.serials.tickets ≡ linker.sites.serials
+
+-- the seats are of these tables and have all the room: nothing was drawn or asked for
+pub record HaveAll (tables : Tables) (seats : Seats) : Type 0 where
+  pub types_are : seats.types ≡ types_seat.new_seat tables.types limit
+  pub forms_are : seats.forms ≡ forms_seat.new_seat tables.forms limit
+  pub serials_are : seats.serials ≡ serials_seat.new_seat tables.serials limit
+
+-- the leaves are those of the run, and the pass is one over this linker, its forms and its types
+pub record IsOf {J : Type 0} (given : Given) (linker : Linker J) (pass : Pass J) : Type 0 where
+  pub leaves : linker.leaves.now ≡ given.leaves
+  pub links : pass.links.linker ≡ linker.sites
+  pub forms : IsPassOf linker.forms.now pass.forms
+  pub types : pass.types.table ≡ linker.types.now
+
+-- there is room for so many calls: each may draw a serial, and the numbers of forms that an attempt draws, and for each of these the types of a handle may be
+-- held
+pub record HasRoom {J : Type 0} (calls : ℕ) (pass : Pass J) : Type 0 where
+  pub serials : calls ≤ pass.links.seat.room
+  pub forms : call_draws * calls ≤ pass.forms.seat.room
+  pub holds : most_held * (call_draws * calls) ≤ pass.types.room
+
+-- the pass has the room that a split gives away, and more
+pub record CanSplit {J : Type 0} (pass : Pass J) : Type 0 where
+  pub serials : split_room < pass.links.seat.room
+  pub forms : split_room < pass.forms.seat.room
+  pub holds : split_room < pass.types.room
+
+-- so much room is gone
+pub record HasLessRoom {J : Type 0} (old new : Pass J) : Type 0 where
+  pub serials : new.links.seat.room + split_room ≡ old.links.seat.room
+  pub forms : new.forms.seat.room + split_room ≡ old.forms.seat.room
+  pub holds : new.types.room + split_room ≡ old.types.room
+
+-- ---- passes
+
+-- the first pass: it has learnt nothing, and has these seats
+pub record BeginsPass {J : Type 0} (sites : ℕ) (linker : Linker J) (seats : Seats) (pass : Pass J) : Type 0 where
+  pub links : pass.links ≡ pass_at linker.sites 0 sites seats.serials
+  pub forms : pass.forms ≡ form_pass.pass_at linker.forms.now seats.forms
+  pub types_are : pass.types ≡ seats.types
+
+-- this pass was split off for a thread, and so much room is gone
+pub record SplitsPass {J : Type 0} (thread : ℕ) (old new other : Pass J) : Type 0 where
+  pub links : other.links ≡ split_pass thread old.links
+  pub links_left : new.links ≡ with_seat (serials_seat.with_less_room split_room old.links.seat) old.links
+  pub forms : other.forms ≡ form_joins.split_pass old.forms
+  pub forms_left : new.forms ≡ form_joins.with_seat (forms_seat.with_less_room form_joins.split_room old.forms.seat) old.forms
+  pub types : other.types ≡ types_seat.new_seat old.types.table split_room
+  pub types_left : new.types ≡ types_seat.with_less_room split_room old.types
+
+-- the pass has what it had and what the other one had
+pub record JoinsPass {J : Type 0} (old other new : Pass J) : Type 0 where
+  pub linker : new.links.linker ≡ old.links.linker
+  pub thread : new.links.thread ≡ old.links.thread
+  pub links : HasBoth old.links other.links new.links
+  pub links_seat : new.links.seat ≡ serials_seat.joined_seats old.links.seat other.links.seat
+  pub links_known : serials_seat.KnowsAll new.links.seat
+  pub table : new.forms.table ≡ old.forms.table
+  pub forms : form_joins.KnowsBoth old.forms other.forms new.forms
+  pub forms_seat_is : new.forms.seat ≡ forms_seat.joined_seats old.forms.seat other.forms.seat
+  pub forms_known : forms_seat.KnowsAll new.forms.seat
+  pub types : new.types ≡ types_seat.joined_seats old.types other.types
+  pub types_known : Knows new.types
+
+-- ---- calls
+
+-- the pass stays with its linker, its tables and its thread, what it has learnt stays so, and at most the room for so many calls is gone
+pub record GoesOnCalling {J : Type 0} (calls : ℕ) (old new : Pass J) : Type 0 where
+  pub links : GoesOnLinking calls old.links new.links
+  pub table : new.forms.table ≡ old.forms.table
+  pub learnt : StaysLearnt old.forms new.forms
+  pub room : old.forms.seat.room ≤ new.forms.seat.room + call_draws * calls
+  pub seat : new.types.table ≡ old.types.table
+  pub holds : old.types.room ≤ new.types.room + most_held * (call_draws * calls)
+
+-- a pass that had learnt a linkage of the site is as it was: no attempt was made and none recorded, no serial and no number of a form drawn, and no type asked
+-- for or held
+pub record LeavesPass {J : Type 0} (old new : Pass J) : Type 0 where
+  pub learns : LearnsSites old.links new.links
+  pub recorded : new.links.recorded ≡ old.links.recorded
+  pub forms : new.forms ≡ old.forms
+  pub types : new.types ≡ old.types
+
+-- a site was resolved, or why it was not
+pub record Resolves {J : Type 0} (given : Given) (site : ℕ) (old new : Pass J) (result : Result (Bor LinkageView) WorkError) : Type 0 where
+  pub goes_on : GoesOnCalling 1 old new
+  -- the answer is the linkage that the pass has learnt of the site then
+  pub linked : IfOk result (λ l. IsLinkageOf new.links.linked site l.now)
+  -- a site that the pass had learnt is answered, and changes nothing
+  pub resolved : OnErr result (serial_at old.links.linked site ≡ None)
+  pub learnt : IsSome (serial_at old.links.linked site) → LeavesPass old new
+  -- an attempt is made of a site alone that was not learnt; where its linkage was recorded, it is the pass's latest; a refusal records nothing
+  pub attempts : AttemptsMore (site ∷ []) old.links new.links
+  pub unlearnt : AttemptsUnlearnt old.links new.links
+  pub latest : IfOk result (λ l. RecordsLatest l.now old.links new.links)
+  pub failed : OnErr result (new.links.recorded ≡ old.links.recorded)
+  -- the seat holds what recorded linkages hold, and as much else as before
+  pub types : HoldsRecorded given old.links.recorded new.links.recorded old.types new.types
+  -- which forms and which types were asked for
+  pub runs : RunsOn given old.links.attempts new.links.attempts [] old.forms new.forms result
+  pub asked : RunsOnTypes given old.links.attempts new.links.attempts [] old.types new.types result
+
+-- a call was made, or why it was not
+pub record MakesCall {J : Type 0} (given : Given) (call : Call) (old new : Pass J) (result : Result Answer WorkError) : Type 0 where
+  pub goes_on : GoesOnCalling 1 old new
+  -- the answer is right under each table that has the serials of what the pass has learnt
+  pub answer : (table : Serials) → HasSerials new.links.linked table → IfOk result (IsAnswer (result_of given table call) (keys_of given table call))
+  pub linked : OnOk result (AreLinked new.links.linked (sites_named call))
+  pub attempts : AttemptsMore (sites_named call) old.links new.links
+  pub unlearnt : AttemptsUnlearnt old.links new.links
+  pub types : HoldsRecorded given old.links.recorded new.links.recorded old.types new.types
+  pub runs : RunsOn given old.links.attempts new.links.attempts (call_edits given.leaves call) old.forms new.forms result
+  pub asked : RunsOnTypes given old.links.attempts new.links.attempts (call_types given.leaves call) old.types new.types result
+
+-- the calls of a thread were made, up to one that stopped it
+pub record RunsThread {J : Type 0} (given : Given) (calls : List Call) (old new : Pass J) (run : ThreadRun) : Type 0 where
+  pub goes_on : GoesOnCalling (length calls) old new
+  pub ended : EndAt calls run.answers run.stop
+  pub answers : HasAnswered given (answered run.answers calls) new.links run.answers
+  pub linked : AreLinked new.links.linked (flat_map sites_named (answered run.answers calls))
+  pub attempts : AttemptsMore (flat_map sites_named (begun run.answers calls)) old.links new.links
+  pub unlearnt : AttemptsUnlearnt old.links new.links
+  pub types : HoldsRecorded given old.links.recorded new.links.recorded old.types new.types
+  pub runs : RunsOn given old.links.attempts new.links.attempts (thread_edits given.leaves (begun run.answers calls)) old.forms new.forms (ending run.stop)
+  pub asked : RunsOnTypes given old.links.attempts new.links.attempts (thread_types given.leaves (begun run.answers calls)) old.types new.types
+      (ending run.stop)

@@ -1,0 +1,188 @@
+ghost use Rattle.std.specs.Prelude.{◌≡◌, ◌+◌, ◌<◌, ◌≤◌, ◌∷◌, [], length, IfOk, IsSome, OnErr, None};
+ghost use Rattle.mh_handle.specs.Works.{GoesOn, IsReady, leaves_of};
+ghost use Rattle.mh_jobs.specs.Given.{AreJobs};
+ghost use Rattle.mh_plan.specs.Results.{serial_at};
+ghost use Rattle.mh_runtime.specs.Asking.{RunsOn, RunsOnTypes, call_draws};
+ghost use Rattle.mh_runtime.specs.Attempts.{AttemptsMore, GoesOnLinking, LeavesAll};
+ghost use Rattle.mh_runtime.specs.Linking.{KeepsOthers};
+ghost use Rattle.mh_runtime.specs.Passes.{AttemptsUnlearnt, IsLinkageOf, RecordsLatest, most_sites};
+
+use crate::site_pass::SitePass;
+use mh_attempt::{Linkage, WorkError, attempt};
+use mh_base::NoMemory;
+use mh_handle::Work;
+use mh_jobs::{Jobs, Run};
+use mh_outside::Gate;
+use mh_script::Scripts;
+use mh_setonce::Chain;
+use mh_tickets::Tickets;
+use std::alloc::Global;
+use std::marker::Model;
+use std::sync::Wait;
+
+/// The call sites of a run, for threads that share them. Each site has a chain of one cell: what
+/// is put there first is the linkage of the site, an error too (JVMS SE 17, 5.4.3.6). Contracts see
+/// the chains, and the counter of the attempts' serials.
+#[derive(Drop)]
+pub struct SiteLinker<'t, J: Run> {
+    jobs: &'t Jobs,
+    scripts: &'t Scripts,
+    serials: &'t Tickets,
+    chains: Vec<Chain<Linkage<'t, J>>>,
+}
+
+impl<'t, J: Run> Model for SiteLinker<'t, J> {
+    ghost use Rattle.mh_runtime.specs.Passes.{IsLinker, LinkerView};
+
+    ghost Value = { LinkerView };
+
+    ghost view = { λ l. record { chains = l.chains.items; serials = l.serials.now } };
+
+    ghost invariant = { λ l. IsLinker J.given l.jobs.now l.scripts.now
+        (record { chains = l.chains.items; serials = l.serials.now }) };
+}
+
+// A chain of one cell for each of so many sites.
+fn site_chains<'t, J: Run>(
+    alloc: Global,
+    sites: usize,
+) -> Result<Vec<Chain<Linkage<'t, J>>>, NoMemory>
+    ensures { IfOk result (λ chains. length chains.items ≡ sites) }
+{
+    let mut chains = Vec::with_capacity(alloc, sites)?;
+    for _ in 0..sites {
+        chains.push(Chain::new(alloc, 1)?)?;
+    }
+    Ok(chains)
+}
+
+impl<'t, J: Run> SiteLinker<'t, J> {
+    /// A linker that has linked nothing, whose attempts draw their serials from this counter.
+    pub(crate) fn new(
+        alloc: Global,
+        jobs: &'t Jobs,
+        scripts: &'t Scripts,
+        tickets: &'t Tickets,
+    ) -> Result<SiteLinker<'t, J>, NoMemory>
+        requires jobs { jobs.now ≡ J.given.jobs }
+        requires scripts { scripts.now ≡ J.given.scripts }
+        requires are_jobs { AreJobs J.given }
+        requires few { length J.given.jobs ≤ most_sites }
+        ensures { IfOk result (λ linker. linker.serials ≡ tickets.entry.now) }
+    {
+        Ok(SiteLinker {
+            jobs,
+            scripts,
+            serials: tickets,
+            chains: site_chains(alloc, jobs.len())?,
+        })
+    }
+
+    /// How many call sites the run has.
+    pub(crate) fn sites(&self) -> usize
+        ensures sites { result ≡ length J.given.jobs }
+        ensures few { result ≤ most_sites }
+    {
+        self.jobs.len()
+    }
+
+    /// The jobs of the call sites.
+    pub(crate) fn jobs(&self) -> &Jobs
+        ensures { result.now ≡ J.given.jobs }
+    {
+        self.jobs
+    }
+
+    /// The counter of the attempts' serials.
+    pub(crate) fn serials(&self) -> &Tickets
+        ensures { result.now ≡ self.now.serials }
+    {
+        self.serials
+    }
+
+    /// The chains of the sites, in the order of the sites' numbers.
+    pub(crate) fn chains(&self) -> &[Chain<Linkage<'t, J>>]
+        ensures chains { result.now ≡ self.now.chains }
+        ensures count { length self.now.chains ≡ length J.given.jobs }
+    {
+        self.chains.as_slice()
+    }
+
+    // Attempts a site of which the pass has learnt no linkage, and records what that gives unless
+    // another thread has recorded before.
+    fn attempt<'s, R: Wait, G: Gate>(
+        &'s self,
+        w: &mut Work<'_, 't>,
+        rt: &R,
+        pass: &mut SitePass<'s, 't, J>,
+        gate: &G,
+        site: u32,
+    ) -> Result<&'s Linkage<'t, J>, WorkError>
+        requires pass { pass.old.linker ≡ self.now }
+        requires new { serial_at pass.old.linked site ≡ None }
+        requires site { site < length J.given.jobs }
+        requires leaves { leaves_of w.old ≡ J.given.leaves }
+        requires ready { IsReady w.old call_draws }
+        requires room { 1 ≤ pass.old.seat.room }
+        ensures goes_on { GoesOn call_draws w.old w.new }
+        ensures pass { GoesOnLinking 1 pass.old pass.new }
+        ensures attempts { AttemptsMore (site ∷ []) pass.old pass.new }
+        ensures linked { IfOk result (λ l. IsLinkageOf pass.new.linked site l.now) }
+        ensures failed { OnErr result (pass.new.recorded ≡ pass.old.recorded) }
+        ensures latest { IfOk result (λ l. RecordsLatest l.now pass.old pass.new) }
+        ensures unlearnt { AttemptsUnlearnt pass.old pass.new }
+        ensures types { KeepsOthers J.given pass.old.recorded pass.new.recorded w.old w.new }
+        ensures runs { RunsOn J.given pass.old.attempts pass.new.attempts []
+            w.old.pass.now w.new.pass.now result }
+        ensures asked { RunsOnTypes J.given pass.old.attempts pass.new.attempts
+            [] w.old.seat.now w.new.seat.now result }
+    {
+        let serial = pass.begin(self, site)?;
+        let linkage = attempt(w, rt, self.scripts, self.jobs.get(site), serial)?;
+        gate.before_record(pass.thread(), site);
+        let linkage = pass.record(w, rt, self, linkage)?;
+        gate.after_record(pass.thread(), site);
+        Ok(linkage)
+    }
+
+    /// The linkage of a site: that which the pass has learnt, or its chain shows, or that of an
+    /// attempt that is made now, unless another thread has recorded one meanwhile. One that the pass
+    /// has learnt takes no memory. After a refusal nothing was recorded, and the serial of the
+    /// attempt is spent.
+    pub(crate) fn resolve<'s, R: Wait, G: Gate>(
+        &'s self,
+        w: &mut Work<'_, 't>,
+        rt: &R,
+        pass: &mut SitePass<'s, 't, J>,
+        gate: &G,
+        site: u32,
+    ) -> Result<&'s Linkage<'t, J>, WorkError>
+        requires pass { pass.old.linker ≡ self.now }
+        requires site { site < length J.given.jobs }
+        requires leaves { leaves_of w.old ≡ J.given.leaves }
+        requires ready { IsReady w.old call_draws }
+        requires room { 1 ≤ pass.old.seat.room }
+        ensures goes_on { GoesOn call_draws w.old w.new }
+        ensures pass { GoesOnLinking 1 pass.old pass.new }
+        ensures attempts { AttemptsMore (site ∷ []) pass.old pass.new }
+        ensures linked { IfOk result (λ l. IsLinkageOf pass.new.linked site l.now) }
+
+        // A site that the pass has learnt is answered, and changes nothing.
+        ensures resolved { OnErr result (serial_at pass.old.linked site ≡ None) }
+        ensures learnt { IsSome (serial_at pass.old.linked site)
+            → LeavesAll pass.old pass.new w.old w.new }
+        ensures failed { OnErr result (pass.new.recorded ≡ pass.old.recorded) }
+        ensures latest { IfOk result (λ l. RecordsLatest l.now pass.old pass.new) }
+        ensures unlearnt { AttemptsUnlearnt pass.old pass.new }
+        ensures types { KeepsOthers J.given pass.old.recorded pass.new.recorded w.old w.new }
+        ensures runs { RunsOn J.given pass.old.attempts pass.new.attempts []
+            w.old.pass.now w.new.pass.now result }
+        ensures asked { RunsOnTypes J.given pass.old.attempts pass.new.attempts
+            [] w.old.seat.now w.new.seat.now result }
+    {
+        if let Some(found) = pass.find(self, site)? {
+            return Ok(found);
+        }
+        self.attempt(w, rt, pass, gate, site)
+    }
+}
