@@ -1,5 +1,5 @@
-//! Class files: their texts, constant pools and call sites, and those that are made. The class files
-//! and the call sites are for other crates of tests too.
+//! Class files: their texts, constant pools and call sites, those that are made, and what attempts link
+//! at call sites. The class files and the call sites are for other crates of tests too.
 #![tactic(auto)]
 
 #[cfg(test)]
@@ -7,6 +7,12 @@ mod broken;
 #[cfg(test)]
 mod cuts;
 pub mod files;
+#[cfg(test)]
+mod linked_calls;
+#[cfg(test)]
+mod linked_files;
+#[cfg(test)]
+mod links;
 #[cfg(test)]
 mod made;
 #[cfg(test)]

@@ -1,18 +1,12 @@
-//! Handles: no type stays held after they are made and called, attempts share forms, and values,
-//! forms, handles and answers go from thread to thread.
+//! Handles: no type stays held after they are made and called, and values, forms, handles and answers
+//! go from thread to thread.
 #![tactic(auto)]
 
-#[cfg(test)]
-mod cases;
 mod edits;
-#[cfg(test)]
-mod files;
 #[cfg(test)]
 mod handles;
 #[cfg(test)]
 mod linkages;
-#[cfg(test)]
-mod links;
 #[cfg(test)]
 mod passes;
 mod racing;

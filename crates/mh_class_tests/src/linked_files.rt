@@ -1,7 +1,7 @@
 //! Class files of one call site.
 
 ghost use Rattle.std.specs.Prelude.{OnOk, IfOk};
-ghost use Rattle.mh_handle_tests.specs.Files.{Extends};
+ghost use Rattle.mh_class_tests.specs.LinkedFiles.{Extends};
 
 use std::alloc::{AllocError, Global};
 

@@ -1,5 +1,5 @@
 use Rattle.std.proofs.Common.{[], ◌∷◌}
-use Rattle.mh_handle_tests.proofs.cases.job_text.Given as goal
+use Rattle.mh_class_tests.proofs.linked_calls.job_text.Given as goal
 
 -- the job is the only one of its run
 abbrev pub ghosts-named_text : goal.ghosts-named_text

@@ -1,7 +1,7 @@
 use Rattle.std.proofs.Common.{[]}
 use Rattle.mh_handle.proofs.Going.{goes_on-before, seated-back}
 use Rattle.mh_steps.proofs.Adding.{adds-held, adds-next}
-use Rattle.mh_handle_tests.proofs.cases.attempt_text.Goals as goal
+use Rattle.mh_class_tests.proofs.linked_calls.attempt_text.Goals as goal
 
 -- the linkage is given back, with all that the attempt has left held
 pub give_back-requires-clause-held : goal.give_back-requires-clause-held

@@ -1,5 +1,5 @@
-use crate::cases::{Attempt, Case, first_failing};
-use crate::files::NONE;
+use crate::linked_calls::{Attempt, Case, first_failing};
+use crate::linked_files::NONE;
 use std::test::Fail;
 
 /// The first attempt, without a static argument.

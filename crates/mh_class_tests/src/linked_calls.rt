@@ -8,7 +8,7 @@ ghost use Rattle.mh_handle.specs.Works.{GoesOn, IsReady, leaves_of};
 ghost use Rattle.mh_jobs.specs.Given.{IsJob};
 ghost use Rattle.mh_steps.specs.AnyTypes.{ExchangesAny};
 
-use crate::files::{Constants, LINKED, Site, class_file};
+use crate::linked_files::{Constants, LINKED, Site, class_file};
 use mh_attempt::{Linkage, Linked, WorkError, attempt};
 use mh_base::NoMemory;
 use mh_classfile::read;
