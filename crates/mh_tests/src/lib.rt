@@ -7,6 +7,8 @@ mod broken;
 #[cfg(test)]
 mod outside;
 #[cfg(test)]
+mod passes;
+#[cfg(test)]
 mod racing;
 #[cfg(test)]
 mod runs;
