@@ -102,10 +102,29 @@ fn push_joined(
     Ok(())
 }
 
-/// The text that pieces join to, each argument as its text, in one allocation of its length. The
-/// arguments have the types that the pieces take. A text of more than [`MOST_CHARACTERS`] throws
-/// `InternalError`, and is not built.
+/// The text that pieces join to, each argument as its text, in one allocation of its length. A text
+/// of more than [`MOST_CHARACTERS`] throws `InternalError`, and is not built.
 #[tactic(auto, using(crate::proofs::Joins::long_text, crate::proofs::Joins::short_text))]
+pub fn join_values(
+    alloc: Global,
+    pieces: &Pieces,
+    args: &[Value],
+    classes: &Classes,
+) -> Result<Outcome, NoMemory>
+    ensures { IfOk result (λ outcome. outcome ≡ joined classes.now pieces.now args.now) }
+{
+    let pieces = pieces.as_slice();
+    let Some(characters) = joined_length(pieces, args, classes) else {
+        let refusal = Exc::saying(alloc, ClassId::INTERNAL_ERROR, b"string too long")?;
+        return Ok(Outcome::Throw(refusal));
+    };
+    let mut chars = Vec::with_capacity(alloc, characters)?;
+    push_joined(&mut chars, pieces, args, classes)?;
+    let text = Frozen::of(alloc, Seq::from_vec(chars))?;
+    Ok(Outcome::Return(Some(Value::Text(text))))
+}
+
+/// The same of a list of arguments, which have the types that the pieces take.
 pub fn join_pieces(
     alloc: Global,
     pieces: &Pieces,
@@ -115,14 +134,5 @@ pub fn join_pieces(
     requires { HaveTypes classes.now args.now (arg_types pieces.now) }
     ensures { IfOk result (λ outcome. outcome ≡ joined classes.now pieces.now args.now) }
 {
-    let pieces = pieces.as_slice();
-    let args = args.as_slice();
-    let Some(characters) = joined_length(pieces, args, classes) else {
-        let refusal = Exc::saying(alloc, ClassId::INTERNAL_ERROR, b"string too long")?;
-        return Ok(Outcome::Throw(refusal));
-    };
-    let mut chars = Vec::with_capacity(alloc, characters)?;
-    push_joined(&mut chars, pieces, args, classes)?;
-    let text = Frozen::of(alloc, Seq::from_vec(chars))?;
-    Ok(Outcome::Return(Some(Value::Text(text))))
+    join_values(alloc, pieces, args.as_slice(), classes)
 }

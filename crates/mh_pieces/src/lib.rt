@@ -7,6 +7,6 @@ mod piece;
 mod recipe;
 mod texts;
 
-pub use joined::join_pieces;
+pub use joined::{join_pieces, join_values};
 pub use piece::{Piece, Pieces};
 pub use recipe::{RecipeError, read_recipe};
