@@ -8,12 +8,14 @@ use Rattle.mh_values.specs.declared.value.LeafId.{LeafId}
 use Rattle.mh_values.specs.declared.value.Value.{Value}
 use Rattle.mh_values.specs.Computation.{Stuck, found}
 use Rattle.mh_leaf.specs.LeafTable.{LeafTable}
-use Rattle.mh_leaf.specs.Outcome.{leaf_mean}
-use Rattle.mh_form.specs.declared.name.Name.TheVariants.{Call}
+use Rattle.mh_leaf.specs.Outcome.{leaf_mean, ran_of}
+use Rattle.mh_pieces.specs.declared.piece.Piece.{Piece}
+use Rattle.mh_pieces.specs.Joined.{arg_types, joined}
+use Rattle.mh_form.specs.declared.name.Name.TheVariants.{Call, Join}
 use Rattle.mh_form.specs.declared.slot.Slot.{Slot}
 use Rattle.mh_form.specs.Erasure.{all_typed, erased_ran, typed_at, typed_slot, value_and_more}
-use Rattle.mh_form.specs.Run.{Sense, field_of, leaf_of, picked, picked_more, step, with_field}
-use Rattle.mh_form.specs.Slots.{called, called_at, filled}
+use Rattle.mh_form.specs.Run.{Sense, field_of, joined_of, leaf_of, picked, picked_more, step, with_field}
+use Rattle.mh_form.specs.Slots.{called, called_at, filled, joined_at, joined_slots}
 use Rattle.mh_form.proofs.Typing.{drop-at, first-left, typed_on, typed_on-more}
 
 picked-step :
@@ -66,6 +68,34 @@ pub step-called :
     step (Call f ps) senses slots n ≢ Stuck →
     step (Call f ps) senses slots n ≡ filled (called_at table l slots ps n)
 step-called table l senses f slots ps n is goes = step-of table l senses f slots ps n (picked slots ps) refl is goes
+
+-- ---- pieces
+
+joined_at-picked :
+    (classes : List Class) (pieces : List Piece) (slots : List Slot) (ps : List ℕ) (xs : List Slot) →
+    picked slots ps ≡ Some xs → joined_at classes pieces slots ps ≡ joined_slots classes pieces xs
+joined_at-picked classes pieces slots ps xs h =
+    ap (λ o. found o (λ args. filled (erased_ran (ran_of (joined classes pieces args) [])))) (typed_at-picked classes slots (arg_types pieces) ps xs h)
+
+join-of :
+    (classes : List Class) (pieces : List Piece) (senses : List Sense) (f : ℕ) (slots : List Slot) (ps : List ℕ) (n : ℕ) (o : Option (List Slot)) →
+    picked slots ps ≡ o →
+    field_of joined_of senses f ≡ Some (joined_slots classes pieces) →
+    step (Join f ps) senses slots n ≢ Stuck →
+    step (Join f ps) senses slots n ≡ joined_at classes pieces slots ps
+join-of classes pieces senses f slots ps n None picks is goes =
+    absurd (goes (ap (λ o. found o (λ xs. with_field joined_of senses f (λ join. join xs))) picks))
+join-of classes pieces senses f slots ps n (Some xs) picks is goes =
+    ap (λ o. found o (λ xs. with_field joined_of senses f (λ join. join xs))) picks
+    ∙ (ap (λ o. found o (λ join. join xs)) is ∙ sym (joined_at-picked classes pieces slots ps xs picks))
+
+-- pieces that are joined and go on are joined on the slots at their places
+pub step-joined :
+    (classes : List Class) (pieces : List Piece) (senses : List Sense) (f : ℕ) (slots : List Slot) (ps : List ℕ) (n : ℕ) →
+    field_of joined_of senses f ≡ Some (joined_slots classes pieces) →
+    step (Join f ps) senses slots n ≢ Stuck →
+    step (Join f ps) senses slots n ≡ joined_at classes pieces slots ps
+step-joined classes pieces senses f slots ps n is goes = join-of classes pieces senses f slots ps n (picked slots ps) refl is goes
 
 -- ---- the arguments of a leaf, one after another
 

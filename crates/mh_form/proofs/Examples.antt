@@ -8,11 +8,12 @@ use Rattle.mh_values.specs.declared.value.Cell.TheVariants as cell
 use Rattle.mh_values.specs.declared.value.Num.TheVariants as num
 use Rattle.mh_values.specs.declared.value.Value.TheVariants as value
 use Rattle.mh_values.specs.Class.{arithmetic_class, class_cast_class, illegal_argument_class, integer_class, internal_error_class, null_pointer_class, object_class}
-use Rattle.mh_values.specs.Computation.{Ran, Gave, Threw}
+use Rattle.mh_values.specs.Computation.{Ran, Gave, Threw, Stuck}
 use Rattle.mh_values.specs.Exception.{bare, saying}
 use Rattle.mh_convert.specs.declared.conv.Conv.{Conv}
 use Rattle.mh_convert.specs.declared.conv.RetConv.TheVariants as ret
 use Rattle.mh_leaves.specs.Registered.{nothing_registered}
+use Rattle.mh_pieces.specs.declared.piece.Piece.TheVariants as piece
 use Rattle.mh_form.specs.declared.field.Field.{Field}
 use Rattle.mh_form.specs.declared.field.Field.TheVariants as field
 use Rattle.mh_form.specs.declared.name.Name.{Name}
@@ -115,3 +116,15 @@ null_has_no_items = refl
 
 takes_items : ran (name.Elem 0 1) other array ≡ gave (slot.I (pos 6))
 takes_items = refl
+
+joins_pieces :
+    ran (name.Join 0 (0 ∷ [])) (field.Joined (piece.Lit (codes "x=") ∷ piece.Arg (ty.Prim primitive.Z) ∷ [])) (slot.I (pos 1))
+    ≡ gave (slot.L (value.Text (codes "x=true")))
+joins_pieces = refl
+
+-- the pieces of a field that takes no arguments stand for no array of a component type
+pieces_make_no_array : ran (name.MakeArray 0 []) (field.Joined (piece.Lit (codes "x") ∷ [])) (slot.I (pos 1)) ≡ Stuck
+pieces_make_no_array = refl
+
+components_join_nothing : ran (name.Join 0 []) (field.Comp (comp.Prim primitive.I)) (slot.I (pos 1)) ≡ Stuck
+components_join_nothing = refl

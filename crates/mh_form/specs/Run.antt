@@ -8,7 +8,7 @@ use Rattle.mh_values.specs.Computation.{Ran, Gave, Threw, and_then, found, guard
 use Rattle.mh_leaf.specs.LeafTable.{LeafTable}
 use Rattle.mh_form.specs.declared.body.FormBody.{FormBody}
 use Rattle.mh_form.specs.declared.name.Name.{Name}
-use Rattle.mh_form.specs.declared.name.Name.TheVariants.{Get, Call, Link, Select, Guarded, Conv, Cast, Ret, MakeArray, CheckArray, Elem, Raise}
+use Rattle.mh_form.specs.declared.name.Name.TheVariants.{Get, Call, Link, Select, Guarded, Conv, Cast, Ret, MakeArray, CheckArray, Elem, Join, Raise}
 use Rattle.mh_form.specs.declared.slot.Slot.{Slot}
 use Rattle.mh_form.specs.declared.slot.Slot.TheVariants as slot
 use Rattle.mh_form.specs.declared.outcome.Ran.{Ran as Done}
@@ -18,14 +18,14 @@ use Rattle.mh_form.specs.declared.field.Bound.{Bound, Row_of-Field, end_of-Field
 use Rattle.mh_form.specs.declared.field.Field.{Field}
 use Rattle.mh_form.specs.declared.field.Field.TheVariants.{Part'}
 use Rattle.mh_form.specs.declared.field.Field.TheVariants as field
-use Rattle.mh_form.specs.Slots.{called, filled, holds_one, converted, ret_converted, made_array, checked_array, item_in, raised_slot}
+use Rattle.mh_form.specs.Slots.{called, filled, holds_one, converted, ret_converted, made_array, joined_slots, checked_array, item_in, raised_slot}
 
 -- what runs on a list of slots, where n leaf calls were made before
 abbrev pub SlotRun : Type 0
 SlotRun = List Slot → ℕ → Ran (Option Slot)
 
--- what a field stands for: a slot, a leaf, a part, the exceptions that a class takes, a conversion, a return conversion, or the making of arrays of a
--- component type
+-- what a field stands for: a slot, a leaf, a part, the exceptions that a class takes, a conversion, a return conversion, the making of arrays of a
+-- component type, or the joining of pieces
 pub data Sense : Type 0 where
   IsSlot : Slot → Sense
   IsLeaf : SlotRun → Sense
@@ -34,6 +34,7 @@ pub data Sense : Type 0 where
   IsConv : (Slot → Ran Slot) → Sense
   IsRet : (Option Slot → Ran (Option Slot)) → Sense
   IsComp : (List Slot → Ran Slot) → Sense
+  IsJoined : (List Slot → Ran Slot) → Sense
 
 -- the slot of a field
 abbrev pub slot_of : Sense → Option Slot
@@ -69,6 +70,11 @@ ret_of _ = None
 abbrev pub comp_of : Sense → Option (List Slot → Ran Slot)
 comp_of (IsComp f) = Some f
 comp_of _ = None
+
+-- the pieces of a field, as what they join to
+abbrev pub joined_of : Sense → Option (List Slot → Ran Slot)
+joined_of (IsJoined f) = Some f
+joined_of _ = None
 
 -- a field of a kind, if it is there
 abbrev pub of_kind : {A : Type 0} → (Sense → Option A) → Option Sense → Option A
@@ -130,6 +136,7 @@ step (Ret f i) senses slots n = with_field ret_of senses f (λ conv. with_result
 step (MakeArray f args) senses slots n = found (picked slots args) (λ xs. with_field comp_of senses f (λ make. make xs))
 step (CheckArray i count) senses slots n = found (slice_get slots i) (λ s. filled (checked_array count s))
 step (Elem i k) senses slots n = found (slice_get slots i) (λ s. found (item_in s k) (λ item. Gave item []))
+step (Join f args) senses slots n = found (picked slots args) (λ xs. with_field joined_of senses f (λ join. join xs))
 step (Raise i) senses slots n = found (slice_get slots i) raised_slot
 
 -- the names in order, and then what comes at their end; a name that throws ends the run
@@ -156,6 +163,7 @@ abbrev mutual
   sense table (field.Conv c) = IsConv (converted table.classes c)
   sense table (field.Ret c) = IsRet (ret_converted table.classes c)
   sense table (field.Comp c) = IsComp (made_array table.classes c)
+  sense table (field.Joined pieces) = IsJoined (joined_slots table.classes pieces)
 
   pub senses_of : {m : _} → LeafTable → Row_of-Field m → List Sense
   senses_of table end_of-Field = []

@@ -16,7 +16,9 @@ use Rattle.mh_convert.specs.declared.conv.RetConv.{RetConv}
 use Rattle.mh_convert.specs.declared.conv.RetConv.TheVariants as ret
 use Rattle.mh_convert.specs.Conversion.{can, conv, default_of}
 use Rattle.mh_leaf.specs.LeafTable.{LeafTable}
-use Rattle.mh_leaf.specs.Outcome.{leaf_mean}
+use Rattle.mh_leaf.specs.Outcome.{leaf_mean, ran_of}
+use Rattle.mh_pieces.specs.declared.piece.Piece.{Piece}
+use Rattle.mh_pieces.specs.Joined.{arg_types, joined}
 use Rattle.mh_form.specs.declared.slot.Slot.{Slot}
 use Rattle.mh_form.specs.declared.slot.Slot.TheVariants as slot
 use Rattle.mh_form.specs.Erasure.{erased, erased_ran, typed, all_typed, typed_at}
@@ -69,6 +71,16 @@ ret_converted classes (ret.Value c) None = Stuck
 abbrev pub made_array : List Class → Comp → List Slot → Ran Slot
 made_array classes c slots =
     found (all_typed classes (map (λ s. item_type c) slots) slots) (λ vs. slot_or_throw (array_of c vs))
+
+-- the text that pieces join to, on slots that are the erasures of arguments of the types that the pieces take
+abbrev pub joined_slots : List Class → List Piece → List Slot → Ran Slot
+joined_slots classes pieces slots =
+    found (all_typed classes (arg_types pieces) slots) (λ args. filled (erased_ran (ran_of (joined classes pieces args) [])))
+
+-- the same on the slots at these places
+abbrev pub joined_at : List Class → List Piece → List Slot → List ℕ → Ran Slot
+joined_at classes pieces slots places =
+    found (typed_at classes slots (arg_types pieces) places) (λ args. filled (erased_ran (ran_of (joined classes pieces args) [])))
 
 -- the items of an array in a slot from which so many are wanted, erased
 abbrev pub spread_slots : ℕ → Slot → Ran (List Slot)

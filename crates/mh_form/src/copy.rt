@@ -7,7 +7,8 @@ use mh_base::{Copied, NoMemory};
 use std::alloc::Global;
 use std::sync::Arc;
 
-/// A copy of a field, which stands for the same. A part is shared, so its copy takes no memory.
+/// A copy of a field, which stands for the same. A part is shared, and so are
+/// pieces, so their copies take no memory.
 pub fn copy_field<'t>(alloc: Global, field: &Field<'t>) -> Result<Field<'t>, NoMemory>
     ensures { (table : LeafTable) → IfOk result (λ copy. sense table copy ≡ sense table field.now) }
 {
@@ -19,6 +20,7 @@ pub fn copy_field<'t>(alloc: Global, field: &Field<'t>) -> Result<Field<'t>, NoM
         Field::Conv(conv) => Ok(Field::Conv(*conv)),
         Field::Ret(conv) => Ok(Field::Ret(*conv)),
         Field::Comp(comp) => Ok(Field::Comp(*comp)),
+        Field::Joined(pieces) => Ok(Field::Joined(pieces.copy(alloc)?)),
     }
 }
 
@@ -83,6 +85,7 @@ impl Copied for Name {
             Name::MakeArray(comp, args) => Name::MakeArray(*comp, args.copy()?),
             Name::CheckArray(slot, count) => Name::CheckArray(*slot, *count),
             Name::Elem(slot, item) => Name::Elem(*slot, *item),
+            Name::Join(pieces, args) => Name::Join(*pieces, args.copy()?),
             Name::Raise(slot) => Name::Raise(*slot),
         })
     }

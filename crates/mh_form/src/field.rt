@@ -1,5 +1,6 @@
 use crate::{FormBody, Slot};
 use mh_convert::{Conv, RetConv};
+use mh_pieces::Pieces;
 use mh_values::{ClassId, Comp, LeafId};
 use std::alloc::Global;
 use std::sync::Arc;
@@ -22,6 +23,8 @@ pub enum Field<'t> {
     Ret(RetConv),
     /// The component type of an array.
     Comp(Comp),
+    /// The pieces of a concatenation.
+    Joined(Pieces),
 }
 
 /// The fields of a form, by their number.

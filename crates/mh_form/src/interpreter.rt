@@ -11,7 +11,7 @@ use crate::going::Going;
 use crate::invocation::Invocation;
 use crate::lookup::class_in;
 use crate::machine::Machine;
-use crate::plain::{array, call_leaf, check, convert, convert_returned, get, item, throw};
+use crate::plain::{array, call_leaf, check, convert, convert_returned, get, item, join, throw};
 use crate::slots::holds_one;
 use crate::stack::Stack;
 use crate::{Bound, Field, Name, Operands, Ran, Slot, SlotOutcome, Slots};
@@ -234,6 +234,7 @@ fn step(
         Name::MakeArray(field, items) => array(stack, call, bound, *field, items),
         Name::CheckArray(slot, count) => check(stack, *slot, *count),
         Name::Elem(slot, at) => item(stack, *slot, *at),
+        Name::Join(field, args) => join(stack, call, bound, *field, args),
         Name::Raise(slot) => throw(stack, *slot),
     }
 }

@@ -3,12 +3,13 @@
 ghost use Rattle.std.specs.Prelude.{◌≡◌, slice_get};
 ghost use Rattle.std.specs.Option.{option_copied, option_map};
 ghost use Rattle.mh_values.specs.Computation.{is_caught};
-ghost use Rattle.mh_form.specs.Slots.{called, converted, made_array, ret_converted};
-ghost use Rattle.mh_form.specs.Run.{class_of, comp_of, conv_of, field_of, leaf_of, ret_of, senses_in, slot_of};
+ghost use Rattle.mh_form.specs.Slots.{called, converted, joined_slots, made_array, ret_converted};
+ghost use Rattle.mh_form.specs.Run.{class_of, comp_of, conv_of, field_of, joined_of, leaf_of, ret_of, senses_in, slot_of};
 
 use crate::{Bound, Field, Slot};
 use mh_convert::{Conv, RetConv};
 use mh_leaves::Leaves;
+use mh_pieces::Pieces;
 use mh_values::{ClassId, Comp, LeafId};
 
 /// The field of a number, if there is one.
@@ -74,6 +75,16 @@ pub(crate) fn comp_in(bound: &Bound<'_>, leaves: &Leaves, field: u32) -> Option<
 {
     match field_at(bound, field)? {
         Field::Comp(found) => Some(*found),
+        _ => None,
+    }
+}
+
+pub(crate) fn pieces_in<'a>(bound: &'a Bound<'_>, leaves: &Leaves, field: u32) -> Option<&'a Pieces>
+    ensures { option_map (joined_slots leaves.now.classes) (option_copied result)
+        ≡ field_of joined_of (senses_in leaves.now bound.now) field }
+{
+    match field_at(bound, field)? {
+        Field::Joined(found) => Some(found),
         _ => None,
     }
 }

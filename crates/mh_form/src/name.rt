@@ -35,6 +35,8 @@ pub enum Name {
     CheckArray(u32, u32),
     /// `Elem(slot, item)`: an item of the array in a slot.
     Elem(u32, u32),
+    /// `Join(field, arguments)`: joins the pieces in a field, with these slots as their arguments.
+    Join(u32, Operands),
     /// `Raise(slot)`: throws the exception in a slot.
     Raise(u32),
 }

@@ -2,7 +2,7 @@
 
 ghost use Rattle.std.specs.Prelude.{◌≡◌, ◌≢◌, IfOk, []};
 ghost use Rattle.mh_values.specs.Computation.{Stuck};
-ghost use Rattle.mh_form.specs.declared.name.Name.TheVariants.{Get, Call, Conv, Ret, MakeArray, CheckArray, Elem, Raise};
+ghost use Rattle.mh_form.specs.declared.name.Name.TheVariants.{Get, Call, Conv, Ret, MakeArray, CheckArray, Elem, Join, Raise};
 ghost use Rattle.mh_form.specs.Run.{step};
 ghost use Rattle.mh_form.specs.Stack.{done, on_stack, step_on};
 
@@ -10,8 +10,9 @@ use crate::array::{check_array, item_in, make_array};
 use crate::convert::{convert_result, convert_slot};
 use crate::going::Going;
 use crate::invocation::Invocation;
+use crate::join::join_at;
 use crate::leaf::call_at;
-use crate::lookup::{comp_in, conv_in, leaf_in, ret_in, slot_in};
+use crate::lookup::{comp_in, conv_in, leaf_in, pieces_in, ret_in, slot_in};
 use crate::slots::{pick, raise, result_in};
 use crate::stack::Stack;
 use crate::{Bound, Operands};
@@ -140,6 +141,26 @@ pub(crate) fn item(stack: &mut Stack, slot: u32, item: u32) -> Result<Going, NoM
 {
     let item = item_in(stack.alloc(), stack.at(slot), item)?;
     stack.give(Ok(item))
+}
+
+/// Joins the pieces in a field, with the slots at these places as their arguments.
+pub(crate) fn join(
+    stack: &mut Stack,
+    call: &Invocation<'_>,
+    bound: &Bound<'_>,
+    field: u32,
+    args: &Operands,
+) -> Result<Going, NoMemory>
+    requires { step_on call.now.leaves.now call.now.n bound.now (Join field args.now) stack.old
+        ≢ Stuck }
+    ensures done { IfOk result (λ g. done g stack.new ≡ on_stack stack.old
+        (step_on call.now.leaves.now call.now.n bound.now (Join field args.now) stack.old)) }
+    ensures below { IfOk result (λ g. stack.new.below ≡ stack.old.below) }
+{
+    let Some(pieces) = pieces_in(bound, call.leaves, field) else {
+        unreachable!()
+    };
+    join_at(stack, pieces, args, call.leaves.classes())
 }
 
 /// Throws the exception in the slot at a place.

@@ -220,6 +220,13 @@ impl Stack {
         typed_at(&mut self.args, types, slots, places, classes)
     }
 
+    /// Drops the arguments that were taken.
+    pub(crate) fn unload(&mut self)
+        ensures { self.new ≡ record self.old { args = [] } }
+    {
+        self.args.clear();
+    }
+
     /// Notes a call of a leaf on the slots at these places, as values of its types. No value is
     /// made.
     pub(crate) fn note(

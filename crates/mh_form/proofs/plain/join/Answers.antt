@@ -1,0 +1,30 @@
+use Rattle.std.proofs.Common.{◌≡◌, sym, ap, ◌∙◌, subst, IfOk}
+use Rattle.mh_values.specs.Computation.{raised}
+use Rattle.mh_form.specs.Run.{senses_in}
+use Rattle.mh_form.specs.Slots.{joined_at}
+use Rattle.mh_form.specs.Stack.{done, on_stack, step_on}
+use Rattle.mh_form.proofs.CalledAt.{step-joined}
+use Rattle.mh_form.specs.declared.name.Name.TheVariants.{Join}
+use Rattle.mh_form.proofs.plain.join.Goals as goal
+
+pub join_at-requires : goal.join_at-requires
+join_at-requires c =
+    let call = c.args.call.now in
+    let frame = c.args.stack.now.frame in
+    let args = c.args.args.now in
+    let pieces = c.in-Some.pieces.now in
+    let step = step-joined call.leaves.now.classes pieces (senses_in call.leaves.now c.args.bound.now) c.args.field frame args
+    (raised call.n c.args.stack.now.calls) (sym c.in-Some.ensures) c.requires in
+    λ none. c.requires (step ∙ (sym (ap (λ cs. joined_at cs pieces frame args) c.classes.ensures) ∙ none))
+
+pub returns-clause-done : goal.returns-clause-done
+returns-clause-done c =
+    let call = c.args.call.now in
+    let frame = c.args.stack.now.frame in
+    let args = c.args.args.now in
+    let pieces = c.in-Some.pieces.now in
+    let step = step-joined call.leaves.now.classes pieces (senses_in call.leaves.now c.args.bound.now) c.args.field frame args
+    (raised call.n c.args.stack.now.calls) (sym c.in-Some.ensures) c.requires in
+    let is : joined_at c.classes.result.now pieces frame args ≡ step_on call.leaves.now call.n c.args.bound.now (Join c.args.field args) c.args.stack.now =
+    sym (step ∙ sym (ap (λ cs. joined_at cs pieces frame args) c.classes.ensures)) in
+    subst (λ v. IfOk c.join_at.result (λ g. done g c.join_at.new.stack ≡ on_stack c.args.stack.now v)) is c.join_at.ensures.done
