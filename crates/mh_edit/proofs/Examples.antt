@@ -7,7 +7,7 @@ use Rattle.mh_form.specs.declared.basic.BasicRet.TheVariants as basic_ret
 use Rattle.mh_form.specs.declared.basic.Shape.{Shape}
 use Rattle.mh_form.specs.declared.body.FormBody.{FormBody}
 use Rattle.mh_form.specs.declared.name.Name.{Name}
-use Rattle.mh_form.specs.declared.name.Name.TheVariants.{Get, Call, Link, Select, Guarded, Conv, Cast, Ret, MakeArray, CheckArray, Elem}
+use Rattle.mh_form.specs.declared.name.Name.TheVariants.{Get, Call, Link, Select, Guarded, Conv, Cast, Ret, MakeArray, CheckArray, Elem, Join}
 use Rattle.mh_form.specs.Body.{nothing}
 use Rattle.mh_edit.specs.declared.key.Key.{Key}
 use Rattle.mh_edit.specs.declared.key.Key.TheVariants as key
@@ -40,6 +40,17 @@ a_leaf_is_called_with_all_arguments = refl
 a_void_leaf_has_no_result :
     made (key.LeafRoot (of (basic.J ∷ []) basic_ret.V) ∷ []) nothing ≡ body (basic.J ∷ []) 1 (Call 0 (0 ∷ []) ∷ []) None
 a_void_leaf_has_no_result = refl
+
+pieces_are_joined_with_all_arguments :
+    made (key.ConcatRoot (of (basic.I ∷ basic.L ∷ []) (basic_ret.Is basic.L)) ∷ []) nothing
+    ≡ body (basic.I ∷ basic.L ∷ []) 1 (Join 0 (0 ∷ 1 ∷ []) ∷ []) (Some 2)
+pieces_are_joined_with_all_arguments = refl
+
+-- a field that comes later has a later number, and the pieces stay the first
+an_argument_of_a_concatenation_is_bound :
+    made (key.ConcatRoot (of (basic.I ∷ basic.L ∷ []) (basic_ret.Is basic.L)) ∷ key.Bind 0 ∷ []) nothing
+    ≡ body (basic.L ∷ []) 2 (Get 1 ∷ Join 0 (1 ∷ 0 ∷ []) ∷ []) (Some 2)
+an_argument_of_a_concatenation_is_bound = refl
 
 the_first_argument_is_bound_and_the_second_comes_first :
     made (key.Bind 0 ∷ []) two ≡ body (basic.I ∷ []) 2 (Get 1 ∷ Call 0 (1 ∷ 0 ∷ []) ∷ []) (Some 2)

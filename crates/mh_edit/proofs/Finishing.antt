@@ -9,7 +9,7 @@ use Rattle.mh_form.specs.declared.basic.BasicRet.{BasicRet}
 use Rattle.mh_form.specs.declared.basic.BasicRet.TheVariants.{V, Is}
 use Rattle.mh_form.specs.declared.body.FormBody.{FormBody}
 use Rattle.mh_form.specs.declared.name.Name.{Name}
-use Rattle.mh_form.specs.declared.name.Name.TheVariants.{Get, Call, Link, Select, Guarded, Conv, Cast, Ret, MakeArray, CheckArray, Elem, Raise}
+use Rattle.mh_form.specs.declared.name.Name.TheVariants.{Get, Call, Link, Select, Guarded, Conv, Cast, Ret, MakeArray, CheckArray, Elem, Join, Raise}
 use Rattle.mh_form.specs.declared.slot.Slot.{Slot}
 use Rattle.mh_form.specs.Slots.{filled, none_as_zero}
 use Rattle.mh_form.specs.Run.{Sense, step, run_names, run_body, ended, with_result}
@@ -38,6 +38,7 @@ renamed-same (Ret f i) = ap (Ret f) (option_map-same i)
 renamed-same (MakeArray f args) = ap (MakeArray f) (map-id args)
 renamed-same (CheckArray i count) = refl
 renamed-same (Elem i k) = refl
+renamed-same (Join f args) = ap (Join f) (map-id args)
 renamed-same (Raise i) = refl
 
 -- more fields change no run

@@ -4,10 +4,10 @@ use Rattle.std.specs.Prelude.{slice_get, if◌then◌else◌}
 use Rattle.mh_base.proofs.Slices.{slice_get-push, slice_get-end}
 use Rattle.mh_values.specs.Computation.{Ran, Gave, Refines, found}
 use Rattle.mh_form.specs.declared.name.Name.{Name}
-use Rattle.mh_form.specs.declared.name.Name.TheVariants.{Get, Call, Link, Select, Guarded, Conv, Cast, Ret, MakeArray, CheckArray, Elem, Raise}
+use Rattle.mh_form.specs.declared.name.Name.TheVariants.{Get, Call, Link, Select, Guarded, Conv, Cast, Ret, MakeArray, CheckArray, Elem, Join, Raise}
 use Rattle.mh_form.specs.declared.slot.Slot.{Slot}
 use Rattle.mh_form.specs.Slots.{filled, holds_one, checked_array, item_in, raised_slot}
-use Rattle.mh_form.specs.Run.{Sense, step, run_names, guarded_field, run_field, slot_of, leaf_of, class_of, conv_of, ret_of, comp_of}
+use Rattle.mh_form.specs.Run.{Sense, step, run_names, guarded_field, run_field, slot_of, leaf_of, class_of, conv_of, ret_of, comp_of, joined_of}
 use Rattle.mh_edit.specs.Rename.{renamed}
 use Rattle.mh_form.proofs.Refines.{refines-refl, refines-and_then, refines-found}
 use Rattle.mh_edit.proofs.RenamedSlots.{Extends, Renames, refines-with_field, refines-run_field, refines-filled, refines-guarded_field, refines-with_result, refines-at, refines-picked}
@@ -48,6 +48,9 @@ step-renamed (CheckArray i count) to ss ss' old new n ext ren =
     refines-at to old new i (λ s. filled (checked_array count s)) ren
 step-renamed (Elem i k) to ss ss' old new n ext ren =
     refines-at to old new i (λ s. found (item_in s k) (λ item. Gave item [])) ren
+step-renamed (Join f args) to ss ss' old new n ext ren =
+    refines-picked to old new args _ _ ren (λ xs.
+    refines-with_field joined_of ss ss' f _ _ ext (λ join. refines-refl (join xs)))
 step-renamed (Raise i) to ss ss' old new n ext ren = refines-at to old new i raised_slot ren
 
 pub slice_get-append_left :

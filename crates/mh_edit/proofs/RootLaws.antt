@@ -8,24 +8,25 @@ use Rattle.std.specs.declared.alloc.Global.{Global}
 use Rattle.mh_base.proofs.Slices.{slice_get-end}
 use Rattle.mh_values.specs.declared.class.ClassId.{ClassId}
 use Rattle.mh_values.specs.declared.value.Value.TheVariants as value
-use Rattle.mh_values.specs.Computation.{Ran, Refines, and_then, found, guarded, is_caught}
+use Rattle.mh_values.specs.Computation.{Ran, Gave, Threw, Stuck, Refines, and_then, found, guarded, is_caught, mapped}
 use Rattle.mh_leaf.specs.LeafTable.{LeafTable}
+use Rattle.mh_pieces.specs.declared.piece.Piece.{Piece}
 use Rattle.mh_form.specs.declared.basic.Basic.{Basic}
 use Rattle.mh_form.specs.declared.basic.BasicRet.{BasicRet}
 use Rattle.mh_form.specs.declared.basic.Shape.{Shape}
 use Rattle.mh_form.specs.declared.body.FormBody.{FormBody}
 use Rattle.mh_form.specs.declared.name.Name.{Name}
-use Rattle.mh_form.specs.declared.name.Name.TheVariants.{Call, Guarded, Link, Select}
+use Rattle.mh_form.specs.declared.name.Name.TheVariants.{Call, Guarded, Join, Link, Select}
 use Rattle.mh_form.specs.declared.slot.Slot.{Slot}
 use Rattle.mh_form.specs.declared.slot.Slot.TheVariants as slot
 use Rattle.mh_form.specs.declared.field.Bound.{Bound}
 use Rattle.mh_form.specs.declared.field.Field.TheVariants as field
-use Rattle.mh_form.specs.Slots.{called, filled, holds_one}
+use Rattle.mh_form.specs.Slots.{called, filled, holds_one, joined_slots}
 use Rattle.mh_form.specs.Run.{Sense, ended, guarded_field, picked, run_bound, run_field, run_names, sense, step, with_field, class_of}
 use Rattle.mh_form.proofs.Refines.{refines-refl, refines-is, refines-and_then}
 use Rattle.mh_edit.specs.Applied.{applied, out_of}
-use Rattle.mh_edit.specs.declared.key.Key.TheVariants.{LeafRoot, ConstRoot, IdentityRoot, ThrowRoot, GuardRoot, CatchRoot}
-use Rattle.mh_edit.specs.Law.{LeafRootLaw, ConstRootLaw, IdentityRootLaw, ThrowRootLaw, GuardRootLaw, CatchRootLaw, returned}
+use Rattle.mh_edit.specs.declared.key.Key.TheVariants.{LeafRoot, ConstRoot, IdentityRoot, ThrowRoot, GuardRoot, CatchRoot, ConcatRoot}
+use Rattle.mh_edit.specs.Law.{LeafRootLaw, ConstRootLaw, IdentityRootLaw, ThrowRootLaw, GuardRootLaw, CatchRootLaw, ConcatRootLaw, returned}
 use Rattle.mh_edit.proofs.Places.{picked-all, picked-range}
 use Rattle.mh_edit.proofs.Parts.{run-part}
 use Rattle.mh_edit.proofs.Finishing.{returned-end}
@@ -126,3 +127,18 @@ law-CatchRoot shape kept old leaves t c h args n long =
     let one : step name senses args n ≡ filled (guarded_field senses 0 test 2 kept args n) =
     ap (λ o. found o (λ xs. with_field class_of senses 1 (λ caught. filled (guarded_field senses 0 caught 2 kept xs n)))) (picked-all args m long) in
     refines-is _ _ (run-single name shape.ret senses args n m _ long (one ∙ ap filled (run-guarded leaves senses t c h kept args n refl refl)))
+
+-- a slot that is always given
+filled-some : (r : Ran Slot) → r ≡ filled (mapped Some r)
+filled-some (Gave s calls) = refl
+filled-some (Threw e calls) = refl
+filled-some Stuck = refl
+
+pub law-ConcatRoot : (shape : Shape) (old : FormBody) → ConcatRootLaw shape.params shape.ret (applied (ConcatRoot shape) old)
+law-ConcatRoot shape old leaves pieces args n long =
+    let m = length shape.params in
+    let senses = sense leaves (field.Joined pieces) ∷ [] in
+    let r = joined_slots leaves.classes pieces args in
+    let one : step (Join 0 (range_with_len 0 m)) senses args n ≡ filled (mapped Some r) =
+    ap (λ o. found o (λ xs. joined_slots leaves.classes pieces xs)) (picked-all args m long) ∙ filled-some r in
+    refines-is _ _ (run-single (Join 0 (range_with_len 0 m)) shape.ret senses args n m (mapped Some r) long one)

@@ -79,11 +79,17 @@ places_of (Some p) = p ∷ []
 abbrev pub elem_names : ℕ → ℕ → ℕ → List Name
 elem_names array from count = map (λ k. name.Elem array k) (range_with_len from count)
 
+-- the places of all arguments
+abbrev pub all_places : Shape → List ℕ
+all_places shape = range_with_len 0 (length shape.params)
+
+-- runs one name, which gives the result
+abbrev pub named_body : Shape → ℕ → Name → FormBody
+named_body shape fields name = record { params = shape.params; fields = fields; names = name ∷ []; out = out_of shape.ret (length shape.params) }
+
 -- calls a leaf
 abbrev pub leaf_body : Shape → FormBody
-leaf_body shape =
-    let count = length shape.params in
-    record { params = shape.params; fields = 1; names = name.Call 0 (range_with_len 0 count) ∷ []; out = out_of shape.ret count }
+leaf_body shape = named_body shape 1 (name.Call 0 (all_places shape))
 
 -- gets a constant
 abbrev pub constant_body : FormBody
@@ -110,14 +116,11 @@ guard_body shape test =
 
 -- runs a part on all arguments, guarded by a handler
 abbrev pub catch_body : Shape → ℕ → FormBody
-catch_body shape handler =
-    let count = length shape.params in
-    record {
-      params = shape.params;
-      fields = 3;
-      names = name.Guarded 0 1 2 (range_with_len 0 count) handler ∷ [];
-      out = out_of shape.ret count;
-    }
+catch_body shape handler = named_body shape 3 (name.Guarded 0 1 2 (all_places shape) handler)
+
+-- joins pieces, with all arguments
+abbrev pub concat_body : Shape → FormBody
+concat_body shape = named_body shape 1 (name.Join 0 (all_places shape))
 
 -- a constant for a parameter
 abbrev pub binding : ℕ → FormBody → FormBody
@@ -169,6 +172,7 @@ applied (key.IdentityRoot b) body = identity_body b
 applied (key.ThrowRoot ret) body = throw_body ret
 applied (key.GuardRoot shape test) body = guard_body shape test
 applied (key.CatchRoot shape handler) body = catch_body shape handler
+applied (key.ConcatRoot shape) body = concat_body shape
 applied (key.Bind pos) body = binding pos body
 applied (key.Add pos basics) body = adding pos basics body
 applied (key.Permute basics reorder) body = permuting basics reorder body

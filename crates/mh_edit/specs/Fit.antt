@@ -53,6 +53,7 @@ fits (key.IdentityRoot b) body = is_nothing body
 fits (key.ThrowRoot ret) body = is_nothing body
 fits (key.GuardRoot shape test) body = is_nothing body && nat_le test (length shape.params)
 fits (key.CatchRoot shape handler) body = is_nothing body && nat_le handler (length shape.params)
+fits (key.ConcatRoot shape) body = is_nothing body
 fits (key.Bind pos) body = not (is_nothing body) && nat_lt pos (length body.params)
 fits (key.Add pos basics) body = not (is_nothing body) && nat_le pos (length body.params)
 fits (key.Permute basics reorder) body = not (is_nothing body) && names_each basics reorder body.params

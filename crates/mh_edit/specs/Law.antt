@@ -10,6 +10,7 @@ use Rattle.mh_values.specs.Computation.{Ran, Gave, Stuck, Refines, and_then, fou
 use Rattle.mh_convert.specs.declared.conv.Conv.{Conv}
 use Rattle.mh_convert.specs.declared.conv.RetConv.{RetConv}
 use Rattle.mh_leaf.specs.LeafTable.{LeafTable}
+use Rattle.mh_pieces.specs.declared.piece.Piece.{Piece}
 use Rattle.mh_form.specs.declared.basic.Basic.{Basic}
 use Rattle.mh_form.specs.declared.basic.BasicRet.{BasicRet}
 use Rattle.mh_form.specs.declared.basic.BasicRet.TheVariants as basic_ret
@@ -19,7 +20,7 @@ use Rattle.mh_form.specs.declared.slot.Slot.TheVariants as slot
 use Rattle.mh_form.specs.declared.field.Bound.{Bound}
 use Rattle.mh_form.specs.declared.field.Field.{Field}
 use Rattle.mh_form.specs.declared.field.Field.TheVariants as field
-use Rattle.mh_form.specs.Slots.{called, converted, filled, holds_one, made_array, none_as_zero, raised_slot, ret_converted, spread_slots}
+use Rattle.mh_form.specs.Slots.{called, converted, filled, holds_one, joined_slots, made_array, none_as_zero, raised_slot, ret_converted, spread_slots}
 use Rattle.mh_form.specs.Run.{picked, run_on, run_bound}
 use Rattle.mh_edit.specs.declared.key.Key.{Key}
 use Rattle.mh_edit.specs.declared.key.Key.TheVariants as key
@@ -101,6 +102,13 @@ CatchRootLaw params ret kept new =
     (guarded (run_bound table t.value args n) (is_caught table.classes c) n
     (λ e k. run_bound table h.value (slot.L (value.Thrown e) ∷ take kept args) k)))
     (run_on table new (field.Part t ∷ field.Class c ∷ field.Part h ∷ []) args n)
+
+-- the pieces, joined with all arguments
+abbrev pub ConcatRootLaw : List Basic → BasicRet → FormBody → Type 0
+ConcatRootLaw params ret new =
+    (table : LeafTable) (pieces : List Piece) (args : List Slot) (n : ℕ) →
+    length args ≡ length params →
+    Refines (returned ret (mapped Some (joined_slots table.classes pieces args))) (run_on table new (field.Joined pieces ∷ []) args n)
 
 -- the old body on the arguments with the slot of the field put in
 abbrev pub BindLaw : ℕ → FormBody → FormBody → Type 0
@@ -202,6 +210,7 @@ Law (key.IdentityRoot b) old new = IdentityRootLaw new
 Law (key.ThrowRoot ret) old new = ThrowRootLaw new
 Law (key.GuardRoot shape test) old new = GuardRootLaw shape.params shape.ret test new
 Law (key.CatchRoot shape handler) old new = CatchRootLaw shape.params shape.ret handler new
+Law (key.ConcatRoot shape) old new = ConcatRootLaw shape.params shape.ret new
 Law (key.Bind pos) old new = BindLaw pos old new
 Law (key.Add pos basics) old new = AddLaw pos (length basics) old new
 Law (key.Permute basics reorder) old new = PermuteLaw (length basics) reorder old new

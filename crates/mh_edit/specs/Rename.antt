@@ -6,7 +6,7 @@ use Rattle.mh_values.specs.Computation.{spliced}
 use Rattle.mh_form.specs.declared.basic.Basic.{Basic}
 use Rattle.mh_form.specs.declared.body.FormBody.{FormBody}
 use Rattle.mh_form.specs.declared.name.Name.{Name}
-use Rattle.mh_form.specs.declared.name.Name.TheVariants.{Get, Call, Link, Select, Guarded, Conv, Cast, Ret, MakeArray, CheckArray, Elem, Raise}
+use Rattle.mh_form.specs.declared.name.Name.TheVariants.{Get, Call, Link, Select, Guarded, Conv, Cast, Ret, MakeArray, CheckArray, Elem, Join, Raise}
 
 -- a name with its places renamed; fields keep their numbers
 abbrev pub renamed : (ℕ → ℕ) → Name → Name
@@ -21,6 +21,7 @@ renamed to (Ret f i) = Ret f (option_map to i)
 renamed to (MakeArray f args) = MakeArray f (map to args)
 renamed to (CheckArray i count) = CheckArray (to i) count
 renamed to (Elem i k) = Elem (to i) k
+renamed to (Join f args) = Join f (map to args)
 renamed to (Raise i) = Raise (to i)
 
 -- the new place of an old one: a table has those of the old parameters, and what the old names put comes from a base on

@@ -27,6 +27,9 @@ impl Copied for Key {
                 shape: shape.copy(alloc)?,
                 handler: *handler,
             },
+            Key::ConcatRoot { shape } => Key::ConcatRoot {
+                shape: shape.copy(alloc)?,
+            },
             &Key::Bind { pos } => Key::Bind { pos },
             Key::Add { pos, basics } => Key::Add {
                 pos: *pos,

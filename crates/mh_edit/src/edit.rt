@@ -9,7 +9,9 @@ use crate::fit::taken_by;
 use crate::frame::{Splice, converting, edited, finished, reframed, returning};
 use crate::names::{link, one_basic, push_elems, range, single};
 use crate::narrow::narrow;
-use crate::roots::{catch_body, constant_body, guard_body, identity_body, leaf_body, throw_body};
+use crate::roots::{
+    catch_body, concat_body, constant_body, guard_body, identity_body, leaf_body, throw_body,
+};
 use crate::{Key, Places, RetEntry};
 use mh_base::{Copied, NoMemory, Seq};
 use mh_form::{Basic, BasicRet, Basics, FormBody, Name, Names, Operands};
@@ -219,6 +221,7 @@ fn body_of(alloc: Global, body: &FormBody, key: &Key) -> Result<FormBody, NoMemo
         Key::ThrowRoot { ret } => throw_body(alloc, *ret),
         Key::GuardRoot { shape, test } => guard_body(alloc, shape, *test),
         Key::CatchRoot { shape, handler } => catch_body(alloc, shape, *handler),
+        Key::ConcatRoot { shape } => concat_body(alloc, shape),
         Key::Bind { pos } => binding(alloc, body, *pos),
         Key::Add { pos, basics } => adding(alloc, body, *pos, basics),
         Key::Permute { basics, reorder } => permuting(alloc, body, basics, reorder),

@@ -90,7 +90,8 @@ pub fn key_fits(body: &FormBody, key: &Key) -> bool
         Key::LeafRoot { .. }
         | Key::ConstRoot { .. }
         | Key::IdentityRoot { .. }
-        | Key::ThrowRoot { .. } => nothing,
+        | Key::ThrowRoot { .. }
+        | Key::ConcatRoot { .. } => nothing,
         Key::GuardRoot { shape, test } => nothing && *test as usize <= shape.params.len(),
         Key::CatchRoot { shape, handler } => nothing && *handler as usize <= shape.params.len(),
         Key::Bind { pos } => !nothing && (*pos as usize) < params.len(),

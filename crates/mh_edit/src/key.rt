@@ -47,6 +47,10 @@ pub enum Key {
         shape: Shape,
         handler: u8,
     },
+    /// A concatenation. Field: its pieces.
+    ConcatRoot {
+        shape: Shape,
+    },
     /// A parameter becomes a constant. Field: its slot.
     Bind {
         pos: u8,

@@ -69,6 +69,7 @@ fn rename(alloc: Global, to: Renaming<'_>, name: &Name) -> Result<Name, NoMemory
         Name::MakeArray(comp, args) => Name::MakeArray(*comp, places(alloc, to, args)?),
         Name::CheckArray(slot, count) => Name::CheckArray(place(to, *slot)?, *count),
         Name::Elem(slot, item) => Name::Elem(place(to, *slot)?, *item),
+        Name::Join(pieces, args) => Name::Join(*pieces, places(alloc, to, args)?),
         Name::Raise(slot) => Name::Raise(place(to, *slot)?),
     })
 }

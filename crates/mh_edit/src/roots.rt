@@ -3,28 +3,42 @@
 ghost use Rattle.std.specs.Prelude.{◌≡◌, ◌∷◌, [], IfOk};
 ghost use Rattle.std.specs.List.{range_with_len};
 ghost use Rattle.mh_form.specs.declared.name.Name.TheVariants.{Link, Select};
-ghost use Rattle.mh_edit.specs.Applied.{catch_body, constant_body, guard_body, identity_body, leaf_body, throw_body};
+ghost use Rattle.mh_edit.specs.Applied.{all_places, catch_body, concat_body, constant_body, guard_body, identity_body, leaf_body, named_body, throw_body};
 
 use crate::frame::out_of;
 use crate::names::{link, one_basic, range, single};
 use crate::narrow::narrow;
 use mh_base::{NoMemory, Seq};
-use mh_form::{Basic, BasicRet, FormBody, Name, Names, Shape};
+use mh_form::{Basic, BasicRet, FormBody, Name, Names, Operands, Shape};
 use std::alloc::Global;
+
+/// The places of all arguments.
+fn all_places(alloc: Global, shape: &Shape) -> Result<Operands, NoMemory>
+    ensures { IfOk result (λ places. places ≡ all_places shape.now) }
+{
+    range(alloc, 0, narrow(shape.params.len() as u64)?)
+}
+
+/// A body that runs one name.
+fn named_body(alloc: Global, shape: &Shape, fields: u32, name: Name) -> Result<FormBody, NoMemory>
+    ensures { IfOk result (λ body. body ≡ named_body shape.now fields name) }
+{
+    let count = narrow(shape.params.len() as u64)?;
+    let names = single(alloc, name)?;
+    let params = shape.params.copy()?;
+    Ok(FormBody {
+        params,
+        fields,
+        names,
+        out: out_of(shape.ret, count),
+    })
+}
 
 pub(crate) fn leaf_body(alloc: Global, shape: &Shape) -> Result<FormBody, NoMemory>
     ensures { IfOk result (λ body. body ≡ leaf_body shape.now) }
 {
-    let count = narrow(shape.params.len() as u64)?;
-    let args = range(alloc, 0, count)?;
-    let names = single(alloc, Name::Call(0, args))?;
-    let params = shape.params.copy()?;
-    Ok(FormBody {
-        params,
-        fields: 1,
-        names,
-        out: out_of(shape.ret, count),
-    })
+    let args = all_places(alloc, shape)?;
+    named_body(alloc, shape, 1, Name::Call(0, args))
 }
 
 pub(crate) fn constant_body(alloc: Global) -> Result<FormBody, NoMemory>
@@ -93,14 +107,13 @@ pub(crate) fn guard_body(alloc: Global, shape: &Shape, test: u8) -> Result<FormB
 pub(crate) fn catch_body(alloc: Global, shape: &Shape, kept: u8) -> Result<FormBody, NoMemory>
     ensures { IfOk result (λ body. body ≡ catch_body shape.now kept) }
 {
-    let count = narrow(shape.params.len() as u64)?;
-    let args = range(alloc, 0, count)?;
-    let names = single(alloc, Name::Guarded(0, 1, 2, args, kept as u32))?;
-    let params = shape.params.copy()?;
-    Ok(FormBody {
-        params,
-        fields: 3,
-        names,
-        out: out_of(shape.ret, count),
-    })
+    let args = all_places(alloc, shape)?;
+    named_body(alloc, shape, 3, Name::Guarded(0, 1, 2, args, kept as u32))
+}
+
+pub(crate) fn concat_body(alloc: Global, shape: &Shape) -> Result<FormBody, NoMemory>
+    ensures { IfOk result (λ body. body ≡ concat_body shape.now) }
+{
+    let args = all_places(alloc, shape)?;
+    named_body(alloc, shape, 1, Name::Join(0, args))
 }
