@@ -1,4 +1,5 @@
 pub mod Calls
+pub mod Concatenated
 pub mod Host
 mod Lengths
 pub mod LimitedLists
@@ -25,4 +26,5 @@ pub mod TypedLists
 pub mod Uses
 mod WorkedAdapters
 mod WorkedBranches
+mod WorkedConcatenations
 mod WorkedWeights

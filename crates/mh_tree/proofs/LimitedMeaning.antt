@@ -13,6 +13,7 @@ use Rattle.mh_tree.specs.Typing.{with_type, type_of, arity}
 use Rattle.mh_tree.specs.Limited.{KeepsLimits}
 use Rattle.mh_tree.specs.Meaning.{Done, mean, picked, exact_at, exact, unless_refused, generic_at, generic}
 use Rattle.mh_tree.proofs.RowParts.{with_type-parts, gather_row-few}
+use Rattle.mh_tree.proofs.Concatenated.{concat-keeps}
 use Rattle.mh_tree.proofs.LimitedLists.{splice-limits, picked-limits}
 use Rattle.mh_tree.proofs.LimitedRuns.{known-limits, chosen}
 use Rattle.mh_tree.proofs.LimitedNodes.{constant-keeps, identity-keeps, throw-keeps, bind-keeps, then-keeps, filterret-keeps, spread-keeps, gather-keeps, astype-keeps, guard-keeps, catch-keeps}
@@ -23,6 +24,7 @@ mean-limits table (tree.Leaf l) u typed = leaf_mean-limits table l
 mean-limits table (tree.Constant t v) u typed = constant-keeps table.classes t v
 mean-limits table (tree.Identity t) u typed = identity-keeps
 mean-limits table (tree.Throw ret class) u typed = throw-keeps
+mean-limits table (tree.Concat asked pieces) u typed = concat-keeps table.classes pieces
 mean-limits table (tree.Bind t place v) u typed =
     let q = with_type-parts (type_of table t) (λ ty. bind_row table.classes ty (weight t) place v) u typed in
     bind-keeps table.classes (mean table t) (type_of table t) place v (mean-limits table t q.0 q.1)

@@ -1,9 +1,10 @@
 -- What a row tells that gives a type: its conditions hold, and the type is the one that it makes.
-use Rattle.std.proofs.Common.{◌≡◌, Bool, true, ◌&&◌, ℕ, ◌+◌, ◌-◌, List, [], ◌∷◌, length, replicate, Option, Some, is_some, Ok, nat_lt, nat_le, ◌≤◌, codes, arith}
+use Rattle.std.proofs.Common.{◌≡◌, sym, Bool, true, ◌&&◌, ℕ, ◌+◌, ◌-◌, List, [], ◌∷◌, length, replicate, Option, Some, is_some, Ok, nat_lt, nat_le, ◌≤◌, codes, arith}
 use Rattle.std.specs.Prelude.{slice_get}
 use Rattle.std.proofs.lemmas.Bool.{and_parts}
 use Rattle.std.proofs.lemmas.Bool.Decides.{nat_tests}
 use Rattle.mh_base.specs.Provided.{provided}
+use Rattle.mh_base.proofs.Inversion.{ok_is}
 use Rattle.mh_values.specs.declared.class.Class.{Class}
 use Rattle.mh_values.specs.declared.class.ClassId.{ClassId}
 use Rattle.mh_values.specs.declared.types.Comp.{Comp}
@@ -14,12 +15,16 @@ use Rattle.mh_values.specs.declared.value.Value.{Value}
 use Rattle.mh_values.specs.Array.{item_type}
 use Rattle.mh_values.specs.Class.{is_subclass, throwable_class}
 use Rattle.mh_values.specs.Computation.{spliced}
-use Rattle.mh_values.specs.Same.{is_same_return, begins_with_types, is_same_method_type}
+use Rattle.mh_values.specs.Same.{are_same_types, is_same_return, begins_with_types, is_same_method_type}
+use Rattle.mh_values.specs.Slots.{slots_of_all}
 use Rattle.mh_values.specs.ValueLimits.{most_items}
 use Rattle.mh_values.proofs.SameTypes.{method_type}
 use Rattle.mh_convert.specs.Conversion.{fit, ret_conversion_of}
 use Rattle.mh_leaf.specs.Outcome.{boolean_type}
-use Rattle.mh_tree.specs.Rows.{TypeOrRefusal, illegal, provided_fit, limited, taking, component_of, takes_array, ends_with, can_all, can_be_used_as, mismatch, takes_exception, handles, constant_row, identity_row, throw_row, spread_row, gather_row, astype_row, guard_row, catch_row}
+use Rattle.mh_pieces.specs.declared.piece.Piece.{Piece}
+use Rattle.mh_pieces.specs.Joined.{arg_types}
+use Rattle.mh_pieces.specs.Recipe.{most_concat_slots, returns_text}
+use Rattle.mh_tree.specs.Rows.{TypeOrRefusal, illegal, provided_fit, limited, taking, component_of, takes_array, ends_with, can_all, can_be_used_as, mismatch, takes_exception, handles, can_be_joined, constant_row, identity_row, throw_row, concat_row, spread_row, gather_row, astype_row, guard_row, catch_row}
 pub use Rattle.mh_tree.proofs.Provided.{with_type-parts, provided-parts, provided_some-parts, provided_fit-parts, limited-is}
 pub use Rattle.mh_tree.proofs.RowPartsAdapters.{
   bind_row-parts,
@@ -50,6 +55,18 @@ throw_row-parts classes ret class u h =
     let made = method_type (ty.Class class ∷ []) ret in
     let q = provided-parts (is_subclass classes class throwable_class) (illegal (codes "throw")) (limited (codes "throw") 1 made) u h in
     (q.0, limited-is (codes "throw") 1 made u q.1)
+
+pub concat_row-parts : (classes : List Class) (asked : MethodTy) (pieces : List Piece) (u : MethodTy) → concat_row classes asked pieces ≡ Ok u →
+    (are_same_types (arg_types pieces) asked.params ≡ true) × (nat_le (slots_of_all asked.params) most_concat_slots ≡ true)
+    × (returns_text classes asked.ret ≡ true)
+    × (u ≡ asked)
+concat_row-parts classes asked pieces u h =
+    let same = are_same_types (arg_types pieces) asked.params in
+    let few = nat_le (slots_of_all asked.params) most_concat_slots in
+    let q = provided-parts (can_be_joined classes asked pieces) (illegal (codes "concat")) (Ok asked) u h in
+    let r = and_parts (same && few) (returns_text classes asked.ret) q.0 in
+    let s = and_parts same few r.0 in
+    (s.0, s.1, r.1, sym (ok_is asked u q.1))
 
 pub spread_row-parts : (t : MethodTy) (weight : ℕ) (array : Option Ty) (count : ℕ) (u : MethodTy) → spread_row t weight array count ≡ Ok u →
     (c : Comp) × (component_of array ≡ Some c) × (ends_with t.params count (item_type c) ≡ true)

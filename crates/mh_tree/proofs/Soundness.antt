@@ -26,6 +26,7 @@ use Rattle.mh_tree.specs.Typing.{with_type, type_of, arity_of}
 use Rattle.mh_tree.specs.Meaning.{mean, known, fitted, or_throw, part_of, conv_all, conv_result, decided}
 use Rattle.mh_tree.specs.Sound.{IsSound}
 use Rattle.mh_tree.proofs.RowParts.{with_type-parts}
+use Rattle.mh_tree.proofs.Concatenated.{concat-sound}
 use Rattle.mh_tree.proofs.SoundRoots.{constant-sound, identity-sound, throw-sound}
 use Rattle.mh_tree.proofs.SoundAdapters.{bind-sound, drop-sound, permute-sound, filter-sound, filterret-sound, fold-sound, collect-sound}
 use Rattle.mh_tree.proofs.SoundSpread.{spread-sound}
@@ -45,6 +46,7 @@ mean-sound table are (tree.Leaf l) u typed = leaf-sound table are l (slice_get t
 mean-sound table are (tree.Constant t v) u typed = constant-sound table.classes t v u typed
 mean-sound table are (tree.Identity t) u typed = identity-sound table.classes t u typed
 mean-sound table are (tree.Throw ret class) u typed = throw-sound table.classes are.classes ret class u typed
+mean-sound table are (tree.Concat asked pieces) u typed = concat-sound table.classes are.classes asked pieces u typed
 mean-sound table are (tree.Bind t place v) u typed =
     let q = with_type-parts (type_of table t) (λ ty. bind_row table.classes ty (weight t) place v) u typed in
     subst (λ c. IsSound table.classes

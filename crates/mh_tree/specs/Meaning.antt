@@ -14,7 +14,8 @@ use Rattle.mh_values.specs.Exception.{bare}
 use Rattle.mh_values.specs.Same.{is_same_method_type}
 use Rattle.mh_convert.specs.Conversion.{conv, fit, ret_conversion_of, ret_conv}
 use Rattle.mh_leaf.specs.LeafTable.{LeafTable}
-use Rattle.mh_leaf.specs.Outcome.{leaf_mean}
+use Rattle.mh_leaf.specs.Outcome.{leaf_mean, ran_of}
+use Rattle.mh_pieces.specs.Joined.{joined}
 use Rattle.mh_tree.specs.Tree.{Tree}
 use Rattle.mh_tree.specs.Tree as tree
 use Rattle.mh_tree.specs.Rows.{TypeOrRefusal, component_of, mismatch}
@@ -89,6 +90,7 @@ mean table (tree.Leaf leaf) args n = leaf_mean table leaf args n
 mean table (tree.Constant ty v) args n = found ty (λ ret. fitted (fit table.classes v ret) giving)
 mean table (tree.Identity ty) args n = found (slice_get args 0) giving
 mean table (tree.Throw ret class) args n = found (slice_get args 0) thrown
+mean table (tree.Concat asked pieces) args n = ran_of (joined table.classes pieces args) []
 mean table (tree.Bind target place v) args n =
     known (type_of table target) (λ ty. found (slice_get ty.params place) (λ parameter. fitted (fit table.classes v parameter) (λ bound.
     mean table target (spliced place 0 (bound ∷ []) args) n)))

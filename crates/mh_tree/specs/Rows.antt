@@ -22,6 +22,9 @@ use Rattle.mh_values.specs.ValueLimits.{most_items}
 use Rattle.mh_convert.specs.Conversion.{can, fit, ret_conversion_of}
 use Rattle.mh_leaf.specs.declared.leaf.Leaf.{Leaf}
 use Rattle.mh_leaf.specs.Outcome.{boolean_type}
+use Rattle.mh_pieces.specs.declared.piece.Piece.{Piece}
+use Rattle.mh_pieces.specs.Joined.{arg_types}
+use Rattle.mh_pieces.specs.Recipe.{most_concat_slots, returns_text}
 
 -- a type, or the exception of a refusal
 abbrev pub TypeOrRefusal : Type 0
@@ -86,6 +89,15 @@ abbrev pub throw_row : List Class → Option Ty → ClassId → TypeOrRefusal
 throw_row classes ret class =
     provided (is_subclass classes class throwable_class) (illegal (codes "throw"))
     (limited (codes "throw") 1 (record { params = ty.Class class ∷ []; ret = ret }))
+
+-- whether pieces can be joined by a type: they take its parameters, these take at most 200 slots, and a text has its return type
+abbrev pub can_be_joined : List Class → MethodTy → List Piece → Bool
+can_be_joined classes asked pieces =
+    are_same_types (arg_types pieces) asked.params && nat_le (slots_of_all asked.params) most_concat_slots && returns_text classes asked.ret
+
+-- Concat has the type by which its pieces are joined; no recipe gives pieces that are refused
+abbrev pub concat_row : List Class → MethodTy → List Piece → TypeOrRefusal
+concat_row classes asked pieces = provided (can_be_joined classes asked pieces) (illegal (codes "concat")) (Ok asked)
 
 -- Bind takes out a parameter, which the value fits
 abbrev pub bind_row : List Class → MethodTy → ℕ → ℕ → Value → TypeOrRefusal

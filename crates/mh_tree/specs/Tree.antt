@@ -1,17 +1,19 @@
--- Trees of combinators (`java.lang.invoke.MethodHandles` and `MethodHandle.asType`, SE 17).
+-- Trees of combinators (`java.lang.invoke.MethodHandles`, `MethodHandle.asType` and `StringConcatFactory`, SE 17).
 use Rattle.std.specs.Prelude.{ℕ, ◌+◌, List, Option}
 use Rattle.mh_values.specs.declared.class.ClassId.{ClassId}
 use Rattle.mh_values.specs.declared.types.Ty.{Ty}
 use Rattle.mh_values.specs.declared.types.MethodTy.{MethodTy}
 use Rattle.mh_values.specs.declared.value.LeafId.{LeafId}
 use Rattle.mh_values.specs.declared.value.Value.{Value}
+use Rattle.mh_pieces.specs.declared.piece.Piece.{Piece}
 
--- a leaf, or a combinator with the trees that it is made of; a type that is an option may be void
+-- a leaf, a concatenation of pieces by a type, or a combinator with the trees that it is made of; a type that is an option may be void
 pub data Tree : Type 0 where
   Leaf : (leaf : LeafId) → Tree
   Constant : (ty : Option Ty) (value : Value) → Tree
   Identity : (ty : Option Ty) → Tree
   Throw : (ret : Option Ty) (class : ClassId) → Tree
+  Concat : (ty : MethodTy) (pieces : List Piece) → Tree
   Bind : (target : Tree) (place : ℕ) (value : Value) → Tree
   Drop : (target : Tree) (place : ℕ) (types : List Ty) → Tree
   Permute : (target : Tree) (ty : MethodTy) (reorder : List ℕ) → Tree

@@ -4,7 +4,7 @@ use Rattle.mh_values.specs.declared.types.MethodTy.{MethodTy}
 use Rattle.mh_leaf.specs.LeafTable.{LeafTable}
 use Rattle.mh_tree.specs.Tree.{Tree, weight}
 use Rattle.mh_tree.specs.Tree as tree
-use Rattle.mh_tree.specs.Rows.{TypeOrRefusal, leaf_row, constant_row, identity_row, throw_row, bind_row, drop_row, permute_row, filter_row, filterret_row, fold_row, collect_row, spread_row, gather_row, astype_row, guard_row, catch_row}
+use Rattle.mh_tree.specs.Rows.{TypeOrRefusal, leaf_row, constant_row, identity_row, throw_row, concat_row, bind_row, drop_row, permute_row, filter_row, filterret_row, fold_row, collect_row, spread_row, gather_row, astype_row, guard_row, catch_row}
 
 -- goes on with the type of a part, or is refused as the part is
 abbrev pub with_type : TypeOrRefusal → (MethodTy → TypeOrRefusal) → TypeOrRefusal
@@ -17,6 +17,7 @@ type_of table (tree.Leaf leaf) = leaf_row (slice_get table.leaves leaf.0)
 type_of table (tree.Constant ty value) = constant_row table.classes ty value
 type_of table (tree.Identity ty) = identity_row ty
 type_of table (tree.Throw ret class) = throw_row table.classes ret class
+type_of table (tree.Concat asked pieces) = concat_row table.classes asked pieces
 type_of table (tree.Bind target place value) = with_type (type_of table target) (λ ty. bind_row table.classes ty (weight target) place value)
 type_of table (tree.Drop target place types) = with_type (type_of table target) (λ ty. drop_row ty (weight target) place types)
 type_of table (tree.Permute target asked reorder) = with_type (type_of table target) (λ ty. permute_row ty (weight target) asked reorder)
