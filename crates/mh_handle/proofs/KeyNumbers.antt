@@ -54,7 +54,8 @@ key_of kind ns =
     else (if kind == 12 then key.FilterReturn (ret_at (first ns))
     else (if kind == 13 then key.Convert (map entry_at (rest ns)) (ret_entry_at (first ns))
     else (if kind == 14 then key.Spread (first ns) (basic_at (first (rest ns)))
-    else key.Gather (first ns) (basic_at (first (rest ns))))))))))))))))
+    else (if kind == 15 then key.Gather (first ns) (basic_at (first (rest ns)))
+    else key.ConcatRoot (shape_at ns)))))))))))))))
 
 abbrev key_at : List ℕ → Key
 key_at ns = key_of (first ns) (rest ns)
@@ -110,6 +111,7 @@ key-told (key.IdentityRoot b) = ap key.IdentityRoot (basic-told b)
 key-told (key.ThrowRoot r) = ap key.ThrowRoot (ret-told r)
 key-told (key.GuardRoot s n) = ap (λ t. key.GuardRoot t n) (shape-told s)
 key-told (key.CatchRoot s n) = ap (λ t. key.CatchRoot t n) (shape-told s)
+key-told (key.ConcatRoot s) = ap key.ConcatRoot (shape-told s)
 key-told (key.Bind n) = refl
 key-told (key.Add n bs) = ap (key.Add n) (basics-told bs)
 key-told (key.Permute bs ns) = ap₂ key.Permute (front-told bs ns) (after-told bs ns)

@@ -4,9 +4,9 @@ use Rattle.std.specs.List.{filter}
 use Rattle.mh_setonce.specs.Views.{WalkView}
 use Rattle.mh_setonce.specs.Walks.{Distinct}
 use Rattle.mh_edit.specs.declared.key.Key.{Key}
-use Rattle.mh_edit.specs.declared.key.Key.TheVariants as key
 use Rattle.mh_handle.specs.Form.{FormView}
 use Rattle.mh_handle.specs.Index.{recipe_of}
+use Rattle.mh_handle.specs.SameRecipes.{key_numbers}
 
 -- how many chains a table has
 abbrev pub chain_count : ℕ
@@ -16,23 +16,14 @@ chain_count = 64
 abbrev pub chain_room : ℕ
 chain_room = 16384
 
--- the number of a key's kind
+-- the first of the numbers of a key
+abbrev pub first_of : List ℕ → ℕ
+first_of [] = 0
+first_of (n ∷ numbers) = n
+
+-- the number of a key's kind, which is the first that tells the key
 abbrev pub kind_of : Key → ℕ
-kind_of (key.LeafRoot shape) = 1
-kind_of (key.ConstRoot b) = 2
-kind_of (key.IdentityRoot b) = 3
-kind_of (key.ThrowRoot ret) = 4
-kind_of (key.GuardRoot shape test) = 5
-kind_of (key.CatchRoot shape handler) = 6
-kind_of (key.Bind pos) = 7
-kind_of (key.Add pos basics) = 8
-kind_of (key.Permute basics reorder) = 9
-kind_of (key.Collect pos basics ret) = 10
-kind_of (key.Fold pos count ret) = 11
-kind_of (key.FilterReturn ret) = 12
-kind_of (key.Convert params ret) = 13
-kind_of (key.Spread count b) = 14
-kind_of (key.Gather count b) = 15
+kind_of k = first_of (key_numbers k)
 
 -- the chain of a recipe, from that of its first keys
 abbrev pub chain_after : ℕ → List Key → ℕ

@@ -56,6 +56,7 @@ key_hash (key.IdentityRoot b) = mixed 3 (basic_number b)
 key_hash (key.ThrowRoot ret) = mixed 4 (ret_number ret)
 key_hash (key.GuardRoot shape test) = shape_mixed (mixed 5 test) shape
 key_hash (key.CatchRoot shape handler) = shape_mixed (mixed 6 handler) shape
+key_hash (key.ConcatRoot shape) = shape_mixed 16 shape
 key_hash (key.Bind pos) = mixed 7 pos
 key_hash (key.Add pos basics) = all_mixed basic_number (mixed 8 pos) basics
 key_hash (key.Permute basics reorder) = all_mixed (λ p. p) (all_mixed basic_number 9 basics) reorder

@@ -57,6 +57,7 @@ recipe table (tree.Leaf l) = at_type (type_of table (tree.Leaf l)) (λ ty. key.L
 recipe table (tree.Constant ty v) = at_some ty (λ r. key.ConstRoot (basic_of r))
 recipe table (tree.Identity ty) = at_some ty (λ r. key.IdentityRoot (basic_of r))
 recipe table (tree.Throw ret class) = key.ThrowRoot (basic_ret_of ret) ∷ []
+recipe table (tree.Concat asked pieces) = key.ConcatRoot (shape_of asked) ∷ []
 recipe table (tree.Bind target place v) = recipe table target ++ key.Bind place ∷ []
 recipe table (tree.Drop target place types) = recipe table target ++ key.Add place (map basic_of types) ∷ []
 recipe table (tree.Permute target asked reorder) = recipe table target ++ key.Permute (map basic_of asked.params) reorder ∷ []

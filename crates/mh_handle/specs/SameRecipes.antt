@@ -24,6 +24,7 @@ key_numbers (key.IdentityRoot b) = 3 ∷ basic_number b ∷ []
 key_numbers (key.ThrowRoot ret) = 4 ∷ ret_number ret ∷ []
 key_numbers (key.GuardRoot shape test) = 5 ∷ test ∷ shape_numbers shape
 key_numbers (key.CatchRoot shape handler) = 6 ∷ handler ∷ shape_numbers shape
+key_numbers (key.ConcatRoot shape) = 16 ∷ shape_numbers shape
 key_numbers (key.Bind pos) = 7 ∷ pos ∷ []
 key_numbers (key.Add pos basics) = 8 ∷ pos ∷ basic_numbers basics
 key_numbers (key.Permute basics reorder) = 9 ∷ length basics ∷ (basic_numbers basics ++ reorder)

@@ -15,7 +15,7 @@ pub(crate) const ROW_LEN: usize = 128;
 /// The number of a key's kind, from 1 on.
 fn kind(key: &Key) -> u32
     ensures kind { result ≡ kind_of key.now }
-    ensures small { result ≤ 15 }
+    ensures small { result ≤ 16 }
 {
     match key {
         Key::LeafRoot { .. } => 1,
@@ -24,6 +24,7 @@ fn kind(key: &Key) -> u32
         Key::ThrowRoot { .. } => 4,
         Key::GuardRoot { .. } => 5,
         Key::CatchRoot { .. } => 6,
+        Key::ConcatRoot { .. } => 16,
         Key::Bind { .. } => 7,
         Key::Add { .. } => 8,
         Key::Permute { .. } => 9,

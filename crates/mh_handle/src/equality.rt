@@ -4,8 +4,8 @@ ghost use Rattle.mh_edit.specs.declared.key.Key.TheVariants as key;
 
 use mh_base::Seq;
 use mh_edit::Key::{
-    Add, Bind, CatchRoot, Collect, ConstRoot, Convert, FilterReturn, Fold, Gather, GuardRoot,
-    IdentityRoot, LeafRoot, Permute, Spread, ThrowRoot,
+    Add, Bind, CatchRoot, Collect, ConcatRoot, ConstRoot, Convert, FilterReturn, Fold, Gather,
+    GuardRoot, IdentityRoot, LeafRoot, Permute, Spread, ThrowRoot,
 };
 use mh_edit::{Key, Places, RetEntry};
 use mh_form::{Basic, BasicRet, Basics, Shape};
@@ -85,6 +85,7 @@ impl Same for Key {
                 *test == *t && shape.is_same(s)
             }
             (CatchRoot { shape, handler }, _) => is_catch_root(shape, *handler, other),
+            (ConcatRoot { shape }, ConcatRoot { shape: s }) => shape.is_same(s),
             (Bind { pos }, Bind { pos: p }) => *pos == *p,
             (Add { pos, basics }, Add { pos: p, basics: b }) => *pos == *p && basics.is_same(b),
             (Permute { basics, reorder }, _) => is_permute(basics, reorder, other),
