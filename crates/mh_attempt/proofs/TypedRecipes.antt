@@ -43,6 +43,7 @@ recipe-key leaves (tree.Constant t v) typed =
 recipe-key leaves (tree.Identity t) typed =
     let some = provided_some-parts t _ _ typed.0 typed.1 in some-key t (λ r. key.IdentityRoot (basic_of r)) some.0 some.1
 recipe-key leaves (tree.Throw ret class) typed = (_, [], refl)
+recipe-key leaves (tree.Concat asked pieces) typed = (_, [], refl)
 recipe-key leaves (tree.Bind t place v) typed = more-key (recipe leaves t) _ (recipe-key leaves t (part-typed (type_of leaves t) _ typed))
 recipe-key leaves (tree.Drop t place types) typed = more-key (recipe leaves t) _ (recipe-key leaves t (part-typed (type_of leaves t) _ typed))
 recipe-key leaves (tree.Permute t asked reorder) typed = more-key (recipe leaves t) _ (recipe-key leaves t (part-typed (type_of leaves t) _ typed))
