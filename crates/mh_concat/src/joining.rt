@@ -12,8 +12,8 @@ use mh_handle::{Growth, Handle, HandleError, Parts, Work, one_field};
 use mh_values::MethodTy;
 use std::sync::Wait;
 
-/// A handle that joins pieces (`StringConcatFactory.makeConcatWithConstants`, SE 17). The pieces take
-/// the parameters of its type, as those of each recipe that is read do. It is never refused.
+/// A handle that joins pieces (`StringConcatFactory.makeConcatWithConstants`, SE 17). The pieces
+/// take the parameters of its type, as those of each recipe that is read do. It is never refused.
 pub fn concat<'t, R: Wait>(
     w: &mut Work<'_, 't>,
     rt: &R,
