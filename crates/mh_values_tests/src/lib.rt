@@ -8,6 +8,8 @@ mod bodies;
 #[cfg(test)]
 mod conversions;
 #[cfg(test)]
+mod joins;
+#[cfg(test)]
 mod leaves;
 #[cfg(test)]
 mod manifest;
