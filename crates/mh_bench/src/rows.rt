@@ -18,8 +18,8 @@ use mh_form::Machine;
 use mh_handle::{FormTable, Handle, HandleError, Work};
 use mh_intern::{TypeSeat, TypeTable};
 use mh_leaves::{Leaves, read_manifest};
-use mh_steps::{ADD, Joined, MANIFEST, Root, SAME, Start, Step, TEXT, Typed, are_typed, made};
-use mh_values::{Items, LeafId, Num, Value};
+use mh_steps::{ADD, Joined, MANIFEST, Root, SAME, Start, Step, TEXT, Typed, made};
+use mh_values::{Items, LeafId, Num, Value, are_typed};
 use std::alloc::Global;
 use std::sync::Wait;
 

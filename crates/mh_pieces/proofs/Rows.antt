@@ -11,15 +11,14 @@ use Rattle.mh_values.specs.declared.value.Exc.{Exc}
 use Rattle.mh_values.specs.declared.value.Num.TheVariants as num
 use Rattle.mh_values.specs.declared.value.Outcome.TheVariants.{Throw}
 use Rattle.mh_values.specs.declared.value.Value.TheVariants as value
-use Rattle.mh_values.specs.Class.{builtin_classes, class_at, class_below, internal_error_class, object_class, string_class, throwable_class}
-use Rattle.mh_values.specs.Classes.{class_named}
+use Rattle.mh_values.specs.Class.{builtin_classes, class_at, class_below, internal_error_class, object_class, string_class, string_concat_class, throwable_class}
 use Rattle.mh_values.specs.Exception.{bare, saying}
 use Rattle.mh_values.specs.Slots.{slots_of_all}
 use Rattle.mh_leaf.specs.Outcome.{returned, int_type, string_type}
 use Rattle.mh_pieces.specs.declared.piece.Piece.{Piece}
 use Rattle.mh_pieces.specs.declared.piece.Piece.TheVariants as piece
 use Rattle.mh_pieces.specs.Joined.{joined}
-use Rattle.mh_pieces.specs.Recipe.{most_concat_slots, pieces_of, string_concat_class}
+use Rattle.mh_pieces.specs.Recipe.{most_concat_slots, pieces_of}
 use Rattle.mh_pieces.specs.ValueText.{text_of}
 
 -- the built-in classes, and one of a package
@@ -63,9 +62,6 @@ constants_are_apart : pieces_of classes (97 ∷ 2 ∷ 2 ∷ 98 ∷ 2 ∷ []) (va
 constants_are_apart = refl
 
 -- ---- refusals
-
-exception_named : class_named builtin_classes (codes "java/lang/invoke/StringConcatException") ≡ Some string_concat_class
-exception_named = refl
 
 abbrev refused : List ℕ → Result (List Piece) Exc
 refused message = Err (saying string_concat_class message)

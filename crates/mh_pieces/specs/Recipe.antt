@@ -1,12 +1,11 @@
 -- What a recipe of a string concatenation means (`java.lang.invoke.StringConcatFactory.makeConcatWithConstants`, Java SE 17).
 use Rattle.std.specs.Prelude.{◌≡◌, ℕ, ◌==◌, nat_le, Bool, false, not, List, [], ◌∷◌, ◌++◌, codes, count_by, drop, length, Option, None, Some, Result, Ok, Err, if◌then◌else◌}
 use Rattle.mh_values.specs.declared.class.Class.{Class}
-use Rattle.mh_values.specs.declared.class.ClassId.{ClassId}
 use Rattle.mh_values.specs.declared.types.MethodTy.{MethodTy}
 use Rattle.mh_values.specs.declared.types.Ty.{Ty}
 use Rattle.mh_values.specs.declared.value.Exc.{Exc}
 use Rattle.mh_values.specs.declared.value.Value.{Value}
-use Rattle.mh_values.specs.Class.{class_at}
+use Rattle.mh_values.specs.Class.{string_concat_class}
 use Rattle.mh_values.specs.Exception.{saying}
 use Rattle.mh_values.specs.HasType.{is_type_below}
 use Rattle.mh_values.specs.Slots.{slots_of_all}
@@ -28,10 +27,6 @@ constant_tag = 2
 -- the most slots that the parameters of a concatenation take
 abbrev pub most_concat_slots : ℕ
 most_concat_slots = 200
-
--- `java/lang/invoke/StringConcatException`
-abbrev pub string_concat_class : ClassId
-string_concat_class = class_at 26
 
 -- ---- pieces
 

@@ -8,7 +8,6 @@ pub mod FoundSites
 pub mod Counted
 pub mod Host
 pub mod Limits
-pub mod MadeCalls
 pub mod TableSerials
 mod CallTexts
 mod CallsAgain

@@ -45,12 +45,6 @@ IsCallOf leaves jobs (Exact leaf ty args) = (leaf.0 < length leaves.leaves) × H
 IsCallOf leaves jobs (Generic leaf ty args) = (leaf.0 < length leaves.leaves) × HaveTypes leaves.classes args ty.params
 IsCallOf leaves jobs (Indy site args) = (site < length jobs) × HaveTypes leaves.classes args (params_at jobs site)
 
--- whether the values of a list have the types of another list, one for each
-abbrev pub have_types : List Class → List Value → List Ty → Bool
-have_types classes [] [] = true
-have_types classes (v ∷ vs) (t ∷ ts) = has_type classes v t && have_types classes vs ts
-have_types classes _ _ = false
-
 -- the calls of each thread can be made
 abbrev pub AreCallsOf : LeafTable → List Job → List (List Call) → Type 0
 AreCallsOf leaves jobs threads = All (λ calls. All (IsCallOf leaves jobs) calls) threads

@@ -1,12 +1,12 @@
 ghost use Rattle.std.specs.Prelude.{◌≡◌, ◌<◌, length, IsTrue};
 ghost use Rattle.mh_values.specs.HasType.{HaveTypes};
 ghost use Rattle.mh_jobs.specs.Jobs.{params_at};
-ghost use Rattle.mh_plan.specs.Results.{IsCallOf, have_types};
+ghost use Rattle.mh_plan.specs.Results.{IsCallOf};
 
 use mh_base::Seq;
 use mh_jobs::Jobs;
 use mh_leaves::Leaves;
-use mh_values::{Classes, Items, LeafId, MethodTy, Ty, Value, has_type};
+use mh_values::{Items, LeafId, MethodTy, Ty, are_typed};
 
 /// A call that a thread makes.
 #[derive(Debug, Drop)]
@@ -20,31 +20,6 @@ pub enum Call {
     /// A call of a call site, as `invokedynamic` makes it: the site's number, and arguments of the
     /// parameters of the site's type; none where that type cannot be read.
     Indy(u32, Items),
-}
-
-// Whether values have these types, one for each.
-fn have_types(values: &[Value], types: &[Ty], classes: &Classes) -> bool
-    ensures { result ≡ have_types classes.now values.now types.now }
-{
-    let [value, values @ ..] = values else {
-        return match types {
-            [] => true,
-            [_, ..] => false,
-        };
-    };
-    let [ty, types @ ..] = types else {
-        return false;
-    };
-    has_type(value, *ty, classes) && have_types(values, types, classes)
-}
-
-// Whether arguments have these types, one for each.
-#[tactic(auto, using(crate::proofs::MadeCalls::found_typed, crate::proofs::MadeCalls::typed_found))]
-fn are_typed(args: &Items, types: &[Ty], classes: &Classes) -> bool
-    ensures yes { IsTrue result → HaveTypes classes.now args.now types.now }
-    ensures no { HaveTypes classes.now args.now types.now → IsTrue result }
-{
-    have_types(args.as_slice(), types, classes)
 }
 
 /// The types of the arguments that a call of a site takes.
@@ -65,7 +40,7 @@ fn is_leaf_call(leaves: &Leaves, leaf: LeafId, ty: &MethodTy, args: &Items) -> b
     ensures no { (leaf.0 < length leaves.now.leaves)
         × HaveTypes leaves.now.classes args.now ty.now.params → IsTrue result }
 {
-    leaf.0 < leaves.count() && are_typed(args, ty.params.as_slice(), leaves.classes())
+    leaf.0 < leaves.count() && are_typed(args.as_slice(), ty.params.as_slice(), leaves.classes())
 }
 
 // Whether a site is there, and arguments have the types of its parameters.
@@ -75,7 +50,8 @@ fn is_site_call(leaves: &Leaves, jobs: &Jobs, site: u32, args: &Items) -> bool
     ensures no { (site < length jobs.now)
         × HaveTypes leaves.now.classes args.now (params_at jobs.now site) → IsTrue result }
 {
-    (site as usize) < jobs.len() && are_typed(args, params_at(jobs, site), leaves.classes())
+    (site as usize) < jobs.len()
+        && are_typed(args.as_slice(), params_at(jobs, site), leaves.classes())
 }
 
 impl Call {

@@ -11,21 +11,8 @@ use mh_base::NoMemory;
 use mh_form::Machine;
 use mh_handle::{Answer, Handle};
 use mh_leaves::Leaves;
-use mh_values::{Classes, Items, Ty, Value, has_type};
+use mh_values::{Items, are_typed};
 use std::alloc::Global;
-
-/// Whether values have these types, one by one.
-pub fn are_typed(values: &[Value], types: &[Ty], classes: &Classes) -> bool
-    ensures { IsTrue result → HaveTypes classes.now values.now types.now }
-{
-    let [value, values @ ..] = values else {
-        return types.is_empty();
-    };
-    let [ty, types @ ..] = types else {
-        return false;
-    };
-    has_type(value, *ty, classes) && are_typed(values, types, classes)
-}
 
 /// Calls a handle by its own type, as the first of its invocation, twice in one machine; the second
 /// call answers. Arguments that do not have the types of its parameters are told as want of memory.

@@ -9,7 +9,7 @@ mod manifest;
 mod start;
 mod step;
 
-pub use calling::{are_typed, call_typed};
+pub use calling::call_typed;
 pub use literals::items_of;
 pub use making::made;
 pub use manifest::{ADD, ARR, DIV, FAIL, LESS, MANIFEST, NOTHING, SAME, SAW, SUB, TEXT, TICK, ZIN};

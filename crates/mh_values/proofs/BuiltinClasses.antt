@@ -1,6 +1,6 @@
 -- The built-in classes, by computation.
 use Rattle.std.proofs.Common.{◌≡◌, refl, [], ◌∷◌, ◌++◌, true, false, codes, length, map, None, Some}
-use Rattle.mh_values.specs.Class.{class_at, class_below, is_subclass, builtin_classes, object_class, integer_class, long_class, boolean_class, string_class, throwable_class, internal_error_class, wrong_method_type_class, class_cast_class, null_pointer_class, illegal_argument_class, arithmetic_class}
+use Rattle.mh_values.specs.Class.{class_at, class_below, is_subclass, builtin_classes, object_class, integer_class, long_class, boolean_class, string_class, throwable_class, internal_error_class, wrong_method_type_class, class_cast_class, null_pointer_class, illegal_argument_class, arithmetic_class, string_concat_class}
 use Rattle.mh_values.specs.Classes.{class_named, name_of}
 
 how_many : length builtin_classes ≡ 28
@@ -31,6 +31,9 @@ errors_named = refl
 exceptions_named : map (class_named builtin_classes) (codes "java/lang/NullPointerException" ∷ codes "java/lang/IllegalArgumentException" ∷ codes
     "java/lang/ArithmeticException" ∷ []) ≡ Some null_pointer_class ∷ Some illegal_argument_class ∷ Some arithmetic_class ∷ []
 exceptions_named = refl
+
+concat_named : class_named builtin_classes (codes "java/lang/invoke/StringConcatException") ≡ Some string_concat_class
+concat_named = refl
 
 unknown : class_named builtin_classes (codes "java/lang/Void") ≡ None
 unknown = refl

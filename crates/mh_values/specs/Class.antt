@@ -86,6 +86,10 @@ illegal_argument_class = class_at 23
 abbrev pub arithmetic_class : ClassId
 arithmetic_class = class_at 24
 
+-- `java/lang/invoke/StringConcatException`
+abbrev pub string_concat_class : ClassId
+string_concat_class = class_at 26
+
 -- a class below another one
 abbrev pub class_below : List ℕ → ℕ → Class
 class_below name superclass = record { name = name; superclass = Some (class_at superclass) }

@@ -81,3 +81,9 @@ abbrev pub HaveTypes : List Class → List Value → List Ty → Type 0
 HaveTypes classes [] [] = Unit {0}
 HaveTypes classes (v ∷ vs) (t ∷ ts) = IsTrue (has_type classes v t) × HaveTypes classes vs ts
 HaveTypes classes _ _ = ⊥
+
+-- whether they do
+abbrev pub have_types : List Class → List Value → List Ty → Bool
+have_types classes [] [] = true
+have_types classes (v ∷ vs) (t ∷ ts) = has_type classes v t && have_types classes vs ts
+have_types classes _ _ = false

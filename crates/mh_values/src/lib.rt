@@ -28,8 +28,8 @@ pub use same::{
 };
 pub use types::{Comp, MethodTy, Primitive, Ty, Tys};
 pub use typing::{
-    MOST_SLOTS, all_slots, are_items_of, has_type, is_component_below, is_item_of, is_type_below,
-    slots,
+    MOST_SLOTS, all_slots, are_items_of, are_typed, has_type, is_component_below, is_item_of,
+    is_type_below, slots,
 };
 pub use value::{
     Cause, Cell, Cells, Exc, ExcParts, Items, LeafId, MOST_CHARACTERS, MOST_ITEMS, Num, Outcome,

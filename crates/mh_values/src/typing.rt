@@ -1,6 +1,6 @@
-ghost use Rattle.std.specs.Prelude.{◌≡◌, ◌-◌, ◌^◌, ◌&&◌, min};
+ghost use Rattle.std.specs.Prelude.{◌≡◌, ◌-◌, ◌^◌, ◌&&◌, min, IsTrue};
 ghost use Rattle.mh_values.specs.Class.{is_subclass, string_class};
-ghost use Rattle.mh_values.specs.HasType.{is_component_below, is_item_of, are_items_of, is_array_of, has_class, has_primitive, has_component, has_type, is_type_below};
+ghost use Rattle.mh_values.specs.HasType.{is_component_below, is_item_of, are_items_of, is_array_of, has_class, has_primitive, has_component, has_type, have_types, HaveTypes, is_type_below};
 ghost use Rattle.mh_values.specs.Slots.{slots_of, slots_of_all};
 ghost use Rattle.mh_values.specs.ValueLimits.{is_short_text};
 
@@ -165,4 +165,29 @@ pub fn has_type(v: &Value, ty: Ty, classes: &Classes) -> bool
         Ty::Class(class) => has_class(v, class, classes),
         Ty::Array(component) => has_component(v, component, classes),
     }
+}
+
+fn have_types(values: &[Value], types: &[Ty], classes: &Classes) -> bool
+    ensures { result ≡ have_types classes.now values.now types.now }
+{
+    let [value, values @ ..] = values else {
+        return match types {
+            [] => true,
+            [_, ..] => false,
+        };
+    };
+    let [ty, types @ ..] = types else {
+        return false;
+    };
+    has_type(value, *ty, classes) && have_types(values, types, classes)
+}
+
+/// Whether values have these types, one for each: the arguments of a call and the parameters of its
+/// type, for example.
+#[tactic(auto, using(crate::proofs::HavingTypes::found_typed, crate::proofs::HavingTypes::typed_found))]
+pub fn are_typed(values: &[Value], types: &[Ty], classes: &Classes) -> bool
+    ensures yes { IsTrue result → HaveTypes classes.now values.now types.now }
+    ensures no { HaveTypes classes.now values.now types.now → IsTrue result }
+{
+    have_types(values, types, classes)
 }

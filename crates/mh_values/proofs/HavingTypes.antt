@@ -4,8 +4,7 @@ use Rattle.std.specs.Prelude.{IsTrue, ◌&&◌}
 use Rattle.mh_values.specs.declared.class.Class.{Class}
 use Rattle.mh_values.specs.declared.types.Ty.{Ty}
 use Rattle.mh_values.specs.declared.value.Value.{Value}
-use Rattle.mh_values.specs.HasType.{HaveTypes, has_type}
-use Rattle.mh_plan.specs.Results.{have_types}
+use Rattle.mh_values.specs.HasType.{HaveTypes, has_type, have_types}
 
 -- ---- two answers
 

@@ -1,5 +1,5 @@
 use Rattle.std.proofs.Common.{length}
-use Rattle.mh_plan.proofs.call.+have_types.Given as goal
+use Rattle.mh_values.proofs.typing.+have_types.Given as goal
 
 -- each call looks at one value less
 abbrev pub decreases-have_types : goal.decreases-have_types
