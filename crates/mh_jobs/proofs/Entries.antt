@@ -1,5 +1,5 @@
 -- The static arguments of bootstrap methods that are read one after the other.
-use Rattle.std.proofs.Common.{◌≡◌, sym, ap, ◌∙◌, ⊎_elim, ℕ, List, [], ◌∷◌, ◌++◌, length, Some}
+use Rattle.std.proofs.Common.{◌≡◌, sym, ap, ◌∙◌, ⊎_elim, List, [], ◌∷◌, ◌++◌, length, Some}
 use Rattle.std.specs.Prelude.{slice_get}
 use Rattle.mh_base.proofs.Slices.{slice_get-push}
 use Rattle.mh_leaf.specs.LeafTable.{LeafTable}

@@ -10,8 +10,10 @@ use Rattle.mh_class_bytes.specs.Chars.{chars_from, units_from, shown}
 use Rattle.mh_class_bytes.specs.Mutf8.{sound_from, unit_len}
 use Rattle.mh_classfile.specs.declared.constant.Constant.TheVariants as constant
 use Rattle.mh_jobs.specs.declared.job.Argument.TheVariants as argument
+use Rattle.mh_jobs.specs.declared.job.Method.TheVariants as method
 use Rattle.mh_jobs.specs.Job.{job_of}
 use Rattle.mh_jobs.specs.Jobs.{jobs_of}
+use Rattle.mh_jobs.specs.Names.{concat_method}
 use Rattle.mh_jobs.specs.Thrown.{bootstrap_method_error_class, no_class_def_found_class, no_such_method_class, recorded, unsupported}
 use Rattle.mh_jobs.proofs.Host.{host, of, boxed_int, bootstrap_descriptor, link, handle_to, site_of, booted, bare, class_of, job_with, call_with}
 
@@ -40,6 +42,30 @@ a_bootstrap_method_is_static :
     ≡ Err (unsupported (codes "constant"))
 unfolding chars_from units_from unit_len sound_from shown
 a_bootstrap_method_is_static = refl
+
+a_concatenation_has_a_bootstrap_method_of_its_own :
+    call_with (codes "()V") (bare (handle_to 6 concat_method.owner concat_method.name concat_method.descriptor))
+    ≡ Ok (record { method = method.Concat; name = codes "f"; ty = of [] None; arguments = [] })
+unfolding chars_from units_from unit_len sound_from shown
+a_concatenation_has_a_bootstrap_method_of_its_own = refl
+
+a_built_in_method_is_static_too :
+    call_with (codes "()V") (bare (handle_to 5 concat_method.owner concat_method.name concat_method.descriptor))
+    ≡ Err (unsupported (codes "constant"))
+unfolding chars_from units_from unit_len sound_from shown
+a_built_in_method_is_static_too = refl
+
+another_method_of_the_factory_has_no_class :
+    call_with (codes "()V") (bare (handle_to 6 concat_method.owner (codes "makeConcat") concat_method.descriptor))
+    ≡ Err (saying no_class_def_found_class concat_method.owner)
+unfolding chars_from units_from unit_len sound_from shown
+another_method_of_the_factory_has_no_class = refl
+
+another_descriptor_has_no_class :
+    call_with (codes "()V") (bare (handle_to 6 concat_method.owner concat_method.name (codes "()V")))
+    ≡ Err (saying no_class_def_found_class concat_method.owner)
+unfolding chars_from units_from unit_len sound_from shown
+another_descriptor_has_no_class = refl
 
 -- ---- the type
 
@@ -84,7 +110,7 @@ a_type_that_cannot_be_read_is_none = refl
 the_call_of_a_bootstrap_method :
     call_with (codes "(I)V") (booted (constant.Integer (pos 5) ∷ constant.Class (codes "[I") ∷ []))
     ≡ Ok (record {
-      script = record { 0 = 0 };
+      method = method.Script (record { 0 = 0 });
       name = codes "f";
       ty = of (int_type ∷ []) None;
       arguments = argument.Value (boxed_int (pos 5)) ∷ argument.Class (ty.Array (comp.Prim primitive.I)) ∷ [];

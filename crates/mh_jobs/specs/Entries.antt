@@ -1,5 +1,5 @@
 -- The static arguments of the bootstrap methods of a class.
-use Rattle.std.specs.Prelude.{◌≡◌, ◌<◌, ℕ, List, length, slice_get, Some}
+use Rattle.std.specs.Prelude.{◌≡◌, ℕ, List, length, slice_get, Some}
 use Rattle.mh_leaf.specs.LeafTable.{LeafTable}
 use Rattle.mh_classfile.specs.Class as class_file
 use Rattle.mh_jobs.specs.declared.job.Argument.{Argument}

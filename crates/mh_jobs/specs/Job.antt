@@ -22,12 +22,13 @@ use Rattle.mh_classfile.specs.declared.constant.SiteView.{SiteView}
 use Rattle.mh_classfile.specs.Class as class_file
 use Rattle.mh_script.specs.declared.script.MethodName.{MethodName}
 use Rattle.mh_script.specs.declared.script.Script.{Script}
-use Rattle.mh_script.specs.declared.scripts.ScriptId.{ScriptId}
 use Rattle.mh_jobs.specs.declared.job.Argument.{Argument}
 use Rattle.mh_jobs.specs.declared.job.Argument.TheVariants as argument
 use Rattle.mh_jobs.specs.declared.job.BootstrapCall.{BootstrapCall}
 use Rattle.mh_jobs.specs.declared.job.Job.{Job}
-use Rattle.mh_jobs.specs.Names.{class_of, type_of_text, method_type_of_text, leaf_named, script_of}
+use Rattle.mh_jobs.specs.declared.job.Method.{Method}
+use Rattle.mh_jobs.specs.declared.job.Method.TheVariants as method
+use Rattle.mh_jobs.specs.Names.{class_of, type_of_text, method_type_of_text, leaf_named, is_built_in, script_of}
 use Rattle.mh_jobs.specs.Thrown.{OrThrown, ◌>>=◌, ◌>>◌, require, as_shown, unsupported}
 
 -- ---- texts
@@ -105,11 +106,19 @@ bootstrap_at class j = ok_or (slice_get class.bootstraps j) (unsupported (codes 
 abbrev pub constants_at : class_file.Class → ℕ → List Constant
 constants_at class j = option_map_or (λ b. b.arguments) (slice_get class.bootstraps j) []
 
--- the script that a bootstrap method's handle names: an `invokestatic` one
-abbrev pub bootstrap_script : List Class → List Script → HandleRef → OrThrown ScriptId
-bootstrap_script classes scripts h = do
+-- the method that a name means: the built-in one, or else that of a script
+abbrev pub method_named : List Class → List Script → MethodName → OrThrown Method
+method_named classes scripts m =
+    if is_built_in m then Ok method.Concat
+    else (do
+      script ← script_of as_shown classes scripts m
+      Ok (method.Script script))
+
+-- the bootstrap method that a handle names: an `invokestatic` one
+abbrev pub bootstrap_method : List Class → List Script → HandleRef → OrThrown Method
+bootstrap_method classes scripts h = do
   require (h.kind == 6) (unsupported (codes "constant"))
-  script_of as_shown classes scripts (method_of h)
+  method_named classes scripts (method_of h)
 
 -- the type of a call site
 abbrev pub site_type : List Class → SiteView → OrThrown MethodTy
@@ -118,11 +127,11 @@ site_type classes site = method_type_of_text as_shown classes site.descriptor
 -- what a call site calls its bootstrap method with: the method first, then the site's type and name, then the static arguments
 abbrev pub call_of : LeafTable → List Script → SiteView → HandleRef → List Constant → OrThrown BootstrapCall
 call_of leaves scripts site handle constants = do
-  script ← bootstrap_script leaves.classes scripts handle
+  method ← bootstrap_method leaves.classes scripts handle
   t ← site_type leaves.classes site
   name ← text_of site.name
   arguments ← arguments_of leaves constants
-  Ok (record { script = script; name = name; ty = t; arguments = arguments })
+  Ok (record { method = method; name = name; ty = t; arguments = arguments })
 
 -- the call of the bootstrap method that a call site names
 abbrev pub bootstrap_call : LeafTable → List Script → class_file.Class → SiteView → OrThrown BootstrapCall

@@ -1,5 +1,6 @@
 -- What names mean: classes, types, leaves and scripts, or what is thrown where they mean nothing (JVMS SE 17, 5.4.3.1, 5.4.3.3 and 5.4.3.5).
-use Rattle.std.specs.Prelude.{ℕ, Bool, ◌||◌, List, is_some, Result, Ok, Err, ok_or}
+use Rattle.std.specs.Prelude.{ℕ, Bool, ◌||◌, ◌&&◌, List, ◌++◌, codes, is_some, Result, Ok, Err, ok_or}
+use Rattle.std.specs.Str.{bytes_eq}
 use Rattle.mh_values.specs.declared.class.Class.{Class}
 use Rattle.mh_values.specs.declared.class.ClassId.{ClassId}
 use Rattle.mh_values.specs.declared.descriptor.DescriptorError.{DescriptorError}
@@ -58,6 +59,21 @@ unless_missing says m (Err what) = Err (missing says m what)
 -- the leaf of a name that is called in that way
 abbrev pub leaf_named : Says → LeafTable → How → MethodName → OrThrown LeafId
 leaf_named says leaves how m = unless_missing says m (find_leaf leaves m.owner m.name m.descriptor how)
+
+-- ---- bootstrap methods
+
+-- the bootstrap method that is built in: `StringConcatFactory.makeConcatWithConstants` (`java.lang.invoke`, Java SE 17)
+abbrev pub concat_method : MethodName
+concat_method = record {
+  owner = codes "java/lang/invoke/StringConcatFactory";
+  name = codes "makeConcatWithConstants";
+  descriptor = codes "(Ljava/lang/invoke/MethodHandles$Lookup;Ljava/lang/String;Ljava/lang/invoke/MethodType;Ljava/lang/String;"
+      ++ codes "[Ljava/lang/Object;)Ljava/lang/invoke/CallSite;";
+}
+
+-- whether a method is that one
+abbrev pub is_built_in : MethodName → Bool
+is_built_in m = bytes_eq m.owner concat_method.owner && bytes_eq m.name concat_method.name && bytes_eq m.descriptor concat_method.descriptor
 
 -- ---- scripts
 

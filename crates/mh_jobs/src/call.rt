@@ -1,19 +1,19 @@
 ghost use Rattle.std.specs.Prelude.{◌≡◌, ◌<◌, length};
-ghost use Rattle.mh_jobs.specs.Job.{arguments_of, bootstrap_call, bootstrap_script, call_of, constants_at, site_type};
+ghost use Rattle.mh_jobs.specs.Job.{arguments_of, bootstrap_call, bootstrap_method, call_of, constants_at, site_type};
 ghost use Rattle.mh_jobs.specs.Entries.{AreEntries};
 ghost use Rattle.mh_jobs.specs.Told.{TellsResolved};
 
 use crate::argument::text_of;
 use crate::error::ResolutionError;
-use crate::names::script_of;
+use crate::names::{is_built_in, script_of};
 use crate::statics::{Entries, shared_arguments};
 use crate::thrown::unsupported;
 use crate::types::TypeOrThrown;
-use crate::{Argument, BootstrapCall};
+use crate::{Argument, BootstrapCall, Method};
 use mh_base::{Copied, Frozen, Shared};
 use mh_classfile::{ClassView, HandleRef, SiteView};
 use mh_leaves::Leaves;
-use mh_script::{ScriptId, Scripts};
+use mh_script::Scripts;
 use mh_values::MethodTy;
 use std::alloc::Global;
 
@@ -41,19 +41,23 @@ fn arguments_at(
     shared_arguments(alloc, from.entries.get(bootstrap as usize))
 }
 
-/// The script that a bootstrap method's handle names.
-fn bootstrap_script(
+/// The bootstrap method that a handle names: a built-in one, or else that of a script.
+fn bootstrap_method(
     alloc: Global,
     from: &Resolving<'_, '_>,
     handle: &HandleRef<'_>,
-) -> Result<ScriptId, ResolutionError>
-    ensures { TellsResolved result (bootstrap_script
+) -> Result<Method, ResolutionError>
+    ensures { TellsResolved result (bootstrap_method
         from.now.leaves.now.classes from.now.scripts.now handle.now) }
 {
     if handle.kind != 6 {
         return Err(unsupported(alloc, b"constant"));
     }
-    script_of(alloc, from.leaves.classes(), from.scripts, handle)
+    if is_built_in(handle) {
+        return Ok(Method::Concat);
+    }
+    let script = script_of(alloc, from.leaves.classes(), from.scripts, handle)?;
+    Ok(Method::Script(script))
 }
 
 /// A type that was read, once more.
@@ -80,12 +84,12 @@ fn call_of(
     ensures { TellsResolved result (call_of from.now.leaves.now from.now.scripts.now site.now
         handle.now (constants_at from.now.view.now site.now.bootstrap)) }
 {
-    let script = bootstrap_script(alloc, from, handle)?;
+    let method = bootstrap_method(alloc, from, handle)?;
     let ty = shared(alloc, ty)?;
     let name = text_of(alloc, &site.name)?;
     let arguments = arguments_at(alloc, from, site.bootstrap)?;
     Ok(BootstrapCall {
-        script,
+        method,
         name,
         ty,
         arguments,

@@ -25,11 +25,20 @@ pub enum Argument {
     Leaf(LeafId),
 }
 
-/// What a bootstrap method is called with: its script, the name and the type of the call site, and
-/// the static arguments, which all call sites of the bootstrap method share.
+/// A bootstrap method.
+#[derive(Clone, Copy, Debug)]
+pub enum Method {
+    /// The method that a script stands for.
+    Script(ScriptId),
+    /// `java.lang.invoke.StringConcatFactory.makeConcatWithConstants`, which is built in.
+    Concat,
+}
+
+/// A bootstrap method and what it is called with: the name and the type of the call site, and the
+/// static arguments, which all call sites of the bootstrap method share.
 #[derive(Debug, Drop)]
 pub struct BootstrapCall {
-    pub script: ScriptId,
+    pub method: Method,
     pub name: Str,
     pub ty: Shared<MethodTy>,
     pub arguments: Frozen<Argument>,
@@ -106,9 +115,10 @@ pub(crate) fn site_job(
     })
 }
 
-/// The job of a class's site `k`, whose number in the run is `site`: the script that links it with
-/// the name, the type and the static arguments, or the first of what is wrong, in that order (JVMS
-/// SE 17, 5.4.3.6). `NoClassDefFoundError` names a class that is not there, or an owner that is
+/// The job of a class's site `k`, whose number in the run is `site`: the bootstrap method that links
+/// it with the name, the type and the static arguments, or the first of what is wrong, in that order
+/// (JVMS SE 17, 5.4.3.6). A script of the name of a built-in method does not count.
+/// `NoClassDefFoundError` names a class that is not there, or an owner that is
 /// neither a class nor that of a script; `NoSuchMethodError` a script or a leaf;
 /// `UnsupportedOperationException` has the message `constant` for a bootstrap method that is not
 /// called by `invokestatic`, and for static arguments that are other constants or handles than

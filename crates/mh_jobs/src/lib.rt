@@ -1,4 +1,4 @@
-//! Jobs of call sites: which script links a site, and what the script is given.
+//! Jobs of call sites: which bootstrap method links a site, and what it is given.
 #![tactic(auto)]
 
 mod argument;
@@ -12,6 +12,6 @@ mod statics;
 mod thrown;
 mod types;
 
-pub use job::{Argument, BootstrapCall, Job, job_of};
+pub use job::{Argument, BootstrapCall, Job, Method, job_of};
 pub use jobs::{Jobs, push_jobs};
 pub use run::Run;

@@ -1,6 +1,6 @@
 ghost use Rattle.std.specs.Prelude.{◌≡◌};
 ghost use Rattle.mh_jobs.specs.Job.{method_of};
-ghost use Rattle.mh_jobs.specs.Names.{class_of, type_of_text, method_type_of_text, leaf_named, is_known_owner, script_of};
+ghost use Rattle.mh_jobs.specs.Names.{class_of, type_of_text, method_type_of_text, leaf_named, is_built_in, is_known_owner, script_of};
 ghost use Rattle.mh_jobs.specs.Thrown.{as_shown};
 ghost use Rattle.mh_jobs.specs.Told.{TellsResolved};
 
@@ -74,6 +74,18 @@ pub(crate) fn leaf_named(
         Err(Missing::NoClass) => Err(no_class(alloc, owner)),
         Err(Missing::NoMethod) => Err(no_method(alloc, method)),
     }
+}
+
+/// Whether a method handle refers to `StringConcatFactory.makeConcatWithConstants`.
+pub(crate) fn is_built_in(method: &HandleRef<'_>) -> bool
+    ensures { result ≡ is_built_in (method_of method.now) }
+{
+    let descriptor = b"(Ljava/lang/invoke/MethodHandles$Lookup;Ljava/lang/String;\
+        Ljava/lang/invoke/MethodType;Ljava/lang/String;[Ljava/lang/Object;)\
+        Ljava/lang/invoke/CallSite;";
+    method.owner.bytes() == b"java/lang/invoke/StringConcatFactory".as_slice()
+        && method.name.bytes() == b"makeConcatWithConstants".as_slice()
+        && method.descriptor.bytes() == descriptor.as_slice()
 }
 
 /// Whether a class of the list, or the owner of a script, has this name.
