@@ -24,10 +24,10 @@ use Rattle.mh_classfile.specs.Class as class_file
 use Rattle.mh_jobs.specs.declared.job.Argument.{Argument}
 use Rattle.mh_jobs.specs.declared.job.Argument.TheVariants as argument
 use Rattle.mh_jobs.specs.declared.job.BootstrapCall.{BootstrapCall}
-use Rattle.mh_script.specs.declared.scripts.ScriptId.{ScriptId}
+use Rattle.mh_jobs.specs.declared.job.Method.{Method}
 use Rattle.mh_script.specs.declared.script.MethodName.{MethodName}
 use Rattle.mh_script.specs.declared.script.Script.{Script}
-use Rattle.mh_jobs.specs.Job.{text_of, method_of, way_of, class_argument, argument_of, arguments_of, bootstrap_at, bootstrap_script, site_type, call_of, bootstrap_call}
+use Rattle.mh_jobs.specs.Job.{text_of, method_of, way_of, class_argument, argument_of, arguments_of, bootstrap_at, bootstrap_method, site_type, call_of, bootstrap_call}
 use Rattle.mh_jobs.specs.Names.{unless_missing, leaf_named, method_type_of_text}
 use Rattle.mh_jobs.specs.Thrown.{Says, OrThrown, ◌>>=◌, as_shown, unsupported}
 use Rattle.mh_link.proofs.Nodes.{IsTyped, AreTyped}
@@ -97,16 +97,16 @@ leaf-typed leaves l h = let there = slice_get-within leaves.leaves l.0 h in (the
 called-typed : (leaves : LeafTable) (scripts : List Script) (site : SiteView) (handle : HandleRef) (constants : List Constant) (call : BootstrapCall) →
     call_of leaves scripts site handle constants ≡ Ok call → AreTyped leaves call
 called-typed leaves scripts site handle constants call h n l k =
-    let Made : ScriptId → MethodTy → List ℕ → List Argument → BootstrapCall = λ s t name given.
-    record { script = s; name = name; ty = t; arguments = given } in
+    let Made : Method → MethodTy → List ℕ → List Argument → BootstrapCall = λ m t name given.
+    record { method = m; name = name; ty = t; arguments = given } in
     let arguments : OrThrown (List Argument) = arguments_of leaves constants in
-    let script = bound-parts (bootstrap_script leaves.classes scripts handle)
-    (λ s. site_type leaves.classes site >>= (λ t. text_of site.name >>= (λ name. arguments >>= (λ given. Ok (Made s t name given))))) call h in
+    let method = bound-parts (bootstrap_method leaves.classes scripts handle)
+    (λ m. site_type leaves.classes site >>= (λ t. text_of site.name >>= (λ name. arguments >>= (λ given. Ok (Made m t name given))))) call h in
     let ty = bound-parts (site_type leaves.classes site)
-    (λ t. text_of site.name >>= (λ name. arguments >>= (λ given. Ok (Made script.0 t name given)))) call script.2 in
-    let name = bound-parts (text_of site.name) (λ name. arguments >>= (λ given. Ok (Made script.0 ty.0 name given))) call ty.2 in
-    let given = bound-parts arguments (λ given. Ok (Made script.0 ty.0 name.0 given)) call name.2 in
-    let is = ok_is (Made script.0 ty.0 name.0 given.0) call given.2 in
+    (λ t. text_of site.name >>= (λ name. arguments >>= (λ given. Ok (Made method.0 t name given)))) call method.2 in
+    let name = bound-parts (text_of site.name) (λ name. arguments >>= (λ given. Ok (Made method.0 ty.0 name given))) call ty.2 in
+    let given = bound-parts arguments (λ given. Ok (Made method.0 ty.0 name.0 given)) call name.2 in
+    let is = ok_is (Made method.0 ty.0 name.0 given.0) call given.2 in
     leaf-typed leaves l (arguments-within leaves constants given.0 given.1 n l
     (subst (λ (c : BootstrapCall). slice_get c.arguments n ≡ Some (argument.Leaf l)) (sym is) k))
 

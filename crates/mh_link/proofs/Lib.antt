@@ -1,4 +1,5 @@
 pub mod Attempts
+pub mod Concatenations
 pub mod CallsOfSites
 pub mod Host
 pub mod HostLeaves
@@ -9,6 +10,7 @@ pub mod Uses
 mod WorkedAdapters
 mod WorkedBranchCalls
 mod WorkedCalls
+mod WorkedConcatenations
 mod WorkedEnds
 mod WorkedLines
 mod WorkedNodes

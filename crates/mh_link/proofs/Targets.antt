@@ -14,13 +14,16 @@ use Rattle.mh_tree.specs.Rows.{illegal, mismatch}
 use Rattle.mh_tree.specs.Typing.{type_of}
 use Rattle.mh_jobs.specs.declared.job.BootstrapCall.{BootstrapCall}
 use Rattle.mh_jobs.specs.declared.job.Job.{Job}
+use Rattle.mh_jobs.specs.declared.job.Method.{Method}
+use Rattle.mh_jobs.specs.declared.job.Method.TheVariants as method
 use Rattle.mh_script.specs.declared.script.End.{End}
 use Rattle.mh_script.specs.declared.script.End.TheVariants as end
 use Rattle.mh_script.specs.declared.script.Script.{Script}
 use Rattle.mh_script.specs.declared.script.Step.{Step}
 use Rattle.mh_script.specs.declared.script.Step.TheVariants as step
 use Rattle.mh_jobs.proofs.Parts.{bound-parts, require-parts}
-use Rattle.mh_link.specs.Linked.{Target, linkage, assigning, stepped, ended, ran, called_script, at_start, outcome, linked}
+use Rattle.mh_link.specs.Linked.{Target, linkage, assigning, stepped, ended, ran, called_script, at_start, method_target, target_of, outcome, linked}
+use Rattle.mh_link.proofs.Concatenations.{concat-typed}
 use Rattle.mh_jobs.specs.Names.{class_of}
 use Rattle.mh_link.specs.Operands.{Frame, handle_in, handle}
 use Rattle.mh_link.specs.Operations.{node_of}
@@ -67,12 +70,17 @@ is_target : (leaves : LeafTable) (o : OrThrown Tree) (t : Tree) → linkage leav
 is_target leaves (Ok u) t h = cc
 is_target leaves (Err e) t h = absurd cc
 
+method_target-typed : (leaves : LeafTable) (scripts : List Script) (serial : ℕ) (call : BootstrapCall) (m : Method) (t : Tree) →
+    method_target leaves scripts serial call m ≡ Ok t → type_of leaves t ≡ Ok call.ty
+method_target-typed leaves scripts serial call (method.Script id) t h =
+    let scripted = bound-parts (called_script scripts id) (λ script. ran leaves script.steps script.end (at_start call serial)) t h in
+    ran-typed leaves scripted.0.steps scripted.0.end (at_start call serial) t scripted.2
+method_target-typed leaves scripts serial call method.Concat t h = concat-typed leaves call t h
+
 -- what is linked is linked for a call of the bootstrap method, and has the type of the site
 pub linked-typed : (leaves : LeafTable) (scripts : List Script) (job : Job) (serial : ℕ) (t : Tree) → linked leaves scripts job serial ≡ Target t →
     (call : BootstrapCall) × (job.call ≡ Ok call) × (type_of leaves t ≡ Ok call.ty)
 linked-typed leaves scripts job serial t h =
     let found = is_target leaves (outcome leaves scripts job serial) t h in
-    let called = bound-parts job.call (λ call. called_script scripts call >>=
-    (λ script. ran leaves script.steps script.end (at_start call serial))) t found in
-    let scripted = bound-parts (called_script scripts called.0) (λ script. ran leaves script.steps script.end (at_start called.0 serial)) t called.2 in
-    (called.0, called.1, ran-typed leaves scripted.0.steps scripted.0.end (at_start called.0 serial) t scripted.2)
+    let called = bound-parts job.call (target_of leaves scripts serial) t found in
+    (called.0, called.1, method_target-typed leaves scripts serial called.0 called.0.method t called.2)

@@ -1,3 +1,4 @@
+pub mod Concatenation
 pub mod Linked
 pub mod Made
 pub mod Operands

@@ -1,5 +1,5 @@
 -- What an attempt links at a call site: a script's lines folded over its registers, and what is recorded of how they end (JVMS SE 17, 5.4.3.6).
-use Rattle.std.specs.Prelude.{ℕ, ◌%◌, ◌==◌, not, List, [], ◌∷◌, codes, pos, Ok, Err, ok_or, slice_get}
+use Rattle.std.specs.Prelude.{ℕ, ◌%◌, ◌==◌, ◌<◌, not, List, [], ◌∷◌, codes, length, pos, Ok, Err, ok_or, slice_get}
 use Rattle.mh_values.specs.declared.class.Class.{Class}
 use Rattle.mh_values.specs.declared.types.MethodTy.{MethodTy}
 use Rattle.mh_values.specs.declared.value.Exc.{Exc}
@@ -17,12 +17,16 @@ use Rattle.mh_tree.specs.Typing.{type_of, held}
 use Rattle.mh_tree.specs.Meaning.{Done, mean}
 use Rattle.mh_jobs.specs.declared.job.BootstrapCall.{BootstrapCall}
 use Rattle.mh_jobs.specs.declared.job.Job.{Job}
+use Rattle.mh_jobs.specs.declared.job.Method.{Method}
+use Rattle.mh_jobs.specs.declared.job.Method.TheVariants as method
 use Rattle.mh_script.specs.declared.script.End.{End}
 use Rattle.mh_script.specs.declared.script.End.TheVariants as end
 use Rattle.mh_script.specs.declared.script.Script.{Script}
 use Rattle.mh_script.specs.declared.script.Step.{Step}
 use Rattle.mh_script.specs.declared.script.Step.TheVariants as step
+use Rattle.mh_script.specs.declared.scripts.ScriptId.{ScriptId}
 use Rattle.mh_jobs.specs.Names.{class_of}
+use Rattle.mh_link.specs.Concatenation.{concat_of}
 use Rattle.mh_link.specs.Operands.{Content, handle, value, Frame, handle_in}
 use Rattle.mh_link.specs.Operations.{node_of}
 use Rattle.mh_jobs.specs.Thrown.{OrThrown, ◌>>=◌, ◌>>◌, require, plainly, recorded, runtime_class}
@@ -62,20 +66,33 @@ ran leaves (s ∷ steps) e frame = stepped leaves s frame >>= ran leaves steps e
 
 -- ---- attempts
 
--- the script that is called; that of a job is always there
-abbrev pub called_script : List Script → BootstrapCall → OrThrown Script
-called_script scripts call = ok_or (slice_get scripts call.script.0) (bare illegal_argument_class)
+-- the script of a number; that of a job is always there
+abbrev pub called_script : List Script → ScriptId → OrThrown Script
+called_script scripts id = ok_or (slice_get scripts id.0) (bare illegal_argument_class)
 
 -- a script before its first line, in the attempt of a serial number
 abbrev pub at_start : BootstrapCall → ℕ → Frame
 at_start call serial = record { call = call; serial = serial; assigned = [] }
 
+-- the script of a bootstrap method, if it is that of one, is there
+abbrev pub IsThere : List Script → Method → Type 0
+IsThere scripts (method.Script id) = id.0 < length scripts
+IsThere scripts method.Concat = Unit {0}
+
+-- the target that a bootstrap method gives for a call of it, in the attempt of a serial number, or what is thrown
+abbrev pub method_target : LeafTable → List Script → ℕ → BootstrapCall → Method → OrThrown Tree
+method_target leaves scripts serial call (method.Script id) = do
+  script ← called_script scripts id
+  ran leaves script.steps script.end (at_start call serial)
+method_target leaves scripts serial call method.Concat = concat_of leaves.classes call
+
+-- the target of a call of a bootstrap method
+abbrev pub target_of : LeafTable → List Script → ℕ → BootstrapCall → OrThrown Tree
+target_of leaves scripts serial call = method_target leaves scripts serial call call.method
+
 -- the target of an attempt to link a job's site, or what is thrown
 abbrev pub outcome : LeafTable → List Script → Job → ℕ → OrThrown Tree
-outcome leaves scripts job serial = do
-  call ← job.call
-  script ← called_script scripts call
-  ran leaves script.steps script.end (at_start call serial)
+outcome leaves scripts job serial = job.call >>= target_of leaves scripts serial
 
 -- what is recorded at a site: the target of all calls, or the error that all throw
 pub data Linked : Type 0 where

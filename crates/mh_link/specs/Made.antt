@@ -1,5 +1,6 @@
 -- What an attempt makes: nodes, and the recipes that forms are asked for.
 use Rattle.std.specs.Prelude.{ℕ, List, [], ◌∷◌, ◌++◌, map, flat_map, Option, Some, slice_get, Ok, Err}
+use Rattle.mh_values.specs.declared.class.Class.{Class}
 use Rattle.mh_values.specs.declared.types.MethodTy.{MethodTy}
 use Rattle.mh_leaf.specs.LeafTable.{LeafTable}
 use Rattle.mh_tree.specs.Tree.{Tree}
@@ -7,7 +8,10 @@ use Rattle.mh_tree.specs.Tree as tree
 use Rattle.mh_tree.specs.Typing.{type_of, held_before}
 use Rattle.mh_jobs.specs.declared.job.Argument.{Argument}
 use Rattle.mh_jobs.specs.declared.job.Argument.TheVariants as argument
+use Rattle.mh_jobs.specs.declared.job.BootstrapCall.{BootstrapCall}
 use Rattle.mh_jobs.specs.declared.job.Job.{Job}
+use Rattle.mh_jobs.specs.declared.job.Method.{Method}
+use Rattle.mh_jobs.specs.declared.job.Method.TheVariants as method
 use Rattle.mh_script.specs.declared.operand.Register.{Register}
 use Rattle.mh_script.specs.declared.operand.Register.TheVariants as register
 use Rattle.mh_script.specs.declared.script.End.{End}
@@ -17,6 +21,7 @@ use Rattle.mh_script.specs.declared.script.Operation.TheVariants as operation
 use Rattle.mh_script.specs.declared.script.Script.{Script}
 use Rattle.mh_script.specs.declared.script.Step.{Step}
 use Rattle.mh_script.specs.declared.script.Step.TheVariants as step
+use Rattle.mh_link.specs.Concatenation.{concat_of}
 use Rattle.mh_link.specs.Linked.{stepped, ended, called_script, at_start}
 use Rattle.mh_link.specs.Operands.{Frame}
 use Rattle.mh_link.specs.Operations.{node_of}
@@ -81,10 +86,23 @@ abbrev pub nodes_from : LeafTable → List Step → End → Frame → List Tree
 nodes_from leaves [] e frame = unless_thrown (ended leaves e frame) (λ t. nodes_of_uses frame (returned e))
 nodes_from leaves (s ∷ steps) e frame = nodes_of_step leaves s frame ++ unless_thrown (stepped leaves s frame) (nodes_from leaves steps e)
 
+-- the node that a concatenation makes
+abbrev pub concat_nodes : List Class → BootstrapCall → List Tree
+concat_nodes classes call = unless_thrown (concat_of classes call) (λ t. t ∷ [])
+
+-- the nodes that a bootstrap method makes for a call of it, in the attempt of a serial number
+abbrev pub nodes_of_method : LeafTable → List Script → ℕ → BootstrapCall → Method → List Tree
+nodes_of_method leaves scripts serial call (method.Script id) =
+    unless_thrown (called_script scripts id) (λ script. nodes_from leaves script.steps script.end (at_start call serial))
+nodes_of_method leaves scripts serial call method.Concat = concat_nodes leaves.classes call
+
+-- the nodes that a call of a bootstrap method makes
+abbrev pub nodes_of_call : LeafTable → List Script → ℕ → BootstrapCall → List Tree
+nodes_of_call leaves scripts serial call = nodes_of_method leaves scripts serial call call.method
+
 -- the nodes that the attempt of a serial number makes; some may stand there twice
 abbrev pub nodes : LeafTable → List Script → Job → ℕ → List Tree
-nodes leaves scripts job serial =
-    unless_thrown job.call (λ call. unless_thrown (called_script scripts call) (λ script. nodes_from leaves script.steps script.end (at_start call serial)))
+nodes leaves scripts job serial = unless_thrown job.call (nodes_of_call leaves scripts serial)
 
 -- ---- what is asked for
 
