@@ -112,11 +112,11 @@ NeedsManyTypes (listed classes) = ⊥
 abbrev pub FillsTypes : List (List ℕ) → (List ℕ → Told) → List ℕ → Type 0
 FillsTypes words files bytes = IfAccepted (input words files) NeedsManyTypes × (bytes ≡ types_line)
 
--- the line of the first input that is refused, where no read failed
+-- the line of the first input that is refused, if no read failed
 abbrev pub RefusesInput : List (List ℕ) → (List ℕ → Told) → (List ℕ → ℕ) → (List ℕ → ℕ) → List ℕ → Type 0
 RefusesInput words files before now bytes = IfRefused (input words files) (λ line. line ≡ bytes) × AreSame before now
 
--- the usage line, where the words are refused
+-- the usage line, if the words are refused
 abbrev pub RefusesWords : List (List ℕ) → List ℕ → Type 0
 RefusesWords words bytes = (command_of words ≡ None) × (bytes ≡ usage_line)
 
@@ -134,7 +134,7 @@ Writes IsDue old new = (bytes : List ℕ) × IsDue bytes × Appends old new byte
 abbrev pub WritesPart : (List ℕ → Type 0) → Option (List ℕ) → Option (List ℕ) → Type 0
 WritesPart IsDue old new = (bytes : List ℕ) × IsDue bytes × AppendsPart old new bytes
 
--- what is due at one of the statuses that write: no read failed, but where that is what is told
+-- what is due at one of the statuses that write: no read failed, except if the text reports a failed read
 abbrev pub IsDue : List (List ℕ) → (List ℕ → Told) → (List ℕ → ℕ) → (List ℕ → ℕ) → TopAnswer → List ℕ → Type 0
 IsDue words files before now answer bytes =
     (AreSame before now × Reports words files answer bytes)

@@ -121,7 +121,7 @@ command_input (run names) files = named_input Report names files
 command_input (sites names) files = listing_input most_sites names files
 command_input (generate number) files = generated_input number
 
--- the same where the words may be refused
+-- the same if the words may be refused
 abbrev pub input_of : Option Command → (List ℕ → Told) → Input
 input_of None files = usage
 input_of (Some command) files = command_input command files
@@ -130,7 +130,7 @@ input_of (Some command) files = command_input command files
 abbrev pub input : List (List ℕ) → (List ℕ → Told) → Input
 input words files = input_of (command_of words) files
 
--- where the inputs are told as far as the first that stops the reading, none does, and P holds of what is accepted
+-- if contracts see the inputs up to the first that stops the reading, none stops it, and P holds of what is accepted
 abbrev pub IfAccepted : Input → (Accepted → Type 0) → Type 0
 IfAccepted usage P = ⊥
 IfAccepted (refused line) P = ⊥
@@ -138,7 +138,7 @@ IfAccepted (accepted a) P = P a
 IfAccepted missing P = ⊥
 IfAccepted untold P = Unit {0}
 
--- where the inputs are told as far as the first that is refused, there is one, and P holds of its line
+-- if contracts see the inputs up to the first that is refused, there is one, and P holds of its line
 abbrev pub IfRefused : Input → (List ℕ → Type 0) → Type 0
 IfRefused usage P = ⊥
 IfRefused (refused line) P = P line
@@ -162,7 +162,7 @@ AreAccepted (accepted a) = Unit {0}
 AreAccepted missing = ⊥
 AreAccepted untold = ⊥
 
--- the first input that stops the reading is told not to be there
+-- contracts see that the first input that stops the reading does not exist
 abbrev pub IsMissing : Input → Type 0
 IsMissing usage = ⊥
 IsMissing (refused line) = ⊥
@@ -184,11 +184,11 @@ abbrev pub NeedsFew : Accepted → Type 0
 NeedsFew (program p) = ProgramFits p
 NeedsFew (listed classes) = Unit {0}
 
--- where they are told, the inputs are accepted, and what they give fits into the tables of forms and of types
+-- if contracts see the inputs, these are accepted, and what they give fits into the tables of forms and of types
 abbrev pub FitsTables : Input → Type 0
 FitsTables i = IfAccepted i NeedsFew
 
--- where it is told, a file within its limit has this meaning
+-- if contracts see the file, and it is within its limit, it has this meaning
 abbrev pub HasMeaning : {T K : Type 0} → ℕ → (List ℕ → Result T K) → Told → T → Type 0
 HasMeaning limit meaning (file bytes) value = (meaning bytes ≡ Ok value) × (length bytes ≤ limit)
 HasMeaning limit meaning nothing value = Unit {0}

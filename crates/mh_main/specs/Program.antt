@@ -17,7 +17,7 @@ use Rattle.mh_main.specs.Sums.{sum_line, sum_of}
 abbrev pub given_of : Program → Given
 given_of p = record { leaves = p.leaves; scripts = p.scripts; jobs = p.jobs }
 
--- what is written of a run where it is this: the report, or the line of a number
+-- what is written of a run, by what is asked for: the report, or the line of a number
 abbrev pub written_as : Output → Program → List (Option Recorded) → List (List Result) → ℕ → ℕ → ℕ → List ℕ
 written_as Report p table threads attempts forms types = report_text p.leaves.classes table threads attempts forms types
 written_as (Line number) p table threads attempts forms types =

@@ -58,7 +58,7 @@ IsDoneOrWant status = (status ≡ done) ⊎ (status ≡ no_memory)
 abbrev pub IsDoneFullOrWant : ℕ → Type 0
 IsDoneFullOrWant status = IsDoneOrWant status ⊎ ((status ≡ forms_full) ⊎ (status ≡ types_full))
 
--- the status tells exactly where the sink failed: then its count of faults rose, and at any other status it stayed
+-- the status says if and only if the sink failed: then its count of faults rose, and at any other status it stayed
 pub record FailsWhere (status before now : ℕ) : Type 0 where
   pub failed : status ≡ write_failed → Rose before now
   pub still : status ≢ write_failed → now ≡ before

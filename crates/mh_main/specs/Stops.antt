@@ -48,7 +48,7 @@ StopsFile limit told (TooLong at) = MayBeLonger told limit
 StopsFile limit told (Fault at line kind) = ⊥
 StopsFile limit told (Place at place kind) = ⊥
 
--- where it is told, a text of at most so many bytes has the fault at this line, of the kind that has this word
+-- if contracts see the text, and it has at most so many bytes, it has the fault at this line, of the kind that has this word
 abbrev pub HasLineFault : {T K : Type 0} → ℕ → (K → List ℕ) → (List ℕ → Result T (LineFault K)) → Told → ℕ → List ℕ → Type 0
 HasLineFault {K = K} limit word meaning (file bytes) line kind =
     (length bytes ≤ limit) × ((fault : LineFault K) × (meaning bytes ≡ Err fault) × (line ≡ fault.line) × (kind ≡ word fault.kind))
@@ -74,7 +74,7 @@ StopsBytes name room bytes NoMemory = Unit {0}
 StopsBytes name room bytes (Place at place kind) = (at.now ≡ name) × IsClassFault room bytes place kind.now
 StopsBytes name room bytes _ = ⊥
 
--- the same where it is told, of a file of at most so many bytes as a class file may have
+-- the same of a file that contracts see and that has at most as many bytes as a class file may have
 abbrev pub HasClassFault : ℕ → Told → ℕ → List ℕ → Type 0
 HasClassFault room (file bytes) place kind = (length bytes ≤ class_limit) × IsClassFault room bytes place kind
 HasClassFault room nothing place kind = Unit {0}
@@ -88,26 +88,26 @@ StopsClass room told (TooLong at) = MayBeLonger told class_limit
 StopsClass room told (Fault at line kind) = ⊥
 StopsClass room told (Place at place kind) = HasClassFault room told place kind.now
 
--- the class file is one of those named, and each before it was accepted, as far as it is told
+-- the class file is one of those named, and each earlier one that contracts see was accepted
 abbrev pub ReachesClass : ℕ → List (List ℕ) → (List ℕ → Told) → List ℕ → Type 0
 ReachesClass room [] files name = ⊥
 ReachesClass room (first ∷ names) files name =
     (name ≡ first)
     ⊎ ((c : Class) × HasMeaning class_limit (class_or_fault room) (files first) c × ReachesClass (room - length c.sites) names files name)
 
--- the class files are of these classes, which have at most so many call sites together, as far as they are told
+-- the class files that contracts see are of these classes, which have at most so many call sites together
 abbrev pub AreClassesOf : ℕ → List (List ℕ) → (List ℕ → Told) → List Class → Type 0
 AreClassesOf room [] files classes = classes ≡ []
 AreClassesOf room (name ∷ names) files [] = ⊥
 AreClassesOf room (name ∷ names) files (c ∷ classes) =
     HasMeaning class_limit (class_or_fault room) (files name) c × AreClassesOf (room - length c.sites) names files classes
 
--- the manifest and the scripts of a run were accepted, as far as they are told
+-- the manifest and the scripts of a run were accepted, if contracts see them
 abbrev pub TextsMean : Named → (List ℕ → Told) → LeafTable → List Script → Type 0
 TextsMean names files leaves all =
     HasMeaning leaves_limit manifest (files names.leaves) leaves × HasMeaning leaves_limit scripts (files names.scripts) all
 
--- the input is one of a run's, and each before it was accepted, as far as it is told
+-- the input is one of a run's, and each earlier one that contracts see was accepted
 abbrev pub ReachesInput : Named → (List ℕ → Told) → List ℕ → Type 0
 ReachesInput names files name =
     (name ≡ names.leaves)
@@ -116,7 +116,7 @@ ReachesInput names files name =
     ⊎ ((leaves : LeafTable) × (all : List Script) × (classes : List Class) × (name ≡ names.plan) × TextsMean names files leaves all
     × AreClassesOf most_sites names.classes files classes)
 
--- the input is one of the command's, and each before it was accepted, as far as it is told
+-- the input is one of the command's, and each earlier one that contracts see was accepted
 abbrev pub IsReachedInput : Command → (List ℕ → Told) → List ℕ → Type 0
 IsReachedInput (run names) files name = ReachesInput names files name
 IsReachedInput (sites names) files name = ReachesClass most_sites names files name
@@ -130,7 +130,7 @@ IsStopAmong Reaches before now (TooLong at) = AreSame before now
 IsStopAmong Reaches before now (Fault at line kind) = AreSame before now
 IsStopAmong Reaches before now (Place at place kind) = AreSame before now
 
--- what the inputs say, where one of them is refused
+-- what the inputs say, if one of them is refused
 abbrev pub Refuses : Input → Stop → Type 0
 Refuses said NoMemory = Unit {0}
 Refuses said (ReadFault at) = Unit {0}

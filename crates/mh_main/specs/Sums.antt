@@ -13,12 +13,12 @@ abbrev pub int_of : Value → ℤ
 int_of (Prim (I n)) = n
 int_of _ = pos 0
 
--- the int that was returned, and 0 where none was
+-- the int that was returned, or 0 if none was
 abbrev pub returned_int : Option Value → ℤ
 returned_int None = pos 0
 returned_int (Some value) = int_of value
 
--- the int that a call returned, and 0 where it returned none
+-- the int that a call returned, or 0 if it returned none
 abbrev pub result_int : Result → ℤ
 result_int (Gave value calls) = returned_int value
 result_int _ = pos 0

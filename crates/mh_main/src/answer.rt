@@ -1,6 +1,6 @@
 use mh_plan::{Attempts, Serials, ThreadAnswers};
 
-/// How a run ended. The lists are empty where no program was run to its end.
+/// How a run ended. The lists are empty if no program ran to its end.
 #[derive(Debug, Drop)]
 pub struct TopAnswer {
     /// The exit status of the program.

@@ -31,7 +31,7 @@ fn class_word(kind: ClassKind) -> &'static str
     }
 }
 
-/// The class that the bytes of the named file are, where it has at most `room` call sites.
+/// The class that the bytes of the named file are, if it has at most `room` call sites.
 pub fn class_of<'a, 'b>(
     alloc: Global,
     name: &'a str,

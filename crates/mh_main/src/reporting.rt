@@ -156,7 +156,7 @@ fn answered(table: Serials, run: RunReport) -> TopAnswer
     }
 }
 
-/// What the run of a program's calls gives, where it is written, and its text.
+/// What the run of a program's calls gives, if it is written, and its text.
 pub fn run_and_report<R: Threads + Wait + Sync, G: Gate + Sync>(
     rt: &R,
     alloc: Global,

@@ -61,7 +61,7 @@ fn answer_line<S: Sink>(alloc: Global, sink: &mut S, status: u8, pieces: &[&[u8]
     }
 }
 
-// The answer where its report is not written.
+// The answer if its report is not written.
 fn unwritten(answer: TopAnswer) -> TopAnswer
     ensures status { result.status ≡ write_failed }
     ensures threads { result.threads ≡ answer.threads }
@@ -238,10 +238,10 @@ pub fn top<'a, R: Threads + Wait + Sync, I: Inputs, S: Sink, G: Gate + Sync>(
     ensures idle { result.status ≢ done → result.status ≢ write_failed → IsEmptyAnswer result }
     ensures listed { IsListing (command_of (said words.now)) → IsEmptyAnswer result }
 
-    // The status `write_failed` comes exactly where the sink failed.
+    // The status `write_failed` comes if and only if the sink failed.
     ensures fails { FailsWhere result.status (S.faults sink.old) (S.faults sink.new) }
 
-    // A read that failed is never passed over, and never told as want of memory.
+    // A read that failed is never passed over, and never reported as want of memory.
     ensures keeps { KeepsInputs (I.told inputs.old) (I.told inputs.new)
         (I.faults inputs.old) (I.faults inputs.new) }
     ensures no_fault { result.status ≢ unread → result.status ≢ write_failed
@@ -264,7 +264,7 @@ pub fn top<'a, R: Threads + Wait + Sync, I: Inputs, S: Sink, G: Gate + Sync>(
     ensures generated { IsGenerated (command_of (said words.now))
         → IsStill (S.faults sink.old) (S.faults sink.new) → IsDoneFullOrWant result.status }
 
-    // An input that is told not to be there cannot be read.
+    // An input that does not exist, as contracts see, cannot be read.
     ensures unread_wanted { IsMissing (input (said words.now) (I.told inputs.old))
         → IsStill (S.faults sink.old) (S.faults sink.new) → IsUnreadOrWant result.status }
 

@@ -30,7 +30,7 @@ fn returned_int(value: &Option<Value>) -> i32
     }
 }
 
-// The int that a call returned, and 0 where it returned none.
+// The int that a call returned, or 0 if it returned none.
 fn result_int(answer: &Answer) -> i32
     ensures { result ≡ result_int (result_said answer.now) }
 {
