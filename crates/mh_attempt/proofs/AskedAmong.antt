@@ -7,7 +7,10 @@ use Rattle.mh_tree.specs.Tree.{Tree}
 use Rattle.mh_tree.specs.Tree as tree
 use Rattle.mh_handle.specs.Recipe.{recipe}
 use Rattle.mh_handle.specs.SameRecipes.{same_recipe}
+use Rattle.mh_jobs.specs.declared.job.BootstrapCall.{BootstrapCall}
 use Rattle.mh_jobs.specs.declared.job.Job.{Job}
+use Rattle.mh_jobs.specs.declared.job.Method.{Method}
+use Rattle.mh_jobs.specs.declared.job.Method.TheVariants as method
 use Rattle.mh_jobs.specs.Thrown.{OrThrown}
 use Rattle.mh_script.specs.declared.script.End.{End}
 use Rattle.mh_script.specs.declared.script.Operation.{Operation}
@@ -16,10 +19,10 @@ use Rattle.mh_script.specs.declared.script.Script.{Script}
 use Rattle.mh_script.specs.declared.script.Step.{Step}
 use Rattle.mh_script.specs.declared.script.Step.TheVariants as step
 use Rattle.mh_link.specs.Linked.{at_start, called_script, stepped}
-use Rattle.mh_link.specs.Made.{handles_of, nodes, nodes_from, nodes_of, nodes_of_step, nodes_of_uses, unless_thrown}
+use Rattle.mh_link.specs.Made.{concat_nodes, handles_of, nodes, nodes_from, nodes_of, nodes_of_method, nodes_of_step, nodes_of_uses, unless_thrown}
 use Rattle.mh_link.specs.Operands.{Frame, handle_in}
 use Rattle.mh_link.specs.Operations.{node_of}
-use Rattle.mh_attempt.specs.Recipes.{asked_itself, attempt_asked, script_asked, spread_asked, step_asked, use_asked}
+use Rattle.mh_attempt.specs.Recipes.{asked_itself, attempt_asked, method_asked, script_asked, spread_asked, step_asked, use_asked}
 use Rattle.mh_attempt.proofs.KnownHandles.{recipes_of}
 use Rattle.mh_attempt.proofs.RecipeSets.{AreAmong, among-among, among-last, each-among, none-among, same-among}
 
@@ -92,9 +95,13 @@ module _ (leaves : LeafTable) where
       (unless_thrown (stepped leaves s frame) (nodes_from leaves steps e)) (step-among s frame)
       (unless-among (stepped leaves s frame) (script_asked leaves steps e) (nodes_from leaves steps e) (λ next. script-among steps e next))
 
+  method-among : (scripts : List Script) (serial : ℕ) (call : BootstrapCall) (m : Method) →
+      AreTreesAmong (method_asked leaves scripts serial call m) (nodes_of_method leaves scripts serial call m)
+  method-among scripts serial call (method.Script id) =
+      unless-among (called_script scripts id) _ _ (λ script. script-among script.steps script.end (at_start call serial))
+  method-among scripts serial call method.Concat = same-trees (concat_nodes leaves.classes call)
+
   -- of an attempt
   pub attempt-among : (scripts : List Script) (job : Job) (serial : ℕ) →
       AreTreesAmong (attempt_asked leaves scripts job serial) (nodes leaves scripts job serial)
-  attempt-among scripts job serial =
-      unless-among job.call _ _ (λ call. unless-among (called_script scripts call) _ _
-      (λ script. script-among script.steps script.end (at_start call serial)))
+  attempt-among scripts job serial = unless-among job.call _ _ (λ call. method-among scripts serial call call.method)

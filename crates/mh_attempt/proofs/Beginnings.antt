@@ -3,26 +3,32 @@ use Rattle.std.proofs.Common.{◌≡◌, refl, sym, ap, subst, ◌∙◌, ℕ, L
 use Rattle.std.specs.Prelude.{All, option_map, slice_get}
 use Rattle.std.proofs.lemmas.List.{map-append}
 use Rattle.mh_base.proofs.Inversion.{some_is}
+use Rattle.mh_values.specs.declared.types.MethodTy.{MethodTy}
 use Rattle.mh_leaf.specs.LeafTable.{LeafTable}
+use Rattle.mh_pieces.specs.declared.piece.Piece.{Piece}
 use Rattle.mh_classfile.specs.Class as class_file
 use Rattle.mh_classfile.specs.declared.constant.SiteView.{SiteView}
 use Rattle.mh_tree.specs.Tree.{Tree}
+use Rattle.mh_tree.specs.Tree as tree
 use Rattle.mh_edit.specs.declared.key.Key.{Key}
 use Rattle.mh_handle.specs.Recipe.{recipe}
 use Rattle.mh_jobs.specs.declared.job.BootstrapCall.{BootstrapCall}
 use Rattle.mh_jobs.specs.declared.job.Job.{Job}
+use Rattle.mh_jobs.specs.declared.job.Method.{Method}
+use Rattle.mh_jobs.specs.declared.job.Method.TheVariants as method
 use Rattle.mh_jobs.specs.Given.{IsJob}
 use Rattle.mh_jobs.specs.Job.{site_job}
-use Rattle.mh_jobs.specs.Thrown.{OrThrown}
+use Rattle.mh_jobs.specs.Thrown.{OrThrown, ◌>>=◌}
 use Rattle.mh_script.specs.declared.script.End.{End}
 use Rattle.mh_script.specs.declared.script.Script.{Script}
 use Rattle.mh_script.specs.declared.script.Step.{Step}
+use Rattle.mh_link.specs.Concatenation.{pieces_given}
 use Rattle.mh_link.specs.Linked.{at_start, called_script, ended, stepped}
-use Rattle.mh_link.specs.Made.{edits, nodes, nodes_from, nodes_of_step, returned, unless_thrown}
+use Rattle.mh_link.specs.Made.{edits, nodes, nodes_from, nodes_of_call, nodes_of_method, nodes_of_step, returned, unless_thrown}
 use Rattle.mh_link.specs.Operands.{Frame}
 use Rattle.mh_link.proofs.Attempts.{made-typed}
 use Rattle.mh_link.proofs.Nodes.{IsTyped}
-use Rattle.mh_attempt.specs.Recipes.{attempt_recipes, script_asked, step_asked}
+use Rattle.mh_attempt.specs.Recipes.{attempt_recipes, call_asked, method_asked, script_asked, step_asked}
 use Rattle.mh_attempt.proofs.AskedAmong.{attempt-among}
 use Rattle.mh_attempt.proofs.KnownHandles.{AreKnown, edits_of, recipes_of}
 use Rattle.mh_attempt.proofs.KnownSteps.{all-edits, end-known, next-known, step-known}
@@ -61,18 +67,27 @@ module _ (leaves : LeafTable) where
       AreAmong (edits (recipe leaves) leaves scripts job serial) (attempt_recipes leaves scripts job serial)
   attempt-edits scripts job serial = called job.call
     where
-      began : (call : BootstrapCall) (m : OrThrown Script) →
+      joined : (ty : MethodTy) (m : OrThrown (List Piece)) →
+          AreAmong (edits_of leaves (unless_thrown (m >>= (λ ps. Ok (tree.Concat ty ps))) (λ t. t ∷ [])))
+          (recipes_of leaves (unless_thrown (m >>= (λ ps. Ok (tree.Concat ty ps))) (λ t. t ∷ [])))
+      joined ty (Ok ps) = same-among _ _ refl
+      joined ty (Err e) = none-among []
+
+      scripted : (call : BootstrapCall) (m : OrThrown Script) →
           AreAmong (edits_of leaves (unless_thrown m (λ script. nodes_from leaves script.steps script.end (at_start call serial))))
           (recipes_of leaves (unless_thrown m (λ script. script_asked leaves script.steps script.end (at_start call serial))))
-      began call (Ok script) = script-known script.steps script.end (at_start call serial) [] tt
-      began call (Err e) = none-among []
+      scripted call (Ok script) = script-known script.steps script.end (at_start call serial) [] tt
+      scripted call (Err e) = none-among []
+
+      by : (call : BootstrapCall) (m : Method) →
+          AreAmong (edits_of leaves (nodes_of_method leaves scripts serial call m)) (recipes_of leaves (method_asked leaves scripts serial call m))
+      by call (method.Script id) = scripted call (called_script scripts id)
+      by call method.Concat = joined call.ty (pieces_given leaves.classes call.ty call.arguments)
 
       called : (m : OrThrown BootstrapCall) →
-          AreAmong (edits_of leaves (unless_thrown m (λ call. unless_thrown (called_script scripts call)
-          (λ script. nodes_from leaves script.steps script.end (at_start call serial)))))
-          (recipes_of leaves (unless_thrown m (λ call. unless_thrown (called_script scripts call)
-          (λ script. script_asked leaves script.steps script.end (at_start call serial)))))
-      called (Ok call) = began call (called_script scripts call)
+          AreAmong (edits_of leaves (unless_thrown m (nodes_of_call leaves scripts serial)))
+          (recipes_of leaves (unless_thrown m (call_asked leaves scripts serial)))
+      called (Ok call) = by call call.method
       called (Err e) = none-among []
 
 -- the nodes of the attempt for a job of a run have types

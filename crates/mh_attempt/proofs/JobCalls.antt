@@ -1,10 +1,9 @@
--- The call that a job makes: its script is there, its leaves are leaves of the table, and it has the type of the job's site.
+-- The call that a job makes: the script of its method is there, its leaves are leaves of the table, and it has the type of the job's site.
 use Rattle.std.proofs.Common.{◌≡◌, sym, ◌∙◌, ap, subst, ℕ, zero, suc, ◌<◌, List, [], ◌∷◌, length, Option, Some, None, Ok, arith}
-use Rattle.std.specs.Prelude.{option_map, ok_or, slice_get}
+use Rattle.std.specs.Prelude.{option_map, slice_get}
 use Rattle.std.specs.Result.{result_ok}
 use Rattle.mh_base.proofs.Inversion.{ok_is}
 use Rattle.mh_values.specs.declared.types.MethodTy.{MethodTy}
-use Rattle.mh_values.specs.declared.value.Exc.{Exc}
 use Rattle.mh_leaf.specs.declared.leaf.Leaf.{Leaf}
 use Rattle.mh_leaf.specs.LeafTable.{LeafTable}
 use Rattle.mh_tree.specs.Rows.{leaf_row}
@@ -15,9 +14,10 @@ use Rattle.mh_jobs.specs.declared.job.Argument.TheVariants as argument
 use Rattle.mh_jobs.specs.declared.job.BootstrapCall.{BootstrapCall}
 use Rattle.mh_jobs.specs.declared.job.Job.{Job}
 use Rattle.mh_jobs.specs.Given.{IsJob}
-use Rattle.mh_jobs.specs.Job.{arguments_of, bootstrap_at, bootstrap_call, bootstrap_script, call_of, site_job, site_type, text_of}
+use Rattle.mh_jobs.specs.Job.{arguments_of, bootstrap_at, bootstrap_call, bootstrap_method, call_of, site_job, site_type, text_of}
 use Rattle.mh_jobs.proofs.Parts.{bound-parts}
-use Rattle.mh_link.proofs.Attempts.{script-there}
+use Rattle.mh_link.specs.Linked.{IsThere}
+use Rattle.mh_link.proofs.Attempts.{method-there}
 use Rattle.mh_link.proofs.Leaves.{call-typed}
 use Rattle.mh_attempt.specs.Registers.{HasLeaves}
 
@@ -37,20 +37,14 @@ job-call : (leaves : LeafTable) (scripts : List Script) (job : Job) (class : cla
     site_job leaves scripts class job.site site ≡ job → job.call ≡ Ok call → bootstrap_call leaves scripts class site ≡ Ok call
 job-call leaves scripts job class site call made called = ap (λ (j : Job). j.call) made ∙ called
 
--- ---- the script
+-- ---- the method
 
-got-within : {A : Type 0} (xs : List A) (k : ℕ) (e : Exc) (x : A) → ok_or (slice_get xs k) e ≡ Ok x → k < length xs
-got-within [] k e x h = absurd cc
-got-within (y ∷ xs) zero e x h = omega arith
-got-within (y ∷ xs) (suc k) e x h = let within = got-within xs k e x h in omega (arith, within)
-
--- the script that the call names is there
-pub job-script : (leaves : LeafTable) (scripts : List Script) (job : Job) (call : BootstrapCall) → IsJob leaves scripts job → job.call ≡ Ok call →
-    call.script.0 < length scripts
-job-script leaves scripts job call is called =
+-- the script of the bootstrap method, if it is that of one, is there
+pub job-method : (leaves : LeafTable) (scripts : List Script) (job : Job) (call : BootstrapCall) → IsJob leaves scripts job → job.call ≡ Ok call →
+    IsThere scripts call.method
+job-method leaves scripts job call is called =
     let site = job-site leaves scripts job is in
-    let there = script-there leaves scripts site.0 site.1 call (job-call leaves scripts job site.0 site.1 call site.2 called) in
-    got-within scripts call.script.0 _ there.0 there.1
+    method-there leaves scripts site.0 site.1 call (job-call leaves scripts job site.0 site.1 call site.2 called)
 
 -- ---- the leaves
 
@@ -74,8 +68,8 @@ typed-call : (leaves : LeafTable) (scripts : List Script) (class : class_file.Cl
     bootstrap_call leaves scripts class site ≡ Ok call → site_type leaves.classes site ≡ Ok call.ty
 typed-call leaves scripts class site call h =
     let bootstrap = bound-parts (bootstrap_at class site.bootstrap) (λ b. call_of leaves scripts site b.handle b.arguments) call h in
-    let script = bound-parts (bootstrap_script leaves.classes scripts bootstrap.0.handle) _ call bootstrap.2 in
-    let ty = bound-parts (site_type leaves.classes site) _ call script.2 in
+    let method = bound-parts (bootstrap_method leaves.classes scripts bootstrap.0.handle) _ call bootstrap.2 in
+    let ty = bound-parts (site_type leaves.classes site) _ call method.2 in
     let name = bound-parts (text_of site.name) _ call ty.2 in
     let given = bound-parts (arguments_of leaves bootstrap.0.arguments) _ call name.2 in
     subst (λ (c : BootstrapCall). site_type leaves.classes site ≡ Ok c.ty) (ok_is _ call given.2) ty.1

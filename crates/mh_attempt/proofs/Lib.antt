@@ -12,6 +12,7 @@ pub mod TypeLists
 pub mod AskingTypes
 pub mod Assigning
 pub mod Beginnings
+mod Concatenating
 pub mod Crossing
 pub mod Endings
 pub mod Holding

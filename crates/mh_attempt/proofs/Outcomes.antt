@@ -13,16 +13,19 @@ use Rattle.mh_handle.specs.Works.{IsReady}
 use Rattle.mh_handle.proofs.Rooms.{ready-less}
 use Rattle.mh_script.specs.declared.script.Script.{Script}
 use Rattle.mh_script.specs.declared.script.Step.{Step}
+use Rattle.mh_script.specs.declared.scripts.ScriptId.{ScriptId}
 use Rattle.mh_script.specs.Limits.{CanRun}
 use Rattle.mh_jobs.specs.declared.job.BootstrapCall.{BootstrapCall}
 use Rattle.mh_jobs.specs.declared.job.Job.{Job}
+use Rattle.mh_jobs.specs.declared.job.Method.TheVariants as method
 use Rattle.mh_jobs.specs.Thrown.{◌>>=◌}
-use Rattle.mh_link.specs.Linked.{at_start, called_script, ran}
-use Rattle.mh_link.specs.Made.{nodes_from, types_of, unless_thrown}
+use Rattle.mh_link.specs.Concatenation.{concat_of}
+use Rattle.mh_link.specs.Linked.{at_start, called_script, method_target, ran, target_of}
+use Rattle.mh_link.specs.Made.{concat_nodes, nodes_from, nodes_of_call, nodes_of_method, types_of, unless_thrown}
 use Rattle.mh_attempt.specs.declared.registers.Registers.{Registers}
 use Rattle.mh_attempt.specs.AskedTypes.{job_types, script_types, target_types}
-use Rattle.mh_attempt.specs.Linkage.{target_of, target_recipes}
-use Rattle.mh_attempt.specs.Recipes.{attempt_recipes, script_asked, script_recipes}
+use Rattle.mh_attempt.specs.Linkage.{target_recipes}
+use Rattle.mh_attempt.specs.Recipes.{attempt_recipes, call_asked, method_asked, script_asked, script_recipes}
 use Rattle.mh_attempt.specs.Registers.{AreHeldBy, HasLeaves, Hold, HoldsLast, held_under, holds_in}
 use Rattle.mh_attempt.specs.Runs.{MayRun, draws}
 
@@ -56,47 +59,52 @@ start-may w script steps registers call serial is runs ready same same' none are
       serial = rw same' low;
     })
 
-called-is : (scripts : List Script) (call : BootstrapCall) (script : Script) → slice_get scripts call.script.0 ≡ Some script →
-    called_script scripts call ≡ Ok script
-called-is scripts call script found = ap (λ o. ok_or o (bare illegal_argument_class)) found
+called-is : (scripts : List Script) (id : ScriptId) (script : Script) → slice_get scripts id.0 ≡ Some script → called_script scripts id ≡ Ok script
+called-is scripts id script found = ap (λ o. ok_or o (bare illegal_argument_class)) found
 
--- the target is what the lines of the script give
-pub called-target : (leaves : LeafTable) (scripts : List Script) (serial : ℕ) (call : BootstrapCall) (script : Script) (steps : List Step) →
-    slice_get scripts call.script.0 ≡ Some script → steps ≡ script.steps →
-    target_of leaves scripts serial call ≡ ran leaves steps script.end (at_start call serial)
-called-target leaves scripts serial call script steps found is =
-    ap (λ m. m >>= (λ (s : Script). ran leaves s.steps s.end (at_start call serial))) (called-is scripts call script found)
-    ∙ ap (λ xs. ran leaves xs script.end (at_start call serial)) (sym is)
+module _ (leaves : LeafTable) (scripts : List Script) (serial : ℕ) (call : BootstrapCall) (id : ScriptId) (script : Script)
+    (named : call.method ≡ method.Script id) (found : slice_get scripts id.0 ≡ Some script) where
+  -- the target is what the lines of the script give
+  pub called-target : target_of leaves scripts serial call ≡ ran leaves script.steps script.end (at_start call serial)
+  called-target =
+      ap (method_target leaves scripts serial call) named
+      ∙ ap (λ m. m >>= (λ (s : Script). ran leaves s.steps s.end (at_start call serial))) (called-is scripts id script found)
 
--- and the recipes are those of its lines
-pub called-recipes : (leaves : LeafTable) (scripts : List Script) (serial : ℕ) (call : BootstrapCall) (script : Script) (steps : List Step) →
-    slice_get scripts call.script.0 ≡ Some script → steps ≡ script.steps →
-    target_recipes leaves scripts serial call ≡ script_recipes leaves steps script.end (at_start call serial)
-called-recipes leaves scripts serial call script steps found is =
-    ap (λ m. map (recipe leaves) (unless_thrown m (λ (s : Script). script_asked leaves s.steps s.end (at_start call serial))))
-    (called-is scripts call script found)
-    ∙ ap (λ xs. script_recipes leaves xs script.end (at_start call serial)) (sym is)
+  -- and the recipes are those of its lines
+  pub called-recipes : target_recipes leaves scripts serial call ≡ script_recipes leaves script.steps script.end (at_start call serial)
+  called-recipes =
+      ap (λ m. map (recipe leaves) (method_asked leaves scripts serial call m)) named
+      ∙ ap (λ m. map (recipe leaves) (unless_thrown m (λ (s : Script). script_asked leaves s.steps s.end (at_start call serial))))
+      (called-is scripts id script found)
 
--- and the types those of the nodes of its lines
-pub called-types : (leaves : LeafTable) (scripts : List Script) (serial : ℕ) (call : BootstrapCall) (script : Script) (steps : List Step) →
-    slice_get scripts call.script.0 ≡ Some script → steps ≡ script.steps →
-    target_types leaves scripts serial call ≡ script_types leaves steps script.end (at_start call serial)
-called-types leaves scripts serial call script steps found is =
-    ap (λ m. types_of leaves (unless_thrown m (λ (s : Script). nodes_from leaves s.steps s.end (at_start call serial)))) (called-is scripts call script found)
-    ∙ ap (λ xs. script_types leaves xs script.end (at_start call serial)) (sym is)
+  -- and the types those of the nodes of its lines
+  pub called-types : target_types leaves scripts serial call ≡ script_types leaves script.steps script.end (at_start call serial)
+  called-types =
+      ap (λ m. types_of leaves (nodes_of_method leaves scripts serial call m)) named
+      ∙ ap (λ m. types_of leaves (unless_thrown m (λ (s : Script). nodes_from leaves s.steps s.end (at_start call serial))))
+      (called-is scripts id script found)
+
+module _ (leaves : LeafTable) (scripts : List Script) (serial : ℕ) (call : BootstrapCall) (named : call.method ≡ method.Concat) where
+  -- the target is a concatenation
+  pub joined-target : target_of leaves scripts serial call ≡ concat_of leaves.classes call
+  joined-target = ap (method_target leaves scripts serial call) named
+
+  -- and the recipes are that of the one form that it asks for
+  pub joined-recipes : target_recipes leaves scripts serial call ≡ map (recipe leaves) (concat_nodes leaves.classes call)
+  joined-recipes = ap (λ m. map (recipe leaves) (method_asked leaves scripts serial call m)) named
+
+  -- and the types that of its node
+  pub joined-types : target_types leaves scripts serial call ≡ types_of leaves (concat_nodes leaves.classes call)
+  joined-types = ap (λ m. types_of leaves (nodes_of_method leaves scripts serial call m)) named
 
 -- ---- a job
 
 -- a job calls its bootstrap method, and asks for the forms that this asks for
 pub job-asked : (leaves : LeafTable) (scripts : List Script) (job : Job) (serial : ℕ) (call : BootstrapCall) → job.call ≡ Ok call →
     attempt_recipes leaves scripts job serial ≡ target_recipes leaves scripts serial call
-job-asked leaves scripts job serial call called =
-    ap (λ m. map (recipe leaves) (unless_thrown m (λ c. unless_thrown (called_script scripts c)
-    (λ script. script_asked leaves script.steps script.end (at_start c serial))))) called
+job-asked leaves scripts job serial call called = ap (λ m. map (recipe leaves) (unless_thrown m (call_asked leaves scripts serial))) called
 
 -- and for the types that this asks for
 pub job-types : (leaves : LeafTable) (scripts : List Script) (job : Job) (serial : ℕ) (call : BootstrapCall) → job.call ≡ Ok call →
     job_types leaves scripts job serial ≡ target_types leaves scripts serial call
-job-types leaves scripts job serial call called =
-    ap (λ m. types_of leaves (unless_thrown m (λ c. unless_thrown (called_script scripts c)
-    (λ script. nodes_from leaves script.steps script.end (at_start c serial))))) called
+job-types leaves scripts job serial call called = ap (λ m. types_of leaves (unless_thrown m (nodes_of_call leaves scripts serial))) called

@@ -16,8 +16,8 @@ use Rattle.mh_script.specs.declared.script.Operation.{Operation}
 use Rattle.mh_script.specs.declared.script.Script.{Script}
 use Rattle.mh_script.specs.declared.script.Step.{Step}
 use Rattle.mh_jobs.specs.declared.job.BootstrapCall.{BootstrapCall}
-use Rattle.mh_link.specs.Linked.{ended, called_script, at_start}
-use Rattle.mh_link.specs.Made.{handles_of, returned, nodes, nodes_from, nodes_of, nodes_of_uses, types_of, unless_thrown}
+use Rattle.mh_link.specs.Linked.{ended}
+use Rattle.mh_link.specs.Made.{handles_of, returned, nodes, nodes_from, nodes_of, nodes_of_call, nodes_of_uses, types_of, unless_thrown}
 use Rattle.mh_link.specs.Operands.{Frame}
 use Rattle.mh_link.specs.Operations.{node_of}
 use Rattle.mh_attempt.specs.declared.error.WorkError.{WorkError}
@@ -50,8 +50,7 @@ script_types leaves steps e frame = types_of leaves (nodes_from leaves steps e f
 
 -- the types of the nodes that a call of a bootstrap method makes, in the attempt of a serial number
 abbrev pub target_types : LeafTable → List Script → ℕ → BootstrapCall → List MethodTy
-target_types leaves scripts serial call =
-    types_of leaves (unless_thrown (called_script scripts call) (λ script. nodes_from leaves script.steps script.end (at_start call serial)))
+target_types leaves scripts serial call = types_of leaves (nodes_of_call leaves scripts serial call)
 
 -- the types of the nodes that the attempt to link a job makes that has a serial
 abbrev pub job_types : LeafTable → List Script → Job → ℕ → List MethodTy

@@ -14,28 +14,19 @@ use Rattle.mh_jobs.specs.declared.job.BootstrapCall.{BootstrapCall}
 use Rattle.mh_jobs.specs.declared.job.Job.{Job}
 use Rattle.mh_script.specs.declared.script.Script.{Script}
 use Rattle.mh_jobs.specs.Given.{Given, IsJob}
-use Rattle.mh_jobs.specs.Thrown.{OrThrown, ◌>>=◌}
 use Rattle.mh_link.specs.Linked as meant
-use Rattle.mh_link.specs.Linked.{Target, Error, at_start, called_script, held_by, linked, ran}
-use Rattle.mh_link.specs.Made.{unless_thrown}
+use Rattle.mh_link.specs.Linked.{Target, Error, held_by, linked}
 use Rattle.mh_link.specs.Sites.{linked_at}
-use Rattle.mh_attempt.specs.Recipes.{script_asked}
+use Rattle.mh_attempt.specs.Recipes.{call_asked}
 use Rattle.mh_attempt.specs.Several.{Adds}
 use Rattle.mh_attempt.specs.declared.linkage.Linked.{Linked}
 use Rattle.mh_attempt.specs.declared.linkage.Linked.TheVariants as held
 
 -- ---- attempts
 
--- the target of a call of a bootstrap method, in the attempt of a serial number, or what is thrown
-abbrev pub target_of : LeafTable → List Script → ℕ → BootstrapCall → OrThrown Tree
-target_of leaves scripts serial call = do
-  script ← called_script scripts call
-  ran leaves script.steps script.end (at_start call serial)
-
--- the recipes of the forms that such a call asks for
+-- the recipes of the forms that a call of a bootstrap method asks for, in the attempt of a serial number
 abbrev pub target_recipes : LeafTable → List Script → ℕ → BootstrapCall → List (List Key)
-target_recipes leaves scripts serial call =
-    map (recipe leaves) (unless_thrown (called_script scripts call) (λ script. script_asked leaves script.steps script.end (at_start call serial)))
+target_recipes leaves scripts serial call = map (recipe leaves) (call_asked leaves scripts serial call)
 
 -- ---- linkages
 

@@ -6,7 +6,10 @@ use Rattle.mh_tree.specs.Tree as tree
 use Rattle.mh_edit.specs.declared.key.Key.{Key}
 use Rattle.mh_handle.specs.Recipe.{recipe}
 use Rattle.mh_handle.specs.SameRecipes.{same_recipe}
+use Rattle.mh_jobs.specs.declared.job.BootstrapCall.{BootstrapCall}
 use Rattle.mh_jobs.specs.declared.job.Job.{Job}
+use Rattle.mh_jobs.specs.declared.job.Method.{Method}
+use Rattle.mh_jobs.specs.declared.job.Method.TheVariants as method
 use Rattle.mh_script.specs.declared.script.End.{End}
 use Rattle.mh_script.specs.declared.script.Operation.{Operation}
 use Rattle.mh_script.specs.declared.script.Operation.TheVariants as operation
@@ -16,7 +19,7 @@ use Rattle.mh_script.specs.declared.script.Step.TheVariants as step
 use Rattle.mh_attempt.specs.declared.handle.HandleOperand.{HandleOperand}
 use Rattle.mh_attempt.specs.Registers.{node_made}
 use Rattle.mh_link.specs.Linked.{stepped, ended, called_script, at_start}
-use Rattle.mh_link.specs.Made.{handles_of, returned, nodes_of_uses, unless_thrown}
+use Rattle.mh_link.specs.Made.{concat_nodes, handles_of, returned, nodes_of_uses, unless_thrown}
 use Rattle.mh_link.specs.Operands.{Frame, handle_in}
 use Rattle.mh_link.specs.Operations.{node_of}
 
@@ -55,10 +58,19 @@ abbrev pub script_asked : LeafTable → List Step → End → Frame → List Tre
 script_asked leaves [] e frame = end_asked leaves e frame
 script_asked leaves (s ∷ steps) e frame = step_asked leaves s frame ++ unless_thrown (stepped leaves s frame) (script_asked leaves steps e)
 
+-- the nodes whose forms a bootstrap method asks for where it is called so, in the attempt of a serial number
+abbrev pub method_asked : LeafTable → List Script → ℕ → BootstrapCall → Method → List Tree
+method_asked leaves scripts serial call (method.Script id) =
+    unless_thrown (called_script scripts id) (λ script. script_asked leaves script.steps script.end (at_start call serial))
+method_asked leaves scripts serial call method.Concat = concat_nodes leaves.classes call
+
+-- the nodes whose forms a call of a bootstrap method asks for
+abbrev pub call_asked : LeafTable → List Script → ℕ → BootstrapCall → List Tree
+call_asked leaves scripts serial call = method_asked leaves scripts serial call call.method
+
 -- the nodes whose forms the attempt of a serial number asks for
 abbrev pub attempt_asked : LeafTable → List Script → Job → ℕ → List Tree
-attempt_asked leaves scripts job serial =
-    unless_thrown job.call (λ call. unless_thrown (called_script scripts call) (λ script. script_asked leaves script.steps script.end (at_start call serial)))
+attempt_asked leaves scripts job serial = unless_thrown job.call (call_asked leaves scripts serial)
 
 -- ---- their recipes
 

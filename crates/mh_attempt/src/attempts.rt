@@ -5,24 +5,26 @@ ghost use Rattle.mh_handle.specs.Recipe.{recipe};
 ghost use Rattle.mh_handle.specs.Works.{GoesOn, IsReady, leaves_of};
 ghost use Rattle.mh_jobs.specs.Given.{IsJob};
 ghost use Rattle.mh_jobs.specs.Thrown.{caused, recorded};
-ghost use Rattle.mh_link.specs.Linked.{held_by, linked, outcome};
+ghost use Rattle.mh_script.specs.Limits.{CanRun};
+ghost use Rattle.mh_link.specs.Linked.{IsThere, at_start, held_by, linked, outcome, ran, target_of};
 ghost use Rattle.mh_link.specs.Sites.{edits_at, types_at};
 ghost use Rattle.mh_attempt.specs.Asked.{Asks, AsksOrThrows};
-ghost use Rattle.mh_attempt.specs.AskedTypes.{AsksTypes, AsksTypesOrThrows, job_types, target_types};
-ghost use Rattle.mh_attempt.specs.Linkage.{AddsLinkage, AddsLinked, HasTypes, IsLinkedBy, held_in, target_of, target_recipes};
+ghost use Rattle.mh_attempt.specs.AskedTypes.{AsksTypes, AsksTypesOrThrows, job_types, script_types, target_types};
+ghost use Rattle.mh_attempt.specs.Linkage.{AddsLinkage, AddsLinked, HasTypes, IsLinkedBy, held_in, target_recipes};
 ghost use Rattle.mh_attempt.specs.Lines.{TellsTarget};
-ghost use Rattle.mh_attempt.specs.Recipes.{attempt_recipes};
+ghost use Rattle.mh_attempt.specs.Recipes.{attempt_recipes, script_recipes};
 ghost use Rattle.mh_attempt.specs.Registers.{HasLeaves};
 ghost use Rattle.mh_attempt.specs.Several.{AddsTypes};
 
+use crate::concatenation::concatenated;
 use crate::error::WorkError;
 use crate::linkage::{Linkage, Linked};
 use crate::registers::Registers;
 use crate::script::ran;
 use mh_base::{Copied, Frozen, NoMemory, Seq};
 use mh_handle::{Handle, HandleError, Work};
-use mh_jobs::{BootstrapCall, Job, Run};
-use mh_script::Scripts;
+use mh_jobs::{BootstrapCall, Job, Method, Run};
+use mh_script::{Script, Scripts};
 use mh_values::{Cause, ClassId, Classes, Exc, ExcParts};
 use std::alloc::Global;
 use std::sync::Wait;
@@ -56,8 +58,38 @@ fn recorded(alloc: Global, classes: &Classes, exc: Exc) -> Result<Exc, NoMemory>
     }
 }
 
-/// The target that a call of a bootstrap method gives, in the attempt of a serial number. What the
+/// The target that a script gives for a call of it, in the attempt of a serial number. What the
 /// registers hold is given back in the end.
+fn scripted<'t, R: Wait>(
+    w: &mut Work<'_, 't>,
+    rt: &R,
+    script: &Script,
+    call: &BootstrapCall,
+    serial: u64,
+) -> Result<Handle<'t>, HandleError>
+    requires ready { IsReady w.old 256 }
+    requires runs { CanRun script.now }
+    requires leaves { HasLeaves (leaves_of w.old) call.now }
+    requires serial { serial < 2 ^ 63 }
+    ensures goes_on { GoesOn 256 w.old w.new }
+    ensures types { AddsTypes w.old w.new result }
+    ensures target { TellsTarget
+        (ran (leaves_of w.old) script.now.steps script.now.end (at_start call.now serial))
+        w.old result }
+    ensures asks { AsksOrThrows (script_recipes
+        (leaves_of w.old) script.now.steps script.now.end (at_start call.now serial))
+        w.old w.new result }
+    ensures asked { AsksTypesOrThrows (script_types
+        (leaves_of w.old) script.now.steps script.now.end (at_start call.now serial))
+        w.old w.new result }
+{
+    let mut registers = Registers::new(w.alloc, call, serial);
+    let target = ran(w, rt, &mut registers, script.steps.as_slice(), &script.end);
+    registers.give_back(w);
+    target
+}
+
+/// The target that a call of a bootstrap method gives, in the attempt of a serial number.
 fn called<'t, R: Wait>(
     w: &mut Work<'_, 't>,
     rt: &R,
@@ -66,7 +98,7 @@ fn called<'t, R: Wait>(
     serial: u64,
 ) -> Result<Handle<'t>, HandleError>
     requires ready { IsReady w.old 256 }
-    requires script { call.now.script.0 < length scripts.now }
+    requires method { IsThere scripts.now call.now.method }
     requires leaves { HasLeaves (leaves_of w.old) call.now }
     requires serial { serial < 2 ^ 63 }
     ensures goes_on { GoesOn 256 w.old w.new }
@@ -78,11 +110,10 @@ fn called<'t, R: Wait>(
     ensures asked { AsksTypesOrThrows (target_types (leaves_of w.old) scripts.now serial call.now)
         w.old w.new result }
 {
-    let script = scripts.get(call.script);
-    let mut registers = Registers::new(w.alloc, call, serial);
-    let target = ran(w, rt, &mut registers, script.steps.as_slice(), &script.end);
-    registers.give_back(w);
-    target
+    match call.method {
+        Method::Script(id) => scripted(w, rt, scripts.get(id), call, serial),
+        Method::Concat => concatenated(w, rt, call),
+    }
 }
 
 /// The target that a job gives, in the attempt of a serial number. What the job throws is thrown
@@ -154,7 +185,7 @@ fn link<'t, R: Wait>(
 /// has: the script's lines are carried out, and what comes of them is recorded, an exception as an
 /// error. It answers `FormsFull` where no number is left for a form that the script asks for, and
 /// `TypesFull` where the bucket of a type is full of others that are held; that records nothing. The
-/// handles that the lines made are given back, but for the target.
+/// handles that the lines made are given back, except the target.
 pub fn attempt<'t, J: Run, R: Wait>(
     w: &mut Work<'_, 't>,
     rt: &R,

@@ -2,6 +2,7 @@
 #![tactic(auto)]
 
 mod attempts;
+mod concatenation;
 mod error;
 mod handle;
 mod lines;

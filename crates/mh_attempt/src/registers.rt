@@ -126,15 +126,15 @@ fn content_of<'a, 'f, 't>(
     })
 }
 
-// There is no such static argument.
-fn no_argument(alloc: Global) -> CheckError
+/// There is no such static argument.
+pub(crate) fn no_argument(alloc: Global) -> CheckError
     ensures { Throws result no_argument }
 {
     thrown(alloc, ClassId::WRONG_METHOD_TYPE, b"arguments")
 }
 
-// A static argument is of another sort.
-fn wrong_sort(alloc: Global) -> CheckError
+/// A static argument is of another sort.
+pub(crate) fn wrong_sort(alloc: Global) -> CheckError
     ensures { Throws result (saying class_cast_class (codes "arguments")) }
 {
     thrown(alloc, ClassId::CLASS_CAST, b"arguments")

@@ -1,78 +1,67 @@
-use Rattle.std.proofs.Common.{ap, sym, ◌∙◌}
-use Rattle.mh_link.specs.Linked.{at_start, ran}
+use Rattle.std.proofs.Common.{map, subst}
+use Rattle.mh_link.specs.Concatenation.{concat_of}
+use Rattle.mh_link.specs.Linked.{IsThere, at_start, ran, target_of}
+use Rattle.mh_link.specs.Made.{concat_nodes, types_of}
+use Rattle.mh_handle.specs.Recipe.{recipe}
 use Rattle.mh_attempt.specs.AskedTypes.{script_types, target_types}
-use Rattle.mh_attempt.specs.Linkage.{target_of, target_recipes}
+use Rattle.mh_attempt.specs.Linkage.{target_recipes}
 use Rattle.mh_attempt.specs.Recipes.{script_recipes}
-use Rattle.mh_attempt.specs.Registers.{holds_in}
-use Rattle.mh_attempt.proofs.AskedLines.{asks-given_back, same-asks}
+use Rattle.mh_attempt.proofs.AskedLines.{same-asks}
 use Rattle.mh_attempt.proofs.AskingRuns.{same-types}
-use Rattle.mh_attempt.proofs.AskingTypes.{types-back}
-use Rattle.mh_attempt.proofs.Outcomes.{called-recipes, called-target, called-types, start-holds, start-kept, start-may}
-use Rattle.mh_attempt.proofs.RunCalls.{called-adds, called-goes_on, called-kept}
+use Rattle.mh_attempt.proofs.Outcomes.{called-recipes, called-target, called-types, joined-recipes, joined-target, joined-types}
 use Rattle.mh_attempt.proofs.Running.{same-target}
 use Rattle.mh_attempt.proofs.attempts.called.Goals as goal
 
-pub ran-target-requires : goal.ran-target-requires
-ran-target-requires g c =
-    start-may c.args.w.now c.get-script.result.now c.as_slice.result.now c.new-registers.result c.args.call.now c.args.serial c.as_slice.ensures
-    c.get-script.ensures.runs c.requires.ready c.new-registers.ensures.call c.new-registers.ensures.serial c.new-registers.ensures.assigned
-    c.requires.leaves c.requires.serial
+-- ---- a script
 
-pub give_back-requires-clause-of_types : goal.give_back-requires-clause-of_types
-give_back-requires-clause-of_types g c =
-    c.ran-target.ensures.goes_on.seat ∙ (c.requires.ready.of_types ∙ ap (λ t. t.now) (sym c.ran-target.ensures.goes_on.types))
+pub get-requires : goal.get-requires
+get-requires g c = subst (IsThere c.args.scripts.now) c.in-Script.is c.requires.method
 
-pub give_back-requires-clause-kept : goal.give_back-requires-clause-kept
-give_back-requires-clause-kept g c =
-    called-kept c.new-registers.result c.ran-target.new.registers c.args.w.now c.ran-target.new.w c.ran-target.result
-    (start-kept c.args.w.now.seat.now c.new-registers.result c.new-registers.ensures.assigned) c.ran-target.ensures.types
-
-pub returns-clause-goes_on : goal.returns-clause-goes_on
-returns-clause-goes_on g c =
-    called-goes_on c.get-script.result.now c.as_slice.result.now c.ran-target.new.registers c.args.w.now c.ran-target.new.w c.give_back.new.w
-    c.as_slice.ensures c.get-script.ensures.runs c.ran-target.ensures.goes_on c.give_back.ensures.unchanged c.give_back.ensures.types
-
-pub returns-clause-types : goal.returns-clause-types
-returns-clause-types g c =
-    called-adds c.new-registers.result c.ran-target.new.registers c.args.w.now c.ran-target.new.w c.give_back.new.w c.ran-target.result
-    c.new-registers.ensures.assigned (start-kept c.args.w.now.seat.now c.new-registers.result c.new-registers.ensures.assigned)
-    c.ran-target.ensures.types c.give_back.ensures.types
-
-pub returns-clause-target : goal.returns-clause-target
-returns-clause-target g c =
+pub returns-in-Script-clause-target : goal.returns-in-Script-clause-target
+returns-in-Script-clause-target g c =
     let leaves = c.args.w.now.leaves.now in
-    let script = c.get-script.result.now in
-    let steps = c.as_slice.result.now in
-    let start = at_start c.args.call.now c.args.serial in
-    same-target (target_of leaves c.args.scripts.now c.args.serial c.args.call.now) (ran leaves steps script.end start) c.args.w.now c.ran-target.result
-    (called-target leaves c.args.scripts.now c.args.serial c.args.call.now script steps c.get-script.ensures.script c.as_slice.ensures)
-    (c.ran-target.ensures.target start (start-holds leaves c.new-registers.result c.args.call.now c.args.serial c.new-registers.ensures.call
-    c.new-registers.ensures.serial c.new-registers.ensures.assigned c.requires.leaves))
+    let script = c.get.result.now in
+    same-target (target_of leaves c.args.scripts.now c.args.serial c.args.call.now)
+    (ran leaves script.steps script.end (at_start c.args.call.now c.args.serial)) c.args.w.now c.scripted.result
+    (called-target leaves c.args.scripts.now c.args.serial c.args.call.now c.in-Script.id script c.in-Script.is c.get.ensures.script)
+    c.scripted.ensures.target
 
-pub returns-clause-asks : goal.returns-clause-asks
-returns-clause-asks g c =
+pub returns-in-Script-clause-asks : goal.returns-in-Script-clause-asks
+returns-in-Script-clause-asks g c =
     let leaves = c.args.w.now.leaves.now in
-    let script = c.get-script.result.now in
-    let steps = c.as_slice.result.now in
-    let start = at_start c.args.call.now c.args.serial in
-    same-asks (target_recipes leaves c.args.scripts.now c.args.serial c.args.call.now) (script_recipes leaves steps script.end start) c.args.w.now
-    c.give_back.new.w c.ran-target.result
-    (called-recipes leaves c.args.scripts.now c.args.serial c.args.call.now script steps c.get-script.ensures.script c.as_slice.ensures)
-    (asks-given_back (script_recipes leaves steps script.end start) c.args.w.now c.ran-target.new.w c.give_back.new.w c.ran-target.result
-    c.give_back.ensures.unchanged.pass
-    (c.ran-target.ensures.asks start (start-holds leaves c.new-registers.result c.args.call.now c.args.serial c.new-registers.ensures.call
-    c.new-registers.ensures.serial c.new-registers.ensures.assigned c.requires.leaves)))
+    let script = c.get.result.now in
+    same-asks (target_recipes leaves c.args.scripts.now c.args.serial c.args.call.now)
+    (script_recipes leaves script.steps script.end (at_start c.args.call.now c.args.serial)) c.args.w.now c.scripted.new.w c.scripted.result
+    (called-recipes leaves c.args.scripts.now c.args.serial c.args.call.now c.in-Script.id script c.in-Script.is c.get.ensures.script)
+    c.scripted.ensures.asks
 
-pub returns-clause-asked : goal.returns-clause-asked
-returns-clause-asked g c =
+pub returns-in-Script-clause-asked : goal.returns-in-Script-clause-asked
+returns-in-Script-clause-asked g c =
     let leaves = c.args.w.now.leaves.now in
-    let script = c.get-script.result.now in
-    let steps = c.as_slice.result.now in
-    let start = at_start c.args.call.now c.args.serial in
-    same-types (target_types leaves c.args.scripts.now c.args.serial c.args.call.now) (script_types leaves steps script.end start) c.args.w.now
-    c.give_back.new.w c.ran-target.result
-    (called-types leaves c.args.scripts.now c.args.serial c.args.call.now script steps c.get-script.ensures.script c.as_slice.ensures)
-    (types-back (script_types leaves steps script.end start) (holds_in c.ran-target.new.registers.assigned.items) c.args.w.now c.ran-target.new.w
-    c.give_back.new.w c.ran-target.result c.give_back.ensures.types
-    (c.ran-target.ensures.asked start (start-holds leaves c.new-registers.result c.args.call.now c.args.serial c.new-registers.ensures.call
-    c.new-registers.ensures.serial c.new-registers.ensures.assigned c.requires.leaves)))
+    let script = c.get.result.now in
+    same-types (target_types leaves c.args.scripts.now c.args.serial c.args.call.now)
+    (script_types leaves script.steps script.end (at_start c.args.call.now c.args.serial)) c.args.w.now c.scripted.new.w c.scripted.result
+    (called-types leaves c.args.scripts.now c.args.serial c.args.call.now c.in-Script.id script c.in-Script.is c.get.ensures.script)
+    c.scripted.ensures.asked
+
+-- ---- a concatenation
+
+pub returns-in-Concat-clause-target : goal.returns-in-Concat-clause-target
+returns-in-Concat-clause-target g c =
+    let leaves = c.args.w.now.leaves.now in
+    same-target (target_of leaves c.args.scripts.now c.args.serial c.args.call.now) (concat_of leaves.classes c.args.call.now) c.args.w.now
+    c.concatenated.result (joined-target leaves c.args.scripts.now c.args.serial c.args.call.now c.in-Concat.is) c.concatenated.ensures.target
+
+pub returns-in-Concat-clause-asks : goal.returns-in-Concat-clause-asks
+returns-in-Concat-clause-asks g c =
+    let leaves = c.args.w.now.leaves.now in
+    same-asks (target_recipes leaves c.args.scripts.now c.args.serial c.args.call.now)
+    (map (recipe leaves) (concat_nodes leaves.classes c.args.call.now)) c.args.w.now c.concatenated.new.w c.concatenated.result
+    (joined-recipes leaves c.args.scripts.now c.args.serial c.args.call.now c.in-Concat.is) c.concatenated.ensures.asks
+
+pub returns-in-Concat-clause-asked : goal.returns-in-Concat-clause-asked
+returns-in-Concat-clause-asked g c =
+    let leaves = c.args.w.now.leaves.now in
+    same-types (target_types leaves c.args.scripts.now c.args.serial c.args.call.now) (types_of leaves (concat_nodes leaves.classes c.args.call.now))
+    c.args.w.now c.concatenated.new.w c.concatenated.result
+    (joined-types leaves c.args.scripts.now c.args.serial c.args.call.now c.in-Concat.is) c.concatenated.ensures.asked

@@ -7,13 +7,13 @@ use Rattle.mh_attempt.proofs.Adding.{adds-none, adds-unmade}
 use Rattle.mh_attempt.proofs.AskedLines.{same-asks}
 use Rattle.mh_attempt.proofs.AskingRuns.{same-types}
 use Rattle.mh_attempt.proofs.AskingTypes.{no_other-still, types-handed}
-use Rattle.mh_attempt.proofs.JobCalls.{job-leaves, job-script}
+use Rattle.mh_attempt.proofs.JobCalls.{job-leaves, job-method}
 use Rattle.mh_attempt.proofs.Outcomes.{job-asked, job-types}
 use Rattle.mh_attempt.proofs.attempts.target.Goals as goal
 
-pub called-requires-clause-script : goal.called-requires-clause-script
-called-requires-clause-script g c =
-    job-script c.args.w.now.leaves.now c.args.scripts.now c.args.job.now c.in-Ok.call c.requires.job c.in-Ok.is
+pub called-requires-clause-method : goal.called-requires-clause-method
+called-requires-clause-method g c =
+    job-method c.args.w.now.leaves.now c.args.scripts.now c.args.job.now c.in-Ok.call c.requires.job c.in-Ok.is
 
 pub called-requires-clause-leaves : goal.called-requires-clause-leaves
 called-requires-clause-leaves g c =
