@@ -6,10 +6,10 @@ use Rattle.mh_outside.specs.Told.{Told}
 use Rattle.mh_classfile.specs.Class.{Class}
 use Rattle.mh_listing.specs.Listing.{listing}
 use Rattle.mh_handle.specs.declared.answer.Answer.{Answer}
-use Rattle.mh_plan.specs.Forms.{draws_needed}
 use Rattle.mh_plan.specs.Naming.{naming_of}
-use Rattle.mh_plan.specs.Results.{Serials, results_of, results_said, keys_said}
-use Rattle.mh_plan.specs.Types.{OverfillBucket, all_types}
+use Rattle.mh_report.specs.Forms.{draws_needed}
+use Rattle.mh_report.specs.Results.{Serials, results_of, results_said, keys_said}
+use Rattle.mh_report.specs.Types.{OverfillBucket, all_types}
 use Rattle.mh_runtime.specs.Keys.{plan_keys}
 use Rattle.mh_runtime.specs.Ledger.{Ledger}
 use Rattle.mh_main.specs.declared.answer.TopAnswer.{TopAnswer}

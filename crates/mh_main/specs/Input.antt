@@ -12,9 +12,9 @@ use Rattle.mh_script.specs.Kinds.{kind_word as script_word}
 use Rattle.mh_script.specs.Scripts.{scripts}
 use Rattle.mh_jobs.specs.Given.{Given}
 use Rattle.mh_jobs.specs.Jobs.{jobs_of}
-use Rattle.mh_plan.specs.Forms.{draws_needed}
 use Rattle.mh_plan.specs.Plan.{plan, kind_word as plan_word}
-use Rattle.mh_plan.specs.Types.{FitBuckets, all_types}
+use Rattle.mh_report.specs.Forms.{draws_needed}
+use Rattle.mh_report.specs.Types.{FitBuckets, all_types}
 use Rattle.mh_generated.specs.Files.{files_of}
 use Rattle.mh_runtime.specs.Passes.{most_forms, most_sites}
 use Rattle.mh_main.specs.declared.program.Output.{Output}

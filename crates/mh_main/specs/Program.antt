@@ -1,13 +1,13 @@
 -- What a run writes.
 use Rattle.std.specs.Prelude.{ℕ, List, length, Option}
 use Rattle.mh_jobs.specs.Given.{Given}
-use Rattle.mh_plan.specs.declared.attempt.Attempt.{Attempt}
-use Rattle.mh_plan.specs.declared.table.Recorded.{Recorded}
-use Rattle.mh_plan.specs.Forms.{forms}
 use Rattle.mh_plan.specs.Limits.{calls_in}
-use Rattle.mh_plan.specs.Recorded.{recorded, types}
-use Rattle.mh_plan.specs.Results.{Result, Serials, results_of}
-use Rattle.mh_plan.specs.Text.{report_text}
+use Rattle.mh_report.specs.declared.attempt.Attempt.{Attempt}
+use Rattle.mh_report.specs.declared.table.Recorded.{Recorded}
+use Rattle.mh_report.specs.Forms.{forms}
+use Rattle.mh_report.specs.Recorded.{recorded, types}
+use Rattle.mh_report.specs.Results.{Result, Serials, results_of}
+use Rattle.mh_report.specs.Text.{report_text}
 use Rattle.mh_main.specs.declared.program.Output.{Output}
 use Rattle.mh_main.specs.declared.program.Output.TheVariants.{Report, Line}
 use Rattle.mh_main.specs.declared.program.Program.{Program}

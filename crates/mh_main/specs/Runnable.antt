@@ -2,7 +2,7 @@
 use Rattle.std.specs.Prelude.{◌≤◌, length}
 use Rattle.mh_jobs.specs.Given.{AreJobs}
 use Rattle.mh_plan.specs.Limits.{IsWithinLimits}
-use Rattle.mh_plan.specs.Results.{AreCallsOf}
+use Rattle.mh_plan.specs.Calls.{AreCallsOf}
 use Rattle.mh_main.specs.declared.program.Program.{Program}
 use Rattle.mh_main.specs.Program.{given_of}
 use Rattle.mh_runtime.specs.Passes.{most_sites}

@@ -6,7 +6,7 @@ use Rattle.mh_values.specs.declared.value.Num.TheVariants.{I}
 use Rattle.mh_values.specs.declared.value.Value.{Value}
 use Rattle.mh_values.specs.declared.value.Value.TheVariants.{Prim}
 use Rattle.mh_values.specs.Computation.{Gave}
-use Rattle.mh_plan.specs.Results.{Result}
+use Rattle.mh_report.specs.Results.{Result}
 
 -- an int, and 0 of any other value
 abbrev pub int_of : Value → ℤ

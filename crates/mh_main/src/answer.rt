@@ -1,4 +1,4 @@
-use mh_plan::{Attempts, Serials, ThreadAnswers};
+use mh_report::{Attempts, Serials, ThreadAnswers};
 
 /// How a run ended. The lists are empty if no program ran to its end.
 #[derive(Debug, Drop)]

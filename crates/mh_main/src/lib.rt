@@ -16,6 +16,6 @@ mod stop;
 mod sums;
 
 pub use answer::TopAnswer;
-pub use mh_plan::{Attempt, Attempts, Serials};
+pub use mh_report::{Attempt, Attempts, Serials};
 pub use program::{Output, Program};
 pub use running::top;

@@ -7,7 +7,7 @@ ghost use Rattle.mh_leaves.specs.Manifest.{manifest, kind_word as manifest_word}
 ghost use Rattle.mh_script.specs.Kinds.{kind_word as script_word};
 ghost use Rattle.mh_script.specs.Scripts.{scripts};
 ghost use Rattle.mh_plan.specs.Limits.{IsWithinLimits};
-ghost use Rattle.mh_plan.specs.Results.{AreCallsOf};
+ghost use Rattle.mh_plan.specs.Calls.{AreCallsOf};
 ghost use Rattle.mh_plan.specs.Plan.{plan, kind_word as plan_word};
 ghost use Rattle.mh_words.specs.Words.{held_names, run};
 ghost use Rattle.mh_main.specs.Runnable.{IsRunnable};

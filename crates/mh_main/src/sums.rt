@@ -1,13 +1,14 @@
 ghost use Rattle.std.specs.Prelude.{◌≡◌, ◌++◌, IfOk, OnOk};
 ghost use Rattle.std.specs.Fmt.{decimal, signed_decimal};
 ghost use Rattle.mh_plan.specs.Limits.{IsWithinLimits, calls_in};
-ghost use Rattle.mh_plan.specs.Results.{result_said, results_said, thread_said};
+ghost use Rattle.mh_report.specs.Results.{result_said, results_said, thread_said};
 ghost use Rattle.mh_main.specs.Sums.{int_of, result_int, returned_int, sum_line, sum_of, with_results};
 
 use itoa::Buffer;
 use mh_base::NoMemory;
 use mh_handle::Answer;
-use mh_plan::{Answers, Plan};
+use mh_plan::Plan;
+use mh_report::Answers;
 use mh_values::{Num, Outcome, Value};
 use std::alloc::Global;
 

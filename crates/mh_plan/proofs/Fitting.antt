@@ -13,7 +13,7 @@ use Rattle.mh_plan.specs.declared.kinds.PlanError.{PlanError}
 use Rattle.mh_plan.specs.declared.kinds.PlanKind.{PlanKind}
 use Rattle.mh_plan.specs.Fault.{TellsLines}
 use Rattle.mh_plan.specs.Plan.{call_meaning, with_call, call_put, tokens_meaning, line_meaning, line_counted, none_counted, faultless, plan_of}
-use Rattle.mh_plan.specs.Results.{IsCallOf, AreCallsOf}
+use Rattle.mh_plan.specs.Calls.{IsCallOf, AreCallsOf}
 use Rattle.mh_plan.proofs.EachCall.{each-call, each-thread}
 use Rattle.mh_plan.proofs.FoundSites.{call_meaning-fits}
 

@@ -26,7 +26,7 @@ use Rattle.mh_plan.specs.declared.call.Call.{Call}
 use Rattle.mh_plan.specs.declared.call.Call.TheVariants.{Exact, Generic}
 use Rattle.mh_plan.specs.declared.kinds.PlanKind.TheVariants.{NoLeaf, BadType, BadArguments}
 use Rattle.mh_plan.specs.Plan.{leaf_texts, leaf_if_found, leaf_named, argument_of, arguments_of, call_by, leaf_call}
-use Rattle.mh_plan.specs.Results.{IsCallOf}
+use Rattle.mh_plan.specs.Calls.{IsCallOf}
 
 -- ---- leaves that are found
 

@@ -15,7 +15,7 @@ use Rattle.mh_plan.specs.declared.call.Call.TheVariants.{Indy}
 use Rattle.mh_plan.specs.declared.kinds.PlanKind.{PlanKind}
 use Rattle.mh_plan.specs.declared.kinds.PlanKind.TheVariants.{NoSite, BadArguments}
 use Rattle.mh_plan.specs.Plan.{arguments_of, call_meaning, leaf_call, indy_call, site_numbered}
-use Rattle.mh_plan.specs.Results.{IsCallOf}
+use Rattle.mh_plan.specs.Calls.{IsCallOf}
 use Rattle.mh_plan.proofs.FoundCalls.{arguments-typed, leaf_call-fits}
 
 -- a number that is one of a site

@@ -1,4 +1,4 @@
--- Runs of the worked examples: call sites of one class, which one script links, over the leaves of `demo/Host`.
+-- Runs of the worked examples: call sites of one class, which one script links, over the leaf `add` of `demo/Host`.
 use Rattle.std.specs.Prelude.{ℕ, List, [], ◌∷◌, codes, map, pos, Some}
 use Rattle.mh_values.specs.declared.types.MethodTy.{MethodTy}
 use Rattle.mh_values.specs.declared.value.LeafId.{LeafId}
@@ -7,23 +7,10 @@ use Rattle.mh_values.specs.declared.value.Value.{Value}
 use Rattle.mh_values.specs.declared.value.Value.TheVariants as value
 use Rattle.mh_leaf.specs.Outcome.{int_type}
 use Rattle.mh_classfile.specs.Class as class_file
-use Rattle.mh_script.specs.declared.operand.ValueOperand.TheVariants as of_value
-use Rattle.mh_script.specs.declared.script.Operation.TheVariants as operation
 use Rattle.mh_script.specs.declared.script.Script.{Script}
-use Rattle.mh_script.specs.declared.script.Step.TheVariants as step
 use Rattle.mh_jobs.specs.Given.{Given}
 use Rattle.mh_jobs.specs.Jobs.{jobs_of}
-use Rattle.mh_jobs.proofs.Host.{of, site_of, booted}
-use Rattle.mh_link.proofs.Host.{add, boxed_int, host, reg, returns, script, two_ints}
-
--- `let a leaf @add`, `let b bind a 1 I:10`, `return b`
-abbrev pub adding_ten : Script
-adding_ten = script (step.Let (codes "a") add ∷ step.Let (codes "b") (operation.Bind (reg (codes "a")) 1
-    (of_value.Literal (boxed_int (pos 10)))) ∷ []) (returns (codes "b"))
-
--- `failmod 2 1`, `let a leaf @add`, `return a`: the first attempt fails
-abbrev pub adding_later : Script
-adding_later = script (step.FailMod 2 1 ∷ step.Let (codes "a") add ∷ []) (returns (codes "a"))
+use Rattle.mh_jobs.proofs.Host.{of, host, site_of, booted}
 
 -- a class whose sites have these types
 abbrev pub class_with : List (List ℕ) → class_file.Class
@@ -39,7 +26,7 @@ int n = value.Prim (num.I (pos n))
 
 -- `(II)I`
 abbrev pub adds : MethodTy
-adds = of two_ints (Some int_type)
+adds = of (int_type ∷ int_type ∷ []) (Some int_type)
 
 -- the leaf `add`
 abbrev pub add_leaf : LeafId

@@ -1,4 +1,3 @@
-pub mod Running
 pub mod Tokens
 pub mod ReadOn
 pub mod Threads
@@ -8,17 +7,12 @@ pub mod FoundSites
 pub mod Counted
 pub mod Host
 pub mod Limits
-pub mod TableSerials
-mod CallTexts
 mod CallsAgain
 mod EachCall
 mod LinesAgain
 mod PlanAgain
 mod ReadWritten
 mod WorkedPlans
-mod WorkedReports
-mod WorkedRuns
-mod WorkedTypes
 mod WrittenArguments
 mod WrittenCalls
 mod WrittenLeaves

@@ -2,13 +2,13 @@
 use Rattle.std.specs.Prelude.{◌≡◌, refl, ℕ, List, [], ◌∷◌, codes, Result, Ok, Err}
 use Rattle.std.specs.Fmt.{digits}
 use Rattle.mh_base.specs.declared.lines.LineFault.{LineFault}
-use Rattle.mh_link.proofs.Host.{host}
+use Rattle.mh_jobs.proofs.Host.{host, link}
 use Rattle.mh_plan.specs.declared.call.Call.{Call}
 use Rattle.mh_plan.specs.declared.call.Call.TheVariants.{Exact, Indy}
 use Rattle.mh_plan.specs.declared.kinds.PlanKind.{PlanKind}
 use Rattle.mh_plan.specs.declared.kinds.PlanKind.TheVariants.{BadLine, NoLeaf, NoSite, BadArguments}
 use Rattle.mh_plan.specs.Plan.{plan_of}
-use Rattle.mh_plan.proofs.Host.{add_leaf, adding_ten, adds, given_with, int}
+use Rattle.mh_plan.proofs.Host.{add_leaf, adds, given_with, int}
 
 -- two sites, the type of the first being readable
 abbrev sites : List (List ℕ)
@@ -16,7 +16,7 @@ sites = codes "(I)I" ∷ codes "(Lno/Such;)V" ∷ []
 
 -- what these lines mean after `thread`
 abbrev lines : List (List ℕ) → Result (List (List Call)) (LineFault PlanKind)
-lines calls = plan_of host (given_with adding_ten sites).jobs (codes "thread" ∷ calls)
+lines calls = plan_of host (given_with link sites).jobs (codes "thread" ∷ calls)
 
 -- a fault of line 2
 abbrev fault : PlanKind → Result (List (List Call)) (LineFault PlanKind)

@@ -1,7 +1,7 @@
 ghost use Rattle.std.specs.Prelude.{◌≡◌, ◌<◌, length, IsTrue};
 ghost use Rattle.mh_values.specs.HasType.{HaveTypes};
 ghost use Rattle.mh_jobs.specs.Jobs.{params_at};
-ghost use Rattle.mh_plan.specs.Results.{IsCallOf};
+ghost use Rattle.mh_plan.specs.Calls.{IsCallOf};
 
 use mh_base::Seq;
 use mh_jobs::Jobs;

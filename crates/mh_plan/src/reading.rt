@@ -2,7 +2,7 @@ ghost use Rattle.std.specs.Prelude.{◌≡◌, map, Ok, IfOk};
 ghost use Rattle.mh_plan.specs.Plan.{plan_of, plan};
 ghost use Rattle.mh_plan.specs.Fault.{TellsLines, TellsPlan};
 ghost use Rattle.mh_plan.specs.Limits.{IsWithinLimits};
-ghost use Rattle.mh_plan.specs.Results.{AreCallsOf};
+ghost use Rattle.mh_plan.specs.Calls.{AreCallsOf};
 ghost use Rattle.mh_plan.specs.Written.{plan_text};
 
 use crate::calls::{Callees, read_lines};

@@ -8,7 +8,7 @@ use Rattle.mh_jobs.specs.Given.{Given}
 use Rattle.mh_attempt.specs.declared.error.WorkError.{WorkError}
 use Rattle.mh_plan.specs.declared.call.Call.{Call}
 use Rattle.mh_plan.specs.Naming.{sites_named}
-use Rattle.mh_plan.specs.Results.{Serials, thread_keys_said, thread_results, thread_said}
+use Rattle.mh_report.specs.Results.{Serials, thread_keys_said, thread_results, thread_said}
 use Rattle.mh_runtime.specs.Attempts.{AreLinked}
 use Rattle.mh_runtime.specs.Keys.{thread_keys}
 use Rattle.mh_runtime.specs.Lanes.{HasAnswered}

@@ -9,8 +9,8 @@ use Rattle.mh_link.specs.Sites.{types_at}
 use Rattle.mh_attempt.specs.declared.error.WorkError.{WorkError}
 use Rattle.mh_attempt.specs.declared.error.WorkError.TheVariants.{NoMemory, FormsFull, TypesFull}
 use Rattle.mh_attempt.specs.AskedTypes.{AsksNoOther, AsksTypes}
-use Rattle.mh_plan.specs.declared.attempt.Attempt.{Attempt}
-use Rattle.mh_plan.specs.Types.{attempt_types}
+use Rattle.mh_report.specs.declared.attempt.Attempt.{Attempt}
+use Rattle.mh_report.specs.Types.{attempt_types}
 use Rattle.mh_runtime.specs.Asking.{HasAskedOn, RunsOnTypes}
 use Rattle.mh_runtime.proofs.SeatAsked.{on-call, on-attempt, on-early, on-both}
 

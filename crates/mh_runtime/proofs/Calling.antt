@@ -22,7 +22,7 @@ use Rattle.mh_attempt.specs.Errors.{of_edit}
 use Rattle.mh_attempt.proofs.AskedAfter.{asked_more-both, full-after, full-first, stopped-first}
 use Rattle.mh_attempt.proofs.AskedForms.{asked-again, asked-full, asked-more, drawn-more}
 use Rattle.mh_attempt.proofs.RecipeCounts.{is_one, one-more}
-use Rattle.mh_plan.specs.Forms.{used_edits}
+use Rattle.mh_report.specs.Forms.{used_edits}
 use Rattle.mh_runtime.proofs.UsedRecipes.{uses}
 
 -- ---- generic calls

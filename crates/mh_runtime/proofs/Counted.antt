@@ -16,9 +16,9 @@ use Rattle.mh_jobs.specs.Given.{Given}
 use Rattle.mh_attempt.specs.Asked.{HasAsked, asked_recipes}
 use Rattle.mh_attempt.proofs.RecipeCounts.{count-within}
 use Rattle.mh_attempt.proofs.RecipeSets.{AreAmong, each-among, same-among}
-use Rattle.mh_plan.specs.declared.attempt.Attempt.{Attempt}
 use Rattle.mh_plan.specs.declared.call.Call.{Call}
-use Rattle.mh_plan.specs.Forms.{attempt_edits, forms, plan_edits}
+use Rattle.mh_report.specs.declared.attempt.Attempt.{Attempt}
+use Rattle.mh_report.specs.Forms.{attempt_edits, forms, plan_edits}
 use Rattle.mh_runtime.specs.Joined.{AreInOrder, AreJoined, ThreadPasses, edits_of}
 use Rattle.mh_runtime.specs.Passes.{LinkPass}
 use Rattle.mh_runtime.proofs.Needed.{in-flat, of-flat}

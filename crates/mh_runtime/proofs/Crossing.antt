@@ -15,7 +15,7 @@ use Rattle.mh_leaves.proofs.leaves.Leaves.TheSendSync as leaves
 use Rattle.mh_jobs.specs.declared.run.Run.{Ghosts}
 use Rattle.mh_attempt.proofs.Crossing.{linkage_send, linkage_sync}
 use Rattle.mh_attempt.proofs.error.WorkError.TheSendSync as error
-use Rattle.mh_plan.proofs.attempt.Attempt.TheSendSync as attempt
+use Rattle.mh_report.proofs.attempt.Attempt.TheSendSync as attempt
 use Rattle.mh_base.proofs.seq.Seq.TheSendSync as seq
 use Rattle.mh_base.specs.contracts.seq.Seq as Plan
 use Rattle.mh_handle.specs.contracts.answer.Answer as Answer

@@ -19,7 +19,7 @@ use Rattle.mh_intern.specs.Views.{SeatView}
 use Rattle.mh_intern.proofs.Entries.{bit}
 use Rattle.mh_intern.proofs.Measures.{count_cons}
 use Rattle.mh_attempt.specs.AskedTypes.{HasNoSlot}
-use Rattle.mh_plan.specs.Types.{Overfill}
+use Rattle.mh_report.specs.Types.{Overfill}
 use Rattle.mh_runtime.proofs.TypeLists.{any-counted, any-turned, count-distinct, is_one, same-equivalence, types-distinct}
 
 -- the types of entries

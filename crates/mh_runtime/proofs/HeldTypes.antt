@@ -15,9 +15,9 @@ use Rattle.mh_intern.specs.Seats.{distinct_types}
 use Rattle.mh_jobs.specs.Given.{Given}
 use Rattle.mh_link.specs.Linked.{held_by}
 use Rattle.mh_link.specs.Sites.{linked_at}
-use Rattle.mh_plan.specs.declared.attempt.Attempt.{Attempt}
-use Rattle.mh_plan.specs.Recorded.{held_at, held_from, types}
-use Rattle.mh_plan.specs.Results.{Serials, serial_at}
+use Rattle.mh_report.specs.declared.attempt.Attempt.{Attempt}
+use Rattle.mh_report.specs.Recorded.{held_at, held_from, types}
+use Rattle.mh_report.specs.Results.{Serials, serial_at}
 use Rattle.mh_runtime.proofs.Needed.{in-flat, of-flat}
 use Rattle.mh_runtime.proofs.TypeLists.{any-counted, any-turned, counted-any, is_one, same-equivalence}
 use Rattle.mh_runtime.proofs.SeatKinds.{lasts, lasts-count, last-held, held-last, lasts-distinct}

@@ -14,7 +14,7 @@ use Rattle.mh_jobs.specs.Given.{Given}
 use Rattle.mh_attempt.specs.Asked.{HasAsked, asked_recipes}
 use Rattle.mh_attempt.proofs.RecipeSets.{AreAmong, among-among, among-first, among-last, among-same, both-among, each-among}
 use Rattle.mh_plan.specs.declared.call.Call.{Call}
-use Rattle.mh_plan.specs.Forms.{attempt_edits, plan_edits, thread_edits}
+use Rattle.mh_report.specs.Forms.{attempt_edits, plan_edits, thread_edits}
 use Rattle.mh_runtime.specs.Asking.{run_edits}
 use Rattle.mh_runtime.specs.Joined.{ThreadPasses, edits_of}
 use Rattle.mh_runtime.proofs.Distinct.{both-distinct, both-has, unless_had}

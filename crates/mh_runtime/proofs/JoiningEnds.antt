@@ -10,7 +10,7 @@ use Rattle.mh_attempt.specs.declared.error.WorkError.{WorkError}
 use Rattle.mh_attempt.specs.declared.error.WorkError.TheVariants.{NoMemory, FormsFull, TypesFull}
 use Rattle.mh_attempt.specs.Asked.{HasAsked, IsOver}
 use Rattle.mh_plan.specs.declared.call.Call.{Call}
-use Rattle.mh_plan.specs.Results.{keys_said, results_of, results_said, thread_keys_said, thread_results, thread_said}
+use Rattle.mh_report.specs.Results.{keys_said, results_of, results_said, thread_keys_said, thread_results, thread_said}
 use Rattle.mh_runtime.specs.declared.joining.Joined.{Joined}
 use Rattle.mh_runtime.specs.declared.lane.Lane.{Lane}
 use Rattle.mh_runtime.specs.declared.stops.Stop.{Stop}

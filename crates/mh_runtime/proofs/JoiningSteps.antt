@@ -8,7 +8,7 @@ use Rattle.mh_intern.specs.Views as types
 use Rattle.mh_tickets.specs.Seats as serials
 use Rattle.mh_jobs.specs.Given.{Given}
 use Rattle.mh_plan.specs.declared.call.Call.{Call}
-use Rattle.mh_plan.specs.Types.{thread_types}
+use Rattle.mh_report.specs.Types.{thread_types}
 use Rattle.mh_runtime.specs.declared.joining.Joined.{Joined}
 use Rattle.mh_runtime.specs.declared.lane.Lane.{Lane}
 use Rattle.mh_runtime.specs.declared.stops.ThreadRun.{ThreadRun}

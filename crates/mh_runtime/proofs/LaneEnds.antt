@@ -13,12 +13,12 @@ use Rattle.mh_attempt.specs.declared.error.WorkError.{WorkError}
 use Rattle.mh_attempt.specs.declared.error.WorkError.TheVariants.{NoMemory, FormsFull, TypesFull}
 use Rattle.mh_attempt.proofs.AskedAfter.{asked-drawn}
 use Rattle.mh_attempt.specs.Asked.{DrawsWithin, HasAsked}
-use Rattle.mh_plan.specs.declared.attempt.Attempt.{Attempt}
 use Rattle.mh_plan.specs.declared.call.Call.{Call}
-use Rattle.mh_plan.specs.Forms.{call_edits, thread_edits}
 use Rattle.mh_plan.specs.Naming.{sites_named}
-use Rattle.mh_plan.specs.Results.{serial_at}
-use Rattle.mh_plan.specs.Types.{call_types, thread_types}
+use Rattle.mh_report.specs.declared.attempt.Attempt.{Attempt}
+use Rattle.mh_report.specs.Forms.{call_edits, thread_edits}
+use Rattle.mh_report.specs.Results.{serial_at}
+use Rattle.mh_report.specs.Types.{call_types, thread_types}
 use Rattle.mh_runtime.specs.declared.lane.Lane.{Lane}
 use Rattle.mh_runtime.specs.declared.stops.ThreadRun.{ThreadRun}
 use Rattle.mh_runtime.specs.Asking.{HasAskedOn, HasRunOn, HasRunOut, RunsOn, RunsOnTypes, WasAsked, run_edits, run_types}

@@ -4,8 +4,8 @@ use Rattle.std.specs.List.{flat_map}
 use Rattle.std.proofs.lemmas.Grind.{flat_map-append}
 use Rattle.std.proofs.lemmas.List.{map_push}
 use Rattle.mh_jobs.specs.Given.{Given}
-use Rattle.mh_plan.specs.Forms.{thread_edits}
-use Rattle.mh_plan.specs.Types.{thread_types}
+use Rattle.mh_report.specs.Forms.{thread_edits}
+use Rattle.mh_report.specs.Types.{thread_types}
 use Rattle.mh_runtime.specs.declared.lane.Lane.{Lane}
 use Rattle.mh_runtime.specs.Asking.{run_edits, run_types}
 use Rattle.mh_runtime.specs.Joined.{ThreadPasses}

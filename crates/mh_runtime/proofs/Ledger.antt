@@ -5,10 +5,10 @@ use Rattle.std.specs.List.{flat_map}
 use Rattle.std.specs.Option.{option_flatten}
 use Rattle.std.proofs.lemmas.List.Elements.{All-contains, Contains-get_or}
 use Rattle.mh_jobs.specs.Given.{Given}
-use Rattle.mh_plan.specs.declared.attempt.Attempt.{Attempt}
 use Rattle.mh_plan.specs.declared.call.Call.{Call}
 use Rattle.mh_plan.specs.Naming.{first_places, naming_of, sites_named}
-use Rattle.mh_plan.specs.Results.{Serials, serial_at}
+use Rattle.mh_report.specs.declared.attempt.Attempt.{Attempt}
+use Rattle.mh_report.specs.Results.{Serials, serial_at}
 use Rattle.mh_runtime.specs.Attempts.{AreRecorded, sites_of}
 use Rattle.mh_runtime.specs.Joined.{AreDone, AreInOrder, AreJoined, AreUsed, ThreadPasses}
 use Rattle.mh_runtime.specs.Ledger.{IsNamed, Ledger, attempted_by}

@@ -5,8 +5,8 @@ use Rattle.std.proofs.lemmas.List.Elements.{All-append, All-push, All-weaker, Co
 use Rattle.mh_setonce.specs.Views.{WalkView}
 use Rattle.mh_jobs.specs.Given.{Given}
 use Rattle.mh_attempt.specs.Linkage.{LinkageView}
-use Rattle.mh_plan.specs.declared.attempt.Attempt.{Attempt}
-use Rattle.mh_plan.specs.Results.{serial_at}
+use Rattle.mh_report.specs.declared.attempt.Attempt.{Attempt}
+use Rattle.mh_report.specs.Results.{serial_at}
 use Rattle.mh_runtime.specs.Passes.{HasSerials, IsLinkageOf, IsLinkPass, IsRecorded, attempt_of, linked_by}
 
 module _ (given : Given) (walks walks' : List (WalkView LinkageView)) (attempts recorded : List Attempt)

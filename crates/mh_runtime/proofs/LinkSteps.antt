@@ -7,9 +7,9 @@ use Rattle.std.proofs.lemmas.List.Elements.{All-nil, All-push, Contains-push}
 use Rattle.mh_tickets.specs.Seats.{Draws, SeatView}
 use Rattle.mh_attempt.specs.declared.error.WorkError.{WorkError}
 use Rattle.mh_attempt.specs.Linkage.{LinkageView}
-use Rattle.mh_plan.specs.declared.attempt.Attempt.{Attempt}
 use Rattle.mh_plan.specs.Naming.{first_places}
-use Rattle.mh_plan.specs.Results.{serial_at}
+use Rattle.mh_report.specs.declared.attempt.Attempt.{Attempt}
+use Rattle.mh_report.specs.Results.{serial_at}
 use Rattle.mh_runtime.specs.Attempts.{AttemptsMore, GoesOnLinking, IsThreadRun, sites_of}
 use Rattle.mh_runtime.specs.Passes.{AttemptsUnlearnt, BeginsAttempt, LearnsSites, LinkPass, RecordsLatest, RecordsOurs, attempt_of}
 use Rattle.mh_runtime.proofs.Sites.{is_in}

@@ -3,8 +3,8 @@ use Rattle.std.proofs.Common.{◌≡◌, refl, sym, ◌∙◌, ap, subst, ℕ, B
 use Rattle.std.specs.Prelude.{Contains, filter}
 use Rattle.std.proofs.lemmas.Bool.{both_ways, false_from_ne_true}
 use Rattle.std.proofs.lemmas.List.Elements.{All-contains, All-map, All-weaker, Contains-append_left, filter-append}
-use Rattle.mh_plan.specs.declared.attempt.Attempt.{Attempt}
 use Rattle.mh_plan.specs.Naming.{first_places}
+use Rattle.mh_report.specs.declared.attempt.Attempt.{Attempt}
 use Rattle.mh_runtime.specs.Attempts.{IsThreadRun, sites_of}
 use Rattle.mh_runtime.specs.Passes.{LinkPass}
 use Rattle.mh_runtime.proofs.Sites.{Contains-in, first-push, in-Contains, is_in}

@@ -16,10 +16,10 @@ use Rattle.mh_jobs.specs.Given.{Given}
 use Rattle.mh_link.specs.Sites.{edits_at}
 use Rattle.mh_attempt.proofs.RecipeCounts.{count-within}
 use Rattle.mh_attempt.proofs.RecipeSets.{AreAmong, among-first, among-last, both-among}
-use Rattle.mh_plan.specs.declared.attempt.Attempt.{Attempt}
 use Rattle.mh_plan.specs.declared.call.Call.{Call}
-use Rattle.mh_plan.specs.Forms.{all_edits, attempt_edits, draws_needed, forms_needed, plan_edits, sites_edits, thread_edits}
 use Rattle.mh_plan.specs.Naming.{Naming, naming_of, pairs_named}
+use Rattle.mh_report.specs.declared.attempt.Attempt.{Attempt}
+use Rattle.mh_report.specs.Forms.{all_edits, attempt_edits, draws_needed, forms_needed, plan_edits, sites_edits, thread_edits}
 use Rattle.mh_runtime.specs.Asking.{run_edits}
 use Rattle.mh_runtime.specs.Joined.{AreFormsJoined, AreJoined, AreUsed, HaveDrawnFew, ThreadPasses}
 use Rattle.mh_runtime.specs.Ledger.{IsReached}

@@ -4,7 +4,7 @@ use Rattle.std.specs.Prelude.{slice_get}
 use Rattle.mh_setonce.specs.Views.{ChainView, WalkView}
 use Rattle.mh_setonce.proofs.NewWalks.{AreNew, new-count}
 use Rattle.mh_attempt.specs.Linkage.{LinkageView}
-use Rattle.mh_plan.specs.Results.{Serials}
+use Rattle.mh_report.specs.Results.{Serials}
 use Rattle.mh_runtime.specs.Passes.{linked_by, linked_from, serial_among}
 
 nothing-linked : (first : ℕ) (walks : List (WalkView LinkageView)) → ((c : ℕ) (w : WalkView LinkageView) → slice_get walks c ≡ Some w → w.nodes ≡ []) →

@@ -10,9 +10,9 @@ use Rattle.std.proofs.lemmas.List.Folds.{fold-map}
 use Rattle.std.proofs.lemmas.List.Sums.{count_by-le-length, length-filter, sum-map, sum_by-cons}
 use Rattle.mh_tickets.specs.Draws.{EachOnce, once_up_to}
 use Rattle.mh_jobs.specs.Given.{Given}
-use Rattle.mh_plan.specs.declared.attempt.Attempt.{Attempt}
 use Rattle.mh_plan.specs.declared.call.Call.{Call}
 use Rattle.mh_plan.specs.Naming.{first_places, naming_of, pairs_named, sites_named}
+use Rattle.mh_report.specs.declared.attempt.Attempt.{Attempt}
 use Rattle.mh_runtime.specs.Attempts.{sites_of}
 use Rattle.mh_runtime.specs.Joined.{AreInOrder, AreJoined, AreUsed, ThreadPasses}
 use Rattle.mh_runtime.specs.Passes.{LinkPass}

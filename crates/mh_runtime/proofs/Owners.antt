@@ -6,9 +6,9 @@ use Rattle.std.proofs.lemmas.List.Elements.{All-contains}
 use Rattle.std.proofs.lemmas.Option.{slice_get_within}
 use Rattle.mh_base.proofs.Slices.{slice_get-within}
 use Rattle.mh_jobs.specs.Given.{Given}
-use Rattle.mh_plan.specs.declared.attempt.Attempt.{Attempt}
 use Rattle.mh_plan.specs.declared.call.Call.{Call}
 use Rattle.mh_plan.specs.Naming.{naming_of, sites_named}
+use Rattle.mh_report.specs.declared.attempt.Attempt.{Attempt}
 use Rattle.mh_runtime.specs.Joined.{AreUsed, IsUsedBy, ThreadPasses}
 use Rattle.mh_runtime.specs.Ledger.{IsReached}
 use Rattle.mh_runtime.proofs.Parts.{at-map, in-part}

@@ -5,9 +5,9 @@ use Rattle.std.specs.Option.{option_flatten}
 use Rattle.std.proofs.lemmas.Bool.{cases_eq}
 use Rattle.std.proofs.lemmas.Option.{slice_get_within}
 use Rattle.mh_jobs.specs.Given.{Given}
-use Rattle.mh_plan.specs.declared.table.Recorded.{Recorded}
-use Rattle.mh_plan.specs.Recorded.{recorded, recorded_at, recorded_from, serials_of}
-use Rattle.mh_plan.specs.Results.{Serials, serial_at}
+use Rattle.mh_report.specs.declared.table.Recorded.{Recorded}
+use Rattle.mh_report.specs.Recorded.{recorded, recorded_at, recorded_from, serials_of}
+use Rattle.mh_report.specs.Results.{Serials, serial_at}
 use Rattle.mh_runtime.specs.Attempts.{AreRecorded, HasRecorded}
 use Rattle.mh_runtime.specs.Passes.{LinkPass}
 

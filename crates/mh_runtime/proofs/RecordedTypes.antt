@@ -14,7 +14,7 @@ use Rattle.mh_link.specs.Linked.{held_by}
 use Rattle.mh_link.specs.Sites.{linked_at}
 use Rattle.mh_attempt.specs.Linkage.{HasTypes, LinkageView}
 use Rattle.mh_attempt.specs.Several.{Adds}
-use Rattle.mh_plan.specs.declared.attempt.Attempt.{Attempt}
+use Rattle.mh_report.specs.declared.attempt.Attempt.{Attempt}
 use Rattle.mh_runtime.specs.Linking.{HoldsJust, HoldsRecorded, KeepsOthers, Records, types_held}
 use Rattle.mh_runtime.proofs.SeatTypes.{exchanged-types}
 

@@ -8,12 +8,12 @@ use Rattle.mh_jobs.specs.Given.{Given}
 use Rattle.mh_attempt.specs.declared.error.WorkError.{WorkError}
 use Rattle.mh_attempt.specs.declared.error.WorkError.TheVariants.{NoMemory, FormsFull, TypesFull}
 use Rattle.mh_attempt.specs.Asked.{HasAsked}
-use Rattle.mh_plan.specs.declared.attempt.Attempt.{Attempt}
 use Rattle.mh_plan.specs.declared.call.Call.{Call}
-use Rattle.mh_plan.specs.Forms.{draws_needed}
-use Rattle.mh_plan.specs.Recorded.{recorded, serials_of, types}
-use Rattle.mh_plan.specs.Results.{Serials, keys_said, results_of, results_said, serial_at}
-use Rattle.mh_plan.specs.Types.{Overfill, all_types}
+use Rattle.mh_report.specs.declared.attempt.Attempt.{Attempt}
+use Rattle.mh_report.specs.Forms.{draws_needed}
+use Rattle.mh_report.specs.Recorded.{recorded, serials_of, types}
+use Rattle.mh_report.specs.Results.{Serials, keys_said, results_of, results_said, serial_at}
+use Rattle.mh_report.specs.Types.{Overfill, all_types}
 use Rattle.mh_runtime.specs.declared.joining.Joined.{Joined}
 use Rattle.mh_runtime.specs.declared.lane.Lane.{Lane}
 use Rattle.mh_runtime.specs.declared.running.Linked.{Linked}

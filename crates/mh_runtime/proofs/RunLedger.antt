@@ -2,12 +2,12 @@
 use Rattle.std.proofs.Common.{◌≡◌, sym, ◌∙◌, ap, subst, List, Option, length}
 use Rattle.std.specs.List.Sorted.{IsNonDecreasingBy, IsPermutation}
 use Rattle.mh_jobs.specs.Given.{Given}
-use Rattle.mh_plan.specs.declared.attempt.Attempt.{Attempt}
 use Rattle.mh_plan.specs.declared.call.Call.{Call}
-use Rattle.mh_plan.specs.declared.table.Recorded.{Recorded}
 use Rattle.mh_plan.specs.Naming.{naming_of}
-use Rattle.mh_plan.specs.Recorded.{recorded, serials_of}
-use Rattle.mh_plan.specs.Results.{Serials}
+use Rattle.mh_report.specs.declared.attempt.Attempt.{Attempt}
+use Rattle.mh_report.specs.declared.table.Recorded.{Recorded}
+use Rattle.mh_report.specs.Recorded.{recorded, serials_of}
+use Rattle.mh_report.specs.Results.{Serials}
 use Rattle.mh_runtime.specs.Attempts.{AreRecorded}
 use Rattle.mh_runtime.specs.Joined.{AreDone, AreJoined, AreUsed, ThreadPasses}
 use Rattle.mh_runtime.specs.Ledger.{Ledger}

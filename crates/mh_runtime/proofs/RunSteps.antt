@@ -9,7 +9,7 @@ use Rattle.mh_jobs.specs.Given.{Given}
 use Rattle.mh_attempt.specs.Asked.{HasAsked}
 use Rattle.mh_attempt.proofs.RecipeCounts.{drawn-within}
 use Rattle.mh_attempt.proofs.RecipeSets.{AreAmong, each-among, among-first}
-use Rattle.mh_plan.specs.declared.attempt.Attempt.{Attempt}
+use Rattle.mh_report.specs.declared.attempt.Attempt.{Attempt}
 use Rattle.mh_runtime.specs.Asking.{HasRunOn, HasRunOut, RunStops, RunsOn, run_edits}
 
 module _ (given : Given) where

@@ -12,7 +12,7 @@ use Rattle.mh_intern.specs.Views.{SeatView}
 use Rattle.mh_jobs.specs.Given.{Given}
 use Rattle.mh_link.specs.Sites.{types_at}
 use Rattle.mh_plan.specs.Naming.{naming_of, pairs_named}
-use Rattle.mh_plan.specs.Types.{all_types, attempt_types, plan_types, sites_types, thread_types}
+use Rattle.mh_report.specs.Types.{all_types, attempt_types, plan_types, sites_types, thread_types}
 use Rattle.mh_runtime.specs.declared.lane.Lane.{Lane}
 use Rattle.mh_runtime.specs.Asking.{WasAsked, run_types}
 use Rattle.mh_runtime.specs.Joined.{AreJoined, AreUsed, ThreadPasses}

@@ -13,8 +13,8 @@ use Rattle.mh_link.specs.Sites.{edits_at}
 use Rattle.mh_attempt.specs.Asked.{Asks, HasAsked, HasAskedMore, HasStoppedAt}
 use Rattle.mh_attempt.proofs.RecipeCounts.{drawn-within}
 use Rattle.mh_attempt.proofs.RecipeSets.{AreAmong, among-among, among-first, among-last, among-same, both-among, each-among, same-among}
-use Rattle.mh_plan.specs.declared.attempt.Attempt.{Attempt}
-use Rattle.mh_plan.specs.Forms.{attempt_edits}
+use Rattle.mh_report.specs.declared.attempt.Attempt.{Attempt}
+use Rattle.mh_report.specs.Forms.{attempt_edits}
 use Rattle.mh_runtime.specs.Asking.{HasRunOn, HasRunOut, RunStops, run_edits}
 
 -- ---- recipes as sets

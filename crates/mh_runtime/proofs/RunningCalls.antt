@@ -8,8 +8,8 @@ use Rattle.mh_handle.specs.declared.work.Work.{Work}
 use Rattle.mh_handle.specs.Passes.{PassView}
 use Rattle.mh_jobs.specs.Given.{Given}
 use Rattle.mh_attempt.specs.Asked.{Asks, HasAsked, HasAskedMore, HasDrawn, HasStoppedAt}
-use Rattle.mh_plan.specs.declared.attempt.Attempt.{Attempt}
-use Rattle.mh_plan.specs.Forms.{attempt_edits}
+use Rattle.mh_report.specs.declared.attempt.Attempt.{Attempt}
+use Rattle.mh_report.specs.Forms.{attempt_edits}
 use Rattle.mh_runtime.specs.Asking.{HasRunOn, HasRunOut, RunsOn, run_edits}
 
 module _ (given : Given) where

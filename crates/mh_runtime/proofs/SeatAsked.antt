@@ -8,8 +8,8 @@ use Rattle.mh_intern.specs.Views.{SeatView}
 use Rattle.mh_intern.proofs.Measures.{times_type-append}
 use Rattle.mh_jobs.specs.Given.{Given}
 use Rattle.mh_attempt.specs.AskedTypes.{AsksNoOther}
-use Rattle.mh_plan.specs.declared.attempt.Attempt.{Attempt}
-use Rattle.mh_plan.specs.Types.{attempt_types}
+use Rattle.mh_report.specs.declared.attempt.Attempt.{Attempt}
+use Rattle.mh_report.specs.Types.{attempt_types}
 use Rattle.mh_runtime.specs.Asking.{HasAskedOn, WasAsked, run_types}
 
 -- ---- lists of types

@@ -14,7 +14,7 @@ use Rattle.mh_handle.specs.declared.work.Work.{Work}
 use Rattle.mh_jobs.specs.Given.{Given}
 use Rattle.mh_attempt.specs.Several.{Adds}
 use Rattle.mh_attempt.proofs.Adding.{came-then}
-use Rattle.mh_plan.specs.declared.attempt.Attempt.{Attempt}
+use Rattle.mh_report.specs.declared.attempt.Attempt.{Attempt}
 use Rattle.mh_runtime.specs.Linking.{KeepsOthers, KeepsTypes}
 
 -- ---- counts

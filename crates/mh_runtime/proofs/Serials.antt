@@ -11,7 +11,7 @@ use Rattle.std.proofs.lemmas.List.Sorted.{IsPermutation-map, length_permutation,
 use Rattle.std.proofs.lemmas.List.Sums.{sum_by-cons}
 use Rattle.mh_seats.specs.Room.{times}
 use Rattle.mh_tickets.specs.Draws.{EachOnce, once_up_to}
-use Rattle.mh_plan.specs.declared.attempt.Attempt.{Attempt}
+use Rattle.mh_report.specs.declared.attempt.Attempt.{Attempt}
 use Rattle.mh_runtime.specs.Joined.{AreInOrder}
 use Rattle.mh_runtime.proofs.Rising.{contains-cases, contains-later}
 

@@ -11,7 +11,7 @@ use Rattle.mh_setonce.specs.Walks.{Distinct, FindsNode, Has, Lacks, StartsWith}
 use Rattle.mh_setonce.specs.declared.put.Put.{Put}
 use Rattle.mh_setonce.specs.declared.put.Put.TheVariants.{Mine, Theirs}
 use Rattle.mh_attempt.specs.Linkage.{LinkageView}
-use Rattle.mh_plan.specs.Results.{serial_at}
+use Rattle.mh_report.specs.Results.{serial_at}
 use Rattle.mh_runtime.specs.Passes.{FindsLinkage, HasSerials, PutsLinkage, PutsNode, linked_by, linked_from, serial_among, site_of}
 
 -- ---- among the nodes of one walk

@@ -2,8 +2,8 @@
 use Rattle.std.proofs.Common.{◌≡◌, refl, sym, ◌∙◌, ap, subst, ℕ, ◌+◌, List, [], ◌++◌, append-nil, append_assoc, None, Some, arith}
 use Rattle.std.specs.Prelude.{IsSome, Option}
 use Rattle.std.proofs.lemmas.List.Elements.{All-append, All-nil, All-weaker}
-use Rattle.mh_plan.specs.declared.attempt.Attempt.{Attempt}
-use Rattle.mh_plan.specs.Results.{Serials, serial_at}
+use Rattle.mh_report.specs.declared.attempt.Attempt.{Attempt}
+use Rattle.mh_report.specs.Results.{Serials, serial_at}
 use Rattle.mh_runtime.specs.Attempts.{AreLinked, AttemptsMore, GoesOnLinking, IsThreadRun}
 use Rattle.mh_runtime.specs.Passes.{AttemptsUnlearnt, HasSerials, LinkPass}
 use Rattle.mh_runtime.proofs.NamedSites.{more-named}

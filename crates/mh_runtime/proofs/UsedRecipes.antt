@@ -10,7 +10,7 @@ use Rattle.mh_edit.specs.declared.key.Key.{Key}
 use Rattle.mh_handle.specs.Recipe.{at_type as keys_at, convert_keys, recipe}
 use Rattle.mh_handle.specs.Stands.{HandleView, Stands}
 use Rattle.mh_astype.specs.Calls.{call_keys, unless_refused}
-use Rattle.mh_plan.specs.Forms.{at_type, used_edits}
+use Rattle.mh_report.specs.Forms.{at_type, used_edits}
 
 -- ---- recipes of a use as another type
 

@@ -15,9 +15,9 @@ use Rattle.mh_jobs.specs.Given.{Given}
 use Rattle.mh_attempt.specs.declared.error.WorkError.TheVariants.{FormsFull, TypesFull}
 use Rattle.mh_attempt.specs.Asked.{HasAsked}
 use Rattle.mh_plan.specs.declared.call.Call.{Call}
-use Rattle.mh_plan.specs.Forms.{draws_needed}
-use Rattle.mh_plan.specs.Results.{keys_said, results_said}
-use Rattle.mh_plan.specs.Types.{Overfill, all_types}
+use Rattle.mh_report.specs.Forms.{draws_needed}
+use Rattle.mh_report.specs.Results.{keys_said, results_said}
+use Rattle.mh_report.specs.Types.{Overfill, all_types}
 use Rattle.mh_runtime.specs.declared.joining.Joined.{Joined}
 use Rattle.mh_runtime.specs.declared.lane.Lane.{Lane}
 use Rattle.mh_runtime.specs.declared.stops.Stop.{Stop}

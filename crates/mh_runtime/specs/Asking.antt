@@ -11,11 +11,11 @@ use Rattle.mh_attempt.specs.declared.error.WorkError.{WorkError}
 use Rattle.mh_attempt.specs.declared.error.WorkError.TheVariants.{NoMemory, FormsFull, TypesFull}
 use Rattle.mh_attempt.specs.Asked.{DrawsWithin, HasAsked, HasDrawn, IsOver}
 use Rattle.mh_attempt.specs.AskedTypes.{HasNoSlot}
-use Rattle.mh_plan.specs.declared.attempt.Attempt.{Attempt}
 use Rattle.mh_plan.specs.declared.call.Call.{Call}
-use Rattle.mh_plan.specs.Forms.{attempt_edits}
 use Rattle.mh_plan.specs.Limits.{calls_in}
-use Rattle.mh_plan.specs.Types.{attempt_types}
+use Rattle.mh_report.specs.declared.attempt.Attempt.{Attempt}
+use Rattle.mh_report.specs.Forms.{attempt_edits}
+use Rattle.mh_report.specs.Types.{attempt_types}
 
 -- ---- how many numbers are drawn
 

@@ -1,9 +1,9 @@
 -- The attempts of one thread: the first call that names a site attempts it, unless the pass has learnt a linkage of that site by then.
 use Rattle.std.specs.Prelude.{◌≡◌, ◌≢◌, ℕ, ◌+◌, ◌<◌, ◌≤◌, ◌==◌, List, [], ◌++◌, length, map, filter, All, AllPairs, Contains, IsSome, Some}
 use Rattle.std.specs.List.{list_any}
-use Rattle.mh_plan.specs.declared.attempt.Attempt.{Attempt}
 use Rattle.mh_plan.specs.Naming.{first_places}
-use Rattle.mh_plan.specs.Results.{Serials, serial_at}
+use Rattle.mh_report.specs.declared.attempt.Attempt.{Attempt}
+use Rattle.mh_report.specs.Results.{Serials, serial_at}
 use Rattle.mh_handle.specs.declared.work.Work.{Work}
 use Rattle.mh_runtime.specs.Passes.{HasSerials, LearnsSites, LinkPass}
 

@@ -7,10 +7,10 @@ use Rattle.mh_handle.specs.Passes.{PassView}
 use Rattle.mh_tickets.specs.Draws.{EachOnce}
 use Rattle.mh_jobs.specs.Given.{Given}
 use Rattle.mh_attempt.specs.Asked.{HasAsked, HasDrawn}
-use Rattle.mh_plan.specs.declared.attempt.Attempt.{Attempt}
 use Rattle.mh_plan.specs.declared.call.Call.{Call}
-use Rattle.mh_plan.specs.Forms.{attempt_edits, plan_edits, thread_edits}
 use Rattle.mh_plan.specs.Naming.{sites_named}
+use Rattle.mh_report.specs.declared.attempt.Attempt.{Attempt}
+use Rattle.mh_report.specs.Forms.{attempt_edits, plan_edits, thread_edits}
 use Rattle.mh_runtime.specs.Asking.{run_edits}
 use Rattle.mh_runtime.specs.Attempts.{AreLinked, IsThreadRun}
 use Rattle.mh_runtime.specs.Passes.{HasSerials, LinkPass}

@@ -16,10 +16,11 @@ use Rattle.mh_seats.specs.Room.{limit}
 use Rattle.mh_attempt.specs.Asked.{HasAsked, IsOver}
 use Rattle.mh_attempt.specs.AskedTypes.{HasNoSlot}
 use Rattle.mh_plan.specs.declared.call.Call.{Call}
-use Rattle.mh_plan.specs.Forms.{thread_edits}
 use Rattle.mh_plan.specs.Limits.{IsWithinLimits}
-use Rattle.mh_plan.specs.Types.{thread_types}
-use Rattle.mh_plan.specs.Results.{AreCallsOf, Serials, keys_said, results_of, results_said}
+use Rattle.mh_plan.specs.Calls.{AreCallsOf}
+use Rattle.mh_report.specs.Forms.{thread_edits}
+use Rattle.mh_report.specs.Types.{thread_types}
+use Rattle.mh_report.specs.Results.{Serials, keys_said, results_of, results_said}
 use Rattle.mh_runtime.specs.declared.joining.Joined.{Joined}
 use Rattle.mh_runtime.specs.declared.lane.Lane.{Lane}
 use Rattle.mh_runtime.specs.declared.pass.Pass.{Pass}

@@ -11,7 +11,7 @@ use Rattle.mh_link.specs.Sites.{linked_at}
 use Rattle.mh_attempt.specs.Linkage.{site_keys}
 use Rattle.mh_plan.specs.declared.call.Call.{Call}
 use Rattle.mh_plan.specs.declared.call.Call.TheVariants.{Exact, Generic, Indy}
-use Rattle.mh_plan.specs.Results.{Serials, serial_at}
+use Rattle.mh_report.specs.Results.{Serials, serial_at}
 
 -- the keys of the form that a call runs where sites are linked by these attempts: those of the leaf, of its use as the type of a generic
 -- call, or of the site's target; none where the call throws before it runs either

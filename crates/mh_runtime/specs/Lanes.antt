@@ -14,11 +14,12 @@ use Rattle.mh_attempt.specs.declared.error.WorkError.TheVariants.{NoMemory, Form
 use Rattle.mh_attempt.specs.Asked.{HasDrawn, IsOver}
 use Rattle.mh_attempt.specs.AskedTypes.{HasNoSlot}
 use Rattle.mh_plan.specs.declared.call.Call.{Call}
-use Rattle.mh_plan.specs.Forms.{thread_edits}
 use Rattle.mh_plan.specs.Plan.{most_calls}
 use Rattle.mh_plan.specs.Naming.{sites_named}
-use Rattle.mh_plan.specs.Types.{thread_types}
-use Rattle.mh_plan.specs.Results.{IsCallOf, Serials, thread_keys_said, thread_results, thread_said}
+use Rattle.mh_plan.specs.Calls.{IsCallOf}
+use Rattle.mh_report.specs.Forms.{thread_edits}
+use Rattle.mh_report.specs.Types.{thread_types}
+use Rattle.mh_report.specs.Results.{Serials, thread_keys_said, thread_results, thread_said}
 use Rattle.mh_runtime.specs.declared.lane.Lane.{Lane}
 use Rattle.mh_runtime.specs.declared.stops.ThreadRun.{ThreadRun}
 use Rattle.mh_runtime.specs.Asking.{WasAsked, run_edits, run_types}

@@ -1,9 +1,9 @@
 -- By which attempt each site of a run is linked.
 use Rattle.std.specs.Prelude.{◌≡◌, ◌≢◌, ℕ, ◌==◌, ◌↔◌, List, [], Option, Some, IsSome, length, map, filter, slice_get, Contains, AllPairs}
 use Rattle.std.specs.List.{range_with_len, list_any}
-use Rattle.mh_plan.specs.declared.attempt.Attempt.{Attempt}
 use Rattle.mh_plan.specs.Naming.{Naming, first_places}
-use Rattle.mh_plan.specs.Results.{Serials}
+use Rattle.mh_report.specs.declared.attempt.Attempt.{Attempt}
+use Rattle.mh_report.specs.Results.{Serials}
 
 -- some thread's calls name the site
 abbrev pub IsNamed : Naming → ℕ → Type 0

@@ -18,10 +18,10 @@ use Rattle.mh_jobs.specs.Given.{Given}
 use Rattle.mh_attempt.specs.declared.error.WorkError.{WorkError}
 use Rattle.mh_attempt.specs.Linkage.{LinkageView}
 use Rattle.mh_plan.specs.declared.call.Call.{Call}
-use Rattle.mh_plan.specs.Forms.{call_edits, thread_edits}
 use Rattle.mh_plan.specs.Naming.{sites_named}
-use Rattle.mh_plan.specs.Results.{Serials, result_of, serial_at}
-use Rattle.mh_plan.specs.Types.{call_types, thread_types}
+use Rattle.mh_report.specs.Forms.{call_edits, thread_edits}
+use Rattle.mh_report.specs.Results.{Serials, result_of, serial_at}
+use Rattle.mh_report.specs.Types.{call_types, thread_types}
 use Rattle.mh_runtime.specs.declared.linker.Linker.{Linker}
 use Rattle.mh_runtime.specs.declared.pass.Pass.{Pass}
 use Rattle.mh_runtime.specs.declared.stops.ThreadRun.{ThreadRun}

@@ -10,7 +10,7 @@ use Rattle.mh_jobs.specs.Given.{Given}
 use Rattle.mh_attempt.specs.Linkage.{LinkageView}
 use Rattle.mh_link.specs.Linked.{held_by}
 use Rattle.mh_link.specs.Sites.{linked_at}
-use Rattle.mh_plan.specs.declared.attempt.Attempt.{Attempt}
+use Rattle.mh_report.specs.declared.attempt.Attempt.{Attempt}
 
 -- the types that the linkages of attempts hold
 abbrev pub types_held : Given → List Attempt → List MethodTy

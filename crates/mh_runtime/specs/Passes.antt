@@ -11,8 +11,8 @@ use Rattle.mh_script.specs.declared.script.Script.{Script}
 use Rattle.mh_jobs.specs.declared.job.Job.{Job}
 use Rattle.mh_jobs.specs.Given.{Given, AreJobs}
 use Rattle.mh_attempt.specs.Linkage.{LinkageView}
-use Rattle.mh_plan.specs.declared.attempt.Attempt.{Attempt}
-use Rattle.mh_plan.specs.Results.{Serials, serial_at}
+use Rattle.mh_report.specs.declared.attempt.Attempt.{Attempt}
+use Rattle.mh_report.specs.Results.{Serials, serial_at}
 
 -- how many call sites a run may have
 abbrev pub most_sites : ℕ

@@ -2,14 +2,14 @@
 use Rattle.std.specs.Prelude.{◌≡◌, ◌+◌, List, length}
 use Rattle.mh_jobs.specs.Given.{Given}
 use Rattle.mh_plan.specs.declared.call.Call.{Call}
-use Rattle.mh_plan.specs.Forms.{forms}
 use Rattle.mh_plan.specs.Naming.{naming_of}
-use Rattle.mh_plan.specs.Recorded.{recorded, serials_of, types}
-use Rattle.mh_plan.specs.Recorded as plan_types
+use Rattle.mh_report.specs.Forms.{forms}
+use Rattle.mh_report.specs.Recorded.{recorded, serials_of, types}
+use Rattle.mh_report.specs.Recorded as plan_types
 use Rattle.mh_intern.specs.Seats.{distinct_types}
 use Rattle.mh_intern.specs.Views.{SeatView, TypesId}
 use Rattle.mh_seats.specs.Room.{limit}
-use Rattle.mh_plan.specs.Results.{results_of, results_said, keys_said}
+use Rattle.mh_report.specs.Results.{results_of, results_said, keys_said}
 use Rattle.mh_runtime.specs.declared.running.Linked.{Linked}
 use Rattle.mh_runtime.specs.declared.running.RunReport.{RunReport}
 use Rattle.mh_runtime.specs.Keys.{plan_keys}

@@ -1,6 +1,6 @@
 ghost use Rattle.std.specs.Prelude.{◌≡◌, ◌≢◌, ◌+◌, ◌<◌, ◌≤◌, [], ◌∷◌, ◌++◌, All, None, length, IfOk, OnOk};
 ghost use Rattle.mh_plan.specs.Plan.{most_calls};
-ghost use Rattle.mh_plan.specs.Results.{IsCallOf};
+ghost use Rattle.mh_plan.specs.Calls.{IsCallOf};
 ghost use Rattle.mh_runtime.specs.Joining.{JoinsLane, IsFreshFor, IsUnused};
 ghost use Rattle.mh_runtime.specs.Lanes.{tables_at};
 ghost use Rattle.mh_runtime.specs.Linkers.{CanSplit, HasLessRoom, IsOf};
@@ -13,7 +13,8 @@ use crate::stops::{Stop, ThreadRun, first_stop, stop_of};
 use mh_base::NoMemory;
 use mh_jobs::Run;
 use mh_outside::Gate;
-use mh_plan::{ThreadAnswers, ThreadCalls};
+use mh_plan::ThreadCalls;
+use mh_report::ThreadAnswers;
 use mh_threads::ForkJoin;
 use std::sync::Wait;
 

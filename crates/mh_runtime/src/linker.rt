@@ -3,7 +3,7 @@ ghost use Rattle.mh_tickets.specs.Seats as serials_seat;
 ghost use Rattle.mh_handle.specs.Seats as forms_seat;
 ghost use Rattle.mh_intern.specs.Views as types_seat;
 ghost use Rattle.mh_jobs.specs.Given.{AreJobs};
-ghost use Rattle.mh_plan.specs.Results.{IsCallOf};
+ghost use Rattle.mh_plan.specs.Calls.{IsCallOf};
 ghost use Rattle.mh_runtime.specs.Input.{given_by};
 ghost use Rattle.mh_runtime.specs.Linkers.{AreSeats, BeginsPass, CanSplit, HasLessRoom, HasRoom, IsOf, JoinsPass, MakesCall, Resolves, RunsThread, SplitsPass};
 ghost use Rattle.mh_runtime.specs.Passes.{most_sites};

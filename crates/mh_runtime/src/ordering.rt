@@ -1,7 +1,7 @@
 ghost use Rattle.std.specs.List.Sorted.{IsNonDecreasingBy, IsPermutation};
 
 use mh_base::Seq;
-use mh_plan::{Attempt, Attempts};
+use mh_report::{Attempt, Attempts};
 
 /// Attempts in the order of their serials. It takes no memory.
 pub(crate) fn by_serial(mut attempts: Vec<Attempt>) -> Attempts

@@ -2,15 +2,15 @@ ghost use Rattle.std.specs.Prelude.{◌≡◌, ℕ, ◌<◌, IfOk, OnOk, Some, l
 ghost use Rattle.mh_leaf.specs.LeafTable.{LeafTable};
 ghost use Rattle.mh_link.specs.Linked as meant;
 ghost use Rattle.mh_attempt.specs.Linkage.{IsLinkedBy};
-ghost use Rattle.mh_plan.specs.Recorded.{recorded, recorded_at, shown_of};
-ghost use Rattle.mh_plan.specs.Results.{serial_at};
+ghost use Rattle.mh_report.specs.Recorded.{recorded, recorded_at, shown_of};
+ghost use Rattle.mh_report.specs.Results.{serial_at};
 ghost use Rattle.mh_runtime.specs.Attempts.{AreRecorded};
 
 use crate::site_pass::SitePass;
 use mh_attempt::{Linkage, Linked};
 use mh_base::{Copied, NoMemory, Seq};
 use mh_jobs::Run;
-use mh_plan::{Recorded, Shown, Table};
+use mh_report::{Recorded, Shown, Table};
 use std::alloc::Global;
 use std::sync::Wait;
 

@@ -1,7 +1,7 @@
 ghost use Rattle.std.specs.Prelude.{◌≡◌, ◌+◌, ◌<◌, ◌≤◌, ◌∷◌, [], length, IfOk, IsSome, OnErr, None};
 ghost use Rattle.mh_handle.specs.Works.{GoesOn, IsReady, leaves_of};
 ghost use Rattle.mh_jobs.specs.Given.{AreJobs};
-ghost use Rattle.mh_plan.specs.Results.{serial_at};
+ghost use Rattle.mh_report.specs.Results.{serial_at};
 ghost use Rattle.mh_runtime.specs.Asking.{RunsOn, RunsOnTypes, call_draws};
 ghost use Rattle.mh_runtime.specs.Attempts.{AttemptsMore, GoesOnLinking, LeavesAll};
 ghost use Rattle.mh_runtime.specs.Linking.{KeepsOthers};

@@ -2,7 +2,7 @@ ghost use Rattle.std.specs.Prelude.{◌≡◌, ◌+◌, ◌^◌, ◌<◌, ◌≤
 ghost use Rattle.mh_tickets.specs.Seats.{KnowsAll, joined_seats, with_less_room};
 ghost use Rattle.mh_handle.specs.Works.{HoldsTypes, IsUnchanged};
 ghost use Rattle.mh_attempt.specs.AskedTypes.{AsksNoOther};
-ghost use Rattle.mh_plan.specs.Results.{serial_at};
+ghost use Rattle.mh_report.specs.Results.{serial_at};
 ghost use Rattle.mh_runtime.specs.Linking.{Records};
 ghost use Rattle.mh_runtime.specs.Passes.{BeginsAttempt, FindsLinkage, HasBoth, IsLinkageOf, IsRecorded, LearnsSites, RecordsOurs, attempt_of, pass_at, split_pass, split_room, with_seat};
 
@@ -12,7 +12,7 @@ use mh_attempt::Linkage;
 use mh_base::NoMemory;
 use mh_handle::Work;
 use mh_jobs::Run;
-use mh_plan::Attempt;
+use mh_report::Attempt;
 use mh_setonce::Put;
 use mh_tickets::TicketSeat;
 use std::alloc::Global;

@@ -3,7 +3,7 @@ ghost use Rattle.mh_runtime.specs.Stops.{ending, stop_after, stop_at, reported_o
 
 use mh_attempt::WorkError;
 use mh_base::NoMemory;
-use mh_plan::Answers;
+use mh_report::Answers;
 
 /// What the calls of a thread gave.
 #[derive(Debug, Drop)]

@@ -1,10 +1,10 @@
 ghost use Rattle.std.specs.Prelude.{◌≡◌, ◌+◌, ◌<◌, ◌≤◌, [], All, length, flat_map};
 ghost use Rattle.std.specs.Result.{result_err};
 ghost use Rattle.mh_handle.specs.Works.{GoesOn, IsReady, leaves_of};
-ghost use Rattle.mh_plan.specs.Forms.{thread_edits};
 ghost use Rattle.mh_plan.specs.Naming.{sites_named};
-ghost use Rattle.mh_plan.specs.Types.{thread_types};
-ghost use Rattle.mh_plan.specs.Results.{IsCallOf};
+ghost use Rattle.mh_plan.specs.Calls.{IsCallOf};
+ghost use Rattle.mh_report.specs.Forms.{thread_edits};
+ghost use Rattle.mh_report.specs.Types.{thread_types};
 ghost use Rattle.mh_runtime.specs.Asking.{RunsOn, RunsOnTypes, thread_draws};
 ghost use Rattle.mh_runtime.specs.Attempts.{AreLinked, AttemptsMore, GoesOnLinking};
 ghost use Rattle.mh_runtime.specs.Lanes.{HasAnswered};
@@ -21,7 +21,8 @@ use mh_form::Machine;
 use mh_handle::Work;
 use mh_jobs::Run;
 use mh_outside::Gate;
-use mh_plan::{Answers, ThreadCalls};
+use mh_plan::ThreadCalls;
+use mh_report::Answers;
 use std::sync::Wait;
 
 impl<'s, 'g, 't, J: Run, G: Gate> Context<'s, 'g, 't, J, G> {

@@ -1,7 +1,7 @@
 ghost use Rattle.std.specs.Prelude.{◌≡◌, ◌<◌, length, replicate, IfOk, OnErr, None, List};
 ghost use Rattle.mh_setonce.specs.Walks.{Distinct, StartsWith};
 ghost use Rattle.mh_setonce.specs.ManyWalks.{DoMeet, IsLonger, chains_of};
-ghost use Rattle.mh_plan.specs.Results.{serial_at};
+ghost use Rattle.mh_report.specs.Results.{serial_at};
 ghost use Rattle.mh_runtime.specs.Passes.{FindsLinkage, HasSerials, PutsLinkage, PutsNode, linked_by, site_of};
 
 use crate::site_linker::SiteLinker;

@@ -14,7 +14,7 @@ use Rattle.mh_link.specs.Made.{types_of}
 use Rattle.mh_attempt.proofs.Adding.{holds-came}
 use Rattle.mh_attempt.specs.AskedTypes.{AsksNoOther}
 use Rattle.mh_astype.specs.Calls.{generic_keys}
-use Rattle.mh_plan.specs.Forms.{used_edits}
+use Rattle.mh_report.specs.Forms.{used_edits}
 use Rattle.mh_runtime.proofs.Calling.{asks-generic, asks-handed, moved, stopped-early}
 use Rattle.mh_runtime.proofs.LeafTypes.{edit-asks}
 use Rattle.mh_runtime.proofs.SeatAsked.{asks-still}

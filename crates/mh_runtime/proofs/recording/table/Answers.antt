@@ -1,9 +1,9 @@
 use Rattle.std.proofs.Common.{◌≡◌, sym, ◌∙◌, ap₂, subst, List, [], ◌∷◌, ◌++◌, Option, ℕ, ◌<◌, length, Some, arith, rules}
 use Rattle.std.specs.Prelude.{option_map}
 use Rattle.std.proofs.lemmas.Option.{slice_get_read}
-use Rattle.mh_plan.specs.declared.table.Recorded.{Recorded}
-use Rattle.mh_plan.specs.Recorded.{recorded_at}
-use Rattle.mh_plan.specs.Results.{Serials, serial_at}
+use Rattle.mh_report.specs.declared.table.Recorded.{Recorded}
+use Rattle.mh_report.specs.Recorded.{recorded_at}
+use Rattle.mh_report.specs.Results.{Serials, serial_at}
 use Rattle.mh_runtime.proofs.RecordedSites.{entry-within, owned-more, recorded-more}
 use Rattle.mh_runtime.proofs.recording.table.Goals as goal
 

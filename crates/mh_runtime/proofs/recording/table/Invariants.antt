@@ -1,6 +1,6 @@
 use Rattle.std.proofs.Common.{◌≡◌, ◌<◌, ℕ, Some, take}
-use Rattle.mh_plan.specs.Recorded.{recorded}
-use Rattle.mh_plan.specs.Results.{serial_at}
+use Rattle.mh_report.specs.Recorded.{recorded}
+use Rattle.mh_report.specs.Results.{serial_at}
 use Rattle.mh_runtime.specs.Attempts.{HasRecorded}
 use Rattle.mh_runtime.proofs.recording.table.Given as goal
 

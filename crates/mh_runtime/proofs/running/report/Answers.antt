@@ -1,6 +1,6 @@
 use Rattle.std.proofs.Common.{subst, rules, List, ℕ}
 use Rattle.std.specs.List.Sorted.{IsPermutation}
-use Rattle.mh_plan.specs.declared.attempt.Attempt.{Attempt}
+use Rattle.mh_report.specs.declared.attempt.Attempt.{Attempt}
 use Rattle.mh_runtime.specs.Lanes.{tables_at}
 use Rattle.mh_runtime.proofs.Reports.{full-run, no-slot-run, report-of, stop-run}
 use Rattle.mh_runtime.proofs.running.report.Goals as goal

@@ -7,8 +7,8 @@ use Rattle.mh_attempt.specs.Asked.{Asks}
 use Rattle.mh_attempt.specs.AskedTypes.{AsksTypes}
 use Rattle.mh_plan.specs.declared.call.Call.{Call}
 use Rattle.mh_plan.specs.declared.call.Call.TheVariants.{Exact, Generic}
-use Rattle.mh_plan.specs.Forms.{call_edits, used_edits}
-use Rattle.mh_plan.specs.Types.{call_types}
+use Rattle.mh_report.specs.Forms.{call_edits, used_edits}
+use Rattle.mh_report.specs.Types.{call_types}
 use Rattle.mh_runtime.specs.Asking.{RunsOn, RunsOnTypes}
 use Rattle.mh_runtime.proofs.RunningCalls.{call-runs}
 use Rattle.mh_runtime.proofs.ThreadSteps.{unlearnt-same}

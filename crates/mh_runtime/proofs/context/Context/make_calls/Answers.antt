@@ -5,10 +5,10 @@ use Rattle.std.proofs.lemmas.List.Elements.{All-nil}
 use Rattle.mh_handle.specs.Answers.{AnswerView, IsAnswer}
 use Rattle.mh_handle.specs.declared.answer.Answer.{Answer}
 use Rattle.mh_attempt.specs.declared.error.WorkError.TheVariants.{NoMemory}
-use Rattle.mh_plan.specs.Forms.{call_edits}
 use Rattle.mh_plan.specs.Naming.{sites_named}
-use Rattle.mh_plan.specs.Results.{Serials, result_of, result_said, serial_at, thread_keys_said, thread_said}
-use Rattle.mh_plan.specs.Types.{call_types}
+use Rattle.mh_report.specs.Forms.{call_edits}
+use Rattle.mh_report.specs.Results.{Serials, result_of, result_said, serial_at, thread_keys_said, thread_said}
+use Rattle.mh_report.specs.Types.{call_types}
 use Rattle.mh_runtime.specs.Asking.{HasAskedOn, HasRunOn, call_draws, thread_draws}
 use Rattle.mh_runtime.specs.Attempts.{AreLinked, AttemptsMore}
 use Rattle.mh_runtime.specs.Keys.{keys_of}

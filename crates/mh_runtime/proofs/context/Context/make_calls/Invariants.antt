@@ -1,10 +1,10 @@
 use Rattle.std.proofs.Common.{◌≡◌, ◌≤◌, length, take}
 use Rattle.std.specs.List.{flat_map}
 use Rattle.mh_handle.specs.Works.{GoesOn}
-use Rattle.mh_plan.specs.Forms.{call_edits}
 use Rattle.mh_plan.specs.Naming.{sites_named}
-use Rattle.mh_plan.specs.Results.{Serials, thread_said, thread_results, thread_keys_said}
-use Rattle.mh_plan.specs.Types.{call_types}
+use Rattle.mh_report.specs.Forms.{call_edits}
+use Rattle.mh_report.specs.Results.{Serials, thread_said, thread_results, thread_keys_said}
+use Rattle.mh_report.specs.Types.{call_types}
 use Rattle.mh_runtime.specs.Asking.{HasAskedOn, HasRunOn, thread_draws}
 use Rattle.mh_runtime.specs.Attempts.{AreLinked, AttemptsMore, GoesOnLinking}
 use Rattle.mh_runtime.specs.Keys.{thread_keys}

@@ -1,6 +1,6 @@
 use Rattle.std.proofs.Common.{subst}
-use Rattle.mh_plan.specs.Forms.{thread_edits}
-use Rattle.mh_plan.specs.Types.{thread_types}
+use Rattle.mh_report.specs.Forms.{thread_edits}
+use Rattle.mh_report.specs.Types.{thread_types}
 use Rattle.mh_runtime.specs.Asking.{RunsOn, RunsOnTypes}
 use Rattle.mh_runtime.specs.Stops.{begun}
 use Rattle.mh_runtime.proofs.Answering.{ended-by}

@@ -1,6 +1,6 @@
 use Rattle.std.proofs.Common.{◌≡◌, refl, sym, subst, [], ◌∷◌, inl}
 use Rattle.std.specs.Prelude.{OnErr}
-use Rattle.mh_plan.specs.Results.{serial_at}
+use Rattle.mh_report.specs.Results.{serial_at}
 use Rattle.mh_runtime.specs.Asking.{HasAskedOn}
 use Rattle.mh_runtime.specs.Passes.{FindsLinkage}
 use Rattle.mh_runtime.proofs.LinkSteps.{attempts-learn, attempts-learnt, latest-learnt, learnt-not, on-err}

@@ -1,5 +1,5 @@
 use Rattle.std.proofs.Common.{◌≡◌, ◌∙◌, ap, ap₂, refl, [], ◌∷◌, ◌++◌, inr}
-use Rattle.mh_plan.specs.declared.attempt.Attempt.{Attempt}
+use Rattle.mh_report.specs.declared.attempt.Attempt.{Attempt}
 use Rattle.mh_runtime.specs.Passes.{attempt_of}
 use Rattle.mh_runtime.proofs.LinkPasses.{pass-learns, pass-puts}
 use Rattle.mh_runtime.proofs.SeatAsked.{asks-same}

@@ -9,10 +9,10 @@ use Rattle.mh_values.specs.declared.value.Value.{Value}
 use Rattle.mh_values.specs.Computation.{Gave, Threw, Stuck}
 use Rattle.mh_values.specs.declared.class.Class.{Class}
 use Rattle.mh_texts.specs.Printed.{shown_value, shown_type, shown_exception}
-use Rattle.mh_plan.specs.declared.table.Recorded.{Recorded}
-use Rattle.mh_plan.specs.declared.table.Shown.{Shown}
-use Rattle.mh_plan.specs.declared.table.Shown.TheVariants as shown
-use Rattle.mh_plan.specs.Results.{Result}
+use Rattle.mh_report.specs.declared.table.Recorded.{Recorded}
+use Rattle.mh_report.specs.declared.table.Shown.{Shown}
+use Rattle.mh_report.specs.declared.table.Shown.TheVariants as shown
+use Rattle.mh_report.specs.Results.{Result}
 
 -- the byte that ends a line
 abbrev pub lf : List ℕ

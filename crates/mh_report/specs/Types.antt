@@ -10,10 +10,10 @@ use Rattle.mh_tree.specs.Tree as tree
 use Rattle.mh_jobs.specs.Given.{Given}
 use Rattle.mh_link.specs.Made.{types_of}
 use Rattle.mh_link.specs.Sites.{types_at}
-use Rattle.mh_plan.specs.declared.attempt.Attempt.{Attempt}
 use Rattle.mh_plan.specs.declared.call.Call.{Call}
 use Rattle.mh_plan.specs.declared.call.Call.TheVariants.{Exact, Generic, Indy}
 use Rattle.mh_plan.specs.Naming.{naming_of, pairs_named}
+use Rattle.mh_report.specs.declared.attempt.Attempt.{Attempt}
 
 -- ---- which types a run can need
 

@@ -1,7 +1,7 @@
 use Rattle.std.proofs.Common.{◌≡◌, ◌++◌, drop}
-use Rattle.mh_plan.specs.Results.{results_said}
-use Rattle.mh_plan.specs.Text.{threads_text}
-use Rattle.mh_plan.proofs.printing.push_threads.Given as goal
+use Rattle.mh_report.specs.Results.{results_said}
+use Rattle.mh_report.specs.Text.{threads_text}
+use Rattle.mh_report.proofs.printing.push_threads.Given as goal
 
 abbrev pub invariant-loop-number : goal.invariant-loop-number
 invariant-loop-number l =

@@ -6,7 +6,7 @@ use Rattle.std.specs.Fmt.{decimal}
 use Rattle.std.specs.Option.{option_map}
 use Rattle.mh_values.specs.declared.calls.LeafCall.{LeafCall}
 use Rattle.mh_values.specs.declared.value.LeafId.{LeafId}
-use Rattle.mh_plan.specs.Text.{calls_text}
+use Rattle.mh_report.specs.Text.{calls_text}
 
 others-next :
     (calls : List LeafCall) (j : ℕ) (leaf : LeafId) →

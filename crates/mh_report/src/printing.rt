@@ -1,8 +1,8 @@
 ghost use Rattle.std.specs.Prelude.{◌≡◌, ◌+◌, ◌++◌, ◌<◌, ◌≤◌, ◌^◌, length, IfOk, OnOk, codes, List};
 ghost use Rattle.std.specs.Fmt.{decimal};
 ghost use Rattle.mh_values.specs.declared.class.Class.{Class};
-ghost use Rattle.mh_plan.specs.Text.{linked_text, recorded_text, site_text, sites_text, outcome_text, returned_text, calls_text, result_line, results_text, thread_text, threads_text, summary_text, report_text};
-ghost use Rattle.mh_plan.specs.Results.{result_said, thread_said, results_said};
+ghost use Rattle.mh_report.specs.Text.{linked_text, recorded_text, site_text, sites_text, outcome_text, returned_text, calls_text, result_line, results_text, thread_text, threads_text, summary_text, report_text};
+ghost use Rattle.mh_report.specs.Results.{result_said, thread_said, results_said};
 
 use crate::{Recorded, Shown, Table, ThreadAnswers};
 use itoa::Buffer;

@@ -1,9 +1,9 @@
 -- What is recorded at sites tells by which attempts they are linked.
 use Rattle.std.proofs.Common.{◌≡◌, refl, ap, ◌∙◌, ℕ, ◌+◌, [], ◌∷◌, Option, None, Some, option_map}
 use Rattle.mh_jobs.specs.Given.{Given}
-use Rattle.mh_plan.specs.declared.table.Recorded.{Recorded}
-use Rattle.mh_plan.specs.Recorded.{recorded, recorded_at, recorded_from, serials_of}
-use Rattle.mh_plan.specs.Results.{Serials}
+use Rattle.mh_report.specs.declared.table.Recorded.{Recorded}
+use Rattle.mh_report.specs.Recorded.{recorded, recorded_at, recorded_from, serials_of}
+use Rattle.mh_report.specs.Results.{Serials}
 
 entry-serial : (given : Given) (site : ℕ) (serial : Option ℕ) → option_map (λ (r : Recorded). r.serial) (option_map (recorded_at given site) serial) ≡ serial
 entry-serial given site None = refl

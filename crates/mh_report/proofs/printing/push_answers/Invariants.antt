@@ -1,8 +1,8 @@
 use Rattle.std.proofs.Common.{◌≡◌, ◌++◌, take}
 use Rattle.std.specs.List.{flat_map}
-use Rattle.mh_plan.specs.Results.{result_said}
-use Rattle.mh_plan.specs.Text.{result_line}
-use Rattle.mh_plan.proofs.printing.push_answers.Given as goal
+use Rattle.mh_report.specs.Results.{result_said}
+use Rattle.mh_report.specs.Text.{result_line}
+use Rattle.mh_report.proofs.printing.push_answers.Given as goal
 
 abbrev pub invariant-loop-answer : goal.invariant-loop-answer
 invariant-loop-answer l =

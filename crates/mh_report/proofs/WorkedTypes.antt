@@ -4,13 +4,12 @@ use Rattle.mh_values.specs.declared.types.MethodTy.{MethodTy}
 use Rattle.mh_class_bytes.specs.Chars.{chars_from, units_from, shown}
 use Rattle.mh_class_bytes.specs.Mutf8.{sound_from, unit_len}
 use Rattle.mh_intern.specs.Buckets.{bucket_of}
-use Rattle.mh_jobs.proofs.Host.{of}
+use Rattle.mh_jobs.proofs.Host.{of, host}
 use Rattle.mh_leaf.specs.Outcome.{int_type}
-use Rattle.mh_link.proofs.Host.{host}
 use Rattle.mh_plan.specs.declared.call.Call.TheVariants.{Exact, Generic, Indy}
-use Rattle.mh_plan.specs.Types.{all_types, attempt_types, call_types, in_bucket}
 use Rattle.mh_plan.proofs.Host.{add_leaf, adds, int}
-use Rattle.mh_plan.proofs.WorkedRuns.{attempt, evens, tens}
+use Rattle.mh_report.specs.Types.{all_types, attempt_types, call_types, in_bucket}
+use Rattle.mh_report.proofs.WorkedRuns.{attempt, evens, tens}
 
 -- `(I)I`
 abbrev adds_ten : MethodTy

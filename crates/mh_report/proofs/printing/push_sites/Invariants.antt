@@ -1,6 +1,6 @@
 use Rattle.std.proofs.Common.{◌≡◌, ◌++◌, drop}
-use Rattle.mh_plan.specs.Text.{sites_text}
-use Rattle.mh_plan.proofs.printing.push_sites.Given as goal
+use Rattle.mh_report.specs.Text.{sites_text}
+use Rattle.mh_report.proofs.printing.push_sites.Given as goal
 
 abbrev pub invariant-loop-number : goal.invariant-loop-number
 invariant-loop-number l =

@@ -5,9 +5,9 @@ use Rattle.std.proofs.lemmas.List.{drop_more, take_all}
 use Rattle.std.proofs.lemmas.Option.{get_or_from_slice_get}
 use Rattle.mh_values.specs.declared.class.Class.{Class}
 use Rattle.mh_handle.specs.declared.answer.Answer.{Answer}
-use Rattle.mh_plan.specs.declared.table.Recorded.{Recorded}
-use Rattle.mh_plan.specs.Results.{result_said, thread_said, results_said}
-use Rattle.mh_plan.specs.Text.{result_line, results_text, site_text, sites_text, thread_text, threads_text}
+use Rattle.mh_report.specs.declared.table.Recorded.{Recorded}
+use Rattle.mh_report.specs.Results.{result_said, thread_said, results_said}
+use Rattle.mh_report.specs.Text.{result_line, results_text, site_text, sites_text, thread_text, threads_text}
 
 pub threads_text-more : (classes : List Class) (threads : List (List Answer)) (n : ℕ) (item : List Answer) (old new all : List ℕ) → n < length threads →
     slice_get threads n ≡ Some item → new ≡ old ++ thread_text classes n (thread_said item) →

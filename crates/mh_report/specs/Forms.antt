@@ -14,10 +14,10 @@ use Rattle.mh_handle.specs.Recipe.{recipe}
 use Rattle.mh_handle.specs.SameRecipes.{same_recipe}
 use Rattle.mh_jobs.specs.Given.{Given}
 use Rattle.mh_link.specs.Sites.{edits_at}
-use Rattle.mh_plan.specs.declared.attempt.Attempt.{Attempt}
 use Rattle.mh_plan.specs.declared.call.Call.{Call}
 use Rattle.mh_plan.specs.declared.call.Call.TheVariants.{Exact, Generic, Indy}
 use Rattle.mh_plan.specs.Naming.{naming_of, pairs_named}
+use Rattle.mh_report.specs.declared.attempt.Attempt.{Attempt}
 
 -- edits that depend on a type, none where there is none
 abbrev pub at_type : TypeOrRefusal → (MethodTy → List (List Key)) → List (List Key)

@@ -1,8 +1,8 @@
 use Rattle.std.proofs.Common.{◌++◌, ap, sym, ◌∙◌, arith, append_assoc, codes, take}
 use Rattle.std.specs.Fmt.{decimal}
-use Rattle.mh_plan.specs.Text.{calls_text}
-use Rattle.mh_plan.proofs.CallTexts.{text-next}
-use Rattle.mh_plan.proofs.printing.push_calls.Goals as goal
+use Rattle.mh_report.specs.Text.{calls_text}
+use Rattle.mh_report.proofs.CallTexts.{text-next}
+use Rattle.mh_report.proofs.printing.push_calls.Goals as goal
 
 pub loop-at-preserved : goal.loop-at-preserved
 loop-at-preserved c =

@@ -5,13 +5,14 @@ use Rattle.std.specs.Int.{int_wrap}
 use Rattle.mh_class_bytes.specs.Chars.{chars_from, units_from, shown}
 use Rattle.mh_class_bytes.specs.Mutf8.{sound_from, unit_len}
 use Rattle.mh_jobs.specs.Given.{Given}
-use Rattle.mh_link.proofs.Host.{host}
+use Rattle.mh_jobs.proofs.Host.{host}
 use Rattle.mh_plan.specs.declared.call.Call.{Call}
 use Rattle.mh_plan.specs.declared.call.Call.TheVariants.{Indy}
-use Rattle.mh_plan.specs.Recorded.{recorded, serials_of}
-use Rattle.mh_plan.specs.Results.{Serials, results_of}
-use Rattle.mh_plan.specs.Text.{lf, report_text}
-use Rattle.mh_plan.proofs.Host.{adding_later, given_with, int}
+use Rattle.mh_plan.proofs.Host.{given_with, int}
+use Rattle.mh_report.specs.Recorded.{recorded, serials_of}
+use Rattle.mh_report.specs.Results.{Serials, results_of}
+use Rattle.mh_report.specs.Text.{lf, report_text}
+use Rattle.mh_report.proofs.Host.{adding_later}
 
 -- three sites that only attempts with even numbers link
 abbrev evens : Given

@@ -11,10 +11,10 @@ use Rattle.mh_jobs.specs.Given.{Given}
 use Rattle.mh_link.specs.Linked as link
 use Rattle.mh_link.specs.Linked.{held_by}
 use Rattle.mh_link.specs.Sites.{linked_at}
-use Rattle.mh_plan.specs.declared.table.Recorded.{Recorded}
-use Rattle.mh_plan.specs.declared.table.Shown.{Shown}
-use Rattle.mh_plan.specs.declared.table.Shown.TheVariants as shown
-use Rattle.mh_plan.specs.Results.{Serials}
+use Rattle.mh_report.specs.declared.table.Recorded.{Recorded}
+use Rattle.mh_report.specs.declared.table.Shown.{Shown}
+use Rattle.mh_report.specs.declared.table.Shown.TheVariants as shown
+use Rattle.mh_report.specs.Results.{Serials}
 
 -- a target by its type; that of an attempt has one
 abbrev pub target_shown : TypeOrRefusal → Shown

@@ -8,14 +8,15 @@ use Rattle.mh_class_bytes.specs.Mutf8.{sound_from, unit_len}
 use Rattle.mh_jobs.specs.Given.{Given}
 use Rattle.mh_jobs.specs.Thrown.{caused, runtime_class}
 use Rattle.mh_link.proofs.CallsOfSites.{told}
-use Rattle.mh_plan.specs.declared.attempt.Attempt.{Attempt}
 use Rattle.mh_plan.specs.declared.call.Call.{Call}
 use Rattle.mh_plan.specs.declared.call.Call.TheVariants.{Exact, Indy}
-use Rattle.mh_plan.specs.Forms.{forms, forms_needed}
 use Rattle.mh_plan.specs.Naming.{naming_of, pairs_named}
-use Rattle.mh_plan.specs.Recorded.{types}
-use Rattle.mh_plan.specs.Results.{result_of}
-use Rattle.mh_plan.proofs.Host.{add_leaf, adding_later, adding_ten, adds, given_with, int}
+use Rattle.mh_plan.proofs.Host.{add_leaf, adds, given_with, int}
+use Rattle.mh_report.specs.declared.attempt.Attempt.{Attempt}
+use Rattle.mh_report.specs.Forms.{forms, forms_needed}
+use Rattle.mh_report.specs.Recorded.{types}
+use Rattle.mh_report.specs.Results.{result_of}
+use Rattle.mh_report.proofs.Host.{adding_later, adding_ten}
 
 -- two sites that add ten
 abbrev pub tens : Given

@@ -1,6 +1,6 @@
 use Rattle.std.proofs.Common.{◌≡◌, ◌++◌, ◌≤◌, take}
-use Rattle.mh_plan.specs.Text.{calls_text}
-use Rattle.mh_plan.proofs.printing.push_calls.Given as goal
+use Rattle.mh_report.specs.Text.{calls_text}
+use Rattle.mh_report.proofs.printing.push_calls.Given as goal
 
 -- the text of the calls so far, of which there is one at least
 abbrev pub invariant-loop-at : goal.invariant-loop-at

@@ -1,19 +1,13 @@
 -- The result of each call of a plan.
-use Rattle.std.specs.Prelude.{ℕ, ◌<◌, Bool, true, false, ◌&&◌, List, [], ◌∷◌, length, map, All, Option, slice_get}
+use Rattle.std.specs.Prelude.{ℕ, List, map, Option, slice_get}
 use Rattle.std.specs.Option.{option_flatten, option_map_or}
-use Rattle.mh_values.specs.declared.class.Class.{Class}
-use Rattle.mh_values.specs.declared.types.Ty.{Ty}
 use Rattle.mh_values.specs.declared.value.Value.{Value}
 use Rattle.mh_values.specs.Computation.{Ran, Stuck}
-use Rattle.mh_values.specs.HasType.{HaveTypes, has_type}
-use Rattle.mh_leaf.specs.LeafTable.{LeafTable}
 use Rattle.mh_leaf.specs.Outcome.{ran_of}
 use Rattle.mh_tree.specs.Tree as tree
 use Rattle.mh_tree.specs.Meaning.{exact, generic}
 use Rattle.mh_handle.specs.declared.answer.Answer.{Answer}
-use Rattle.mh_jobs.specs.declared.job.Job.{Job}
 use Rattle.mh_jobs.specs.Given.{Given}
-use Rattle.mh_jobs.specs.Jobs.{params_at}
 use Rattle.mh_link.specs.Linked.{site_call}
 use Rattle.mh_link.specs.Sites.{linked_at}
 use Rattle.mh_plan.specs.declared.call.Call.{Call}
@@ -38,16 +32,6 @@ result_of given table (Exact leaf ty args) = exact given.leaves (tree.Leaf leaf)
 result_of given table (Generic leaf ty args) = generic given.leaves (tree.Leaf leaf) ty args 0
 result_of given table (Indy site args) =
     option_map_or (λ serial. site_call given.leaves (linked_at given site serial) args) (serial_at table site) Stuck
-
--- a call that can be made: its leaf or its site is there, and its arguments have the types of its type or of the site's
-abbrev pub IsCallOf : LeafTable → List Job → Call → Type 0
-IsCallOf leaves jobs (Exact leaf ty args) = (leaf.0 < length leaves.leaves) × HaveTypes leaves.classes args ty.params
-IsCallOf leaves jobs (Generic leaf ty args) = (leaf.0 < length leaves.leaves) × HaveTypes leaves.classes args ty.params
-IsCallOf leaves jobs (Indy site args) = (site < length jobs) × HaveTypes leaves.classes args (params_at jobs site)
-
--- the calls of each thread can be made
-abbrev pub AreCallsOf : LeafTable → List Job → List (List Call) → Type 0
-AreCallsOf leaves jobs threads = All (λ calls. All (IsCallOf leaves jobs) calls) threads
 
 -- the results of one thread's calls, in order
 abbrev pub thread_results : Given → Serials → List Call → List Result

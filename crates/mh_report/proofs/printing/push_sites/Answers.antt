@@ -1,6 +1,6 @@
 use Rattle.std.proofs.Common.{◌<◌, length, arith}
-use Rattle.mh_plan.proofs.Running.{sites_text-more}
-use Rattle.mh_plan.proofs.printing.push_sites.Goals as goal
+use Rattle.mh_report.proofs.Running.{sites_text-more}
+use Rattle.mh_report.proofs.printing.push_sites.Goals as goal
 
 pub loop-number-preserved : goal.loop-number-preserved
 loop-number-preserved c =
