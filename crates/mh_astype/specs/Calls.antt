@@ -17,6 +17,10 @@ use Rattle.mh_handle.specs.Form.{FormView}
 use Rattle.mh_handle.specs.Passes.{AsksFor, NotAsked, Draws, DrawsAtMostOne, IsFormOf, IsUnlearnt, PutsAtMost, PutsAtMostOne}
 use Rattle.mh_handle.specs.Recipe.{convert_keys, recipe}
 
+-- how many forms there are numbers for
+abbrev pub most_forms : ℕ
+most_forms = 16384
+
 -- a number that depends on a type, 0 where there is none
 abbrev pub at_type : TypeOrRefusal → (MethodTy → ℕ) → ℕ
 at_type (Ok t) count = count t
@@ -58,7 +62,7 @@ AsksBy recipe (k ∷ keys) old new (Err NoMemory) =
     ((new.pass.now.asked ≡ old.pass.now.asked) ⊎ AsksForRecipe (recipe ++ k ∷ keys) old new)
     × DrawsAtMostOne (recipe ++ k ∷ keys) old.pass.now new.pass.now × PutsAtMostOne (recipe ++ k ∷ keys) old.pass.now new.pass.now
 AsksBy recipe (k ∷ keys) old new (Err (FormsFull drawn)) =
-    NotAsked (recipe ++ k ∷ keys) old.pass.now new.pass.now × Draws drawn old.pass.now.seat new.pass.now.seat × (16384 < drawn)
+    NotAsked (recipe ++ k ∷ keys) old.pass.now new.pass.now × Draws drawn old.pass.now.seat new.pass.now.seat × (most_forms < drawn)
     × IsUnlearnt (recipe ++ k ∷ keys) new.pass.now × (new.pass.now.made ≡ old.pass.now.made)
 
 -- the refusal of a use as a type, if it is refused

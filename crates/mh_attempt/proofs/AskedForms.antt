@@ -16,6 +16,7 @@ use Rattle.mh_handle.specs.Index.{recipe_of}
 use Rattle.mh_handle.specs.Passes.{PassView, SeatView, AsksFor, Draws, DrawsAtMostOne, IsUnlearnt}
 use Rattle.mh_handle.specs.SameRecipes.{same_recipe}
 use Rattle.mh_handle.proofs.SameRecipes.{same_recipe-decides, same_recipe-equivalence}
+use Rattle.mh_astype.specs.Calls.{most_forms}
 use Rattle.mh_attempt.specs.Asked.{asked_recipes, DrawsWithin, HasAsked, HasDrawn, HasNoNumber}
 use Rattle.mh_attempt.proofs.RecipeCounts.{is_one, again, one-more}
 
@@ -86,7 +87,7 @@ drawn-last whole recipes old new r drawn has within none draws =
     }
 
 -- a number was drawn for a recipe that was not asked for, and none was left
-pub asked-full : (old new : PassView) (r : List Key) (drawn : ℕ) → Lacks recipe_of old.asked r → Draws drawn old.seat new.seat → 16384 < drawn →
+pub asked-full : (old new : PassView) (r : List Key) (drawn : ℕ) → Lacks recipe_of old.asked r → Draws drawn old.seat new.seat → most_forms < drawn →
     HasNoNumber (r ∷ []) drawn old new
 asked-full old new r drawn none draws past = (
   λ whole within before has. drawn-last whole before old new r drawn has within none draws,

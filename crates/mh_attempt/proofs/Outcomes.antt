@@ -28,6 +28,7 @@ use Rattle.mh_attempt.specs.Linkage.{target_recipes}
 use Rattle.mh_attempt.specs.Recipes.{attempt_recipes, call_asked, method_asked, script_asked, script_recipes}
 use Rattle.mh_attempt.specs.Registers.{AreHeldBy, HasLeaves, Hold, HoldsLast, held_under, holds_in}
 use Rattle.mh_attempt.specs.Runs.{MayRun, draws}
+use Rattle.mh_attempt.specs.Asked.{attempt_draws}
 
 -- ---- a call of a bootstrap method
 
@@ -47,12 +48,12 @@ start-kept seat registers none = subst (λ l. AreHeld seat (holds_in l)) (sym no
 
 -- the lines of a script may be run, where as many numbers are left as its lines may draw
 pub start-may : (w : Work) (script : Script) (steps : List Step) (registers : Registers) (call : BootstrapCall) (serial : ℕ) → steps ≡ script.steps →
-    CanRun script → IsReady w 256 → registers.call.now ≡ call → registers.serial ≡ serial → registers.assigned.items ≡ [] → HasLeaves w.leaves.now call →
-    serial < 2 ^ 63 → MayRun steps registers w
+    CanRun script → IsReady w attempt_draws → registers.call.now ≡ call → registers.serial ≡ serial → registers.assigned.items ≡ [] →
+    HasLeaves w.leaves.now call → serial < 2 ^ 63 → MayRun steps registers w
 start-may w script steps registers call serial is runs ready same same' none are low =
     let few = runs.few in
     subst (λ xs. MayRun xs registers w) (sym is) (record {
-      ready = ready-less w 256 (draws script.steps) (omega (arith, few)) ready;
+      ready = ready-less w attempt_draws (draws script.steps) (omega (arith, few)) ready;
       holds = (at_start call serial, start-holds w.leaves.now registers call serial same same' none are);
       kept = start-kept w.seat.now registers none;
       divide = runs.divide;

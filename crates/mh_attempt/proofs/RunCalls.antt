@@ -16,6 +16,7 @@ use Rattle.mh_attempt.specs.Registers.{AreHeldBy, holds_in}
 use Rattle.mh_attempt.specs.Runs.{ReplacesTypes, Replaces, draws}
 use Rattle.mh_attempt.specs.Several.{AddsTypes}
 use Rattle.mh_attempt.proofs.Replacing.{replaces-back, replaces-held, replaces-then}
+use Rattle.mh_attempt.specs.Asked.{attempt_draws}
 
 -- registers that held nothing before
 from_none : (before : Registers) (came : List HoldView) (old new : Work) → before.assigned.items ≡ [] → Replaces (holds_in before.assigned.items) came old new →
@@ -41,9 +42,10 @@ called-adds before after old mid new (Err error) none kept x back =
     (replaces-then (holds_in before.assigned.items) (holds_in after.assigned.items) [] old mid new x ([], back))
 
 pub called-goes_on : (script : Script) (steps : List Step) (registers : Registers) (old mid new : Work) → steps ≡ script.steps → CanRun script →
-    GoesOn (draws steps) old mid → IsUnchanged mid new → Exchanges [] (holds_in registers.assigned.items) [] mid.seat.now new.seat.now → GoesOn 256 old new
+    GoesOn (draws steps) old mid → IsUnchanged mid new → Exchanges [] (holds_in registers.assigned.items) [] mid.seat.now new.seat.now →
+    GoesOn attempt_draws old new
 called-goes_on script steps registers old mid new is runs goes unchanged back =
     let few = runs.few in
     let same : draws steps ≡ draws script.steps = ap draws is in
-    goes_on-more (draws steps) 256 old new (omega (arith, few, same))
+    goes_on-more (draws steps) attempt_draws old new (omega (arith, few, same))
     (goes_on-before (draws steps) old mid new goes unchanged (seated-back [] (holds_in registers.assigned.items) mid new back))

@@ -11,6 +11,11 @@ use Rattle.mh_attempt.specs.declared.error.WorkError.TheVariants as work
 use Rattle.mh_handle.specs.Index.{recipe_of}
 use Rattle.mh_handle.specs.Passes.{PassView}
 use Rattle.mh_handle.specs.SameRecipes.{same_recipe}
+use Rattle.mh_astype.specs.Calls.{most_forms}
+
+-- how many numbers an attempt may draw, one for each form that it asks for
+abbrev pub attempt_draws : ℕ
+attempt_draws = 256
 
 -- the recipes of the forms that a pass has asked for
 abbrev pub asked_recipes : PassView → List (List Key)
@@ -38,7 +43,7 @@ pub record HasAskedMore (recipes : List (List Key)) (old new : PassView) : Type 
 
 -- a number was drawn that is no form's
 abbrev pub IsOver : ℕ → PassView → Type 0
-IsOver drawn pass = (16384 < drawn) × Contains pass.seat.numbers drawn
+IsOver drawn pass = (most_forms < drawn) × Contains pass.seat.numbers drawn
 
 -- a call for forms of these recipes has stopped: it has drawn at most one number for each that was not asked for before
 abbrev pub HasStoppedAt : List (List Key) → PassView → PassView → Type 0

@@ -8,7 +8,7 @@ ghost use Rattle.mh_jobs.specs.Thrown.{caused, recorded};
 ghost use Rattle.mh_script.specs.Limits.{CanRun};
 ghost use Rattle.mh_link.specs.Linked.{IsThere, at_start, held_by, linked, outcome, ran, target_of};
 ghost use Rattle.mh_link.specs.Sites.{edits_at, types_at};
-ghost use Rattle.mh_attempt.specs.Asked.{Asks, AsksOrThrows};
+ghost use Rattle.mh_attempt.specs.Asked.{Asks, AsksOrThrows, attempt_draws};
 ghost use Rattle.mh_attempt.specs.AskedTypes.{AsksTypes, AsksTypesOrThrows, job_types, script_types, target_types};
 ghost use Rattle.mh_attempt.specs.Linkage.{AddsLinkage, AddsLinked, HasTypes, IsLinkedBy, held_in, target_recipes};
 ghost use Rattle.mh_attempt.specs.Lines.{TellsTarget};
@@ -67,11 +67,11 @@ fn scripted<'t, R: Wait>(
     call: &BootstrapCall,
     serial: u64,
 ) -> Result<Handle<'t>, HandleError>
-    requires ready { IsReady w.old 256 }
+    requires ready { IsReady w.old attempt_draws }
     requires runs { CanRun script.now }
     requires leaves { HasLeaves (leaves_of w.old) call.now }
     requires serial { serial < 2 ^ 63 }
-    ensures goes_on { GoesOn 256 w.old w.new }
+    ensures goes_on { GoesOn attempt_draws w.old w.new }
     ensures types { AddsTypes w.old w.new result }
     ensures target { TellsTarget
         (ran (leaves_of w.old) script.now.steps script.now.end (at_start call.now serial))
@@ -97,11 +97,11 @@ fn called<'t, R: Wait>(
     call: &BootstrapCall,
     serial: u64,
 ) -> Result<Handle<'t>, HandleError>
-    requires ready { IsReady w.old 256 }
+    requires ready { IsReady w.old attempt_draws }
     requires method { IsThere scripts.now call.now.method }
     requires leaves { HasLeaves (leaves_of w.old) call.now }
     requires serial { serial < 2 ^ 63 }
-    ensures goes_on { GoesOn 256 w.old w.new }
+    ensures goes_on { GoesOn attempt_draws w.old w.new }
     ensures types { AddsTypes w.old w.new result }
     ensures target { TellsTarget (target_of (leaves_of w.old) scripts.now serial call.now)
         w.old result }
@@ -125,10 +125,10 @@ fn target<'t, R: Wait>(
     job: &Job,
     serial: u64,
 ) -> Result<Handle<'t>, HandleError>
-    requires ready { IsReady w.old 256 }
+    requires ready { IsReady w.old attempt_draws }
     requires job { IsJob (leaves_of w.old) scripts.now job.now }
     requires serial { serial < 2 ^ 63 }
-    ensures goes_on { GoesOn 256 w.old w.new }
+    ensures goes_on { GoesOn attempt_draws w.old w.new }
     ensures types { AddsTypes w.old w.new result }
     ensures target { TellsTarget (outcome (leaves_of w.old) scripts.now job.now serial)
         w.old result }
@@ -151,10 +151,10 @@ fn link<'t, R: Wait>(
     job: &Job,
     serial: u64,
 ) -> Result<Linked<'t>, WorkError>
-    requires ready { IsReady w.old 256 }
+    requires ready { IsReady w.old attempt_draws }
     requires job { IsJob (leaves_of w.old) scripts.now job.now }
     requires serial { serial < 2 ^ 63 }
-    ensures goes_on { GoesOn 256 w.old w.new }
+    ensures goes_on { GoesOn attempt_draws w.old w.new }
     ensures types { AddsLinked w.old w.new result }
     ensures linked { IfOk result (λ made. IsLinkedBy (leaves_of w.old) made
         (linked (leaves_of w.old) scripts.now job.now serial)) }
@@ -198,9 +198,9 @@ pub fn attempt<'t, J: Run, R: Wait>(
     requires leaves { leaves_of w.old ≡ J.given.leaves }
     requires job { IsJob J.given.leaves J.given.scripts job.now }
     requires serial { (1 ≤ serial) × (serial ≤ 2 ^ 62) }
-    requires ready { IsReady w.old 256 }
+    requires ready { IsReady w.old attempt_draws }
     ensures of { IfOk result (λ l. (l.job ≡ job.now) × (l.serial ≡ serial)) }
-    ensures goes_on { GoesOn 256 w.old w.new }
+    ensures goes_on { GoesOn attempt_draws w.old w.new }
     ensures types { AddsLinkage w.old w.new result }
     ensures asks { Asks (edits_at (recipe J.given.leaves) J.given job.now.site serial)
         w.old w.new result }

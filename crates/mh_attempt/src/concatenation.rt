@@ -8,7 +8,7 @@ ghost use Rattle.mh_pieces.specs.Recipe.{pieces_of};
 ghost use Rattle.mh_link.specs.Concatenation.{concat_of, constant_of, is_value, pieces_given, pieces_with, recipe_of};
 ghost use Rattle.mh_link.specs.Operands.{wrong_sort};
 ghost use Rattle.mh_link.specs.Made.{concat_nodes, types_of};
-ghost use Rattle.mh_attempt.specs.Asked.{AsksOrThrows};
+ghost use Rattle.mh_attempt.specs.Asked.{AsksOrThrows, attempt_draws};
 ghost use Rattle.mh_attempt.specs.AskedTypes.{AsksTypesOrThrows};
 ghost use Rattle.mh_attempt.specs.Lines.{TellsTarget};
 ghost use Rattle.mh_attempt.specs.Several.{AddsTypes};
@@ -134,8 +134,8 @@ pub(crate) fn concatenated<'t, R: Wait>(
     rt: &R,
     call: &BootstrapCall,
 ) -> Result<Handle<'t>, HandleError>
-    requires ready { IsReady w.old 256 }
-    ensures goes_on { GoesOn 256 w.old w.new }
+    requires ready { IsReady w.old attempt_draws }
+    ensures goes_on { GoesOn attempt_draws w.old w.new }
     ensures types { AddsTypes w.old w.new result }
     ensures target { TellsTarget (concat_of (classes_of w.old) call.now) w.old result }
     ensures asks { AsksOrThrows (map (recipe (leaves_of w.old))

@@ -6,6 +6,7 @@ ghost use Rattle.mh_intern.specs.Views.{new_seat};
 ghost use Rattle.mh_handle.specs.Passes.{seat_at};
 ghost use Rattle.mh_handle.specs.Works.{GoesOn, IsReady, leaves_of};
 ghost use Rattle.mh_jobs.specs.Given.{IsJob};
+ghost use Rattle.mh_attempt.specs.Asked.{attempt_draws};
 ghost use Rattle.mh_steps.specs.AnyTypes.{ExchangesAny};
 
 use crate::linked_files::{Constants, LINKED, Site, class_file};
@@ -167,8 +168,8 @@ fn attempt_text<'t, J: Run, R: Wait>(
     requires scripts { scripts.now ≡ J.given.scripts }
     requires leaves { leaves_of w.old ≡ J.given.leaves }
     requires job { IsJob J.given.leaves J.given.scripts job.now }
-    requires ready { IsReady w.old 256 }
-    ensures goes_on { GoesOn 256 w.old w.new }
+    requires ready { IsReady w.old attempt_draws }
+    ensures goes_on { GoesOn attempt_draws w.old w.new }
     ensures types { ExchangesAny [] [] w.old.seat.now w.new.seat.now }
 {
     if !is_serial(turn.serial) {

@@ -1,5 +1,6 @@
 ghost use Rattle.std.specs.Prelude.{◌≡◌, ◌≤◌};
 ghost use Rattle.mh_handle.specs.Passes.{IsPassOf};
+ghost use Rattle.mh_handle.specs.Works.{most_held};
 
 use mh_base::NoMemory;
 use mh_handle::{Answer, Form, FormPass, FormTable, Handle, Work, leaf};
@@ -35,7 +36,7 @@ pub(crate) fn first_leaf<'t, R: Wait>(
     requires pass { IsPassOf shared.forms.now pass.old }
     requires room { 1 ≤ pass.old.seat.room }
     requires seat { seat.old.table ≡ shared.types.now }
-    requires holds { 256 ≤ seat.old.room }
+    requires holds { most_held ≤ seat.old.room }
 {
     let Shared {
         types,
@@ -105,7 +106,7 @@ fn made_beside<'t, R: Threads + Wait + Sync>(
     requires pass { IsPassOf shared.forms.now pass }
     requires room { 1 ≤ pass.seat.room }
     requires seat { seat.table ≡ shared.types.now }
-    requires holds { 256 ≤ seat.room }
+    requires holds { most_held ≤ seat.room }
 {
     thread::join(
         rt,

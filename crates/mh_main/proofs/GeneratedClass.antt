@@ -19,6 +19,7 @@ use Rattle.mh_made_class.proofs.MadeFile.{reads_back}
 use Rattle.mh_generated.specs.Counts.{site_count}
 use Rattle.mh_generated.specs.Sites.{class_file, constant_of, site_of, sites_of}
 use Rattle.mh_generated.proofs.Makeable.{makeable}
+use Rattle.mh_runtime.specs.Passes.{most_sites}
 
 -- ---- a class of these call sites
 
@@ -32,17 +33,17 @@ all-readable : (number first count : ℕ) → AllByRecursion IsReadable (map (si
 all-readable number first zero = tt
 all-readable number first (suc count) = (readable number first, all-readable number (first + 1) count)
 
-pub few-sites : (number : ℕ) → length (sites_of number) ≤ 4096
+pub few-sites : (number : ℕ) → length (sites_of number) ≤ most_sites
 few-sites number =
     let low : number % 64 < 64 = omega arith in
     omega (arith, length-map-range_with_len (site_of number) 0 (site_count number))
 
 -- the class
-pub class-made : (number : ℕ) → (c : Class) × (class_or_fault 4096 (class_file number) ≡ Ok c) × HasSites (sites_of number) c
+pub class-made : (number : ℕ) → (c : Class) × (class_or_fault most_sites (class_file number) ≡ Ok c) × HasSites (sites_of number) c
 unfolding class_file
 class-made number =
-    let made = reads_back (sites_of number) (makeable number) (all-readable number 0 (site_count number)) 4096 (few-sites number) in
-    (made.0, file_complete 4096 (made_class (sites_of number)) made.0 made.1, made.2)
+    let made = reads_back (sites_of number) (makeable number) (all-readable number 0 (site_count number)) most_sites (few-sites number) in
+    (made.0, file_complete most_sites (made_class (sites_of number)) made.0 made.1, made.2)
 
 -- ---- its length
 

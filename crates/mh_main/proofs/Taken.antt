@@ -1,13 +1,13 @@
 -- Inputs that are accepted, as far as they are told: none is refused or told not to be there, and a program that fits is run to its end.
 use Rattle.std.proofs.Common.{◌≡◌, ◌<◌, sym, subst, inl, inr, ⊎_elim, List, ℕ, Option, Some, arith}
 use Rattle.mh_outside.specs.Told.{Told}
+use Rattle.mh_astype.specs.Calls.{most_forms}
 use Rattle.mh_report.specs.Forms.{draws_needed}
 use Rattle.mh_report.specs.Types.{OverfillBucket, all_types}
 use Rattle.mh_main.specs.declared.program.Program.{Program}
 use Rattle.mh_words.specs.Words.{Command}
 use Rattle.mh_main.specs.Program.{given_of}
 use Rattle.mh_main.specs.Status.{IsDoneFullOrWant, IsDoneOrWant, forms_full, types_full}
-use Rattle.mh_runtime.specs.Passes.{most_forms}
 use Rattle.mh_main.specs.Input.{Accepted, AreAccepted, FitsTables, IfAccepted, Input, IsMissing, IsRefused, NeedsFew, ProgramFits, accepted, command_input, input_of, missing, program, refused, untold, usage}
 
 not-refused : (i : Input) (P : Accepted → Type 0) → IfAccepted i P → IsRefused i → ⊥

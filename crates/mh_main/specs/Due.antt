@@ -6,6 +6,7 @@ use Rattle.mh_outside.specs.Told.{Told}
 use Rattle.mh_classfile.specs.Class.{Class}
 use Rattle.mh_listing.specs.Listing.{listing}
 use Rattle.mh_handle.specs.declared.answer.Answer.{Answer}
+use Rattle.mh_astype.specs.Calls.{most_forms}
 use Rattle.mh_plan.specs.Naming.{naming_of}
 use Rattle.mh_report.specs.Forms.{draws_needed}
 use Rattle.mh_report.specs.Results.{Serials, results_of, results_said, keys_said}
@@ -16,7 +17,6 @@ use Rattle.mh_main.specs.declared.answer.TopAnswer.{TopAnswer}
 use Rattle.mh_main.specs.declared.program.Program.{Program}
 use Rattle.mh_words.specs.Words.{Command, command_of, sites, generate}
 use Rattle.mh_main.specs.Program.{given_of, text}
-use Rattle.mh_runtime.specs.Passes.{most_forms}
 use Rattle.mh_main.specs.Input.{Accepted, program, listed, input, IfAccepted, IfRefused}
 use Rattle.mh_main.specs.Stops.{IsReachedInput, unread_line}
 

@@ -8,6 +8,7 @@ use Rattle.mh_class_pool.specs.declared.fault.ClassKind.{ClassKind}
 use Rattle.mh_classfile.specs.Class.{Class}
 use Rattle.mh_classfile.specs.File.{class_or_fault}
 use Rattle.mh_leaves.specs.Manifest.{manifest, kind_word as manifest_word}
+use Rattle.mh_astype.specs.Calls.{most_forms}
 use Rattle.mh_script.specs.Kinds.{kind_word as script_word}
 use Rattle.mh_script.specs.Scripts.{scripts}
 use Rattle.mh_jobs.specs.Given.{Given}
@@ -16,7 +17,7 @@ use Rattle.mh_plan.specs.Plan.{plan, kind_word as plan_word}
 use Rattle.mh_report.specs.Forms.{draws_needed}
 use Rattle.mh_report.specs.Types.{FitBuckets, all_types}
 use Rattle.mh_generated.specs.Files.{files_of}
-use Rattle.mh_runtime.specs.Passes.{most_forms, most_sites}
+use Rattle.mh_runtime.specs.Passes.{most_sites}
 use Rattle.mh_main.specs.declared.program.Output.{Output}
 use Rattle.mh_main.specs.declared.program.Output.TheVariants.{Report, Line}
 use Rattle.mh_main.specs.declared.program.Program.{Program}

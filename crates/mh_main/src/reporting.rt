@@ -1,4 +1,5 @@
 ghost use Rattle.std.specs.Prelude.{◌≡◌, ◌<◌, IfOk, length, option_map};
+ghost use Rattle.mh_astype.specs.Calls.{most_forms};
 ghost use Rattle.mh_plan.specs.Limits.{IsWithinLimits, calls_in};
 ghost use Rattle.mh_plan.specs.Naming.{naming_of};
 ghost use Rattle.mh_report.specs.Forms.{forms, draws_needed};
@@ -9,7 +10,6 @@ ghost use Rattle.mh_report.specs.Types.{Overfill, all_types};
 ghost use Rattle.mh_runtime.specs.Asking.{IfFull, IfTypesFull};
 ghost use Rattle.mh_runtime.specs.Ledger.{Ledger};
 ghost use Rattle.mh_main.specs.Program.{given_of, text, written};
-ghost use Rattle.mh_runtime.specs.Passes.{most_forms};
 ghost use Rattle.mh_main.specs.Runnable.{IsRunnable};
 ghost use Rattle.mh_main.specs.Status.{done};
 ghost use Rattle.mh_main.specs.Due.{AreAnswersOf};

@@ -12,6 +12,7 @@ use Rattle.mh_edit.specs.declared.key.Key.{Key}
 use Rattle.mh_handle.specs.Passes.{PassView}
 use Rattle.mh_handle.specs.Recipe.{recipe}
 use Rattle.mh_handle.specs.SameRecipes.{same_recipe}
+use Rattle.mh_astype.specs.Calls.{most_forms}
 use Rattle.mh_jobs.specs.Given.{Given}
 use Rattle.mh_link.specs.Sites.{edits_at}
 use Rattle.mh_attempt.proofs.RecipeCounts.{count-within}
@@ -108,7 +109,7 @@ module _ (given : Given) (threads : List (List Call)) (all : List ThreadPasses) 
 
   -- a number that was drawn is at most the number of those that all threads can draw
   pub full : HaveDrawnFew given threads all → (forms : PassView) (drawn : ℕ) → AreFormsJoined all forms → Contains forms.seat.numbers drawn →
-      16384 < drawn → 16384 < draws_needed given threads
+      most_forms < drawn → most_forms < draws_needed given threads
   full few_each forms drawn are_joined there over =
       let within = number-within forms.seat.numbers drawn are_joined.each_once there in
       let whole : length forms.seat.numbers ≡ sum_by (λ (p : ThreadPasses). length p.forms.seat.numbers) all =

@@ -4,6 +4,7 @@ use Rattle.std.specs.Prelude.{All, Contains}
 use Rattle.std.proofs.lemmas.List.{length-map}
 use Rattle.std.proofs.lemmas.List.Elements.{All-contains}
 use Rattle.std.specs.List.Sorted.{IsNonDecreasingBy, IsPermutation}
+use Rattle.mh_astype.specs.Calls.{most_forms}
 use Rattle.mh_jobs.specs.Given.{Given}
 use Rattle.mh_attempt.specs.declared.error.WorkError.{WorkError}
 use Rattle.mh_attempt.specs.declared.error.WorkError.TheVariants.{NoMemory, FormsFull, TypesFull}
@@ -69,11 +70,11 @@ module _ {J : Type 0} (given : Given) (linker : LinkerView) (tables : Tables) (p
     )
 
     -- a thread had no form left
-    pub full-run : (A : Type 0) → IfFull (error_of {A = A} (Err stop)) (16384 < draws_needed given plan)
+    pub full-run : (A : Type 0) → IfFull (error_of {A = A} (Err stop)) (most_forms < draws_needed given plan)
     full-run A = by stop.error refl
       where
-        by : (e : WorkError) → stop.error ≡ e → IfFull {A = A} (Err e) (16384 < draws_needed given plan)
-        by (FormsFull drawn) is = subst (λ threads. 16384 < draws_needed given threads) calls_are
+        by : (e : WorkError) → stop.error ≡ e → IfFull {A = A} (Err e) (most_forms < draws_needed given plan)
+        by (FormsFull drawn) is = subst (λ threads. most_forms < draws_needed given threads) calls_are
             (joined-full given linker tables lanes joined stop some so_far drawn is)
         by (TypesFull bucket) is = tt
         by NoMemory is = tt

@@ -11,6 +11,7 @@ use Rattle.mh_tickets.specs.Draws.{EachOnce, once_up_to}
 use Rattle.mh_seats.specs.Room.{limit, times}
 use Rattle.mh_intern.specs.Held.{on_type, times_type}
 use Rattle.mh_intern.specs.Views.{SeatView}
+use Rattle.mh_astype.specs.Calls.{most_forms}
 use Rattle.mh_jobs.specs.Given.{Given}
 use Rattle.mh_attempt.specs.declared.error.WorkError.TheVariants.{FormsFull, TypesFull}
 use Rattle.mh_attempt.specs.Asked.{HasAsked}
@@ -132,7 +133,7 @@ module _ {J : Type 0} (given : Given) (linker : LinkerView) (tables : Tables) wh
       stops-for = subst (EndsSoFar given lanes joined) some all.ends
 
       -- a lane has stopped for want of forms
-      pub joined-full : (drawn : ℕ) → stop.error ≡ FormsFull drawn → 16384 < draws_needed given (calls_of lanes)
+      pub joined-full : (drawn : ℕ) → stop.error ≡ FormsFull drawn → most_forms < draws_needed given (calls_of lanes)
       joined-full drawn is =
           let over = subst (StopsFor joined) is stops-for in
           let known : KnowsDraws given (length lanes) lanes joined =

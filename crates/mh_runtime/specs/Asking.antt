@@ -9,7 +9,7 @@ use Rattle.mh_handle.specs.Passes.{PassView}
 use Rattle.mh_jobs.specs.Given.{Given}
 use Rattle.mh_attempt.specs.declared.error.WorkError.{WorkError}
 use Rattle.mh_attempt.specs.declared.error.WorkError.TheVariants.{NoMemory, FormsFull, TypesFull}
-use Rattle.mh_attempt.specs.Asked.{DrawsWithin, HasAsked, HasDrawn, IsOver}
+use Rattle.mh_attempt.specs.Asked.{DrawsWithin, HasAsked, HasDrawn, IsOver, attempt_draws}
 use Rattle.mh_attempt.specs.AskedTypes.{HasNoSlot}
 use Rattle.mh_plan.specs.declared.call.Call.{Call}
 use Rattle.mh_plan.specs.Limits.{calls_in}
@@ -21,7 +21,7 @@ use Rattle.mh_report.specs.Types.{attempt_types}
 
 -- how many numbers a call may draw: those of an attempt, if it is the first of its site
 abbrev pub call_draws : ℕ
-call_draws = 256
+call_draws = attempt_draws
 
 -- how many numbers the calls of a thread may draw
 abbrev pub thread_draws : List Call → ℕ

@@ -18,10 +18,6 @@ use Rattle.mh_report.specs.Results.{Serials, serial_at}
 abbrev pub most_sites : ℕ
 most_sites = 4096
 
--- how many forms there are numbers for
-abbrev pub most_forms : ℕ
-most_forms = 16384
-
 -- ---- linkers
 
 -- the chains of the call sites, one for each, and the counter of the serials of attempts

@@ -11,13 +11,14 @@ ghost use Rattle.mh_handle.specs.Seats as forms_seat;
 ghost use Rattle.mh_intern.specs.Views as types_seat;
 ghost use Rattle.mh_tickets.specs.Seats as serials_seat;
 ghost use Rattle.mh_seats.specs.Room.{limit};
+ghost use Rattle.mh_astype.specs.Calls.{most_forms};
 ghost use Rattle.mh_runtime.specs.Asking.{IfFull, IfTypesFull};
 ghost use Rattle.mh_runtime.specs.Input.{given_by};
 ghost use Rattle.mh_runtime.specs.Keys.{plan_keys};
 ghost use Rattle.mh_runtime.specs.Ledger.{Ledger};
 ghost use Rattle.mh_runtime.specs.Joining.{AreAllJoined, HasAllRoom, IsUnused};
 ghost use Rattle.mh_runtime.specs.Lanes.{tables_at};
-ghost use Rattle.mh_runtime.specs.Passes.{most_forms, most_sites};
+ghost use Rattle.mh_runtime.specs.Passes.{most_sites};
 ghost use Rattle.mh_runtime.specs.Report.{IsLinkedRun, IsReport};
 ghost use Rattle.mh_runtime.specs.Stops.{IsStopOf, error_of};
 

@@ -1,5 +1,6 @@
 use Rattle.std.proofs.Common.{[]}
 use Rattle.mh_handle.proofs.Going.{goes_on-before, seated-back}
+use Rattle.mh_attempt.specs.Asked.{attempt_draws}
 use Rattle.mh_steps.proofs.Adding.{adds-held, adds-next}
 use Rattle.mh_class_tests.proofs.linked_calls.attempt_text.Goals as goal
 
@@ -10,7 +11,7 @@ give_back-requires-clause-held g c =
 
 pub returns-clause-goes_on : goal.returns-clause-goes_on
 returns-clause-goes_on g c =
-    goes_on-before 256 c.args.w.now c.attempt.new.w c.give_back.new.w c.in_ok-linkage.ensures.goes_on c.give_back.ensures.unchanged
+    goes_on-before attempt_draws c.args.w.now c.attempt.new.w c.give_back.new.w c.in_ok-linkage.ensures.goes_on c.give_back.ensures.unchanged
     (seated-back [] c.in_ok-linkage.linkage.held c.attempt.new.w c.give_back.new.w c.give_back.ensures.types)
 
 pub returns-clause-types : goal.returns-clause-types
@@ -20,7 +21,7 @@ returns-clause-types g c =
 
 pub returns-in_err-text-clause-goes_on : goal.returns-in_err-text-clause-goes_on
 returns-in_err-text-clause-goes_on g c =
-    goes_on-before 256 c.args.w.now c.attempt.new.w c.give_back.new.w c.in_ok-linkage.ensures.goes_on c.give_back.ensures.unchanged
+    goes_on-before attempt_draws c.args.w.now c.attempt.new.w c.give_back.new.w c.in_ok-linkage.ensures.goes_on c.give_back.ensures.unchanged
     (seated-back [] c.in_ok-linkage.linkage.held c.attempt.new.w c.give_back.new.w c.give_back.ensures.types)
 
 pub returns-in_err-text-clause-types : goal.returns-in_err-text-clause-types

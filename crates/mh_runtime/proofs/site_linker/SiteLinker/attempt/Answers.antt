@@ -8,6 +8,7 @@ use Rattle.mh_runtime.specs.Passes.{LearnsSites, LinkPass}
 use Rattle.mh_runtime.proofs.LinkSteps.{attempts-begun, attempts-learn, begun-attempts, begun-made, begun_by, goes-begun, latest-begun, learns-none, on-err, unlearnt-begun}
 use Rattle.mh_runtime.proofs.ThreadSteps.{unlearnt-same}
 use Rattle.mh_attempt.proofs.Adding.{holds-came}
+use Rattle.mh_attempt.specs.Asked.{attempt_draws}
 use Rattle.mh_runtime.proofs.RunSteps.{stops-run}
 use Rattle.mh_runtime.proofs.RecordedTypes.{attempt-keeps}
 use Rattle.mh_runtime.proofs.SeatTypes.{keeps-adds, keeps-recorded}
@@ -41,7 +42,7 @@ record-requires-clause-attempted g c =
 
 pub returns-in_err-linkage-2-clause-goes_on : goal.returns-in_err-linkage-2-clause-goes_on
 returns-in_err-linkage-2-clause-goes_on g c =
-    goes_on-before 256 c.args.w.now c.attempt.new.w c.record.new.w c.in_ok-linkage.ensures.goes_on c.in_err-linkage-2.ensures.unchanged
+    goes_on-before attempt_draws c.args.w.now c.attempt.new.w c.record.new.w c.in_ok-linkage.ensures.goes_on c.in_err-linkage-2.ensures.unchanged
     (record { seat = c.in_err-linkage-2.ensures.types.table; holds = omega (arith, c.in_err-linkage-2.ensures.types.few) })
 
 pub returns-in_err-linkage-2-clause-pass : goal.returns-in_err-linkage-2-clause-pass
@@ -56,7 +57,7 @@ returns-in_err-linkage-2-clause-attempts g c =
 
 pub returns-clause-goes_on : goal.returns-clause-goes_on
 returns-clause-goes_on g c =
-    goes_on-before 256 c.args.w.now c.attempt.new.w c.record.new.w c.in_ok-linkage.ensures.goes_on c.in_ok-linkage-2.ensures.unchanged
+    goes_on-before attempt_draws c.args.w.now c.attempt.new.w c.record.new.w c.in_ok-linkage.ensures.goes_on c.in_ok-linkage-2.ensures.unchanged
     (record { seat = c.in_ok-linkage-2.ensures.types.table; holds = omega (arith, c.in_ok-linkage-2.ensures.types.few) })
 
 pub returns-clause-pass : goal.returns-clause-pass
