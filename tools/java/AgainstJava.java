@@ -15,6 +15,7 @@ import java.lang.invoke.MethodHandle;
 import java.lang.invoke.MethodHandles;
 import java.lang.invoke.MethodType;
 import java.lang.invoke.StringConcatException;
+import java.lang.invoke.StringConcatFactory;
 import java.lang.invoke.WrongMethodTypeException;
 import java.lang.reflect.Array;
 import java.lang.reflect.Modifier;
@@ -92,7 +93,8 @@ public final class AgainstJava {
     /** The bootstrap method of all call sites. The first static argument is the site's number. */
     public static CallSite link(MethodHandles.Lookup caller, String name, MethodType type, Object... arguments)
             throws Throwable {
-        return current.link((int) arguments[0], type, Arrays.copyOfRange(arguments, 1, arguments.length));
+        Object[] rest = Arrays.copyOfRange(arguments, 1, arguments.length);
+        return current.link((int) arguments[0], new Request(caller, name, type, rest));
     }
 }
 
@@ -123,8 +125,19 @@ enum Own {
     /** A recorded error is thrown again also if its class is one that the machine did not bring. */
     LOST,
     /** Exceptions of a target of 254 slots are caught. */
-    WIDE
+    WIDE,
+    /** A class, a type or a handle among the constants of a concatenation is refused. */
+    CLASSES,
+    /** An object, an array or an exception has a text of mh's own in a concatenation. */
+    TEXTS,
+    /** A char that is a half of a surrogate pair is U+FFFD in a concatenation. */
+    HALVES,
+    /** A concatenation gives no text that is too long. */
+    LONG
 }
+
+/** What a bootstrap method is called with: its static arguments are without the site's number. */
+record Request(MethodHandles.Lookup caller, String name, MethodType type, Object[] arguments) {}
 
 /** One run: its inputs, what its call sites were linked to, and its report. */
 final class Run {
@@ -264,8 +277,13 @@ final class Run {
 
     /** An exception that is thrown by a rule of mh's own, which is counted. */
     Throwable own(Own rule, Throwable thrown) {
-        applied.merge(rule, 1, Integer::sum);
+        count(rule);
         return thrown;
+    }
+
+    /** Counts that a rule of mh's own is applied. */
+    void count(Own rule) {
+        applied.merge(rule, 1, Integer::sum);
     }
 
     private static String withOther(String line, String other) {
@@ -336,25 +354,33 @@ final class Run {
         return isLost ? own(Own.LOST, first) : thrown;
     }
 
-    /** Runs the script of a site: the bootstrap method. */
-    CallSite link(int number, MethodType type, Object[] arguments) throws Throwable {
+    /** Links a site: runs its script, or calls the bootstrap method of concatenations. */
+    CallSite link(int number, Request request) throws Throwable {
         Site site = sites.get(number);
         if (site.thrown != null && isOwn) {
             throw own(Own.RECORDED, site.thrown);
         }
         site.serial = site.thrown == null ? site.serial : ++attempts;
         try {
-            List<List<String>> script = scripts.get(site.view.bootstrap().reference());
-            var attempt = new Attempt(this, site, type, arguments, false);
-            site.target = attempt.targetOf(script);
-            site.isOfType = site.target.type().equals(type);
-            if (attempt.orderMatters) {
-                site.inOrder = new Attempt(this, site, type, arguments, true).targetOf(script);
+            if (Concatenation.isLinkedBy(site.view.bootstrap())) {
+                site.target = new Concatenation(this).target(request);
+            } else {
+                runScript(site, request);
             }
+            site.isOfType = site.target.type().equals(request.type());
             return new ConstantCallSite(site.target);
         } catch (Throwable thrown) {
             site.thrown = thrown;
             throw thrown;
+        }
+    }
+
+    private void runScript(Site site, Request request) throws Throwable {
+        List<List<String>> script = scripts.get(site.view.bootstrap().reference());
+        var attempt = new Attempt(this, site, request, false);
+        site.target = attempt.targetOf(script);
+        if (attempt.orderMatters) {
+            site.inOrder = new Attempt(this, site, request, true).targetOf(script);
         }
     }
 }
@@ -403,8 +429,6 @@ record Fault(Own rule, Throwable thrown) {
 
 /** Looks up what sites and scripts name, in the order of mh. */
 final class Resolution {
-    private static final int LONGEST_TEXT = 4096;
-
     private final Run run;
 
     Resolution(Run run) {
@@ -423,7 +447,8 @@ final class Resolution {
         if (bootstrap.kind() != HandleTo.STATIC) {
             return unsupported(Own.CONSTANTS, "constant");
         }
-        return run.scripts.containsKey(bootstrap.reference()) ? null : new Fault(null, null);
+        boolean isThere = Concatenation.isLinkedBy(bootstrap) || run.scripts.containsKey(bootstrap.reference());
+        return isThere ? null : new Fault(null, null);
     }
 
     private Fault faultOfArgument(Object constant) {
@@ -445,8 +470,7 @@ final class Resolution {
         if (isLone) {
             return unsupported(Own.CONSTANTS, "lone surrogate");
         }
-        boolean isLong = text.codePointCount(0, text.length()) > LONGEST_TEXT;
-        return isLong ? unsupported(Own.CONSTANTS, "string too long") : null;
+        return Texts.isTooLong(text) ? unsupported(Own.CONSTANTS, "string too long") : null;
     }
 
     private Fault faultOfClass(String text) {
@@ -539,13 +563,13 @@ final class Attempt {
     private final long serial;
     private final boolean isInOrder;
 
-    Attempt(Run run, Site site, MethodType type, Object[] arguments, boolean isInOrder) {
+    Attempt(Run run, Site site, Request request, boolean isInOrder) {
         this.run = run;
         this.resolution = new Resolution(run);
-        this.arguments = arguments;
+        this.arguments = request.arguments();
         this.serial = site.serial;
         this.isInOrder = isInOrder;
-        held.put("type", type);
+        held.put("type", request.type());
         held.put("name", site.view.name());
     }
 
@@ -888,6 +912,134 @@ final class WideCatch {
     }
 }
 
+/** What StringConcatFactory.makeConcatWithConstants links, with what mh gives in the place of some of it. */
+final class Concatenation {
+    private static final MethodType FACTORY_TYPE = MethodType.methodType(
+            CallSite.class, MethodHandles.Lookup.class, String.class, MethodType.class, String.class, Object[].class);
+    private static final String FACTORY = Names.reference(
+            "java/lang/invoke/StringConcatFactory", "makeConcatWithConstants", FACTORY_TYPE.descriptorString());
+    private static final char REPLACEMENT = '\uFFFD';
+
+    private final Run run;
+
+    Concatenation(Run run) {
+        this.run = run;
+    }
+
+    /** Whether a site with this bootstrap method is a concatenation, whatever scripts there are. */
+    static boolean isLinkedBy(HandleTo bootstrap) {
+        return bootstrap.reference().equals(FACTORY);
+    }
+
+    MethodHandle target(Request request) throws Throwable {
+        MethodHandle joined = linked(request, request.type());
+        if (!run.isOwn) {
+            return joined;
+        }
+        checkConstants(request.arguments());
+        return limited(withTexts(linked(request, erased(request.type())), request.type()));
+    }
+
+    /** What the machine links at a site of this type. */
+    private static MethodHandle linked(Request request, MethodType type) throws Throwable {
+        List<Object> words = new ArrayList<>(List.of(request.caller(), request.name(), type));
+        words.addAll(Arrays.asList(request.arguments()));
+        MethodHandle factory = MethodHandles.publicLookup().findStatic(
+                StringConcatFactory.class, "makeConcatWithConstants", FACTORY_TYPE);
+        return ((CallSite) factory.invokeWithArguments(words)).getTarget();
+    }
+
+    /** mh has no text for a class, a type or a handle. */
+    private void checkConstants(Object[] arguments) throws Throwable {
+        boolean areValues = Arrays.stream(arguments).allMatch(it -> it instanceof Number || it instanceof String);
+        if (!areValues) {
+            throw run.own(Own.CLASSES, run.exceptions.make(UnsupportedOperationException.class, "constant"));
+        }
+    }
+
+    /** The type with Object in the place of each parameter whose value may have a text of mh's own. */
+    private static MethodType erased(MethodType type) {
+        MethodType erased = type;
+        for (int i = 0; i < type.parameterCount(); i++) {
+            Class<?> parameter = type.parameterType(i);
+            boolean isKept = parameter.isPrimitive() || parameter == String.class;
+            erased = isKept ? erased : erased.changeParameterType(i, Object.class);
+        }
+        return erased;
+    }
+
+    /** A handle of the erased type as one of the type itself, whose arguments have the texts that mh gives them. */
+    private MethodHandle withTexts(MethodHandle joined, MethodType type) throws ReflectiveOperationException {
+        MethodHandle text = own("text", MethodType.methodType(Object.class, Object.class));
+        MethodHandle whole = own("whole", MethodType.methodType(char.class, char.class));
+        MethodHandle found = joined;
+        for (int i = 0; i < type.parameterCount(); i++) {
+            Class<?> parameter = type.parameterType(i);
+            if (parameter == char.class) {
+                found = MethodHandles.filterArguments(found, i, whole);
+            } else if (found.type().parameterType(i) == Object.class) {
+                MethodHandle filter = text.asType(MethodType.methodType(Object.class, parameter));
+                found = MethodHandles.filterArguments(found, i, filter);
+            }
+        }
+        return found;
+    }
+
+    private MethodHandle limited(MethodHandle joined) throws ReflectiveOperationException {
+        MethodHandle limited = own("limited", MethodType.methodType(String.class, String.class));
+        Class<?> returned = joined.type().returnType();
+        return MethodHandles.filterReturnValue(joined, limited.asType(MethodType.methodType(returned, returned)));
+    }
+
+    private MethodHandle own(String method, MethodType type) throws ReflectiveOperationException {
+        return MethodHandles.lookup().bind(this, method, type);
+    }
+
+    /** What stands for a value: its text, where that is one of mh's own. */
+    private Object text(Object value) {
+        if (value instanceof Character unit) {
+            return whole(unit);
+        }
+        if (value == null || value instanceof String || Primitive.wraps(value.getClass())) {
+            return value;
+        }
+        run.count(Own.TEXTS);
+        return ownText(value);
+    }
+
+    private String ownText(Object value) {
+        if (value instanceof Throwable thrown) {
+            String message = thrown.getMessage();
+            String name = dotted(run.classes.nameOf(thrown.getClass()));
+            return message == null || message.isEmpty() ? name : name + ": " + message;
+        } else if (value.getClass().isArray()) {
+            return dotted(run.classes.descriptor(value.getClass())) + "@0";
+        }
+        String[] parts = run.literals.objectParts(value);
+        return dotted(parts[0]) + "@" + Long.toHexString(Long.parseLong(parts[1]));
+    }
+
+    private static String dotted(String name) {
+        return name.replace('/', '.');
+    }
+
+    /** A char, or what stands for a half of a surrogate pair. */
+    private char whole(char unit) {
+        if (!Character.isSurrogate(unit)) {
+            return unit;
+        }
+        run.count(Own.HALVES);
+        return REPLACEMENT;
+    }
+
+    private String limited(String text) throws Throwable {
+        if (Texts.isTooLong(text)) {
+            throw run.own(Own.LONG, run.exceptions.make(InternalError.class, "string too long"));
+        }
+        return text;
+    }
+}
+
 /** What is asked of the conversions of an asType. */
 final class Conversions {
     private Conversions() {}
@@ -964,8 +1116,6 @@ final class Manifest {
 
 /** A leaf method; `method` is the name that its method has. */
 record Leaf(int number, boolean isStatic, String owner, String name, String descriptor, String kind, String method) {
-    private static final int LONGEST_TEXT = 4096;
-
     String reference() {
         return Names.reference(owner, name, descriptor);
     }
@@ -999,7 +1149,7 @@ record Leaf(int number, boolean isStatic, String owner, String name, String desc
     }
 
     private static String joined(String text, Exceptions exceptions) throws Throwable {
-        if (text.codePointCount(0, text.length()) > LONGEST_TEXT) {
+        if (Texts.isTooLong(text)) {
             throw exceptions.make(InternalError.class, "string too long");
         }
         return text;
@@ -1106,6 +1256,12 @@ final class Literals {
         }
     }
 
+    /** An object's class and number, as its literal has them after `o:`; null where it is no such object. */
+    String[] objectParts(Object object) {
+        String literal = objects.get(object);
+        return literal == null ? null : literal.substring("o:".length()).split("#");
+    }
+
     private Object array(String text) {
         int open = text.indexOf('[');
         String items = text.substring(open + 1, text.lastIndexOf(']'));
@@ -1156,10 +1312,16 @@ final class Literals {
 
 /** Texts with the escapes of mh. */
 final class Texts {
+    private static final int LONGEST = 4096;
     private static final int LONGEST_SHOWN = 1024;
     private static final Pattern ESCAPE = Pattern.compile("\\\\(s|c|n|\\\\|u\\{([0-9a-f]+)\\})");
 
     private Texts() {}
+
+    /** Whether a text has more characters than a value may have. */
+    static boolean isTooLong(String text) {
+        return text.codePointCount(0, text.length()) > LONGEST;
+    }
 
     static String read(String text) {
         return ESCAPE.matcher(text).replaceAll(escape -> Matcher.quoteReplacement(character(escape)));
@@ -1528,6 +1690,11 @@ enum Primitive {
                 .findFirst().orElse(null);
     }
 
+    /** Whether values of a class are boxed ones of a primitive type. */
+    static boolean wraps(Class<?> type) {
+        return Arrays.stream(values()).anyMatch(primitive -> primitive.wrapper.equals(Classes.internal(type)));
+    }
+
     String unboxing() {
         return name().toLowerCase() + "Value";
     }
@@ -1857,7 +2024,7 @@ final class SiteBytes {
 
     /** The bootstrap method of this program; where mh has no script of the name, a method that is not there. */
     private int bootstrap(ClassBytes bytes, HandleTo handle) {
-        if (!scripts.contains(handle.reference())) {
+        if (!scripts.contains(handle.reference()) && !Concatenation.isLinkedBy(handle)) {
             return bytes.handle(HandleTo.STATIC, owner(handle), ABSENT, "()V");
         }
         String descriptor = "(Ljava/lang/invoke/MethodHandles$Lookup;Ljava/lang/String;"

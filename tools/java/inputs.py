@@ -2,6 +2,7 @@
 
 Every kind of leaf, script line, literal and static argument is among them. Scripts are well typed but for some lines that are made
 without a look at types, most of which are refused when the script runs, and some sites name what is not there or what mh leaves out.
+Other sites are string concatenations of random recipes, a fifth of which have something wrong.
 """
 import random
 import struct
@@ -38,6 +39,14 @@ BUILT_IN = {
 FINAL = {STRING, *WRAPPERS.values()}
 BOOTSTRAP = ("(Ljava/lang/invoke/MethodHandles$Lookup;Ljava/lang/String;Ljava/lang/invoke/MethodType;)"
              "Ljava/lang/invoke/CallSite;")
+# The bootstrap method that is built in, and the most slots of its sites.
+FACTORY = "java/lang/invoke/StringConcatFactory"
+JOINS = ("(Ljava/lang/invoke/MethodHandles$Lookup;Ljava/lang/String;Ljava/lang/invoke/MethodType;Ljava/lang/String;"
+         "[Ljava/lang/Object;)Ljava/lang/invoke/CallSite;")
+CONCATENATES = (6, FACTORY, "makeConcatWithConstants", JOINS)
+MOST_CONCAT_SLOTS = 200
+# In a recipe, the next argument and the next constant.
+ARGUMENT, CONSTANT = "\x01", "\x02"
 MOST_SLOTS = 254
 # A script has at most 64 lines, and ends a few after this many.
 SOME_LINES = 45
@@ -653,6 +662,79 @@ def modified_utf8(text):
     return found
 
 
+class Concatenation:
+    """A call site of StringConcatFactory.makeConcatWithConstants; a fifth of them is refused, mostly."""
+
+    def __init__(self, world):
+        self.world, self.rng = world, world.rng
+        self.params = world.any_params(6)
+        self.ret = of_class(STRING if self.chance(0.9) else OBJECT)
+        if self.chance(0.04):
+            self.widen(MOST_CONCAT_SLOTS)
+        self.constants = [self.constant() for _ in range(self.rng.randint(0, 2))]
+        self.recipe = self.made_recipe()
+        self.rest = [self.recipe_constant(), *self.constants]
+        if self.chance(0.2):
+            for _ in range(self.rng.randint(1, 2)):
+                self.spoil()
+
+    def chance(self, share):
+        return self.rng.random() < share
+
+    def text(self):
+        """Characters without the tags, which stand for themselves."""
+        return "".join(self.rng.choice(CHARACTERS) for _ in range(self.rng.randint(0, 4)))
+
+    def constant(self):
+        sort = self.rng.choice(["int", "long", "text", "text"])
+        if sort == "text":
+            more = "x" * 4090 if self.chance(0.05) else self.rng.choice(["", ARGUMENT, CONSTANT])
+            return sort, self.text() + more
+        return sort, int(self.world.number("I" if sort == "int" else "J"))
+
+    def made_recipe(self):
+        tags = [ARGUMENT] * len(self.params) + [CONSTANT] * len(self.constants)
+        self.rng.shuffle(tags)
+        return self.text() + "".join(tag + (self.text() if self.chance(0.4) else "") for tag in tags)
+
+    def recipe_constant(self):
+        return "text", self.recipe
+
+    def widen(self, wanted):
+        """Takes just so many slots."""
+        room = wanted - slots(self.params)
+        more = ("J",) * (room // 2) if self.chance(0.5) else ()
+        self.params += more + ("I",) * (room - slots(more))
+
+    def spoil(self):
+        """Makes one thing wrong, as far as another one does not set it right again."""
+        odd = self.rng.choice(["none", "sort", "slots", "argument", "return", "constant", "class", "text"])
+        if odd == "none":
+            self.rest = []
+        elif odd == "sort":
+            self.rest[:1] = [self.rng.choice([("int", 1), ("long", 2), ("class", STRING), ("type", "()V")])]
+        elif odd == "slots":
+            self.widen(MOST_CONCAT_SLOTS + self.rng.randint(0, 1))
+        elif odd == "return":
+            self.ret = self.rng.choice(["V", "I", "[C", of_class(self.world.any_class())])
+        elif odd in ("argument", "constant"):
+            tag = ARGUMENT if odd == "argument" else CONSTANT
+            self.recipe = self.recipe.replace(tag, "", 1) if self.chance(0.5) else self.recipe + tag
+            self.rest[:1] = [self.recipe_constant()]
+        elif odd == "class":
+            self.rest[1:2] = [self.rng.choice([("class", self.world.any_class()), ("class", "[I"), ("type", "()V")])]
+        else:
+            self.rest[:1] = [("text", self.rng.choice(["\ud800", "x" * 4096, "x" * 4097]))]
+
+    def site(self):
+        type = Type(self.params, self.ret)
+        return Site(CONCATENATES, self.rng.choice(["join", "makeConcatWithConstants"]), str(type), type, self.rest)
+
+
+# A script of the bootstrap method that is built in, which no site runs.
+UNREACHED = f"script {FACTORY} makeConcatWithConstants {JOINS}\nraise {ERROR} s:unreached\nend\n"
+
+
 class ClassFile:
     """A class file with call sites (JVMS SE 17, chapter 4)."""
 
@@ -733,13 +815,14 @@ class Input:
         # (which thread comes first shows only where a script looks at the number of the attempt)
         self.most_threads = 1 if any(it.has_serial() for it in scripts) else 3
         self.sites = [self.site(script, type) for script, type in zip(scripts, types) for _ in range(self.rng.randint(1, 2))]
+        self.sites += [self.concatenation() for _ in range(self.rng.randint(0, 2 * size))]
         self.rng.shuffle(self.sites)
         for _ in range(self.rng.randint(0, 3)):
             self.world.any_leaf()
         plan = self.plan(size)
         self.files = {
             "leaves.txt": "\n".join([*self.world.lines, ""]).encode(),
-            "scripts.txt": "\n".join(it.text() for it in scripts).encode(),
+            "scripts.txt": "\n".join([*(it.text() for it in scripts), *([UNREACHED] if self.chance(0.1) else [])]).encode(),
             "plan.txt": "\n".join([*plan, ""]).encode(),
             **self.class_files(),
         }
@@ -765,6 +848,10 @@ class Input:
         arguments = [self.static_argument(sort, constant) for sort, constant in script.arguments]
         site = Site((6, "demo/Boot", script.name, BOOTSTRAP), self.rng.choice(["f", "apply", "n\u00e9e"]), str(type), type, arguments)
         return self.faulty(site) if self.chance(0.08) else site
+
+    def concatenation(self):
+        site = Concatenation(self.world).site()
+        return self.faulty(site) if self.chance(0.05) else site
 
     def static_argument(self, sort, constant):
         world = self.world
