@@ -34,7 +34,8 @@ const INPUTS: [&str; 5] = [
 
 const LEAVES: &str = "class demo/Host java/lang/Object\nstatic demo/Host add (II)I iadd\n";
 
-/// The script that the call site of `made.class` names; those of `demo.class` have none.
+/// The script that the call site of `made.class` names. The first one of `demo.class` is a
+/// concatenation, which needs none.
 const SCRIPTS: &str = "\
     script made/Boot link (Ljava/lang/invoke/MethodHandles$Lookup;Ljava/lang/String;Ljava/lang/invok\
     e/MethodType;)Ljava/lang/invoke/CallSite;\nlet h leaf demo/Host.add:(II)I\nreturn h\nend\n";
@@ -45,14 +46,14 @@ const PLAN: &str =
 /// What a run of the inputs writes.
 const TEXT: &str = "\
     site 0 serial 1 linked (II)I\n\
-    site 1 serial 2 error java/lang/NoClassDefFoundError s:java/lang/invoke/StringConcatFactory\n\
+    site 1 serial 2 linked (I)Ljava/lang/String;\n\
     site 2 none\n\
     thread 0\n\
     returns i:3 calls 0\n\
-    throws java/lang/NoClassDefFoundError s:java/lang/invoke/StringConcatFactory calls -\n\
+    returns s:x=1 calls -\n\
     thread 1\n\
     returns i:7 calls 0\n\
-    attempts 2 forms 1 types 1\n";
+    attempts 2 forms 2 types 2\n";
 
 /// The bytes of an input.
 fn bytes_of(name: &str) -> &'static [u8] {

@@ -27,7 +27,7 @@ static TEXTS: [Text; 3] = [
         line: "",
         status: DONE,
         text: TEXT,
-        writes: 44,
+        writes: 28,
     },
     Text {
         name: "a refusal",
