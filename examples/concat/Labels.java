@@ -10,6 +10,7 @@ class Labels {
         return name + "=" + value;
     }
 
+    /** The call site gets the Integer itself; javac 17.0.15 calls String.valueOf for objects of other classes. */
     static String account(boolean open, long balance, Integer owner, int number) {
         return "open=" + open + " balance=" + balance + " owner=" + owner + " number=" + number;
     }
