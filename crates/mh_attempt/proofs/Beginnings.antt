@@ -70,7 +70,7 @@ module _ (leaves : LeafTable) where
       joined : (ty : MethodTy) (m : OrThrown (List Piece)) →
           AreAmong (edits_of leaves (unless_thrown (m >>= (λ ps. Ok (tree.Concat ty ps))) (λ t. t ∷ [])))
           (recipes_of leaves (unless_thrown (m >>= (λ ps. Ok (tree.Concat ty ps))) (λ t. t ∷ [])))
-      joined ty (Ok ps) = same-among _ _ refl
+      joined ty (Ok ps) = let keys = recipe leaves (tree.Concat ty ps) in same-among (keys ∷ []) (keys ∷ []) refl
       joined ty (Err e) = none-among []
 
       scripted : (call : BootstrapCall) (m : OrThrown Script) →

@@ -1,9 +1,8 @@
 -- What a call leaves that makes a concatenation, or that is refused its pieces.
-use Rattle.std.proofs.Common.{◌≡◌, sym, ◌∙◌, ap, subst, List, [], ◌∷◌, map, Result, Ok, Err, IfOk}
+use Rattle.std.proofs.Common.{◌≡◌, sym, ap, subst, List, [], ◌∷◌, map, Result, Ok, Err, IfOk}
 use Rattle.std.specs.Prelude.{IsErrAnd}
 use Rattle.mh_values.specs.declared.class.Class.{Class}
 use Rattle.mh_values.specs.declared.types.MethodTy.{MethodTy}
-use Rattle.mh_values.specs.declared.value.Exc.{Exc}
 use Rattle.mh_leaf.specs.LeafTable.{LeafTable}
 use Rattle.mh_pieces.specs.declared.piece.Piece.{Piece}
 use Rattle.mh_tree.specs.declared.error.CheckError.{CheckError}

@@ -3,13 +3,13 @@ use denote.RattleType.{RattleType}
 use denote.Ref.{NamedLft}
 use denote.Param.Send.{IsSend, IsSync, sendable}
 use Rattle.std.proofs.Crossing.{crosses}
-use Rattle.mh_base.proofs.seq.Seq.TheSendSync as seq
 use Rattle.mh_base.proofs.shared.Shared.TheSendSync as shared
 use Rattle.mh_values.proofs.class.ClassId.TheSendSync as class
 use Rattle.mh_values.proofs.types.Comp.TheSendSync as comp
 use Rattle.mh_values.proofs.types.MethodTy.TheSendSync as method_type
 use Rattle.mh_values.proofs.value.Exc.TheSendSync as exception
 use Rattle.mh_values.proofs.value.LeafId.TheSendSync as leaf
+use Rattle.mh_pieces.proofs.piece.Pieces.TheSendSync as pieces
 use Rattle.mh_convert.proofs.conv.Conv.TheSendSync as conversion
 use Rattle.mh_convert.proofs.conv.RetConv.TheSendSync as return_conversion
 use Rattle.mh_form.proofs.body.FormBody.TheSendSync as body
@@ -33,7 +33,8 @@ bound_send ℓ =
     let g = conversion.the_field_send in let h = conversion.the_field_sync in
     let i = return_conversion.the_field_send in let j = return_conversion.the_field_sync in
     let k = comp.the_field_send in let l = comp.the_field_sync in
-    let m = body.the_sync in
+    let m = pieces.the_send in let n = pieces.the_sync in
+    let o = body.the_sync in
     search (crosses_both, crosses, sendable) depth 20
 
 bound_sync : (ℓ : NamedLft) → IsSync (Bound.the_field ℓ).row
@@ -44,7 +45,8 @@ bound_sync ℓ =
     let g = conversion.the_field_send in let h = conversion.the_field_sync in
     let i = return_conversion.the_field_send in let j = return_conversion.the_field_sync in
     let k = comp.the_field_send in let l = comp.the_field_sync in
-    let m = body.the_sync in
+    let m = pieces.the_send in let n = pieces.the_sync in
+    let o = body.the_sync in
     search (crosses_both, crosses, sendable) depth 20
 
 -- ---- handles, by what was shown of their parts, since a search that goes down through them all runs out of steps
@@ -54,14 +56,14 @@ handle_send ℓ =
     let t = method_type.the_send in let u = method_type.the_sync in
     let f = form.the_sync in
     let b = bound_send ℓ in
-    search (shared.the_send, seq.the_send, crosses, sendable) depth 20
+    search (shared.the_send, crosses, sendable) depth 20
 
 handle_sync : (ℓ : NamedLft) → IsSync (Handle.the_row ℓ)
 handle_sync ℓ =
     let t = method_type.the_send in let u = method_type.the_sync in
     let f = form.the_sync in
     let b = bound_sync ℓ in
-    search (shared.the_sync, seq.the_sync, crosses, sendable) depth 20
+    search (shared.the_sync, crosses, sendable) depth 20
 
 -- ---- linkages
 

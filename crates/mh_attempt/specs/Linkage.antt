@@ -5,7 +5,6 @@ use Rattle.mh_intern.specs.Exchanges.{entries_of}
 use Rattle.mh_intern.specs.Held.{on_type, times_type}
 use Rattle.mh_intern.specs.Views.{HoldView}
 use Rattle.mh_leaf.specs.LeafTable.{LeafTable}
-use Rattle.mh_tree.specs.Tree.{Tree}
 use Rattle.mh_edit.specs.declared.key.Key.{Key}
 use Rattle.mh_handle.specs.declared.work.Work.{Work}
 use Rattle.mh_handle.specs.Recipe.{recipe}

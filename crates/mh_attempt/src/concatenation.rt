@@ -1,6 +1,7 @@
 //! The target that `StringConcatFactory.makeConcatWithConstants` gives (`java.lang.invoke`, SE 17).
 
 ghost use Rattle.std.specs.Prelude.{◌≡◌, codes, map, Ok, IfOk, IfSome, IfNone};
+ghost use Rattle.std.specs.List.{list_all};
 ghost use Rattle.mh_handle.specs.Recipe.{recipe};
 ghost use Rattle.mh_handle.specs.Works.{GoesOn, IsReady, classes_of, leaves_of};
 ghost use Rattle.mh_jobs.specs.Thrown.{unsupported};
@@ -49,6 +50,13 @@ fn is_value(argument: &Argument) -> bool
     ensures { result ≡ is_value argument.now }
 {
     matches!(argument, Argument::Value(_))
+}
+
+/// Whether all of these are values.
+fn are_values(arguments: &[Argument]) -> bool
+    ensures { result ≡ list_all is_value arguments.now }
+{
+    arguments.iter().all(|argument| is_value(argument))
 }
 
 /// A static argument as a constant; one that is no value has a place as well.
@@ -102,7 +110,7 @@ fn pieces_with(
 {
     let constants = constants_of(alloc, arguments)?;
     let pieces = spelled(alloc, recipe, &constants, ty, classes)?;
-    if !arguments.iter().all(|argument| is_value(argument)) {
+    if !are_values(arguments) {
         return Err(unsupported(alloc));
     }
     Ok(pieces)

@@ -28,16 +28,16 @@ returns-in_err-pieces-clause-target g c =
     let leaves = c.args.w.now.leaves.now in
     let call = c.args.call.now in
     refused-target leaves call c.in_err-pieces.field-0.0 c.args.w.now c.from_residual.result c.from_residual.ensures.1
-    (same-pieces c.classes.result.now leaves.classes c.get.result.now call.ty c.as_slice.result.now call.arguments (Err c.in_err-pieces.field-0.0)
-    c.classes.ensures c.get.ensures c.as_slice.ensures c.in_err-pieces.ensures)
+    (same-pieces c.classes.result.now leaves.classes c.get-ty.result.now call.ty c.as_slice.result.now call.arguments (Err c.in_err-pieces.field-0.0)
+    c.classes.ensures.classes c.get-ty.ensures c.as_slice.ensures c.in_err-pieces.ensures)
 
 pub returns-in_err-pieces-clause-asks : goal.returns-in_err-pieces-clause-asks
 returns-in_err-pieces-clause-asks g c =
     let leaves = c.args.w.now.leaves.now in
     let call = c.args.call.now in
     refused-asks leaves call c.in_err-pieces.field-0.0 c.args.w.now c.from_residual.result c.from_residual.ensures.1
-    (same-pieces c.classes.result.now leaves.classes c.get.result.now call.ty c.as_slice.result.now call.arguments (Err c.in_err-pieces.field-0.0)
-    c.classes.ensures c.get.ensures c.as_slice.ensures c.in_err-pieces.ensures)
+    (same-pieces c.classes.result.now leaves.classes c.get-ty.result.now call.ty c.as_slice.result.now call.arguments (Err c.in_err-pieces.field-0.0)
+    c.classes.ensures.classes c.get-ty.ensures c.as_slice.ensures c.in_err-pieces.ensures)
 
 pub returns-in_err-pieces-clause-asked : goal.returns-in_err-pieces-clause-asked
 returns-in_err-pieces-clause-asked g c =
@@ -50,8 +50,8 @@ returns-in_err-pieces-clause-asked g c =
 pub concat-requires-clause-joined : goal.concat-requires-clause-joined
 concat-requires-clause-joined g c =
     let classes = c.args.w.now.leaves.now.classes in
-    given-joined classes c.get.result.now c.as_slice.result.now c.in_ok-pieces.pieces
-    (ap (λ cs. pieces_given cs c.get.result.now c.as_slice.result.now) (sym c.classes.ensures) ∙ c.in_ok-pieces.ensures)
+    given-joined classes c.get-ty.result.now c.as_slice.result.now c.in_ok-pieces.pieces
+    (ap (λ cs. pieces_given cs c.get-ty.result.now c.as_slice.result.now) (sym c.classes.ensures.classes) ∙ c.in_ok-pieces.ensures)
 
 pub concat-requires-clause-ready : goal.concat-requires-clause-ready
 concat-requires-clause-ready g c = ready-less c.args.w.now 256 1 (omega arith) c.requires.ready
@@ -61,7 +61,7 @@ returns-clause-goes_on g c = goes_on-more 1 256 c.args.w.now c.concat.new.w (ome
 
 pub returns-clause-types : goal.returns-clause-types
 returns-clause-types g c =
-    adds-made (types_in (concat_row c.args.w.now.leaves.now.classes c.get.result.now c.in_ok-pieces.pieces)) c.args.w.now c.concat.new.w c.concat.result
+    adds-made (types_in (concat_row c.args.w.now.leaves.now.classes c.get-ty.result.now c.in_ok-pieces.pieces)) c.args.w.now c.concat.new.w c.concat.result
     c.concat.ensures.types
 
 pub returns-clause-target : goal.returns-clause-target
@@ -70,9 +70,9 @@ returns-clause-target g c =
     let call = c.args.call.now in
     let pieces = c.in_ok-pieces.pieces in
     made-target leaves call pieces
-    (same-pieces c.classes.result.now leaves.classes c.get.result.now call.ty c.as_slice.result.now call.arguments (Ok pieces)
-    c.classes.ensures c.get.ensures c.as_slice.ensures c.in_ok-pieces.ensures) c.args.w.now c.concat.result c.concat.ensures.accepted
-    (subst (λ t. IfOk c.concat.result (λ h. Stands leaves h (tree.Concat t pieces))) c.get.ensures c.concat.ensures.stands)
+    (same-pieces c.classes.result.now leaves.classes c.get-ty.result.now call.ty c.as_slice.result.now call.arguments (Ok pieces)
+    c.classes.ensures.classes c.get-ty.ensures c.as_slice.ensures c.in_ok-pieces.ensures) c.args.w.now c.concat.result c.concat.ensures.accepted
+    (subst (λ t. IfOk c.concat.result (λ h. Stands leaves h (tree.Concat t pieces))) c.get-ty.ensures c.concat.ensures.stands)
 
 pub returns-clause-asks : goal.returns-clause-asks
 returns-clause-asks g c =
@@ -80,9 +80,9 @@ returns-clause-asks g c =
     let call = c.args.call.now in
     let pieces = c.in_ok-pieces.pieces in
     made-asks leaves call pieces
-    (same-pieces c.classes.result.now leaves.classes c.get.result.now call.ty c.as_slice.result.now call.arguments (Ok pieces)
-    c.classes.ensures c.get.ensures c.as_slice.ensures c.in_ok-pieces.ensures) c.args.w.now c.concat.new.w c.concat.result c.concat.ensures.accepted
-    (subst (λ t. Makes (recipe leaves (tree.Concat t pieces)) c.args.w.now c.concat.new.w c.concat.result) c.get.ensures c.concat.ensures.makes)
+    (same-pieces c.classes.result.now leaves.classes c.get-ty.result.now call.ty c.as_slice.result.now call.arguments (Ok pieces)
+    c.classes.ensures.classes c.get-ty.ensures c.as_slice.ensures c.in_ok-pieces.ensures) c.args.w.now c.concat.new.w c.concat.result c.concat.ensures.accepted
+    (subst (λ t. Makes (recipe leaves (tree.Concat t pieces)) c.args.w.now c.concat.new.w c.concat.result) c.get-ty.ensures c.concat.ensures.makes)
 
 pub returns-clause-asked : goal.returns-clause-asked
 returns-clause-asked g c =
@@ -90,7 +90,7 @@ returns-clause-asked g c =
     let call = c.args.call.now in
     let pieces = c.in_ok-pieces.pieces in
     made-types leaves call pieces
-    (same-pieces c.classes.result.now leaves.classes c.get.result.now call.ty c.as_slice.result.now call.arguments (Ok pieces)
-    c.classes.ensures c.get.ensures c.as_slice.ensures c.in_ok-pieces.ensures) c.args.w.now c.concat.new.w c.concat.result
-    (subst (λ t. TradesTypes (types_in (concat_row leaves.classes t pieces)) [] c.args.w.now c.concat.new.w c.concat.result) c.get.ensures
+    (same-pieces c.classes.result.now leaves.classes c.get-ty.result.now call.ty c.as_slice.result.now call.arguments (Ok pieces)
+    c.classes.ensures.classes c.get-ty.ensures c.as_slice.ensures c.in_ok-pieces.ensures) c.args.w.now c.concat.new.w c.concat.result
+    (subst (λ t. TradesTypes (types_in (concat_row leaves.classes t pieces)) [] c.args.w.now c.concat.new.w c.concat.result) c.get-ty.ensures
     c.concat.ensures.types)
