@@ -1,0 +1,2 @@
+pub mod PlacedValues
+pub mod Joining

@@ -99,7 +99,7 @@ impl<'t, V: Keyed<Key = u32>> Known<'t, V> {
         ensures learns { LearnsAt at self.old self.new }
         ensures found { Finds V.key_of self.new.values at result }
         ensures node { IfSome result (λ found. found.now ≡ one.entry.node) }
-        ensures none { IfNone result (V.key_of one.entry.node ≢ at) }
+        ensures none { IfNone result ((V.key_of one.entry.node ≢ at) × (self.new ≡ self.old)) }
     {
         let node = one.node();
         if !node.has_key(&at) {
@@ -139,7 +139,7 @@ impl<'t, V: Keyed<Key = u32>> Known<'t, V> {
         requires place { at < length self.old.cells }
         requires own { V.key_of value ≡ at }
         ensures learns { LearnsAt at self.old self.new }
-        ensures put { Puts V.key_of self.new.values at value.entry result }
+        ensures put { Puts V.key_of self.new.values at value result }
     {
         if let Some(found) = self.seen(at) {
             return Ok(Put::Theirs(found, value));
