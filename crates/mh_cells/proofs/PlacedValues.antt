@@ -12,7 +12,7 @@ use Rattle.mh_cells.specs.Learning.{AreLearnt, values_of}
 
 -- ---- a value at a place
 
-flatten-map : {A B : Type 0} (f : A → B) (o : Option (Option A)) → option_flatten (option_map (option_map f) o) ≡ option_map f (option_flatten o)
+pub flatten-map : {A B : Type 0} (f : A → B) (o : Option (Option A)) → option_flatten (option_map (option_map f) o) ≡ option_map f (option_flatten o)
 flatten-map f None = refl
 flatten-map f (Some o) = refl
 

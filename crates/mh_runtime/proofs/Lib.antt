@@ -12,7 +12,6 @@ pub mod HeldTypes
 pub mod Items
 pub mod JoinedForms
 pub mod JoinedTypes
-pub mod JoiningSites
 pub mod JoiningEnds
 pub mod JoiningSteps
 pub mod LaneEnds
@@ -21,11 +20,9 @@ pub mod LeafTypes
 pub mod Ledger
 pub mod LinkPasses
 pub mod LinkSteps
-pub mod ManySites
 pub mod MoreThreads
 pub mod NamedSites
 pub mod Needed
-pub mod NewSites
 pub mod Numbers
 pub mod Ordered
 pub mod Owners

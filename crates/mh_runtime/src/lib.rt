@@ -7,6 +7,7 @@ mod calls;
 mod context;
 mod input;
 mod joining;
+mod known_sites;
 mod lane;
 mod linker;
 mod ordering;
@@ -19,7 +20,6 @@ mod site_pass;
 mod stops;
 mod tables;
 mod thread;
-mod walks;
 
 pub use input::RunInput;
 pub use linker::{Linker, MOST_SITES};
