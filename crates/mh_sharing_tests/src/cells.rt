@@ -81,7 +81,7 @@ fn a_copy_learns_on_its_own(rt: HostRuntime) -> Result<(), Fail> {
     Ok(())
 }
 
-/// Puts an entry of each key.
+/// Puts an entry of each key below a count for which there is a cell.
 fn put_all<'t, R: Wait>(
     rt: &R,
     alloc: Global,
@@ -89,12 +89,13 @@ fn put_all<'t, R: Wait>(
     count: u32,
     by: u32,
 ) -> Result<Known<'t, Entry<Single>>, NoMemory>
-    requires { count ≤ length cells.now }
     ensures { IfOk result (λ known. known.cells ≡ cells.entry.now) }
 {
     let mut known = Known::new(alloc, cells)?;
     for key in 0..count {
-        put(rt, alloc, &mut known, key, by);
+        if (key as usize) < known.len() {
+            put(rt, alloc, &mut known, key, by);
+        }
     }
     Ok(known)
 }
