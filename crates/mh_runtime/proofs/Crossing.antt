@@ -38,7 +38,7 @@ known_send : (s t : NamedLft) (R : RattleType) (g : Ghosts R.Denot) → IsSend R
 known_send s t R g send sync =
     let l = linkage_send t R g send sync in
     let m = linkage_sync t R g send sync in
-    search (known.the_send, cells.the_sync, crosses, sendable) depth 40
+    search (known.the_send, crosses, sendable) depth 40
 
 pub links_send : (s t : NamedLft) (R : RattleType) (g : Ghosts R.Denot) → IsSend R → IsSync R → IsSend (SitePass.the_row s t R g)
 links_send s t R g send sync =

@@ -1,7 +1,4 @@
-use Rattle.std.proofs.Common.{◌∙◌, sym, ap, length}
-use Rattle.mh_cells.specs.Values.{KnownView}
-use Rattle.mh_attempt.specs.Linkage.{LinkageView}
-use Rattle.mh_runtime.specs.Passes.{linked_by}
+use Rattle.std.proofs.Common.{◌∙◌}
 use Rattle.mh_runtime.proofs.SiteSerials.{length-linked}
 use Rattle.mh_runtime.proofs.known_sites.KnownSites.len.Goals as goal
 
