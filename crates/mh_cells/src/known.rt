@@ -111,8 +111,8 @@ impl<'t, V: Keyed<Key = u32>> Known<'t, V> {
 
     /// The value of a cell, if it was learnt or the cell shows one now. It takes no memory.
     ///
-    /// No code puts a value into a cell that it does not belong to, but a cell does not say so: such
-    /// a value is passed by.
+    /// No code puts a value into a cell that it does not belong to, but a cell does not say so:
+    /// such a value is passed by.
     pub fn find(&mut self, at: u32) -> Option<&'t V>
         requires { at < length self.old.cells }
         ensures learns { LearnsAt at self.old self.new }
@@ -128,7 +128,7 @@ impl<'t, V: Keyed<Key = u32>> Known<'t, V> {
     /// Puts a value into its cell, unless one stands there. It is handed back then, and where no
     /// memory is left.
     ///
-    /// A cell that shows a value which does not belong there is asked again, for which it takes `rt`.
+    /// A cell that shows a value which does not belong there is asked again: hence `rt`.
     pub fn put<R: Wait>(
         &mut self,
         rt: &R,

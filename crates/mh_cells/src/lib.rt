@@ -1,5 +1,5 @@
-//! Cells in a row, each of which is set once, and what a thread has learnt of them. A value belongs to
-//! the cell at its key. What is learnt takes two words for each cell, and learning takes no memory.
+//! Cells in a row, each of which is set once, and what a thread has learnt of them. A value belongs
+//! to the cell at its key. What is learnt takes two words for each cell; learning takes no memory.
 #![tactic(auto)]
 
 mod cells;

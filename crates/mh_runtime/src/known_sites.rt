@@ -70,7 +70,7 @@ impl<'s, 't, J: Run> KnownSites<'s, 't, J> {
         self.known.seen(site)
     }
 
-    /// The linkage of a site, if it was learnt or the site's cell shows one now. It takes no memory.
+    /// The linkage of a site, if it was learnt or its cell shows one now. It takes no memory.
     pub(crate) fn find(&mut self, site: u32) -> Option<&'s Linkage<'t, J>>
         requires { site < length J.given.jobs }
         ensures cells { self.new.cells ≡ self.old.cells }

@@ -170,7 +170,7 @@ impl<'s, 't, J: Run> SitePass<'s, 't, J> {
         self.known.seen(site)
     }
 
-    /// The linkage of a site, if the pass has learnt it or the site's cell shows one now. It takes no
+    /// The linkage of a site, if the pass has learnt it or its cell shows one now. It takes no
     /// memory.
     pub(crate) fn find(&mut self, site: u32) -> Option<&'s Linkage<'t, J>>
         requires { site < length J.given.jobs }
