@@ -16,6 +16,7 @@ pub mod JoiningEnds
 pub mod JoiningSteps
 pub mod LaneEnds
 pub mod LaneLists
+pub mod LearntBases
 pub mod LeafTypes
 pub mod Ledger
 pub mod LinkPasses

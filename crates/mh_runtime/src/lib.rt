@@ -3,6 +3,7 @@
 //! own, and shares the [`Linker`]. A whole plan is run by [`run_all`].
 #![tactic(auto)]
 
+mod base;
 mod calls;
 mod context;
 mod input;
