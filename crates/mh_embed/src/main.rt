@@ -70,7 +70,6 @@ fn call<'s, 't, J: Run, R: Wait>(
 }
 
 // Calls the site from two threads, each with a pass of its own.
-#[tactic(auto, using(crate::proofs::Rooms::first_can_split, crate::proofs::Rooms::first_has_room, crate::proofs::Rooms::second_has_room))]
 fn call_from_both<'s, 't, J: Run + Send + Sync, R: Threads + Wait + Sync>(
     rt: &R,
     alloc: Global,
