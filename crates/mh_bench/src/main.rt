@@ -3,6 +3,7 @@
 #![tactic(auto)]
 
 mod cells;
+mod concats;
 mod forms;
 mod measures;
 mod rows;

@@ -1,6 +1,6 @@
 //! The rows by their names.
 
-use crate::{cells, forms, rows, scripts, types};
+use crate::{cells, concats, forms, rows, scripts, types};
 use mh_base::NoMemory;
 use mh_handle::{EditError, HandleError};
 use mh_intern::InternError;
@@ -20,7 +20,7 @@ pub(crate) enum Measure {
     Cells,
 }
 
-pub(crate) static MEASURES: [(&str, Measure); 22] = [
+pub(crate) static MEASURES: [(&str, Measure); 29] = [
     (
         "run-three-names",
         Measure::Handles(rows::Row::RunThreeNames),
@@ -40,6 +40,34 @@ pub(crate) static MEASURES: [(&str, Measure); 22] = [
     ("text-4096", Measure::Handles(rows::Row::LongText)),
     ("text-4096-kept", Measure::Handles(rows::Row::LongTextKept)),
     ("text-1", Measure::Handles(rows::Row::ShortText)),
+    (
+        "concat-2",
+        Measure::Handles(rows::Row::Concat(concats::Row::Pieces(2))),
+    ),
+    (
+        "concat-10",
+        Measure::Handles(rows::Row::Concat(concats::Row::Pieces(10))),
+    ),
+    (
+        "concat-100",
+        Measure::Handles(rows::Row::Concat(concats::Row::Pieces(100))),
+    ),
+    (
+        "concat-too-long",
+        Measure::Handles(rows::Row::Concat(concats::Row::TooLong)),
+    ),
+    (
+        "concat-leaves-2",
+        Measure::Handles(rows::Row::Concat(concats::Row::TwoByLeaves)),
+    ),
+    (
+        "concat-leaves-10",
+        Measure::Handles(rows::Row::Concat(concats::Row::TenByLeaves)),
+    ),
+    (
+        "concat-leaves-100",
+        Measure::Handles(rows::Row::Concat(concats::Row::HundredByLeaves)),
+    ),
     ("type-made", Measure::Types(types::Row::Made)),
     ("intern-live", Measure::Types(types::Row::Live)),
     ("intern-dead", Measure::Types(types::Row::Dead)),

@@ -9,6 +9,7 @@ ghost use Rattle.mh_handle.specs.Works.{HoldsTypes, IsReady};
 ghost use Rattle.mh_steps.specs.AnyTypes.{ExchangesAny};
 ghost use Rattle.mh_handle.specs.Stands.{StandsForSome};
 
+use crate::concats;
 use crate::forms::{forms, splits};
 use mh_adapt::bind;
 use mh_astype::{invoke_exact, invoke_exact_on};
@@ -19,7 +20,7 @@ use mh_handle::{FormTable, Handle, HandleError, Work};
 use mh_intern::{TypeSeat, TypeTable};
 use mh_leaves::{Leaves, read_manifest};
 use mh_steps::{ADD, Joined, MANIFEST, Root, SAME, Start, Step, TEXT, Typed, made};
-use mh_values::{Items, LeafId, Num, Value, are_typed};
+use mh_values::{Items, LeafId, Num, Outcome, Value, are_typed};
 use std::alloc::Global;
 use std::sync::Wait;
 
@@ -50,6 +51,8 @@ pub(crate) enum Row {
     LongTextKept,
     /// A call on a text of one character, which goes through 60 filters.
     ShortText,
+    /// A call that joins texts.
+    Concat(concats::Row),
 }
 
 /// The first argument goes through the leaf `same`.
@@ -84,28 +87,34 @@ const INTS_193: &str = "(\
 
 /// Arguments of a call.
 #[derive(Clone, Copy)]
-enum Args {
+pub(crate) enum Args {
     Ints(&'static [i32]),
-    /// One text of so many characters.
-    Text(usize),
+    /// So many texts, each of so many characters, in memory of its own.
+    Texts(usize, usize),
 }
 
 /// The machines that calls use.
 #[derive(Clone, Copy)]
-enum Machines {
+pub(crate) enum Machines {
     /// Each call has a new one.
     New,
     /// All calls have one.
     Kept,
 }
 
-/// What is called: a leaf, the steps that adapt it, and the arguments; and in which machines.
+/// How a handle is called: with these arguments, and in these machines.
 #[derive(Clone, Copy)]
-struct Subject<'a> {
-    leaf: LeafId,
-    steps: &'a [Step],
-    args: Args,
-    machines: Machines,
+pub(crate) struct Call {
+    pub(crate) args: Args,
+    pub(crate) machines: Machines,
+}
+
+/// What is called: a leaf with the steps that adapt it, and how.
+#[derive(Clone, Copy)]
+pub(crate) struct Subject<'a> {
+    pub(crate) leaf: LeafId,
+    pub(crate) steps: &'a [Step],
+    pub(crate) call: Call,
 }
 
 /// Ints as arguments.
@@ -117,21 +126,28 @@ fn int_args(alloc: Global, numbers: &[i32]) -> Result<Items, NoMemory> {
     Ok(args)
 }
 
-/// One text of so many characters as an argument.
-fn text_args(alloc: Global, length: usize) -> Result<Items, NoMemory> {
+/// A text of so many characters.
+fn text_of(alloc: Global, length: usize) -> Result<Value, NoMemory> {
     let mut characters = Seq::new(alloc);
     for _ in 0..length {
         characters.push('x')?;
     }
+    Ok(Value::Text(Frozen::of(alloc, characters)?))
+}
+
+/// So many texts as arguments, each of so many characters.
+fn text_args(alloc: Global, count: usize, length: usize) -> Result<Items, NoMemory> {
     let mut args = Seq::new(alloc);
-    args.push(Value::Text(Frozen::of(alloc, characters)?))?;
+    for _ in 0..count {
+        args.push(text_of(alloc, length)?)?;
+    }
     Ok(args)
 }
 
 fn items_of(alloc: Global, args: Args) -> Result<Items, NoMemory> {
     match args {
         Args::Ints(numbers) => int_args(alloc, numbers),
-        Args::Text(length) => text_args(alloc, length),
+        Args::Texts(count, length) => text_args(alloc, count, length),
     }
 }
 
@@ -167,7 +183,16 @@ fn run_each<'t>(
     Ok(calls)
 }
 
-/// Calls a handle so many times in one machine, and counts the leaf calls.
+/// How many characters a call returned: 0 where it did not return a text.
+fn characters_of(outcome: &Outcome) -> u64 {
+    match outcome {
+        Outcome::Return(Some(Value::Text(text))) => text.len() as u64,
+        _ => 0,
+    }
+}
+
+/// Calls a handle so many times in one machine, and counts the leaf calls and the characters of the
+/// texts that it returned.
 fn run_kept<'t>(
     alloc: Global,
     handle: &Handle<'t>,
@@ -179,12 +204,13 @@ fn run_kept<'t>(
     requires stands { StandsForSome leaves.now handle.now }
 {
     let mut machine = Machine::new(alloc);
-    let mut calls: u64 = 0;
+    let mut sum: u64 = 0;
     for _ in 0..turns {
-        let _ended = invoke_exact_on(&mut machine, handle, leaves, handle.ty(), args, 0)?;
-        calls = calls.wrapping_add(machine.calls().len() as u64);
+        let ended = invoke_exact_on(&mut machine, handle, leaves, handle.ty(), args, 0)?;
+        sum = sum.wrapping_add(machine.calls().len() as u64);
+        sum = sum.wrapping_add(characters_of(&ended.outcome));
     }
-    Ok(calls)
+    Ok(sum)
 }
 
 /// Asks so many times for the form of a handle with its first parameter bound.
@@ -231,17 +257,17 @@ fn bind_each<'t, R: Wait>(
     Ok(sum)
 }
 
-/// Calls a handle so many times, as the subject says.
-fn called<'t>(
+/// Calls a handle so many times.
+pub(crate) fn called<'t>(
     alloc: Global,
     handle: &Handle<'t>,
     leaves: &Leaves,
-    subject: Subject<'_>,
+    call: Call,
     turns: u32,
 ) -> Result<u64, NoMemory>
     requires stands { StandsForSome leaves.now handle.now }
 {
-    let args = items_of(alloc, subject.args)?;
+    let args = items_of(alloc, call.args)?;
     if !are_typed(
         args.as_slice(),
         handle.ty().params.as_slice(),
@@ -249,14 +275,14 @@ fn called<'t>(
     ) {
         return Err(NoMemory);
     }
-    match subject.machines {
+    match call.machines {
         Machines::New => run_each(alloc, handle, leaves, &args, turns),
         Machines::Kept => run_kept(alloc, handle, leaves, &args, turns),
     }
 }
 
 /// Makes a handle, and calls it so many times.
-fn calls<'t, R: Wait>(
+pub(crate) fn calls<'t, R: Wait>(
     w: &mut Work<'_, 't>,
     rt: &R,
     subject: Subject<'_>,
@@ -267,7 +293,7 @@ fn calls<'t, R: Wait>(
 {
     let leaves = w.leaves;
     let handle = made(w, rt, Root::Leaf(subject.leaf), subject.steps)?;
-    let sum = called(w.alloc, &handle, leaves, subject, turns);
+    let sum = called(w.alloc, &handle, leaves, subject.call, turns);
     handle.give_back(w);
     Ok(sum?)
 }
@@ -331,8 +357,10 @@ fn texts<'t, R: Wait>(
     let subject = Subject {
         leaf: TEXT,
         steps: &text_filters(),
-        args: Args::Text(length),
-        machines,
+        call: Call {
+            args: Args::Texts(1, length),
+            machines,
+        },
     };
     calls(w, rt, subject, turns)
 }
@@ -349,8 +377,10 @@ fn three_names<'t, R: Wait>(
     let subject = Subject {
         leaf: ADD,
         steps: &THREE_NAMES,
-        args: Args::Ints(&[7]),
-        machines,
+        call: Call {
+            args: Args::Ints(&[7]),
+            machines,
+        },
     };
     calls(w, rt, subject, turns)
 }
@@ -367,8 +397,10 @@ fn tree<'t, R: Wait>(
     let subject = Subject {
         leaf: SAME,
         steps: &TREE,
-        args: Args::Ints(&[1, 2]),
-        machines,
+        call: Call {
+            args: Args::Ints(&[1, 2]),
+            machines,
+        },
     };
     calls(w, rt, subject, turns)
 }
@@ -395,6 +427,7 @@ fn row_on<'t, R: Wait>(
         Row::LongText => texts(w, rt, 4096, Machines::New, turns),
         Row::LongTextKept => texts(w, rt, 4096, Machines::Kept, turns),
         Row::ShortText => texts(w, rt, 1, Machines::New, turns),
+        Row::Concat(row) => concats::measured(w, rt, row, turns),
     }
 }
 
@@ -457,9 +490,13 @@ fn once<R: Wait>(
     first_on(rt, start, &mut held, row, turns)
 }
 
-/// The leaves of all rows.
-fn demo_leaves(alloc: Global) -> Result<Leaves, NoMemory> {
-    read_manifest(alloc, MANIFEST).map_err(|_| NoMemory)
+/// The leaves of a row.
+fn leaves_of(alloc: Global, row: Row) -> Result<Leaves, NoMemory> {
+    let manifest = match row {
+        Row::Concat(_) => concats::MANIFEST,
+        _ => MANIFEST,
+    };
+    read_manifest(alloc, manifest).map_err(|_| NoMemory)
 }
 
 /// The work of a row, so many times. The answer depends on all of it.
@@ -469,7 +506,7 @@ pub(crate) fn measured<R: Wait>(
     row: Row,
     turns: u32,
 ) -> Result<u64, HandleError> {
-    let leaves = demo_leaves(alloc)?;
+    let leaves = leaves_of(alloc, row)?;
     if !matches!(row, Row::Drops60) {
         return once(rt, alloc, &leaves, row, turns);
     }
