@@ -30,7 +30,7 @@ no_counter = record { words = 0; slots = 0; views_name = 0; atom = 0; block = 0;
 abbrev pub no_base : Base
 no_base = record {
   links = record {
-    linker = record { chains = []; serials = no_counter };
+    linker = record { cells = []; serials = no_counter };
     thread = 0;
     linked = [];
     attempts = [];
