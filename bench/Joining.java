@@ -1,6 +1,6 @@
 // The rows concat-2, concat-10 and concat-100 of bench/library in a Java runtime: so many texts of 4 characters, joined at a call site of
 // StringConcatFactory as javac writes it, so many times when it is warm. It prints the best of nine for each.
-//   javac -d DIR bench/Joining.java; java -Xint -cp DIR Joining 20000; java -cp DIR Joining 200000
+//   javac -d DIR bench/Joining.java; java -Xint -cp DIR Joining 20000; java -cp DIR Joining 100000
 public class Joining {
     static String a = text(), b = text(), c = text(), d = text(), e = text(), f = text(), g = text(), h = text(), i = text(), j = text();
 
