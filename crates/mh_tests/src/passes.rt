@@ -82,7 +82,6 @@ fn resolve<'s, 't, J: Run, R: Wait>(
 }
 
 /// Resolves site 0 with the first pass, and then with another one, or with the same once more.
-#[tactic(auto, using(crate::proofs::Rooms::first_can_split, crate::proofs::Rooms::first_has_room, crate::proofs::Rooms::two_are_one, crate::proofs::Rooms::second_has_room))]
 fn resolve_twice<'s, 't, J: Run, R: Wait>(
     rt: &R,
     linker: &'s Linker<'t, J>,
