@@ -1,6 +1,0 @@
-use Rattle.mh_tests.proofs.passes.resolved_twice.Goals as goal
-
--- no job is one of these leaves and scripts, and the class adds jobs of them
-pub link_twice-requires-clause-jobs : goal.link_twice-requires-clause-jobs
-link_twice-requires-clause-jobs g c κs within =
-    c.in_ok-push_jobs.ensures.are_jobs (c.new-jobs.ensures.are_jobs c.in_ok-leaves.leaves c.in_ok-scripts.scripts)
