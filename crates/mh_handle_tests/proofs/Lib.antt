@@ -1,1 +1,2 @@
+pub mod Callable
 pub mod Crossing

@@ -5,14 +5,15 @@ ghost use Rattle.mh_seats.specs.Room.{limit};
 ghost use Rattle.mh_intern.specs.Views.{new_seat};
 ghost use Rattle.mh_handle.specs.Passes.{seat_at};
 ghost use Rattle.mh_handle.specs.Stands.{StandsForSome};
-ghost use Rattle.mh_handle.specs.Works.{IsReady, GoesOn};
+ghost use Rattle.mh_handle.specs.Works.{GoesOn, IsReady, leaves_of};
 ghost use Rattle.mh_steps.specs.AnyTypes.{ExchangesAny};
 
+use crate::calls::{Way, call};
 use mh_base::NoMemory;
 use mh_handle::{Answer, FormTable, Handle, HandleError, Work};
 use mh_intern::{TypeSeat, TypeTable};
 use mh_leaves::Leaves;
-use mh_steps::{Root, Start, Step, call_typed, items_of, made};
+use mh_steps::{Root, Start, Step, items_of, made};
 use std::alloc::Global;
 use std::sync::Wait;
 
@@ -29,34 +30,43 @@ fn has_few_steps(making: &Making) -> bool
     making.steps.len() <= 100
 }
 
-fn answer_by<'t>(
-    alloc: Global,
+/// How a handle is called, and the literals of the arguments.
+#[derive(Clone, Copy)]
+pub(crate) struct Call<'a> {
+    pub(crate) way: Way,
+    pub(crate) arguments: &'a [&'a str],
+}
+
+fn answer_by<'t, R: Wait>(
+    w: &mut Work<'_, 't>,
+    rt: &R,
     handle: &Handle<'t>,
-    leaves: &Leaves,
-    arguments: &[&str],
-) -> Result<Answer, NoMemory>
-    requires stands { StandsForSome leaves.now handle.now }
+    by: &Call<'_>,
+) -> Result<Answer, HandleError>
+    requires ready { IsReady w.old 1 }
+    requires stands { StandsForSome (leaves_of w.old) handle.now }
+    ensures goes_on { GoesOn 1 w.old w.new }
+    ensures seat { w.new.seat.now ≡ w.old.seat.now }
 {
-    let args = items_of(alloc, arguments, leaves.classes())?;
-    call_typed(alloc, handle, leaves, &args)
+    let args = items_of(w.alloc, by.arguments, w.leaves.classes())?;
+    call(w, rt, handle, by.way, &args)
 }
 
 fn answer_on<'t, R: Wait>(
     w: &mut Work<'_, 't>,
     rt: &R,
     making: &Making,
-    arguments: &[&str],
+    by: &Call<'_>,
 ) -> Result<Answer, HandleError>
-    requires ready { IsReady w.old 204 }
+    requires ready { IsReady w.old 205 }
     requires few { length making.now.steps.now ≤ 100 }
-    ensures goes_on { GoesOn 204 w.old w.new }
+    ensures goes_on { GoesOn 205 w.old w.new }
     ensures types { ExchangesAny [] [] w.old.seat.now w.new.seat.now }
 {
-    let leaves = w.leaves;
     let handle = made(w, rt, making.root, making.steps)?;
-    let answer = answer_by(w.alloc, &handle, leaves, arguments);
+    let answer = answer_by(w, rt, &handle, by);
     handle.give_back(w);
-    Ok(answer?)
+    answer
 }
 
 fn answer_at<R: Wait>(
@@ -64,7 +74,7 @@ fn answer_at<R: Wait>(
     start: Start<'_>,
     held: &mut TypeSeat,
     making: &Making,
-    arguments: &[&str],
+    by: &Call<'_>,
 ) -> Result<Answer, HandleError>
     requires first { start.seat ≡ seat_at start.table.now 0 }
     requires held { held.old ≡ new_seat start.types.now limit }
@@ -87,7 +97,7 @@ fn answer_at<R: Wait>(
         pass: &mut pass,
         leaves,
     };
-    let answer = answer_on(&mut w, rt, making, arguments);
+    let answer = answer_on(&mut w, rt, making, by);
     let Work {
         alloc: _,
         types: _,
@@ -99,14 +109,22 @@ fn answer_at<R: Wait>(
     answer
 }
 
-/// How many types are held after such a handle was called and given back, or was refused.
-pub(crate) fn held_after<R: Wait>(
+/// What comes of a handle that is made, called and given back, or is refused: the answer, and how
+/// many types are held then.
+#[derive(Drop)]
+pub(crate) struct Came {
+    pub(crate) answer: Result<Answer, HandleError>,
+    pub(crate) types: u32,
+}
+
+/// What comes of such a handle on tables of its own.
+pub(crate) fn came_of<R: Wait>(
     rt: &R,
     alloc: Global,
     leaves: &Leaves,
     making: &Making,
-    arguments: &[&str],
-) -> Result<u32, NoMemory> {
+    by: &Call<'_>,
+) -> Result<Came, NoMemory> {
     if !has_few_steps(making) {
         return Err(NoMemory);
     }
@@ -119,6 +137,9 @@ pub(crate) fn held_after<R: Wait>(
         types: &types,
         leaves,
     };
-    let _answer = answer_at(rt, start, &mut held, making, arguments);
-    Ok(types.close(held))
+    let answer = answer_at(rt, start, &mut held, making, by);
+    Ok(Came {
+        answer,
+        types: types.close(held),
+    })
 }

@@ -1,4 +1,5 @@
-use crate::trees::{Making, held_after};
+use crate::calls::Way;
+use crate::trees::{Call, Making, came_of};
 use mh_base::NoMemory;
 use mh_leaves::{Leaves, read_manifest};
 use mh_steps::{
@@ -367,7 +368,11 @@ fn first_holding<R: Wait>(
 ) -> Result<Option<&'static str>, NoMemory> {
     let leaves = tree_leaves(alloc)?;
     for case in cases {
-        if held_after(rt, alloc, &leaves, &case.making, case.arguments)? != 0 {
+        let by = Call {
+            way: Way::Twice,
+            arguments: case.arguments,
+        };
+        if came_of(rt, alloc, &leaves, &case.making, &by)?.types != 0 {
             return Ok(Some(case.name));
         }
     }
