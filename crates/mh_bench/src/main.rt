@@ -2,6 +2,7 @@
 //! prints the row, the number and a sum over all answers.
 #![tactic(auto)]
 
+mod cells;
 mod forms;
 mod measures;
 mod rows;

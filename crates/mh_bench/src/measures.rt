@@ -1,6 +1,6 @@
 //! The rows by their names.
 
-use crate::{forms, rows, scripts, types};
+use crate::{cells, forms, rows, scripts, types};
 use mh_base::NoMemory;
 use mh_handle::{EditError, HandleError};
 use mh_intern::InternError;
@@ -16,9 +16,11 @@ pub(crate) enum Measure {
     FormsBeside,
     Types(types::Row),
     Scripts(scripts::Row),
+    /// What is learnt of 4,096 cells split in two, and joined.
+    Cells,
 }
 
-pub(crate) static MEASURES: [(&str, Measure); 21] = [
+pub(crate) static MEASURES: [(&str, Measure); 22] = [
     (
         "run-three-names",
         Measure::Handles(rows::Row::RunThreeNames),
@@ -46,6 +48,7 @@ pub(crate) static MEASURES: [(&str, Measure); 21] = [
     ("intern-four", Measure::Types(types::Row::FourThreads)),
     ("scripts", Measure::Scripts(scripts::Row::Plain)),
     ("scripts-alike", Measure::Scripts(scripts::Row::Alike)),
+    ("cells-joined", Measure::Cells),
 ];
 
 /// A row was not done to its end.
@@ -88,5 +91,6 @@ pub(crate) fn measured<R: Threads + Wait + Sync>(
         Measure::FormsBeside => Ok(forms::made_beside(rt, alloc, turns)?),
         Measure::Types(row) => Ok(types::measured(rt, alloc, row, turns)?),
         Measure::Scripts(row) => Ok(scripts::measured(alloc, row, turns)?),
+        Measure::Cells => Ok(cells::measured(rt, alloc, turns)?),
     }
 }

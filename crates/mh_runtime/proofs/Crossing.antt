@@ -5,8 +5,8 @@ use denote.Param.Send.{AllSend, IsSend, IsSync, recorded_send, sendable, struct_
 use denote.Struct.Declared.{shape}
 use denote.Struct.Struct.{Struct}
 use Rattle.std.proofs.Crossing.{crosses}
-use Rattle.mh_setonce.proofs.chain.Chain.TheSendSync as chain
-use Rattle.mh_setonce.proofs.walk.Walk.TheSendSync as walk
+use Rattle.mh_cells.proofs.cells.Cells.TheSendSync as cells
+use Rattle.mh_cells.proofs.known.Known.TheSendSync as known
 use Rattle.mh_tickets.proofs.seat.TicketSeat.TheSendSync as seat
 use Rattle.mh_handle.proofs.Crossing.{answer_send, table_sync, pass_send as form_pass_send}
 use Rattle.mh_intern.proofs.seat.TypeSeat.TheSendSync as types
@@ -24,25 +24,25 @@ use Rattle.mh_plan.proofs.call.Call.TheSendSync as call
 use Rattle.mh_jobs.proofs.jobs.Jobs.TheSendSync as jobs
 use Rattle.mh_script.proofs.scripts.Scripts.TheSendSync as scripts
 use Rattle.mh_tickets.proofs.tickets.Tickets.TheSendSync as tickets
+use Rattle.mh_runtime.specs.contracts.known_sites.KnownSites as KnownSites
 use Rattle.mh_runtime.specs.contracts.lane.Lane as Lane
 use Rattle.mh_runtime.specs.contracts.linker.Linker as Linker
 use Rattle.mh_runtime.specs.contracts.pass.Pass as Pass
 use Rattle.mh_runtime.specs.contracts.site_linker.SiteLinker as SiteLinker
 use Rattle.mh_runtime.specs.contracts.site_pass.SitePass as SitePass
 use Rattle.mh_runtime.specs.contracts.stops.ThreadRun as ThreadRun
-use Rattle.mh_runtime.specs.contracts.walks.SiteWalks as SiteWalks
 
 -- ---- passes, by what was shown of their parts, since a search that goes down through them all runs out of steps
 
-walks_send : (s t : NamedLft) (R : RattleType) (g : Ghosts R.Denot) → IsSend R → IsSync R → IsSend (SiteWalks.the_row s t R g)
-walks_send s t R g send sync =
+known_send : (s t : NamedLft) (R : RattleType) (g : Ghosts R.Denot) → IsSend R → IsSync R → IsSend (KnownSites.the_row s t R g)
+known_send s t R g send sync =
     let l = linkage_send t R g send sync in
     let m = linkage_sync t R g send sync in
-    search (walk.the_send, chain.the_sync, crosses, sendable) depth 40
+    search (known.the_send, crosses, sendable) depth 40
 
 pub links_send : (s t : NamedLft) (R : RattleType) (g : Ghosts R.Denot) → IsSend R → IsSync R → IsSend (SitePass.the_row s t R g)
 links_send s t R g send sync =
-    let w = walks_send s t R g send sync in
+    let k = known_send s t R g send sync in
     let a = attempt.the_send in
     let e = seat.the_send in
     search (crosses, sendable) depth 20
@@ -90,7 +90,7 @@ sites_sync t R g send sync =
     let j = jobs.the_sync in
     let p = scripts.the_sync in
     let k = tickets.the_sync in
-    search (chain.the_sync, crosses, sendable) depth 40
+    search (cells.the_sync, crosses, sendable) depth 40
 
 -- a linker, which threads share
 pub linker_sync : (t : NamedLft) (R : RattleType) (g : Ghosts R.Denot) → IsSend R → IsSync R → IsSync (Linker.the_row t R g)

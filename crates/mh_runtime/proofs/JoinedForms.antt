@@ -57,6 +57,37 @@ asked-joined xs ys old other new has has' knows =
           ∙ (ap₂ (λ a b. a || b) (has.same q) (has'.same q) ∙ sym (list_any-append (same_recipe q) xs ys)));
     }
 
+-- recipes that were asked for before both passes were
+module _ (before mine made called : List (List Key)) where
+  -- those of the first pass, and then those of the second one, each with those before
+  abbrev twice : List (List Key)
+  twice = (before ++ mine) ++ (made ++ (before ++ called))
+
+  abbrev once : List (List Key)
+  once = before ++ (mine ++ (made ++ called))
+
+  to-once : AreAmong twice once
+  to-once =
+      let rest : AreAmong (mine ++ (made ++ called)) once = among-last before (mine ++ (made ++ called)) in
+      let own : AreAmong (made ++ called) once = λ q h. rest q (among-last mine (made ++ called) q h) in
+      both-among (before ++ mine) (made ++ (before ++ called)) once
+      (both-among before mine once (among-first before (mine ++ (made ++ called))) (λ q h. rest q (among-first mine (made ++ called) q h)))
+      (both-among made (before ++ called) once (λ q h. own q (among-first made called q h))
+      (both-among before called once (among-first before (mine ++ (made ++ called))) (λ q h. own q (among-last made called q h))))
+
+  to-twice : AreAmong once twice
+  to-twice =
+      let first : AreAmong (before ++ mine) twice = among-first (before ++ mine) (made ++ (before ++ called)) in
+      let second : AreAmong (made ++ (before ++ called)) twice = among-last (before ++ mine) (made ++ (before ++ called)) in
+      both-among before (mine ++ (made ++ called)) twice (λ q h. first q (among-first before mine q h))
+      (both-among mine (made ++ called) twice (λ q h. first q (among-last before mine q h))
+      (both-among made called twice (λ q h. second q (among-first made (before ++ called) q h))
+      (λ q h. second q (among-last made (before ++ called) q (among-last before called q h)))))
+
+  -- they count once
+  pub asked-once : (pass : PassView) → HasAsked twice pass → HasAsked once pass
+  asked-once pass has = record { once = has.once; same = λ q. has.same q ∙ among-same twice once to-once to-twice q }
+
 -- ---- the passes of all threads
 
 -- the recipes of one thread and of those after it, each with those of its attempts first; or those of all attempts first

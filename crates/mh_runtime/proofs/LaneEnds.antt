@@ -1,13 +1,13 @@
--- What a lane has after its calls, where it began with passes that had learnt nothing.
-use Rattle.std.proofs.Common.{◌≡◌, refl, sym, ◌∙◌, ap, subst, ℕ, ◌+◌, List, [], length, drop, Option, None, Some, arith}
+-- What a lane has after its calls, which began with a pass that was split off a base.
+use Rattle.std.proofs.Common.{◌≡◌, refl, sym, ◌∙◌, ap, subst, ℕ, ◌+◌, List, [], ◌++◌, length, drop, Option, None, Some, arith}
 use Rattle.std.specs.Prelude.{IsSome}
-use Rattle.std.specs.List.{flat_map, IsDistinct}
+use Rattle.std.specs.List.{flat_map}
 use Rattle.std.proofs.lemmas.List.{take_all}
 use Rattle.std.proofs.lemmas.List.Elements.{All-nil}
 use Rattle.mh_edit.specs.declared.key.Key.{Key}
 use Rattle.mh_handle.specs.declared.answer.Answer.{Answer}
-use Rattle.mh_handle.specs.Passes.{PassView, TableView}
-use Rattle.mh_handle.specs.SameRecipes.{same_recipe}
+use Rattle.mh_handle.specs.Joins as form_joins
+use Rattle.mh_handle.specs.Passes.{PassView}
 use Rattle.mh_jobs.specs.Given.{Given}
 use Rattle.mh_attempt.specs.declared.error.WorkError.{WorkError}
 use Rattle.mh_attempt.specs.declared.error.WorkError.TheVariants.{NoMemory, FormsFull, TypesFull}
@@ -20,13 +20,15 @@ use Rattle.mh_report.specs.Forms.{call_edits, thread_edits}
 use Rattle.mh_report.specs.Results.{serial_at}
 use Rattle.mh_report.specs.Types.{call_types, thread_types}
 use Rattle.mh_runtime.specs.declared.lane.Lane.{Lane}
+use Rattle.mh_runtime.specs.declared.linker.Linker.{Linker}
+use Rattle.mh_runtime.specs.declared.pass.Pass.{Pass}
 use Rattle.mh_runtime.specs.declared.stops.ThreadRun.{ThreadRun}
 use Rattle.mh_runtime.specs.Asking.{HasAskedOn, HasRunOn, HasRunOut, RunsOn, RunsOnTypes, WasAsked, run_edits, run_types}
 use Rattle.mh_runtime.specs.Attempts.{AreLinked, AttemptsMore, IsThreadRun}
-use Rattle.mh_runtime.specs.Lanes.{HasAnswered, IsReadyLane, EndsAs, EndsBy, EndsWithoutSlot, HasRun, Tables, fresh_forms, fresh_links, passes_of}
-use Rattle.mh_runtime.specs.Linkers.{HasRoom, RunsThread}
-use Rattle.mh_runtime.specs.Linking.{HoldsRecorded}
-use Rattle.mh_runtime.specs.Passes.{LinkPass, LinkerView, split_room}
+use Rattle.mh_runtime.specs.Lanes.{AreUnlearnt, HasAnswered, IsReadyLane, EndsAs, EndsBy, EndsWithoutSlot, HasRun, passes_of}
+use Rattle.mh_runtime.specs.Linkers.{HasRoom, IsOf, RunsThread}
+use Rattle.mh_runtime.specs.Linking.{HoldsInstead}
+use Rattle.mh_runtime.specs.Passes.{AttemptsUnlearnt, HasSerials, LinkPass, split_pass, split_room}
 use Rattle.mh_runtime.specs.Stops.{EndAt, answered, begun, end_in, ending}
 use Rattle.mh_values.specs.declared.types.MethodTy.{MethodTy}
 use Rattle.mh_intern.specs.Held.{times_type}
@@ -38,11 +40,11 @@ use Rattle.mh_runtime.proofs.RunSteps.{out-early}
 use Rattle.mh_runtime.proofs.SeatAsked.{on-early}
 use Rattle.mh_runtime.proofs.ThreadSteps.{attempts-early}
 
--- ---- passes that have learnt nothing
+-- ---- passes that were split off
 
 -- no attempt was made, and no site is named
-run-fresh : (linker : LinkerView) (sites thread : ℕ) → IsThreadRun [] (fresh_links linker sites thread)
-run-fresh linker sites thread = record {
+run-split : (base : LinkPass) (thread : ℕ) → IsThreadRun [] (split_pass thread base)
+run-split base thread = record {
   numbered = refl;
   rising = λ i j d below within. absurd (omega (arith, within));
   own = All-nil (λ (a : Attempt). a.thread ≡ thread);
@@ -51,15 +53,17 @@ run-fresh linker sites thread = record {
   in_order = refl;
 }
 
-within-fresh : (table : TableView) → DrawsWithin split_room (fresh_forms table)
-within-fresh table = record { few = omega arith; room = refl }
+within-split : (base : PassView) → DrawsWithin split_room (form_joins.split_pass base)
+within-split base = record { few = omega arith; room = refl }
 
-none-apart : IsDistinct same_recipe []
-unfolding IsDistinct
-none-apart = tt
+-- what the base has asked for was asked for
+asked-split : (given : Given) (before : List (List Key)) (base : PassView) → HasAsked before base →
+    HasAsked (run_edits given [] before) (form_joins.split_pass base)
+asked-split given before base has = record { once = has.once; same = has.same }
 
-asked-fresh : (given : Given) (table : TableView) → HasAsked (run_edits given [] []) (fresh_forms table)
-asked-fresh given table = record { once = none-apart; same = λ recipe. refl }
+-- all attempts are of sites that the base had not learnt
+unlearnt-split : (base : LinkPass) (thread : ℕ) (new : LinkPass) → AttemptsUnlearnt (split_pass thread base) new → AreUnlearnt base new.attempts
+unlearnt-split base thread new made = subst (AreUnlearnt base) (sym made.1) made.2
 
 -- ---- how calls end
 
@@ -94,24 +98,28 @@ module _ (given : Given) (calls : List Call) (answers : List Answer) where
       (on-early given (thread_types given.leaves (begun answers calls)) (flat_map (call_types given.leaves) (drop (length answers + 1) calls)) a b old new
       made)
 
-  ends-by : (table : TableView) (links : LinkPass) (forms : PassView) (stop : Option WorkError) → EndAt calls answers stop →
+  ends-by : (base : PassView) (links : LinkPass) (forms : PassView) (stop : Option WorkError) → EndAt calls answers stop →
       AreLinked links.linked (flat_map sites_named (answered answers calls)) → HasAnswered given (answered answers calls) links answers →
-      RunsOn given [] links.attempts (thread_edits given.leaves (begun answers calls)) (fresh_forms table) forms (ending stop) →
-      EndsBy given calls (record { links = links; forms = forms }) answers stop
-  ends-by table links forms None ended linked reported runs =
-      let on : HasRunOn given [] links.attempts (thread_edits given.leaves calls) (fresh_forms table) forms =
-      subst (λ cs. HasRunOn given [] links.attempts (thread_edits given.leaves cs) (fresh_forms table) forms) (all-begun ended) runs in
-      let asked : HasAsked (run_edits given links.attempts (thread_edits given.leaves calls)) forms = on.asked [] (asked-fresh given table) in (
-        asked-drawn split_room (run_edits given links.attempts (thread_edits given.leaves calls)) forms asked
-            (on.within split_room (within-fresh table)),
-        record { linked = subst (λ cs. AreLinked links.linked (flat_map sites_named cs)) (all-answered ended) linked; asked = asked },
+      RunsOn given [] links.attempts (thread_edits given.leaves (begun answers calls)) (form_joins.split_pass base) forms (ending stop) →
+      EndsBy given base calls (record { links = links; forms = forms }) answers stop
+  ends-by base links forms None ended linked reported runs =
+      let on : HasRunOn given [] links.attempts (thread_edits given.leaves calls) (form_joins.split_pass base) forms =
+      subst (λ cs. HasRunOn given [] links.attempts (thread_edits given.leaves cs) (form_joins.split_pass base) forms) (all-begun ended) runs in (
+        (λ before has. asked-drawn split_room (run_edits given links.attempts (before ++ thread_edits given.leaves calls)) forms
+            (on.asked before (asked-split given before base has)) (on.within split_room (within-split base))),
+        (λ before has. on.asked before (asked-split given before base has)),
+        subst (λ cs. AreLinked links.linked (flat_map sites_named cs)) (all-answered ended) linked,
         subst (λ cs. HasAnswered given cs links answers) (all-answered ended) reported,
       )
-  ends-by table links forms (Some (FormsFull drawn)) ended linked reported runs =
-      (out-whole [] links.attempts (fresh_forms table) forms runs.0 split_room (within-fresh table) [] (asked-fresh given table), runs.1)
-  ends-by table links forms (Some (TypesFull bucket)) ended linked reported runs =
-      out-whole [] links.attempts (fresh_forms table) forms runs split_room (within-fresh table) [] (asked-fresh given table)
-  ends-by table links forms (Some NoMemory) ended linked reported runs = tt
+  ends-by base links forms (Some (FormsFull drawn)) ended linked reported runs = (
+    (λ before has. out-whole [] links.attempts (form_joins.split_pass base) forms runs.0 split_room (within-split base) before
+        (asked-split given before base has)),
+    runs.1,
+  )
+  ends-by base links forms (Some (TypesFull bucket)) ended linked reported runs =
+      λ before has. out-whole [] links.attempts (form_joins.split_pass base) forms runs split_room (within-split base) before
+      (asked-split given before base has)
+  ends-by base links forms (Some NoMemory) ended linked reported runs = tt
 
 -- where the calls have stopped for want of a slot
 no-slot : (given : Given) (a b : List Attempt) (more : List MethodTy) (old new : SeatView) (stop : Option WorkError) →
@@ -123,7 +131,7 @@ no-slot given a b more old new (Some (TypesFull bucket)) runs = runs.1
 
 -- ---- a lane
 
-module _ {J : Type 0} (given : Given) (linker : LinkerView) (tables : Tables) (before after : Lane J) (can : IsReadyLane given linker tables before) where
+module _ {J : Type 0} (given : Given) (base : Pass J) (before after : Lane J) (can : IsReadyLane given base before) where
   -- its seats have room for its calls
   pub lane-room : HasRoom (length before.calls.now) before.pass
   lane-room = record {
@@ -132,15 +140,24 @@ module _ {J : Type 0} (given : Given) (linker : LinkerView) (tables : Tables) (b
     holds = omega (arith, can.few, ap (λ (s : SeatView). s.room) can.types_are);
   }
 
+  -- it is over the base's linker
+  pub lane-of : (linker : Linker J) → IsOf given linker base → IsOf given linker before.pass
+  lane-of linker is = record {
+    leaves = is.leaves;
+    links = ap (λ (p : LinkPass). p.linker) can.links ∙ is.links;
+    forms = ap (λ (p : PassView). p.table) can.forms_are ∙ is.forms;
+    types = ap (λ (s : SeatView). s.table) can.types_are ∙ is.types;
+  }
+
   -- it has run
   pub has-run : (run : ThreadRun) → after.ran ≡ Some run → RunsThread given before.calls.now before.pass after.pass run →
-      HasRun given linker tables before.pass.links.thread before.calls.now after
+      HasRun given base before.pass.links.thread before.calls.now after
   has-run run ran gave =
       let calls : List Call = before.calls.now in
+      let thread : ℕ = before.pass.links.thread in
       let goes = gave.goes_on.links in
       let holds = gave.types in
-      let fresh : IsThreadRun [] before.pass.links =
-      subst (IsThreadRun []) (sym can.links) (run-fresh linker (length given.jobs) before.pass.links.thread) in
+      let fresh : IsThreadRun [] before.pass.links = subst (IsThreadRun []) (sym can.links) (run-split base.links thread) in
       let room : before.pass.links.seat.room + length before.pass.links.seat.numbers ≡ split_room + 0 =
       ap (λ (p : LinkPass). p.seat.room + length p.seat.numbers) can.links in
       let edits : List (List Key) = thread_edits given.leaves (begun run.answers calls) in
@@ -148,13 +165,16 @@ module _ {J : Type 0} (given : Given) (linker : LinkerView) (tables : Tables) (b
         linker_is = goes.linker ∙ ap (λ (p : LinkPass). p.linker) can.links;
         table_is = gave.goes_on.table ∙ ap (λ (p : PassView). p.table) can.forms_are;
         thread_is = goes.thread;
+        learnt = subst (λ linked. HasSerials linked after.pass.links.linked) (ap (λ (p : LinkPass). p.linked) can.links) goes.linked;
+        unlearnt = unlearnt-split base.links thread after.pass.links
+            (subst (λ (p : LinkPass). AttemptsUnlearnt p after.pass.links) can.links gave.unlearnt);
         run = attempts-whole given calls run.answers before.pass.links after.pass.links gave.attempts []
             (All-nil (λ site. IsSome (serial_at before.pass.links.linked site))) fresh;
         whole = omega (arith, goes.whole, room);
         types_is = holds.table ∙ ap (λ (s : SeatView). s.table) can.types_are;
         types_whole = holds.whole ∙ ap (λ (s : SeatView). s.room + length s.holds) can.types_are;
         types_held = just-recorded given after.pass.links.recorded before.pass.types after.pass.types (ap (λ (s : SeatView). s.holds) can.types_are)
-            (subst (λ (p : LinkPass). HoldsRecorded given p.recorded after.pass.links.recorded before.pass.types after.pass.types) can.links holds);
+            (subst (λ (p : LinkPass). HoldsInstead given p.recorded after.pass.links.recorded before.pass.types after.pass.types) can.links holds.types);
         types_asked = types-whole given calls run.answers before.pass.links.attempts after.pass.links.attempts before.pass.types after.pass.types
             (asked-on given before.pass.links.attempts after.pass.links.attempts (thread_types given.leaves (begun run.answers calls)) before.pass.types
             after.pass.types (ending run.stop) gave.asked) []
@@ -163,8 +183,8 @@ module _ {J : Type 0} (given : Given) (linker : LinkerView) (tables : Tables) (b
         no_slot = subst (λ (how : Option ThreadRun). EndsWithoutSlot (end_in how) after.pass.types) (sym ran)
             (no-slot given before.pass.links.attempts after.pass.links.attempts (thread_types given.leaves (begun run.answers calls)) before.pass.types
             after.pass.types run.stop gave.asked);
-        ends = subst (EndsAs given calls (passes_of after)) (sym ran)
-            (ends-by given calls run.answers tables.forms after.pass.links after.pass.forms run.stop gave.ended gave.linked gave.answers
+        ends = subst (EndsAs given base.forms calls (passes_of after)) (sym ran)
+            (ends-by given calls run.answers base.forms after.pass.links after.pass.forms run.stop gave.ended gave.linked gave.answers
             (subst (λ (p : PassView). RunsOn given [] after.pass.links.attempts edits p after.pass.forms (ending run.stop)) can.forms_are
             (subst (λ (p : LinkPass). RunsOn given p.attempts after.pass.links.attempts edits before.pass.forms after.pass.forms (ending run.stop)) can.links
             gave.runs)));

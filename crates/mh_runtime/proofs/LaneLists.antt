@@ -1,5 +1,5 @@
 -- What is made of lanes, one after the other, where there is one more.
-use Rattle.std.proofs.Common.{◌≡◌, ◌∙◌, ap, List, [], ◌∷◌, ◌++◌, append-nil, map}
+use Rattle.std.proofs.Common.{◌≡◌, sym, ◌∙◌, ap, List, [], ◌∷◌, ◌++◌, append-nil, append_assoc, map}
 use Rattle.std.specs.List.{flat_map}
 use Rattle.std.proofs.lemmas.Grind.{flat_map-append}
 use Rattle.std.proofs.lemmas.List.{map_push}
@@ -25,8 +25,14 @@ types-push {J} given lanes lane =
     flat_map-append (λ (l : Lane J). run_types given l.pass.links.attempts (thread_types given.leaves l.calls.now)) lanes (lane ∷ [])
     ∙ ap (λ ts. lanes_types given lanes ++ ts) (append-nil (run_types given lane.pass.links.attempts (thread_types given.leaves lane.calls.now)))
 
-pub flat-push : {J X : Type 0} (f : ThreadPasses → List X) (lanes : List (Lane J)) (lane : Lane J) →
+flat-push : {J X : Type 0} (f : ThreadPasses → List X) (lanes : List (Lane J)) (lane : Lane J) →
     flat_map f (map passes_of (lanes ++ lane ∷ [])) ≡ flat_map f (map passes_of lanes) ++ f (passes_of lane)
 flat-push f lanes lane =
     ap (flat_map f) (map_push passes_of lanes lane)
     ∙ (flat_map-append f (map passes_of lanes) (passes_of lane ∷ []) ∙ ap (λ xs. flat_map f (map passes_of lanes) ++ xs) (append-nil (f (passes_of lane))))
+
+-- what they have after other items
+pub after-push : {J X : Type 0} (f : ThreadPasses → List X) (before : List X) (lanes : List (Lane J)) (lane : Lane J) →
+    (before ++ flat_map f (map passes_of lanes)) ++ f (passes_of lane) ≡ before ++ flat_map f (map passes_of (lanes ++ lane ∷ []))
+after-push f before lanes lane =
+    append_assoc before (flat_map f (map passes_of lanes)) (f (passes_of lane)) ∙ ap (λ xs. before ++ xs) (sym (flat-push f lanes lane))

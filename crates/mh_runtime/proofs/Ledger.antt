@@ -41,7 +41,7 @@ pub has-serials : (all : List ThreadPasses) (joined : LinkPass) (sites : ℕ) (t
 has-serials all joined sites table is_joined is k d within site serial linked = is.linked site ∙ is_joined.linked k d within site serial linked
 
 module _ (given : Given) (threads : List (List Call)) (all : List ThreadPasses) (joined : LinkPass) (ordered : List Attempt) (sites : ℕ) (table : Serials)
-    (used : AreUsed given threads all) (done : AreDone given threads all) (is_joined : AreJoined all joined) (in_order : AreInOrder joined.attempts ordered)
+    (used : AreUsed given threads all) (done : AreDone threads all) (is_joined : AreJoined all joined) (in_order : AreInOrder joined.attempts ordered)
     (is : IsTable sites joined table) where
   -- the order of all attempts
   whole : AreInOrder (attempts_in all) ordered
@@ -57,7 +57,7 @@ module _ (given : Given) (threads : List (List Call)) (all : List ThreadPasses) 
       let own = passes-of given threads all used h.0 found.0 found.1 in
       let linked = done h.0 found.0 own.0 found.1 own.1 in
       let some = the-some (serial_at own.0.links.linked site)
-      (All-contains (λ k. IsSome (serial_at own.0.links.linked k)) (flat_map sites_named found.0) site linked.linked
+      (All-contains (λ k. IsSome (serial_at own.0.links.linked k)) (flat_map sites_named found.0) site linked
       (subst (λ ks. Contains ks site) (sym found.2) h.3)) in
       ap is_some (All-contains (λ (p : ThreadPasses). HasSerials p.links.linked table) all own.0
       (has-serials all joined sites table is_joined is) (place-Contains all h.0 own.0 own.1) site some.0 some.1)

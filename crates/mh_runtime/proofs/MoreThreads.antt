@@ -3,14 +3,14 @@ use Rattle.std.proofs.Common.{◌≡◌, sym, ◌∙◌, ap, subst, ℕ, zero, s
 use Rattle.std.specs.Prelude.{slice_get}
 use Rattle.std.proofs.lemmas.Option.{slice_get_within}
 use Rattle.mh_base.proofs.Slices.{slice_get-push}
+use Rattle.mh_edit.specs.declared.key.Key.{Key}
 use Rattle.mh_jobs.specs.Given.{Given}
 use Rattle.mh_plan.specs.declared.call.Call.{Call}
 use Rattle.mh_plan.specs.Limits.{calls_in}
-use Rattle.mh_runtime.specs.Lanes.{Tables}
 use Rattle.mh_runtime.specs.declared.lane.Lane.{Lane}
+use Rattle.mh_runtime.specs.declared.pass.Pass.{Pass}
 use Rattle.mh_runtime.specs.Joined.{AreDone, AreUsed, HasDrawnFew, HaveDrawnFew, IsDoneBy, IsUsedBy, ThreadPasses}
 use Rattle.mh_runtime.specs.Joining.{AreFresh, IsFreshFor}
-use Rattle.mh_runtime.specs.Passes.{LinkerView}
 
 -- ---- pairs
 
@@ -45,22 +45,23 @@ used-push given threads all calls p used one = record {
   each = each-push (λ thread calls p. IsUsedBy given thread calls p) threads all calls p used.count used.each one;
 }
 
-pub done-push : (given : Given) (threads : List (List Call)) (all : List ThreadPasses) (calls : List Call) (p : ThreadPasses) →
-    length all ≡ length threads → AreDone given threads all → IsDoneBy given calls p → AreDone given (threads ++ calls ∷ []) (all ++ p ∷ [])
-done-push given threads all calls p same done one = each-push (λ thread calls p. IsDoneBy given calls p) threads all calls p same done one
+pub done-push : (threads : List (List Call)) (all : List ThreadPasses) (calls : List Call) (p : ThreadPasses) →
+    length all ≡ length threads → AreDone threads all → IsDoneBy calls p → AreDone (threads ++ calls ∷ []) (all ++ p ∷ [])
+done-push threads all calls p same done one = each-push (λ thread calls p. IsDoneBy calls p) threads all calls p same done one
 
-pub drawn-push : (given : Given) (threads : List (List Call)) (all : List ThreadPasses) (calls : List Call) (p : ThreadPasses) →
-    length all ≡ length threads → HaveDrawnFew given threads all → HasDrawnFew given calls p → HaveDrawnFew given (threads ++ calls ∷ []) (all ++ p ∷ [])
-drawn-push given threads all calls p same drawn one = each-push (λ thread calls p. HasDrawnFew given calls p) threads all calls p same drawn one
+pub drawn-push : (given : Given) (before : List (List Key)) (threads : List (List Call)) (all : List ThreadPasses) (calls : List Call) (p : ThreadPasses) →
+    length all ≡ length threads → HaveDrawnFew given before threads all → HasDrawnFew given before calls p →
+    HaveDrawnFew given before (threads ++ calls ∷ []) (all ++ p ∷ [])
+drawn-push given before threads all calls p same drawn one =
+    each-push (λ thread calls p. HasDrawnFew given before calls p) threads all calls p same drawn one
 
 -- ---- lanes
 
-pub fresh-push : {J : Type 0} (given : Given) (linker : LinkerView) (tables : Tables) (threads : List (List Call)) (lanes : List (Lane J))
-    (calls : List Call) (lane : Lane J) → AreFresh given linker tables threads lanes → IsFreshFor given linker tables (length threads) calls lane →
-    AreFresh given linker tables (threads ++ calls ∷ []) (lanes ++ lane ∷ [])
-fresh-push given linker tables threads lanes calls lane fresh one = record {
+pub fresh-push : {J : Type 0} (given : Given) (base : Pass J) (threads : List (List Call)) (lanes : List (Lane J)) (calls : List Call) (lane : Lane J) →
+    AreFresh given base threads lanes → IsFreshFor given base (length threads) calls lane → AreFresh given base (threads ++ calls ∷ []) (lanes ++ lane ∷ [])
+fresh-push given base threads lanes calls lane fresh one = record {
   count = one-longer threads lanes calls lane fresh.count;
-  each = each-push (λ thread calls lane. IsFreshFor given linker tables thread calls lane) threads lanes calls lane fresh.count fresh.each one;
+  each = each-push (λ thread calls lane. IsFreshFor given base thread calls lane) threads lanes calls lane fresh.count fresh.each one;
 }
 
 -- no thread makes more calls than all together

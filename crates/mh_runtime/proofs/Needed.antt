@@ -1,5 +1,5 @@
 -- How many numbers of forms the threads of a run can draw.
-use Rattle.std.proofs.Common.{◌≡◌, refl, sym, ◌∙◌, ap, subst, ℕ, zero, suc, ◌+◌, ◌-◌, ◌*◌, ◌<◌, ◌≤◌, Bool, true, ◌||◌, List, [], ◌∷◌, length, get_or, ⊎_elim, Some, arith}
+use Rattle.std.proofs.Common.{◌≡◌, refl, sym, ◌∙◌, ap, subst, ℕ, zero, suc, ◌+◌, ◌-◌, ◌*◌, ◌<◌, ◌≤◌, Bool, true, ◌||◌, List, [], ◌∷◌, ◌++◌, length, get_or, ⊎_elim, Some, arith}
 use Rattle.std.specs.Prelude.{Contains, slice_get, sum_by}
 use Rattle.std.specs.List.{flat_map, list_any, range_with_len}
 use Rattle.std.proofs.lemmas.Bool.{or_cases, or_left, or_right}
@@ -17,10 +17,10 @@ use Rattle.mh_jobs.specs.Given.{Given}
 use Rattle.mh_link.specs.Sites.{edits_at}
 use Rattle.mh_attempt.proofs.RecipeCounts.{count-within}
 use Rattle.mh_attempt.proofs.RecipeSets.{AreAmong, among-first, among-last, both-among}
-use Rattle.mh_plan.specs.declared.call.Call.{Call}
-use Rattle.mh_plan.specs.Naming.{Naming, naming_of, pairs_named}
 use Rattle.mh_report.specs.declared.attempt.Attempt.{Attempt}
+use Rattle.mh_plan.specs.declared.call.Call.{Call}
 use Rattle.mh_report.specs.Forms.{all_edits, attempt_edits, draws_needed, forms_needed, plan_edits, sites_edits, thread_edits}
+use Rattle.mh_plan.specs.Naming.{Naming, naming_of, pairs_named}
 use Rattle.mh_runtime.specs.Asking.{run_edits}
 use Rattle.mh_runtime.specs.Joined.{AreFormsJoined, AreJoined, AreUsed, HaveDrawnFew, ThreadPasses}
 use Rattle.mh_runtime.specs.Ledger.{IsReached}
@@ -78,44 +78,46 @@ among-named p edits naming attempts most named there =
 
 module _ (given : Given) (threads : List (List Call)) (all : List ThreadPasses) (used : AreUsed given threads all) (joined : LinkPass)
     (is_joined : AreJoined all joined) where
-  -- all that a thread makes is among what a run can make
-  pub thread-among : (thread : ℕ) (passes : ThreadPasses) (is : IsThread given threads all thread passes) →
-      AreAmong (run_edits given passes.links.attempts (thread_edits given.leaves is.calls)) (all_edits given threads)
-  thread-among thread passes is =
-      let calls : List (List Key) = plan_edits given.leaves threads in
-      let sites : List (List Key) = flat_map (λ ks. sites_edits given (pairs_named threads) ks) (naming_of threads) in
-      both-among (flat_map (attempt_edits given) passes.links.attempts) (thread_edits given.leaves is.calls) (all_edits given threads)
-      (λ q there. among-last calls sites q
-      (among-named (same_recipe q) (λ site serial. edits_at (recipe given.leaves) given site serial) (naming_of threads) passes.links.attempts
-      (pairs_named threads) (λ a h.
-      let whole : Contains (attempts_in all) a = part-in (λ (p : ThreadPasses). p.links.attempts) all thread passes a is.at h in
-      let within = serial-within given threads all used joined is_joined a whole in
-      (reached given threads all used a whole, within.0, within.1)) there))
-      (λ q there. among-first calls sites q
-      (in-flat (same_recipe q) (λ cs. thread_edits given.leaves cs) threads is.calls (place-Contains threads thread is.calls is.named) there))
+  module _ (before : List (List Key)) (among : AreAmong before (all_edits given threads)) where
+    -- all that a thread makes is among what a run can make, if what was asked for before is
+    pub thread-among : (thread : ℕ) (passes : ThreadPasses) (is : IsThread given threads all thread passes) →
+        AreAmong (run_edits given passes.links.attempts (before ++ thread_edits given.leaves is.calls)) (all_edits given threads)
+    thread-among thread passes is =
+        let calls : List (List Key) = plan_edits given.leaves threads in
+        let sites : List (List Key) = flat_map (λ ks. sites_edits given (pairs_named threads) ks) (naming_of threads) in
+        both-among (flat_map (attempt_edits given) passes.links.attempts) (before ++ thread_edits given.leaves is.calls) (all_edits given threads)
+        (λ q there. among-last calls sites q
+        (among-named (same_recipe q) (λ site serial. edits_at (recipe given.leaves) given site serial) (naming_of threads) passes.links.attempts
+        (pairs_named threads) (λ a h.
+        let whole : Contains (attempts_in all) a = part-in (λ (p : ThreadPasses). p.links.attempts) all thread passes a is.at h in
+        let within = serial-within given threads all used joined is_joined a whole in
+        (reached given threads all used a whole, within.0, within.1)) there))
+        (both-among before (thread_edits given.leaves is.calls) (all_edits given threads) among
+        (λ q there. among-first calls sites q
+        (in-flat (same_recipe q) (λ cs. thread_edits given.leaves cs) threads is.calls (place-Contains threads thread is.calls is.named) there)))
 
-  -- so it draws at most one number for each form that the run can need
-  pub draws-few : HaveDrawnFew given threads all → (thread : ℕ) (passes : ThreadPasses) → slice_get all thread ≡ Some passes →
-      length passes.forms.seat.numbers ≤ forms_needed given threads
-  draws-few drawn thread passes at =
-      let is = thread-of given threads all used thread passes at in
-      let few = (drawn thread is.calls passes is.named at).1.few in
-      omega (
-        arith,
-        few,
-        count-within
-            (run_edits given passes.links.attempts (thread_edits given.leaves is.calls)) (all_edits given threads) (thread-among thread passes is),
-      )
+    -- so it draws at most one number for each form that the run can need
+    pub draws-few : HaveDrawnFew given before threads all → (thread : ℕ) (passes : ThreadPasses) → slice_get all thread ≡ Some passes →
+        length passes.forms.seat.numbers ≤ forms_needed given threads
+    draws-few drawn thread passes at =
+        let is = thread-of given threads all used thread passes at in
+        let few = (drawn thread is.calls passes is.named at).1.few in
+        omega (
+          arith,
+          few,
+          count-within
+              (run_edits given passes.links.attempts (before ++ thread_edits given.leaves is.calls)) (all_edits given threads) (thread-among thread passes is),
+        )
 
-  -- a number that was drawn is at most the number of those that all threads can draw
-  pub full : HaveDrawnFew given threads all → (forms : PassView) (drawn : ℕ) → AreFormsJoined all forms → Contains forms.seat.numbers drawn →
-      most_forms < drawn → most_forms < draws_needed given threads
-  full few_each forms drawn are_joined there over =
-      let within = number-within forms.seat.numbers drawn are_joined.each_once there in
-      let whole : length forms.seat.numbers ≡ sum_by (λ (p : ThreadPasses). length p.forms.seat.numbers) all =
-      ap length are_joined.numbers ∙ length-flat_map (λ (p : ThreadPasses). p.forms.seat.numbers) all in
-      let few : sum_by (λ (p : ThreadPasses). length p.forms.seat.numbers) all ≤ length all * forms_needed given threads =
-      sum_by-le (λ (p : ThreadPasses). length p.forms.seat.numbers) (forms_needed given threads) all
-      (λ k d within. draws-few few_each k (get_or all k d) (slice_get-get_or all k d within)) in
-      let threads_are : length all * forms_needed given threads ≡ draws_needed given threads = ap (λ n. n * forms_needed given threads) used.count in
-      omega (arith, over, within.1, whole, few, threads_are)
+    -- a number that was drawn is at most the number of those that all threads can draw
+    pub full : HaveDrawnFew given before threads all → (forms : PassView) (drawn : ℕ) → AreFormsJoined all forms → Contains forms.seat.numbers drawn →
+        most_forms < drawn → most_forms < draws_needed given threads
+    full few_each forms drawn are_joined there over =
+        let within = number-within forms.seat.numbers drawn are_joined.each_once there in
+        let whole : length forms.seat.numbers ≡ sum_by (λ (p : ThreadPasses). length p.forms.seat.numbers) all =
+        ap length are_joined.numbers ∙ length-flat_map (λ (p : ThreadPasses). p.forms.seat.numbers) all in
+        let few : sum_by (λ (p : ThreadPasses). length p.forms.seat.numbers) all ≤ length all * forms_needed given threads =
+        sum_by-le (λ (p : ThreadPasses). length p.forms.seat.numbers) (forms_needed given threads) all
+        (λ k d within. draws-few few_each k (get_or all k d) (slice_get-get_or all k d within)) in
+        let threads_are : length all * forms_needed given threads ≡ draws_needed given threads = ap (λ n. n * forms_needed given threads) used.count in
+        omega (arith, over, within.1, whole, few, threads_are)

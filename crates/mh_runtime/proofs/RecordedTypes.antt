@@ -15,7 +15,7 @@ use Rattle.mh_link.specs.Sites.{linked_at}
 use Rattle.mh_attempt.specs.Linkage.{HasTypes, LinkageView}
 use Rattle.mh_attempt.specs.Several.{Adds}
 use Rattle.mh_report.specs.declared.attempt.Attempt.{Attempt}
-use Rattle.mh_runtime.specs.Linking.{HoldsJust, HoldsRecorded, KeepsOthers, Records, types_held}
+use Rattle.mh_runtime.specs.Linking.{HoldsInstead, HoldsJust, KeepsOthers, Records, types_held}
 use Rattle.mh_runtime.proofs.SeatTypes.{exchanged-types}
 
 -- ---- recording
@@ -71,15 +71,15 @@ records-one given l a before after old new same holds more =
 -- ---- seats of several threads
 
 -- a seat holds what is recorded from the start
-pub just-recorded : (given : Given) (recorded : List Attempt) (old new : SeatView) → old.holds ≡ [] → HoldsRecorded given [] recorded old new →
+pub just-recorded : (given : Given) (recorded : List Attempt) (old new : SeatView) → old.holds ≡ [] → HoldsInstead given [] recorded old new →
     HoldsJust given recorded new
 just-recorded given recorded old new none holds t =
-    let n : on_type t old.holds ≡ 0 = ap (on_type t) none in let h = holds.types t in omega (arith, n, h)
+    let n : on_type t old.holds ≡ 0 = ap (on_type t) none in let h = holds t in omega (arith, n, h)
 
--- two seats are joined
-pub just-joined : (given : Given) (mine theirs all : List Attempt) (seat other new : SeatView) → HoldsJust given mine seat → HoldsJust given theirs other →
-    all ≡ mine ++ theirs → new ≡ joined_seats seat other → HoldsJust given all new
-just-joined given mine theirs all seat other new holds more is joined t =
+-- a seat is joined that holds just what is recorded
+pub instead-joined : (given : Given) (before mine theirs all : List Attempt) (base seat other new : SeatView) → HoldsInstead given before mine base seat →
+    HoldsJust given theirs other → all ≡ mine ++ theirs → new ≡ joined_seats seat other → HoldsInstead given before all base new
+instead-joined given before mine theirs all base seat other new holds more is joined t =
     let p : Entry → Bool = λ e. is_same_method_type e.ty t in
     let q : MethodTy → Bool = λ u. is_same_method_type u t in
     let n : on_type t new.holds ≡ on_type t (other.holds ++ seat.holds) = ap (λ (s : SeatView). on_type t s.holds) joined in

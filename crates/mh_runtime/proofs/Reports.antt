@@ -1,31 +1,34 @@
 -- The report of a run, from what its parts tell.
-use Rattle.std.proofs.Common.{◌≡◌, refl, sym, ◌∙◌, ap, subst, ℕ, ◌<◌, List, length, map, None, Some, Err, inr, arith}
+use Rattle.std.proofs.Common.{◌≡◌, refl, sym, ◌∙◌, ap, subst, ℕ, ◌<◌, List, length, map, None, Some, Err, inr}
 use Rattle.std.specs.Prelude.{All, Contains}
 use Rattle.std.proofs.lemmas.List.{length-map}
 use Rattle.std.proofs.lemmas.List.Elements.{All-contains}
 use Rattle.std.specs.List.Sorted.{IsNonDecreasingBy, IsPermutation}
+use Rattle.mh_intern.specs.Views.{SeatView}
 use Rattle.mh_astype.specs.Calls.{most_forms}
 use Rattle.mh_jobs.specs.Given.{Given}
 use Rattle.mh_attempt.specs.declared.error.WorkError.{WorkError}
 use Rattle.mh_attempt.specs.declared.error.WorkError.TheVariants.{NoMemory, FormsFull, TypesFull}
 use Rattle.mh_attempt.specs.Asked.{HasAsked}
-use Rattle.mh_plan.specs.declared.call.Call.{Call}
 use Rattle.mh_report.specs.declared.attempt.Attempt.{Attempt}
+use Rattle.mh_plan.specs.declared.call.Call.{Call}
 use Rattle.mh_report.specs.Forms.{draws_needed}
 use Rattle.mh_report.specs.Recorded.{recorded, serials_of, types}
 use Rattle.mh_report.specs.Results.{Serials, keys_said, results_of, results_said, serial_at}
 use Rattle.mh_report.specs.Types.{Overfill, all_types}
 use Rattle.mh_runtime.specs.declared.joining.Joined.{Joined}
 use Rattle.mh_runtime.specs.declared.lane.Lane.{Lane}
+use Rattle.mh_runtime.specs.declared.linker.Linker.{Linker}
+use Rattle.mh_runtime.specs.declared.pass.Pass.{Pass}
 use Rattle.mh_runtime.specs.declared.running.Linked.{Linked}
 use Rattle.mh_runtime.specs.declared.stops.Stop.{Stop}
 use Rattle.mh_runtime.specs.Asking.{IfFull, IfTypesFull}
 use Rattle.mh_runtime.specs.Attempts.{AreRecorded}
 use Rattle.mh_runtime.specs.Joined.{AreDone, AreUsed, edits_of}
-use Rattle.mh_runtime.specs.Joining.{AreAllJoined, AreJoinedSoFar, IsJoinedRun, calls_of, ends_of}
+use Rattle.mh_runtime.specs.Joining.{AreAllJoined, AreJoinedSoFar, IsJoinedRun, IsUnused, calls_of, ends_of}
 use Rattle.mh_runtime.specs.Keys.{plan_keys}
-use Rattle.mh_runtime.specs.Lanes.{Tables, passes_of}
-use Rattle.mh_runtime.specs.Passes.{IsRecorded, LinkerView}
+use Rattle.mh_runtime.specs.Lanes.{passes_of}
+use Rattle.mh_runtime.specs.Passes.{IsRecorded}
 use Rattle.mh_runtime.specs.Report.{IsLinkedRun}
 use Rattle.mh_runtime.specs.Stops.{IsStopOf, end_in, error_of}
 use Rattle.mh_runtime.proofs.Counted.{forms-asked}
@@ -36,7 +39,7 @@ use Rattle.mh_runtime.proofs.Numbers.{sorted-in_order}
 use Rattle.mh_runtime.proofs.RecordedSites.{serials-recorded}
 use Rattle.mh_runtime.proofs.RunLedger.{run-ledger}
 use Rattle.mh_runtime.proofs.ThreadSteps.{serials-self}
-use Rattle.mh_runtime.proofs.WholeJoin.{joined-all, joined-full, joined-no-slot, joined-stop}
+use Rattle.mh_runtime.proofs.WholeJoin.{joined-all, joined-full, joined-no-slot, joined-stop, types-just, types-whole}
 
 -- what the parts of a report tell of the joined passes
 pub record TellsRun {J : Type 0} (given : Given) (joined : Joined J) (run : Linked) : Type 0 where
@@ -49,16 +52,16 @@ pub record TellsRun {J : Type 0} (given : Given) (joined : Joined J) (run : Link
   pub same : IsPermutation joined.pass.links.attempts run.attempts
   pub rising : IsNonDecreasingBy (λ (a : Attempt). a.serial) run.attempts
 
-module _ {J : Type 0} (given : Given) (linker : LinkerView) (tables : Tables) (plan : List (List Call)) (joined : Joined J)
-    (all : AreAllJoined given linker tables plan joined) where
+module _ {J : Type 0} (given : Given) (linker : Linker J) (base : Pass J) (unused : IsUnused given linker base) (plan : List (List Call)) (joined : Joined J)
+    (all : AreAllJoined given base plan joined) where
   abbrev lanes : List (Lane J)
   lanes = all.1
 
   calls_are : calls_of lanes ≡ plan
-  calls_are = all-calls given linker tables plan all.0 lanes joined all.2 all.3
+  calls_are = all-calls given base plan all.0 lanes joined all.2 all.3
 
-  so_far : AreJoinedSoFar given linker tables (length lanes) lanes joined
-  so_far = subst (λ n. AreJoinedSoFar given linker tables n lanes joined) (sym all.3) all.2.so_far
+  so_far : AreJoinedSoFar given base (length lanes) lanes joined
+  so_far = subst (λ n. AreJoinedSoFar given base n lanes joined) (sym all.3) all.2.so_far
 
   module _ (stop : Stop) (some : joined.stop ≡ Some stop) where
     -- the stop is that which is reported of the threads of the plan
@@ -66,7 +69,7 @@ module _ {J : Type 0} (given : Given) (linker : LinkerView) (tables : Tables) (p
     stop-run = inr (
       ends_of lanes,
       length-map lanes (λ (l : Lane J). end_in l.ran) ∙ all.3,
-      reported-lowest (ends_of lanes) stop (joined-stop given linker tables lanes joined stop some so_far),
+      reported-lowest (ends_of lanes) stop (joined-stop given linker base unused lanes joined so_far stop some),
     )
 
     -- a thread had no form left
@@ -75,7 +78,7 @@ module _ {J : Type 0} (given : Given) (linker : LinkerView) (tables : Tables) (p
       where
         by : (e : WorkError) → stop.error ≡ e → IfFull {A = A} (Err e) (most_forms < draws_needed given plan)
         by (FormsFull drawn) is = subst (λ threads. most_forms < draws_needed given threads) calls_are
-            (joined-full given linker tables lanes joined stop some so_far drawn is)
+            (joined-full given linker base unused lanes joined so_far stop some drawn is)
         by (TypesFull bucket) is = tt
         by NoMemory is = tt
 
@@ -85,13 +88,13 @@ module _ {J : Type 0} (given : Given) (linker : LinkerView) (tables : Tables) (p
       where
         by : (e : WorkError) → stop.error ≡ e → IfTypesFull {A = A} (Err e) (λ bucket. Overfill bucket (all_types given plan))
         by (TypesFull bucket) is = subst (λ threads. Overfill bucket (all_types given threads)) calls_are
-            (joined-no-slot given linker tables lanes joined stop some so_far bucket is)
+            (joined-no-slot given linker base unused lanes joined so_far stop some bucket is)
         by (FormsFull drawn) is = tt
         by NoMemory is = tt
 
   module _ (run : Linked) (none : joined.stop ≡ None) (tells : TellsRun given joined run) where
     whole : IsJoinedRun given lanes joined
-    whole = joined-all given linker tables lanes joined none so_far
+    whole = joined-all given linker base unused lanes joined so_far none
 
     serials : joined.pass.links.linked ≡ serials_of run.table
     serials = sym (ap serials_of tells.table ∙ serials-recorded given joined.pass.links.linked)
@@ -107,10 +110,10 @@ module _ {J : Type 0} (given : Given) (linker : LinkerView) (tables : Tables) (p
     linked : (a : Attempt) → Contains joined.pass.links.recorded a → serial_at joined.pass.links.linked a.site ≡ Some a.serial
     linked a there = (All-contains (IsRecorded joined.pass.links.linked joined.pass.links.attempts) joined.pass.links.recorded a tells.linked_are there).1
 
-    pub report-of : IsLinkedRun given plan tables.types run joined.pass.types
+    pub report-of : IsLinkedRun given plan linker.types.now run joined.pass.types
     report-of = record {
       ledger = run-ledger given plan (map passes_of lanes) joined.pass.links run.attempts run.table used
-          (subst (λ threads. AreDone given threads (map passes_of lanes)) calls_are whole.done) whole.links tells.table tells.entries tells.own tells.same
+          (subst (λ threads. AreDone threads (map passes_of lanes)) calls_are whole.done) whole.links tells.table tells.entries tells.own tells.same
           tells.rising;
       table = tells.table ∙ ap (recorded given) serials;
       results = ap results_said tells.threads
@@ -123,8 +126,9 @@ module _ {J : Type 0} (given : Given) (linker : LinkerView) (tables : Tables) (p
           ∙ forms-asked given plan (map passes_of lanes) joined.pass.links run.attempts whole.links
           (sorted-in_order given plan (map passes_of lanes) used joined.pass.links run.attempts whole.links tells.same tells.rising) joined.pass.forms
           (subst (λ threads. HasAsked (edits_of given threads (map passes_of lanes)) joined.pass.forms) calls_are whole.asked);
-      seat_is = so_far.types_is;
-      whole = omega (arith, so_far.types_room);
-      held = held-types given joined.pass.links.recorded joined.pass.links.linked joined.pass.types.holds so_far.types_held own linked
+      seat_is = so_far.types_is ∙ ap (λ (s : SeatView). s.table) unused.types;
+      whole = types-whole given linker base unused lanes joined so_far;
+      held = held-types given joined.pass.links.recorded joined.pass.links.linked joined.pass.types.holds
+          (types-just given linker base unused lanes joined so_far) own linked
           ∙ ap (types given) serials;
     }

@@ -17,7 +17,7 @@ use Rattle.mh_runtime.proofs.Numbers.{sorted-in_order}
 use Rattle.mh_runtime.proofs.RecordedSites.{serials-recorded}
 
 pub run-ledger : (given : Given) (threads : List (List Call)) (all : List ThreadPasses) (joined : LinkPass) (ordered : List Attempt)
-    (table : List (Option Recorded)) → AreUsed given threads all → AreDone given threads all → AreJoined all joined →
+    (table : List (Option Recorded)) → AreUsed given threads all → AreDone threads all → AreJoined all joined →
     table ≡ recorded given joined.linked → length joined.linked ≡ length given.jobs → AreRecorded joined joined.linked →
     IsPermutation joined.attempts ordered → IsNonDecreasingBy (λ (a : Attempt). a.serial) ordered →
     Ledger (naming_of threads) (length given.jobs) (serials_of table) ordered

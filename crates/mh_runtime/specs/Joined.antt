@@ -6,11 +6,11 @@ use Rattle.mh_edit.specs.declared.key.Key.{Key}
 use Rattle.mh_handle.specs.Passes.{PassView}
 use Rattle.mh_tickets.specs.Draws.{EachOnce}
 use Rattle.mh_jobs.specs.Given.{Given}
-use Rattle.mh_attempt.specs.Asked.{HasAsked, HasDrawn}
-use Rattle.mh_plan.specs.declared.call.Call.{Call}
-use Rattle.mh_plan.specs.Naming.{sites_named}
+use Rattle.mh_attempt.specs.Asked.{HasDrawn}
 use Rattle.mh_report.specs.declared.attempt.Attempt.{Attempt}
+use Rattle.mh_plan.specs.declared.call.Call.{Call}
 use Rattle.mh_report.specs.Forms.{attempt_edits, plan_edits, thread_edits}
+use Rattle.mh_plan.specs.Naming.{sites_named}
 use Rattle.mh_runtime.specs.Asking.{run_edits}
 use Rattle.mh_runtime.specs.Attempts.{AreLinked, IsThreadRun}
 use Rattle.mh_runtime.specs.Passes.{HasSerials, LinkPass}
@@ -25,14 +25,14 @@ pub record IsUsedBy (given : Given) (thread : ℕ) (calls : List Call) (passes :
   pub thread_is : passes.links.thread ≡ thread
   pub run : IsThreadRun (flat_map sites_named calls) passes.links
 
--- it has drawn at most one number for each form that its calls and its attempts need
-abbrev pub HasDrawnFew : Given → List Call → ThreadPasses → Type 0
-HasDrawnFew given calls passes = (whole : ℕ) × HasDrawn whole (run_edits given passes.links.attempts (thread_edits given.leaves calls)) passes.forms
+-- it has drawn at most one number for each form that its calls and its attempts need, or that has one of the recipes before
+abbrev pub HasDrawnFew : Given → List (List Key) → List Call → ThreadPasses → Type 0
+HasDrawnFew given before calls passes =
+    (whole : ℕ) × HasDrawn whole (run_edits given passes.links.attempts (before ++ thread_edits given.leaves calls)) passes.forms
 
--- it has made them to their end: each site that they name is linked, and the forms that they need were asked for
-pub record IsDoneBy (given : Given) (calls : List Call) (passes : ThreadPasses) : Type 0 where
-  pub linked : AreLinked passes.links.linked (flat_map sites_named calls)
-  pub asked : HasAsked (run_edits given passes.links.attempts (thread_edits given.leaves calls)) passes.forms
+-- it has made them to their end: each site that they name is linked
+abbrev pub IsDoneBy : List Call → ThreadPasses → Type 0
+IsDoneBy calls passes = AreLinked passes.links.linked (flat_map sites_named calls)
 
 -- each of these threads has used passes of its own
 pub record AreUsed (given : Given) (threads : List (List Call)) (all : List ThreadPasses) : Type 0 where
@@ -41,14 +41,14 @@ pub record AreUsed (given : Given) (threads : List (List Call)) (all : List Thre
       → IsUsedBy given thread calls passes
 
 -- each of these threads has made its calls to their end
-abbrev pub AreDone : Given → List (List Call) → List ThreadPasses → Type 0
-AreDone given threads all = (thread : ℕ) (calls : List Call) (passes : ThreadPasses) → slice_get threads thread ≡ Some calls
-    → slice_get all thread ≡ Some passes → IsDoneBy given calls passes
+abbrev pub AreDone : List (List Call) → List ThreadPasses → Type 0
+AreDone threads all = (thread : ℕ) (calls : List Call) (passes : ThreadPasses) → slice_get threads thread ≡ Some calls
+    → slice_get all thread ≡ Some passes → IsDoneBy calls passes
 
--- each of these threads has drawn at most one number for each form that it needs
-abbrev pub HaveDrawnFew : Given → List (List Call) → List ThreadPasses → Type 0
-HaveDrawnFew given threads all = (thread : ℕ) (calls : List Call) (passes : ThreadPasses) → slice_get threads thread ≡ Some calls
-    → slice_get all thread ≡ Some passes → HasDrawnFew given calls passes
+-- each of these threads has drawn at most one number for each form that it needs, or that has one of the recipes before
+abbrev pub HaveDrawnFew : Given → List (List Key) → List (List Call) → List ThreadPasses → Type 0
+HaveDrawnFew given before threads all = (thread : ℕ) (calls : List Call) (passes : ThreadPasses) → slice_get threads thread ≡ Some calls
+    → slice_get all thread ≡ Some passes → HasDrawnFew given before calls passes
 
 -- passes over the call sites are joined to one: it has all their attempts, the serials that they drew, and what each has linked
 pub record AreJoined (all : List ThreadPasses) (joined : LinkPass) : Type 0 where

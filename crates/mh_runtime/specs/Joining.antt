@@ -1,15 +1,16 @@
--- How a run is shared out to lanes, and what is known of the passes that are joined after it.
-use Rattle.std.specs.Prelude.{◌≡◌, ℕ, ◌+◌, ◌*◌, List, [], ◌∷◌, ◌++◌, length, map, take, Option, None, Some, slice_get}
+-- How a run is shared out to lanes, whose passes are split off one, the base; and what is known of the passes that are joined after it.
+use Rattle.std.specs.Prelude.{◌≡◌, ℕ, ◌+◌, ◌*◌, ◌<◌, List, [], ◌∷◌, ◌++◌, length, map, take, Option, None, Some, slice_get}
 use Rattle.std.specs.List.{All, flat_map}
 use Rattle.mh_values.specs.declared.types.MethodTy.{MethodTy}
 use Rattle.mh_edit.specs.declared.key.Key.{Key}
 use Rattle.mh_attempt.specs.declared.error.WorkError.{WorkError}
 use Rattle.mh_attempt.specs.declared.error.WorkError.TheVariants.{NoMemory, FormsFull, TypesFull}
-use Rattle.mh_handle.specs.Passes.{PassView, TableView, pass_at as forms_at}
+use Rattle.mh_handle.specs.Joins as form_joins
+use Rattle.mh_handle.specs.Passes.{PassView, pass_at as forms_at}
 use Rattle.mh_handle.specs.Seats as forms_seat
 use Rattle.mh_intern.specs.Seats.{Knows}
 use Rattle.mh_intern.specs.Views as types_seat
-use Rattle.mh_intern.specs.Views.{SeatView, TypesId}
+use Rattle.mh_tickets.specs.Draws.{EachOnce}
 use Rattle.mh_tickets.specs.Seats as serials
 use Rattle.mh_jobs.specs.Given.{Given}
 use Rattle.mh_seats.specs.Room.{limit}
@@ -23,64 +24,63 @@ use Rattle.mh_report.specs.Types.{thread_types}
 use Rattle.mh_report.specs.Results.{Serials, keys_said, results_of, results_said}
 use Rattle.mh_runtime.specs.declared.joining.Joined.{Joined}
 use Rattle.mh_runtime.specs.declared.lane.Lane.{Lane}
+use Rattle.mh_runtime.specs.declared.linker.Linker.{Linker}
 use Rattle.mh_runtime.specs.declared.pass.Pass.{Pass}
 use Rattle.mh_runtime.specs.declared.stops.Stop.{Stop}
 use Rattle.mh_runtime.specs.Asking.{WasAsked, run_edits, run_types}
+use Rattle.mh_runtime.specs.Bases.{Base, base_of}
 use Rattle.mh_runtime.specs.Joined.{AreDone, AreFormsJoined, AreJoined, AreUsed, HaveDrawnFew, edits_of}
 use Rattle.mh_runtime.specs.Keys.{plan_keys}
-use Rattle.mh_runtime.specs.Lanes.{IsReadyLane, Tables, passes_of}
+use Rattle.mh_runtime.specs.Lanes.{AreUnlearnt, IsReadyLane, passes_of}
 use Rattle.mh_runtime.specs.Linkers.{JoinsPass}
-use Rattle.mh_runtime.specs.Linking.{HoldsJust}
-use Rattle.mh_runtime.specs.Passes.{HasSerials, LinkPass, LinkerView, pass_at, split_room}
+use Rattle.mh_runtime.specs.Linking.{HoldsInstead}
+use Rattle.mh_runtime.specs.Passes.{HasSerials, pass_at, split_room, with_seat}
 use Rattle.mh_runtime.specs.Stops.{answers_in, end_in, stop_after, stop_at, stop_of}
 
 -- ---- before the run
 
--- a pass over the call sites with which nothing was done
-abbrev pub IsUnusedLinks : Given → LinkerView → LinkPass → Type 0
-IsUnusedLinks given linker pass = pass ≡ pass_at linker 0 (length given.jobs) (serials.new_seat linker.serials pass.seat.room)
+-- a pass with which nothing was done, and whose seats have all the room that there is
+pub record IsUnused {J : Type 0} (given : Given) (linker : Linker J) (pass : Pass J) : Type 0 where
+  pub links : pass.links ≡ pass_at linker.sites 0 (length given.jobs) (serials.new_seat linker.sites.serials limit)
+  pub forms : pass.forms ≡ forms_at linker.forms.now (forms_seat.new_seat linker.forms.now limit)
+  pub types : pass.types ≡ types_seat.new_seat linker.types.now limit
 
--- a pass over the forms with which nothing was done
-abbrev pub IsUnusedForms : TableView → PassView → Type 0
-IsUnusedForms table pass = pass ≡ forms_at table (forms_seat.new_seat table pass.seat.room)
-
--- a seat of types with which nothing was done
-abbrev pub IsUnusedTypes : TypesId → SeatView → Type 0
-IsUnusedTypes table seat = seat ≡ types_seat.new_seat table seat.room
-
--- a pass with which nothing was done
-pub record IsUnused {J : Type 0} (given : Given) (linker : LinkerView) (tables : Tables) (pass : Pass J) : Type 0 where
-  pub links : IsUnusedLinks given linker pass.links
-  pub forms : IsUnusedForms tables.forms pass.forms
-  pub types : IsUnusedTypes tables.types pass.types
-
--- its seats have all the room that there is
+-- the seats of a pass have all the room that there is
 pub record HasAllRoom {J : Type 0} (pass : Pass J) : Type 0 where
   pub serials : pass.links.seat.room ≡ limit
   pub forms : pass.forms.seat.room ≡ limit
   pub types : pass.types.room ≡ limit
 
+-- the base has the room that so many splits give away, and more
+pub record HasRoomFor (splits : ℕ) (base : Base) : Type 0 where
+  pub serials : split_room * splits < base.links.seat.room
+  pub forms : split_room * splits < base.forms.seat.room
+  pub holds : split_room * splits < base.types.room
+
+-- what is left of the base where so many passes were split off: it has less room
+pub record IsLeft {J : Type 0} (splits : ℕ) (base pass : Pass J) : Type 0 where
+  pub links : pass.links ≡ with_seat (serials.with_less_room (split_room * splits) base.links.seat) base.links
+  pub forms : pass.forms ≡ form_joins.with_seat (forms_seat.with_less_room (split_room * splits) base.forms.seat) base.forms
+  pub types : pass.types ≡ types_seat.with_less_room (split_room * splits) base.types
+
 -- a lane for this thread and these calls, which may be run
-pub record IsFreshFor {J : Type 0} (given : Given) (linker : LinkerView) (tables : Tables) (thread : ℕ) (calls : List Call) (lane : Lane J) : Type 0 where
-  pub can_run : IsReadyLane given linker tables lane
+pub record IsFreshFor {J : Type 0} (given : Given) (base : Pass J) (thread : ℕ) (calls : List Call) (lane : Lane J) : Type 0 where
+  pub can_run : IsReadyLane given base lane
   pub thread_is : lane.pass.links.thread ≡ thread
   pub calls_are : lane.calls.now ≡ calls
 
 -- a lane for each thread
-pub record AreFresh {J : Type 0} (given : Given) (linker : LinkerView) (tables : Tables) (threads : List (List Call)) (lanes : List (Lane J)) : Type 0 where
+pub record AreFresh {J : Type 0} (given : Given) (base : Pass J) (threads : List (List Call)) (lanes : List (Lane J)) : Type 0 where
   pub count : length lanes ≡ length threads
   pub each : (thread : ℕ) (calls : List Call) (lane : Lane J) → slice_get threads thread ≡ Some calls → slice_get lanes thread ≡ Some lane
-      → IsFreshFor given linker tables thread calls lane
+      → IsFreshFor given base thread calls lane
 
--- these lanes were forked off for the first threads, and nothing was done yet
-pub record AreForked {J : Type 0} (given : Given) (linker : LinkerView) (tables : Tables) (threads : List (List Call)) (joined : Joined J)
-    (lanes : List (Lane J)) : Type 0 where
-  pub pass : IsUnused given linker tables joined.pass
-  pub links_room : joined.pass.links.seat.room + split_room * length lanes ≡ limit
-  pub forms_room : joined.pass.forms.seat.room + split_room * length lanes ≡ limit
-  pub types_room : joined.pass.types.room + split_room * length lanes ≡ limit
+-- these lanes were forked off the base for the first threads, and nothing was done yet
+pub record AreForked {J : Type 0} (given : Given) (base : Pass J) (threads : List (List Call)) (joined : Joined J) (lanes : List (Lane J)) : Type 0 where
+  pub pass : IsLeft (length lanes) base joined.pass
+  pub room : HasRoomFor (length threads) (base_of base)
   pub nothing : (joined.threads ≡ []) × (joined.stop ≡ None)
-  pub lanes_are : AreFresh given linker tables (take (length lanes) threads) lanes
+  pub lanes_are : AreFresh given base (take (length lanes) threads) lanes
   pub calls : AreCallsOf given.leaves given.jobs threads
   pub limits : IsWithinLimits threads
 
@@ -115,18 +115,20 @@ StopsFor joined (TypesFull bucket) = HasNoSlot bucket joined.pass.types × Knows
 StopsFor joined NoMemory = Unit {0}
 
 -- what is known by whether a lane has stopped
-abbrev pub EndsSoFar : {J : Type 0} → Given → List (Lane J) → Joined J → Option Stop → Type 0
-EndsSoFar given lanes joined None =
-    AreDone given (calls_of lanes) (map passes_of lanes)
-    × HasAsked (lanes_edits given lanes) joined.pass.forms
+abbrev pub EndsSoFar : {J : Type 0} → Given → PassView → List (Lane J) → Joined J → Option Stop → Type 0
+EndsSoFar given base lanes joined None =
+    AreDone (calls_of lanes) (map passes_of lanes)
+    × ((before : List (List Key)) → HasAsked before base → HasAsked (before ++ lanes_edits given lanes) joined.pass.forms)
     × ((table : Serials) → HasSerials joined.pass.links.linked table → results_said joined.threads ≡ results_of given table (calls_of lanes))
     × ((table : Serials) → HasSerials joined.pass.links.linked table → keys_said joined.threads ≡ plan_keys given table (calls_of lanes))
-EndsSoFar given lanes joined (Some stop) = StopsFor joined stop.error
+EndsSoFar given base lanes joined (Some stop) = StopsFor joined stop.error
 
--- what is known of the numbers of forms that these lanes have drawn, of so many
-pub record KnowsDraws {J : Type 0} (given : Given) (count : ℕ) (lanes : List (Lane J)) (joined : Joined J) : Type 0 where
-  pub few : HaveDrawnFew given (calls_of lanes) (map passes_of lanes)
-  pub room : joined.pass.forms.seat.room + length joined.pass.forms.seat.numbers + split_room * count ≡ limit + split_room * length lanes
+-- what is known of the numbers of forms that these lanes have drawn, of so many, where the base has asked for the recipes before
+pub record KnowsDraws {J : Type 0} (given : Given) (before : List (List Key)) (base : PassView) (count : ℕ) (lanes : List (Lane J)) (joined : Joined J)
+    : Type 0 where
+  pub few : HaveDrawnFew given before (calls_of lanes) (map passes_of lanes)
+  pub room : joined.pass.forms.seat.room + length joined.pass.forms.seat.numbers + split_room * count
+      ≡ base.seat.room + length base.seat.numbers + split_room * length lanes
 
 -- P holds where the error is want of forms
 abbrev pub IfForms : WorkError → Type 0 → Type 0
@@ -139,43 +141,47 @@ abbrev pub IfDrawsKnown : Option Stop → Type 0 → Type 0
 IfDrawsKnown None P = P
 IfDrawsKnown (Some stop) P = IfForms stop.error P
 
--- these lanes of so many were joined
-pub record AreJoinedSoFar {J : Type 0} (given : Given) (linker : LinkerView) (tables : Tables) (count : ℕ) (lanes : List (Lane J)) (joined : Joined J)
-    : Type 0 where
-  pub linker_is : joined.pass.links.linker ≡ linker
-  pub table_is : joined.pass.forms.table ≡ tables.forms
-  pub types_is : joined.pass.types.table ≡ tables.types
+-- these lanes of so many were joined to the base: it has what it had, and what they have
+pub record AreJoinedSoFar {J : Type 0} (given : Given) (base : Pass J) (count : ℕ) (lanes : List (Lane J)) (joined : Joined J) : Type 0 where
+  pub linker_is : joined.pass.links.linker ≡ base.links.linker
+  pub table_is : joined.pass.forms.table ≡ base.forms.table
+  pub types_is : joined.pass.types.table ≡ base.types.table
   pub used : AreUsed given (calls_of lanes) (map passes_of lanes)
-  pub attempts : joined.pass.links.attempts ≡ flat_map (λ p. p.links.attempts) (map passes_of lanes)
-  pub numbers : joined.pass.links.seat.numbers ≡ flat_map (λ p. p.links.seat.numbers) (map passes_of lanes)
+  pub attempts : joined.pass.links.attempts ≡ base.links.attempts ++ flat_map (λ p. p.links.attempts) (map passes_of lanes)
+  pub unlearnt : All (λ p. AreUnlearnt base.links p.links.attempts) (map passes_of lanes)
+  pub numbers : joined.pass.links.seat.numbers ≡ base.links.seat.numbers ++ flat_map (λ p. p.links.seat.numbers) (map passes_of lanes)
+  pub learnt : HasSerials base.links.linked joined.pass.links.linked
   pub linked : All (λ p. HasSerials p.links.linked joined.pass.links.linked) (map passes_of lanes)
-  pub links_room : joined.pass.links.seat.room + length joined.pass.links.seat.numbers + split_room * count ≡ limit + split_room * length lanes
-  pub links_known : serials.KnowsAll joined.pass.links.seat
-  pub forms_numbers : joined.pass.forms.seat.numbers ≡ flat_map (λ p. p.forms.seat.numbers) (map passes_of lanes)
-  pub forms_known : forms_seat.KnowsAll joined.pass.forms.seat
-  pub types_room : joined.pass.types.room + length joined.pass.types.holds + split_room * count ≡ limit + split_room * length lanes
-  pub types_held : HoldsJust given joined.pass.links.recorded joined.pass.types
-  pub types_asked : WasAsked (lanes_types given lanes) joined.pass.types
-  pub draws : IfDrawsKnown joined.stop (KnowsDraws given count lanes joined)
+  pub links_room : joined.pass.links.seat.room + length joined.pass.links.seat.numbers + split_room * count
+      ≡ base.links.seat.room + length base.links.seat.numbers + split_room * length lanes
+  pub links_known : EachOnce base.links.seat.numbers → serials.KnowsAll joined.pass.links.seat
+  pub forms_numbers : joined.pass.forms.seat.numbers ≡ base.forms.seat.numbers ++ flat_map (λ p. p.forms.seat.numbers) (map passes_of lanes)
+  pub forms_known : EachOnce base.forms.seat.numbers → forms_seat.KnowsAll joined.pass.forms.seat
+  pub types_room : joined.pass.types.room + length joined.pass.types.holds + split_room * count
+      ≡ base.types.room + length base.types.holds + split_room * length lanes
+  pub types_held : HoldsInstead given base.links.recorded joined.pass.links.recorded base.types joined.pass.types
+  pub types_asked : WasAsked (base.types.asked ++ lanes_types given lanes) joined.pass.types
+  pub draws : (before : List (List Key)) → HasAsked before base.forms
+      → IfDrawsKnown joined.stop (KnowsDraws given before base.forms count lanes joined)
   pub stop_is : joined.stop ≡ stop_of (ends_of lanes)
-  pub ends : EndsSoFar given lanes joined joined.stop
+  pub ends : EndsSoFar given base.forms lanes joined joined.stop
 
--- these lanes were joined of those that were forked off for the threads
-pub record AreJoinedTo {J : Type 0} (given : Given) (linker : LinkerView) (tables : Tables) (threads : List (List Call)) (before after : List (Lane J))
-    (joined : Joined J) : Type 0 where
-  pub fresh : AreFresh given linker tables threads before
+-- these lanes were joined of those that were forked off the base for the threads
+pub record AreJoinedTo {J : Type 0} (given : Given) (base : Pass J) (threads : List (List Call)) (before after : List (Lane J)) (joined : Joined J)
+    : Type 0 where
+  pub fresh : AreFresh given base threads before
   pub calls : calls_of after ≡ take (length after) threads
-  pub so_far : AreJoinedSoFar given linker tables (length threads) after joined
+  pub so_far : AreJoinedSoFar given base (length threads) after joined
 
--- the lanes of all threads were joined
-abbrev pub AreAllJoined : {J : Type 0} → Given → LinkerView → Tables → List (List Call) → Joined J → Type 0
-AreAllJoined {J} given linker tables threads joined =
-    (before after : List (Lane J)) × AreJoinedTo given linker tables threads before after joined × (length after ≡ length threads)
+-- the lanes of all threads were joined to the base
+abbrev pub AreAllJoined : {J : Type 0} → Given → Pass J → List (List Call) → Joined J → Type 0
+AreAllJoined {J} given base threads joined =
+    (before after : List (Lane J)) × AreJoinedTo given base threads before after joined × (length after ≡ length threads)
 
--- all lanes have made their calls to their end, and their passes are joined
+-- all lanes have made their calls to their end, and their passes are joined to one with which nothing was done
 pub record IsJoinedRun {J : Type 0} (given : Given) (lanes : List (Lane J)) (joined : Joined J) : Type 0 where
   pub used : AreUsed given (calls_of lanes) (map passes_of lanes)
-  pub done : AreDone given (calls_of lanes) (map passes_of lanes)
+  pub done : AreDone (calls_of lanes) (map passes_of lanes)
   pub links : AreJoined (map passes_of lanes) joined.pass.links
   pub forms : AreFormsJoined (map passes_of lanes) joined.pass.forms
   pub asked : HasAsked (edits_of given (calls_of lanes) (map passes_of lanes)) joined.pass.forms

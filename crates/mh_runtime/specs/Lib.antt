@@ -1,5 +1,6 @@
 pub mod Asking
 pub mod Attempts
+pub mod Bases
 pub mod Input
 pub mod Joined
 pub mod Joining

@@ -16,11 +16,16 @@ use Rattle.mh_report.specs.declared.attempt.Attempt.{Attempt}
 abbrev pub types_held : Given → List Attempt → List MethodTy
 types_held given attempts = flat_map (λ a. held_by given.leaves (linked_at given a.site a.serial)) attempts
 
+-- the new seat holds what the linkages of recorded attempts hold, and what the old seat held beside those of the attempts before
+abbrev pub HoldsInstead : Given → List Attempt → List Attempt → SeatView → SeatView → Type 0
+HoldsInstead given before after old new =
+    (t : MethodTy) → on_type t new.holds + times_type t (types_held given before) ≡ on_type t old.holds + times_type t (types_held given after)
+
 -- a seat that holds what the linkages of recorded attempts hold, where it held what those before hold; room and holds are so many together as before
 pub record HoldsRecorded (given : Given) (before after : List Attempt) (old new : SeatView) : Type 0 where
   pub table : new.table ≡ old.table
   pub whole : new.room + length new.holds ≡ old.room + length old.holds
-  pub types : (t : MethodTy) → on_type t new.holds + times_type t (types_held given before) ≡ on_type t old.holds + times_type t (types_held given after)
+  pub types : HoldsInstead given before after old new
 
 -- the recording of a linkage leaves its holds in the seat where it is recorded, and hands them back where it is not
 pub record Records (given : Given) (linkage : LinkageView) (before after : List Attempt) (old new : SeatView) : Type 0 where

@@ -1,11 +1,9 @@
 -- What contracts see of a linker, which threads share, and of a pass, which each thread has of its own.
-use Rattle.std.specs.Prelude.{◌≡◌, ℕ, suc, ◌^◌, ◌<◌, ◌≤◌, ◌==◌, ◌⊎◌, List, [], ◌∷◌, ◌++◌, length, replicate, All, Result, Ok, Err, Option, None, Some, option_map, Contains}
-use Rattle.std.specs.List.{find}
+use Rattle.std.specs.Prelude.{◌≡◌, ℕ, ◌^◌, ◌<◌, ◌≤◌, ◌⊎◌, List, [], ◌∷◌, ◌++◌, length, map, replicate, All, Result, Ok, Err, Option, None, Some, option_map, Contains}
 use denote.Ref.{Bor}
 use Rattle.mh_setonce.specs.declared.put.Put.{Put}
 use Rattle.mh_setonce.specs.declared.put.Put.TheVariants.{Mine, Theirs}
-use Rattle.mh_setonce.specs.Views.{ChainView, WalkView}
-use Rattle.mh_setonce.specs.Walks.{Has}
+use Rattle.mh_cells.specs.Values.{KnownView}
 use Rattle.mh_tickets.specs.Seats.{Draws, SeatView, TicketsId, new_seat}
 use Rattle.mh_script.specs.declared.script.Script.{Script}
 use Rattle.mh_jobs.specs.declared.job.Job.{Job}
@@ -20,17 +18,17 @@ most_sites = 4096
 
 -- ---- linkers
 
--- the chains of the call sites, one for each, and the counter of the serials of attempts
+-- the names of the cells of the call sites, one for each, and the counter of the serials of attempts
 pub record LinkerView : Type 0 where
-  pub chains : List ChainView
+  pub cells : List ℕ
   pub serials : TicketsId
 
--- what a linker has: the jobs and the scripts of the run, and a chain for each site
+-- what a linker has: the jobs and the scripts of the run, and a cell for each site
 pub record IsLinker (given : Given) (jobs : List Job) (scripts : List Script) (linker : LinkerView) : Type 0 where
   pub jobs_are : jobs ≡ given.jobs
   pub scripts_are : scripts ≡ given.scripts
   pub are_jobs : AreJobs given
-  pub chains : length linker.chains ≡ length given.jobs
+  pub cells : length linker.cells ≡ length given.jobs
   pub few : length given.jobs ≤ most_sites
 
 -- ---- passes
@@ -49,27 +47,22 @@ pub record LinkPass : Type 0 where
 abbrev pub site_of : LinkageView → ℕ
 site_of l = l.job.site
 
--- the serial of the linkage of a site among these, where there is one
-abbrev pub serial_among : List LinkageView → ℕ → Option ℕ
-serial_among nodes site = option_map (λ l. l.serial) (find (λ l. l.job.site == site) nodes)
+-- the serial of the attempt that made a linkage
+abbrev pub serial_of : LinkageView → ℕ
+serial_of l = l.serial
 
--- the serials of the linkages that walks of the chains from this site on have learnt
-abbrev pub linked_from : ℕ → List (WalkView LinkageView) → Serials
-linked_from site [] = []
-linked_from site (w ∷ walks) = serial_among w.nodes site ∷ linked_from (suc site) walks
-
--- the serial of the linkage that walks have learnt of each site, where they have
-abbrev pub linked_by : List (WalkView LinkageView) → Serials
-linked_by walks = linked_from 0 walks
+-- the serial of the linkage of each site, where it was learnt
+abbrev pub linked_by : KnownView LinkageView → Serials
+linked_by known = map (option_map serial_of) known.values
 
 -- the attempt is one of these, and its linkage is that of its site
 abbrev pub IsRecorded : Serials → List Attempt → Attempt → Type 0
 IsRecorded linked attempts a = Contains attempts a × (serial_at linked a.site ≡ Some a.serial)
 
 -- what a pass keeps: its attempts are of sites of the run, and those that it has recorded are linked
-pub record IsLinkPass (given : Given) (walks : List (WalkView LinkageView)) (attempts recorded : List Attempt) : Type 0 where
+pub record IsLinkPass (given : Given) (known : KnownView LinkageView) (attempts recorded : List Attempt) : Type 0 where
   pub within : All (λ a. a.site < length given.jobs) attempts
-  pub recorded_are : All (IsRecorded (linked_by walks) attempts) recorded
+  pub recorded_are : All (IsRecorded (linked_by known) attempts) recorded
 
 -- a pass that has learnt of no site, with a seat
 abbrev pub pass_at : LinkerView → ℕ → ℕ → SeatView → LinkPass
@@ -117,13 +110,7 @@ abbrev pub FindsLinkage : Serials → ℕ → Option (Bor LinkageView) → Type 
 FindsLinkage linked site None = serial_at linked site ≡ None
 FindsLinkage linked site (Some l) = IsLinkageOf linked site l.now
 
--- what a chain has after a put of a linkage: ours, or another one of its site; ours is handed back then, and where there is no memory
-abbrev pub PutsNode : List LinkageView → LinkageView → Result (Put LinkageView) LinkageView → Type 0
-PutsNode nodes ours (Ok (Mine l)) = (l.now ≡ ours) × Has site_of nodes ours.job.site l.now
-PutsNode nodes ours (Ok (Theirs l back)) = (back ≡ ours) × Has site_of nodes ours.job.site l.now
-PutsNode nodes ours (Err back) = back ≡ ours
-
--- the same, by the serial that is learnt of the site
+-- what is learnt of a site after a put of a linkage: ours, or another one; ours is handed back then, and where there is no memory
 abbrev pub PutsLinkage : Serials → LinkageView → Result (Put LinkageView) LinkageView → Type 0
 PutsLinkage linked ours (Ok (Mine l)) = (l.now ≡ ours) × IsLinkageOf linked ours.job.site l.now
 PutsLinkage linked ours (Ok (Theirs l back)) = (back ≡ ours) × IsLinkageOf linked ours.job.site l.now

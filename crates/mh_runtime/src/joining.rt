@@ -1,11 +1,9 @@
-ghost use Rattle.std.specs.Prelude.{◌≡◌, ◌≢◌, ◌+◌, ◌<◌, ◌≤◌, [], ◌∷◌, ◌++◌, All, None, length, IfOk, OnOk};
-ghost use Rattle.mh_plan.specs.Plan.{most_calls};
-ghost use Rattle.mh_plan.specs.Calls.{IsCallOf};
-ghost use Rattle.mh_runtime.specs.Joining.{JoinsLane, IsFreshFor, IsUnused};
-ghost use Rattle.mh_runtime.specs.Lanes.{tables_at};
-ghost use Rattle.mh_runtime.specs.Linkers.{CanSplit, HasLessRoom, IsOf};
+ghost use Rattle.std.specs.Prelude.{◌≡◌, ◌≢◌, [], ◌∷◌, ◌++◌, None, IfOk, OnOk};
+ghost use Rattle.mh_runtime.specs.Joining.{JoinsLane};
+ghost use Rattle.mh_runtime.specs.Linkers.{CanSplit, IsOf, SplitsPass};
 ghost use Rattle.mh_runtime.specs.Stops.{stop_after, stop_at};
 
+use crate::base::Based;
 use crate::lane::Lane;
 use crate::pass::Pass;
 use crate::plan_run::PlanRun;
@@ -18,24 +16,18 @@ use mh_report::ThreadAnswers;
 use mh_threads::ForkJoin;
 use std::sync::Wait;
 
-// The lane of a thread, with a pass split off one that has learnt nothing.
-fn lane<'s, 't, J: Run, G>(
-    run: &PlanRun<'s, 't, J, G>,
+// The lane of a thread, with a pass split off one that others were split off.
+fn lane<'s, 't, J: Run, B: Based, G>(
+    run: &PlanRun<'s, 't, J, B, G>,
     joined: &mut Joined<'s, 't, J>,
     calls: &'s ThreadCalls,
     thread: u32,
 ) -> Result<Lane<'s, 't, J>, NoMemory>
-    requires leaves { run.now.linker.now.leaves.now ≡ J.given.leaves }
-    requires pass { IsUnused J.given run.now.linker.now.sites
-        (tables_at run.now.linker.now.forms.now run.now.linker.now.types.now) joined.old.pass }
+    requires pass { IsOf J.given run.now.linker.now joined.old.pass }
     requires room { CanSplit joined.old.pass }
-    requires calls { All (IsCallOf J.given.leaves J.given.jobs) calls.now }
-    requires few { length calls.now ≤ most_calls }
-    ensures lane { IfOk result (IsFreshFor J.given run.now.linker.now.sites
-        (tables_at run.now.linker.now.forms.now run.now.linker.now.types.now) thread calls.now) }
-    ensures pass { OnOk result (IsUnused J.given run.now.linker.now.sites
-        (tables_at run.now.linker.now.forms.now run.now.linker.now.types.now) joined.new.pass) }
-    ensures room { OnOk result (HasLessRoom joined.old.pass joined.new.pass) }
+    ensures lane { IfOk result
+        (λ lane. SplitsPass thread joined.old.pass joined.new.pass lane.pass) }
+    ensures calls { IfOk result (λ lane. lane.calls.now ≡ calls.now) }
     ensures threads { joined.new.threads ≡ joined.old.threads }
     ensures stop { joined.new.stop ≡ joined.old.stop }
 {
@@ -57,7 +49,11 @@ pub(crate) struct Joined<'s, 't, J: Run> {
 
 impl<'s, 't, J: Run> Joined<'s, 't, J> {
     // Joins what a thread leaves.
-    fn add<G>(&mut self, run: &PlanRun<'s, 't, J, G>, lane: Lane<'s, 't, J>) -> Result<(), NoMemory>
+    fn add<B: Based, G>(
+        &mut self,
+        run: &PlanRun<'s, 't, J, B, G>,
+        lane: Lane<'s, 't, J>,
+    ) -> Result<(), NoMemory>
         requires pass { IsOf J.given run.now.linker.now self.old.pass }
         requires lane { IsOf J.given run.now.linker.now lane.pass }
         requires ran { lane.ran ≢ None }
@@ -94,11 +90,14 @@ impl<'s, 't, J: Run> Joined<'s, 't, J> {
     }
 }
 
-/// A lane is forked off for each thread of the plan, with a pass that has learnt nothing; and what it
-/// leaves is joined.
-impl<'s, 't, J: Run + Send + Sync, G: Gate + Sync> ForkJoin for PlanRun<'s, 't, J, G> {
+/// A lane is forked off for each thread of the plan, with a pass that has learnt what the base has;
+/// and what it leaves is joined.
+impl<'s, 't, J: Run + Send + Sync, B: Based + Sync, G: Gate + Sync> ForkJoin
+    for PlanRun<'s, 't, J, B, G> {
     ghost use Rattle.std.specs.Prelude.{◌≡◌, length};
-    ghost use Rattle.mh_runtime.specs.Lanes.{IsReadyLane, HasRun, tables_at};
+    ghost use Rattle.mh_runtime.specs.Bases.{pass_of};
+    ghost use Rattle.mh_runtime.specs.Lanes.{IsReadyLane, HasRun};
+    ghost use Rattle.mh_runtime.specs.Linkers.{IsOf};
     ghost use Rattle.mh_runtime.specs.Joining.{AreForked, AreJoinedTo};
 
     type Lane = Lane<'s, 't, J>;
@@ -107,22 +106,17 @@ impl<'s, 't, J: Run + Send + Sync, G: Gate + Sync> ForkJoin for PlanRun<'s, 't, 
 
     ghost count = { λ c. length c.plan.now };
 
-    ghost forked = { λ c state lanes. (c.linker.now.leaves.now ≡ J.given.leaves)
-        × AreForked J.given c.linker.now.sites
-        (tables_at c.linker.now.forms.now c.linker.now.types.now) c.plan.now state lanes };
+    ghost forked = { λ c state lanes. IsOf J.given c.linker.now (pass_of B.base)
+        × AreForked J.given (pass_of B.base) c.plan.now state lanes };
 
-    ghost ready = { λ c lane. (c.linker.now.leaves.now ≡ J.given.leaves)
-        × IsReadyLane J.given c.linker.now.sites
-        (tables_at c.linker.now.forms.now c.linker.now.types.now) lane };
+    ghost ready = { λ c lane. IsOf J.given c.linker.now (pass_of B.base)
+        × IsReadyLane J.given (pass_of B.base) lane };
 
     ghost done = { λ c old new. (new.calls ≡ old.calls)
-        × HasRun J.given c.linker.now.sites
-        (tables_at c.linker.now.forms.now c.linker.now.types.now) old.pass.links.thread
-        old.calls.now new };
+        × HasRun J.given (pass_of B.base) old.pass.links.thread old.calls.now new };
 
-    ghost joined = { λ c before after state. (c.linker.now.leaves.now ≡ J.given.leaves)
-        × AreJoinedTo J.given c.linker.now.sites
-        (tables_at c.linker.now.forms.now c.linker.now.types.now) c.plan.now before after state };
+    ghost joined = { λ c before after state. IsOf J.given c.linker.now (pass_of B.base)
+        × AreJoinedTo J.given (pass_of B.base) c.plan.now before after state };
 
     fn lanes(&self) -> usize {
         self.plan.len()

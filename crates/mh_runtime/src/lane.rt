@@ -1,6 +1,9 @@
 ghost use Rattle.std.specs.Prelude.{◌≡◌};
-ghost use Rattle.mh_runtime.specs.Lanes.{IsReadyLane, HasRun, tables_at};
+ghost use Rattle.mh_runtime.specs.Bases.{pass_of};
+ghost use Rattle.mh_runtime.specs.Lanes.{IsReadyLane, HasRun};
+ghost use Rattle.mh_runtime.specs.Linkers.{IsOf};
 
+use crate::base::Based;
 use crate::pass::Pass;
 use crate::plan_run::PlanRun;
 use crate::stops::ThreadRun;
@@ -18,16 +21,14 @@ pub(crate) struct Lane<'s, 't, J: Run> {
     pub(crate) ran: Option<ThreadRun>,
 }
 
-impl<'s, 't, J: Run, G: Gate> PlanRun<'s, 't, J, G> {
+impl<'s, 't, J: Run, B: Based, G: Gate> PlanRun<'s, 't, J, B, G> {
     /// Makes the calls of a lane.
     pub(crate) fn run_lane<R: Wait>(&self, rt: &R, lane: &mut Lane<'s, 't, J>)
-        requires leaves { self.now.linker.now.leaves.now ≡ J.given.leaves }
-        requires lane { IsReadyLane J.given self.now.linker.now.sites
-            (tables_at self.now.linker.now.forms.now self.now.linker.now.types.now) lane.old }
+        requires base { IsOf J.given self.now.linker.now (pass_of B.base) }
+        requires lane { IsReadyLane J.given (pass_of B.base) lane.old }
         ensures calls { lane.new.calls ≡ lane.old.calls }
-        ensures ran { HasRun J.given self.entry.now.linker.now.sites
-            (tables_at self.entry.now.linker.now.forms.now self.entry.now.linker.now.types.now)
-            lane.old.pass.links.thread lane.old.calls.now lane.new }
+        ensures ran { HasRun J.given (pass_of B.base) lane.old.pass.links.thread
+            lane.old.calls.now lane.new }
     {
         let ran = self
             .linker

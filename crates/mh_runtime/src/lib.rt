@@ -3,10 +3,12 @@
 //! own, and shares the [`Linker`]. A whole plan is run by [`run_all`].
 #![tactic(auto)]
 
+mod base;
 mod calls;
 mod context;
 mod input;
 mod joining;
+mod known_sites;
 mod lane;
 mod linker;
 mod ordering;
@@ -19,7 +21,6 @@ mod site_pass;
 mod stops;
 mod tables;
 mod thread;
-mod walks;
 
 pub use input::RunInput;
 pub use linker::{Linker, MOST_SITES};

@@ -40,7 +40,7 @@ const SPLIT_ROOM: u64 = 1 << 32;
 /// split off one that there is. Once threads are done, their passes are joined.
 #[derive(Drop)]
 pub struct Linker<'t, J: Run> {
-    alloc: Global,
+    pub(crate) alloc: Global,
     /// The call sites, and the counter of the attempts' serials.
     pub sites: SiteLinker<'t, J>,
     /// The leaves of the run, with their classes.

@@ -1,27 +1,29 @@
 ghost use Rattle.std.specs.Prelude.{◌≡◌, ◌*◌, ◌<◌, ◌≤◌, length, IfErr, IfOk};
 ghost use Rattle.mh_jobs.specs.Given.{AreJobs};
+ghost use Rattle.mh_report.specs.Forms.{draws_needed, forms};
 ghost use Rattle.mh_plan.specs.Limits.{IsWithinLimits};
 ghost use Rattle.mh_plan.specs.Naming.{naming_of};
-ghost use Rattle.mh_plan.specs.Calls.{AreCallsOf};
-ghost use Rattle.mh_report.specs.Forms.{draws_needed, forms};
 ghost use Rattle.mh_report.specs.Types.{Overfill, all_types};
 ghost use Rattle.mh_report.specs.Recorded.{recorded, serials_of, types};
+ghost use Rattle.mh_plan.specs.Calls.{AreCallsOf};
 ghost use Rattle.mh_report.specs.Results.{keys_said, results_of, results_said};
+ghost use Rattle.mh_astype.specs.Calls.{most_forms};
 ghost use Rattle.mh_handle.specs.Seats as forms_seat;
 ghost use Rattle.mh_intern.specs.Views as types_seat;
 ghost use Rattle.mh_tickets.specs.Seats as serials_seat;
 ghost use Rattle.mh_seats.specs.Room.{limit};
-ghost use Rattle.mh_astype.specs.Calls.{most_forms};
+ghost use Rattle.mh_runtime.specs.Bases.{pass_of};
 ghost use Rattle.mh_runtime.specs.Asking.{IfFull, IfTypesFull};
 ghost use Rattle.mh_runtime.specs.Input.{given_by};
 ghost use Rattle.mh_runtime.specs.Keys.{plan_keys};
 ghost use Rattle.mh_runtime.specs.Ledger.{Ledger};
-ghost use Rattle.mh_runtime.specs.Joining.{AreAllJoined, HasAllRoom, IsUnused};
-ghost use Rattle.mh_runtime.specs.Lanes.{tables_at};
+ghost use Rattle.mh_runtime.specs.Joining.{AreAllJoined, HasRoomFor, IsUnused};
+ghost use Rattle.mh_runtime.specs.Linkers.{IsOf};
 ghost use Rattle.mh_runtime.specs.Passes.{most_sites};
 ghost use Rattle.mh_runtime.specs.Report.{IsLinkedRun, IsReport};
 ghost use Rattle.mh_runtime.specs.Stops.{IsStopOf, error_of};
 
+use crate::base::Based;
 use crate::input::RunInput;
 use crate::joining::Joined;
 use crate::linker::Linker;
@@ -31,7 +33,7 @@ use crate::plan_run::PlanRun;
 use crate::recording::table;
 use crate::stops::Stop;
 use crate::tables::{Seats, Tables};
-use mh_base::Seq;
+use mh_base::{NoMemory, Seq};
 use mh_intern::TypeSeat;
 use mh_jobs::Run;
 use mh_outside::Gate;
@@ -39,7 +41,7 @@ use mh_plan::Plan;
 use mh_report::{Attempts, Table, ThreadAnswers};
 use mh_threads::fork_join;
 use std::alloc::Global;
-use std::marker::Brand;
+use std::marker::{Brand, PhantomData};
 use std::sync::Wait;
 use std::thread::Threads;
 
@@ -76,16 +78,16 @@ struct Linked {
     forms: u32,
 }
 
-// What a run gave whose threads were joined, and the seat of types that holds what is recorded.
+// What a run gave whose threads were joined to a pass with which nothing was done, and the seat of
+// types that holds what is recorded.
 #[tactic(auto, using(crate::proofs::OutsideStops::outside_reported, crate::proofs::OutsideStops::outside_full, crate::proofs::OutsideStops::outside_types))]
-fn report<'s, 't, J: Run, R: Wait, G>(
+fn report<'s, 't, J: Run, B: Based, R: Wait, G>(
     rt: &R,
-    run: &PlanRun<'s, 't, J, G>,
+    run: &PlanRun<'s, 't, J, B, G>,
     joined: Joined<'s, 't, J>,
 ) -> Result<(Linked, TypeSeat), Stop>
-    requires joined { AreAllJoined J.given run.now.linker.now.sites
-        (tables_at run.now.linker.now.forms.now run.now.linker.now.types.now) run.now.plan.now
-        joined }
+    requires base { IsUnused J.given run.now.linker.now (pass_of B.base) }
+    requires joined { AreAllJoined J.given (pass_of B.base) run.now.plan.now joined }
     ensures run { IfOk result (λ reported. IsLinkedRun J.given run.now.plan.now
         run.now.linker.now.types.now reported.0 reported.1) }
     ensures stop { IfErr result (IsStopOf run.now.plan.now) }
@@ -118,25 +120,26 @@ fn report<'s, 't, J: Run, R: Wait, G>(
     Ok((linked, types))
 }
 
-// Runs the plan with a pass that is new.
-#[tactic(auto, using(crate::proofs::OutsideStops::outside_reported, crate::proofs::OutsideStops::outside_full, crate::proofs::OutsideStops::outside_types))]
-fn run_pass<'s, 't, J: Run + Send + Sync, R: Threads + Wait + Sync, G: Gate + Sync>(
+// Makes the calls of the plan: a lane is split off the pass for each thread, and what the lanes leave
+// is joined to it.
+fn run_lanes<
+    's,
+    't,
+    J: Run + Send + Sync,
+    B: Based + Sync,
+    R: Threads + Wait + Sync,
+    G: Gate + Sync,
+>(
     rt: &R,
-    run: &PlanRun<'s, 't, J, G>,
+    run: &PlanRun<'s, 't, J, B, G>,
     pass: Pass<'s, 't, J>,
-) -> Result<(Linked, TypeSeat), Stop>
-    requires leaves { run.now.linker.now.leaves.now ≡ J.given.leaves }
+) -> Result<Joined<'s, 't, J>, NoMemory>
+    requires base { pass ≡ (pass_of B.base) }
+    requires pass { IsOf J.given run.now.linker.now (pass_of B.base) }
     requires calls { AreCallsOf J.given.leaves J.given.jobs run.now.plan.now }
     requires limits { IsWithinLimits run.now.plan.now }
-    requires pass { IsUnused J.given run.now.linker.now.sites
-        (tables_at run.now.linker.now.forms.now run.now.linker.now.types.now) pass }
-    requires room { HasAllRoom pass }
-    ensures run { IfOk result (λ reported. IsLinkedRun J.given run.now.plan.now
-        run.now.linker.now.types.now reported.0 reported.1) }
-    ensures stop { IfErr result (IsStopOf run.now.plan.now) }
-    ensures full { IfFull (error_of result) (most_forms < draws_needed J.given run.now.plan.now) }
-    ensures no_slot { IfTypesFull (error_of result)
-        (λ bucket. Overfill bucket (all_types J.given run.now.plan.now)) }
+    requires room { HasRoomFor (length run.now.plan.now) B.base }
+    ensures { IfOk result (AreAllJoined J.given (pass_of B.base) run.now.plan.now) }
 {
     let mut joined = Joined {
         pass,
@@ -144,7 +147,46 @@ fn run_pass<'s, 't, J: Run + Send + Sync, R: Threads + Wait + Sync, G: Gate + Sy
         stop: None,
     };
     fork_join(rt, run.alloc, run, &mut joined)?;
-    report(rt, run, joined)
+    Ok(joined)
+}
+
+// Runs a plan with a pass that is new.
+#[tactic(auto, using(crate::proofs::OutsideStops::outside_reported, crate::proofs::OutsideStops::outside_full, crate::proofs::OutsideStops::outside_types))]
+fn run_pass<
+    's,
+    't,
+    J: Run + Send + Sync,
+    B: Based + Sync,
+    R: Threads + Wait + Sync,
+    G: Gate + Sync,
+>(
+    rt: &R,
+    linker: &'s Linker<'t, J>,
+    pass: Pass<'s, 't, J>,
+    plan: &'s Plan,
+    gate: &'s G,
+) -> Result<(Linked, TypeSeat), Stop>
+    requires base { pass ≡ pass_of B.base }
+    requires pass { IsOf J.given linker.now pass }
+    requires unused { IsUnused J.given linker.now pass }
+    requires calls { AreCallsOf J.given.leaves J.given.jobs plan.now }
+    requires limits { IsWithinLimits plan.now }
+    ensures run { IfOk result
+        (λ run. IsLinkedRun J.given plan.now linker.entry.now.types.now run.0 run.1) }
+    ensures stop { IfErr result (IsStopOf plan.now) }
+    ensures full { IfFull (error_of result) (most_forms < draws_needed J.given plan.now) }
+    ensures no_slot { IfTypesFull (error_of result)
+        (λ bucket. Overfill bucket (all_types J.given plan.now)) }
+{
+    let run = PlanRun {
+        alloc: linker.alloc,
+        linker,
+        plan,
+        gate,
+        of: PhantomData::<B>,
+    };
+    let joined = run_lanes(rt, &run, pass)?;
+    report(rt, &run, joined)
 }
 
 // Runs a plan with a linker that is new, and with seats that have all the room.
@@ -169,13 +211,7 @@ fn run_linked<'t, J: Run + Send + Sync, R: Threads + Wait + Sync, G: Gate + Sync
         (λ bucket. Overfill bucket (all_types J.given input.now.plan.now)) }
 {
     let pass = linker.first_pass(seats)?;
-    let run = PlanRun {
-        alloc: input.alloc,
-        linker: &linker,
-        plan: input.plan,
-        gate: input.gate,
-    };
-    run_pass(rt, &run, pass)
+    run_pass::<J, Brand, R, G>(rt, &linker, pass, input.plan, input.gate)
 }
 
 // Runs a plan of what the run's type parameter names. Once all is joined, the table of types has the

@@ -10,25 +10,25 @@ ghost use Rattle.mh_runtime.specs.Passes.{AttemptsUnlearnt, IsLinkageOf, Records
 use crate::site_pass::SitePass;
 use mh_attempt::{Linkage, WorkError, attempt};
 use mh_base::NoMemory;
+use mh_cells::Cells;
 use mh_handle::Work;
 use mh_jobs::{Jobs, Run};
 use mh_outside::Gate;
 use mh_script::Scripts;
-use mh_setonce::Chain;
 use mh_tickets::Tickets;
 use std::alloc::Global;
 use std::marker::Model;
 use std::sync::Wait;
 
-/// The call sites of a run, for threads that share them. Each site has a chain of one cell: what
-/// is put there first is the linkage of the site, an error too (JVMS SE 17, 5.4.3.6). Contracts see
-/// the chains, and the counter of the attempts' serials.
+/// The call sites of a run, for threads that share them. Each site has a cell: what is put there
+/// first is the linkage of the site, an error too (JVMS SE 17, 5.4.3.6). Contracts see the cells,
+/// and the counter of the attempts' serials.
 #[derive(Drop)]
 pub struct SiteLinker<'t, J: Run> {
     jobs: &'t Jobs,
     scripts: &'t Scripts,
     serials: &'t Tickets,
-    chains: Vec<Chain<Linkage<'t, J>>>,
+    cells: Cells<Linkage<'t, J>>,
 }
 
 impl<'t, J: Run> Model for SiteLinker<'t, J> {
@@ -36,24 +36,10 @@ impl<'t, J: Run> Model for SiteLinker<'t, J> {
 
     ghost Value = { LinkerView };
 
-    ghost view = { λ l. record { chains = l.chains.items; serials = l.serials.now } };
+    ghost view = { λ l. record { cells = l.cells; serials = l.serials.now } };
 
     ghost invariant = { λ l. IsLinker J.given l.jobs.now l.scripts.now
-        (record { chains = l.chains.items; serials = l.serials.now }) };
-}
-
-// A chain of one cell for each of so many sites.
-fn site_chains<'t, J: Run>(
-    alloc: Global,
-    sites: usize,
-) -> Result<Vec<Chain<Linkage<'t, J>>>, NoMemory>
-    ensures { IfOk result (λ chains. length chains.items ≡ sites) }
-{
-    let mut chains = Vec::with_capacity(alloc, sites)?;
-    for _ in 0..sites {
-        chains.push(Chain::new(alloc, 1)?)?;
-    }
-    Ok(chains)
+        (record { cells = l.cells; serials = l.serials.now }) };
 }
 
 impl<'t, J: Run> SiteLinker<'t, J> {
@@ -74,7 +60,7 @@ impl<'t, J: Run> SiteLinker<'t, J> {
             jobs,
             scripts,
             serials: tickets,
-            chains: site_chains(alloc, jobs.len())?,
+            cells: Cells::new(alloc, jobs.len())?,
         })
     }
 
@@ -100,12 +86,12 @@ impl<'t, J: Run> SiteLinker<'t, J> {
         self.serials
     }
 
-    /// The chains of the sites, in the order of the sites' numbers.
-    pub(crate) fn chains(&self) -> &[Chain<Linkage<'t, J>>]
-        ensures chains { result.now ≡ self.now.chains }
-        ensures count { length self.now.chains ≡ length J.given.jobs }
+    /// The cells of the sites, in the order of the sites' numbers.
+    pub(crate) fn cells(&self) -> &Cells<Linkage<'t, J>>
+        ensures cells { result.now ≡ self.now.cells }
+        ensures count { length self.now.cells ≡ length J.given.jobs }
     {
-        self.chains.as_slice()
+        &self.cells
     }
 
     // Attempts a site of which the pass has learnt no linkage, and records what that gives unless
@@ -140,12 +126,12 @@ impl<'t, J: Run> SiteLinker<'t, J> {
         let serial = pass.begin(self, site)?;
         let linkage = attempt(w, rt, self.scripts, self.jobs.get(site), serial)?;
         gate.before_record(pass.thread(), site);
-        let linkage = pass.record(w, rt, self, linkage)?;
+        let linkage = pass.record(w, rt, linkage)?;
         gate.after_record(pass.thread(), site);
         Ok(linkage)
     }
 
-    /// The linkage of a site: that which the pass has learnt, or its chain shows, or that of an
+    /// The linkage of a site: that which the pass has learnt, or its cell shows, or that of an
     /// attempt that is made now, unless another thread has recorded one meanwhile. One that the pass
     /// has learnt takes no memory. After a refusal nothing was recorded, and the serial of the
     /// attempt is spent.
@@ -180,7 +166,7 @@ impl<'t, J: Run> SiteLinker<'t, J> {
         ensures asked { RunsOnTypes J.given pass.old.attempts pass.new.attempts
             [] w.old.seat.now w.new.seat.now result }
     {
-        if let Some(found) = pass.find(self, site)? {
+        if let Some(found) = pass.find(site) {
             return Ok(found);
         }
         self.attempt(w, rt, pass, gate, site)

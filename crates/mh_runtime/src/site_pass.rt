@@ -1,13 +1,12 @@
-ghost use Rattle.std.specs.Prelude.{◌≡◌, ◌+◌, ◌^◌, ◌<◌, ◌≤◌, [], length, All, Contains, IfOk, OnOk, OnErr, None};
+ghost use Rattle.std.specs.Prelude.{◌≡◌, ◌+◌, ◌^◌, ◌<◌, ◌≤◌, [], length, All, Contains, IfOk, OnOk, OnErr};
 ghost use Rattle.mh_tickets.specs.Seats.{KnowsAll, joined_seats, with_less_room};
 ghost use Rattle.mh_handle.specs.Works.{HoldsTypes, IsUnchanged};
 ghost use Rattle.mh_attempt.specs.AskedTypes.{AsksNoOther};
-ghost use Rattle.mh_report.specs.Results.{serial_at};
 ghost use Rattle.mh_runtime.specs.Linking.{Records};
 ghost use Rattle.mh_runtime.specs.Passes.{BeginsAttempt, FindsLinkage, HasBoth, IsLinkageOf, IsRecorded, LearnsSites, RecordsOurs, attempt_of, pass_at, split_pass, split_room, with_seat};
 
+use crate::known_sites::KnownSites;
 use crate::site_linker::SiteLinker;
-use crate::walks::SiteWalks;
 use mh_attempt::Linkage;
 use mh_base::NoMemory;
 use mh_handle::Work;
@@ -27,28 +26,27 @@ const SPLIT_ROOM: u64 = 1 << 32;
 #[derive(Drop)]
 pub struct SitePass<'s, 't, J: Run> {
     thread: u32,
-    walks: SiteWalks<'s, 't, J>,
+    known: KnownSites<'s, 't, J>,
     attempts: Vec<Attempt>,
     recorded: Vec<Attempt>,
     seat: TicketSeat,
 }
 
 impl<'s, 't, J: Run> Model for SitePass<'s, 't, J> {
-    ghost use Rattle.mh_setonce.specs.ManyWalks.{chains_of};
     ghost use Rattle.mh_runtime.specs.Passes.{IsLinkPass, LinkPass, linked_by};
 
     ghost Value = { LinkPass };
 
     ghost view = { λ p. record {
-      linker = record { chains = chains_of p.walks; serials = p.seat.tickets };
+      linker = record { cells = p.known.cells; serials = p.seat.tickets };
       thread = p.thread;
-      linked = linked_by p.walks;
+      linked = linked_by p.known;
       attempts = p.attempts.items;
       recorded = p.recorded.items;
       seat = p.seat;
     } };
 
-    ghost invariant = { λ p. IsLinkPass J.given p.walks p.attempts.items p.recorded.items };
+    ghost invariant = { λ p. IsLinkPass J.given p.known p.attempts.items p.recorded.items };
 }
 
 impl<'s, 't, J: Run> SitePass<'s, 't, J> {
@@ -65,7 +63,7 @@ impl<'s, 't, J: Run> SitePass<'s, 't, J> {
     {
         Ok(SitePass {
             thread,
-            walks: SiteWalks::new(alloc, linker)?,
+            known: KnownSites::new(alloc, linker)?,
             attempts: Vec::new(alloc),
             recorded: Vec::new(alloc),
             seat,
@@ -89,7 +87,7 @@ impl<'s, 't, J: Run> SitePass<'s, 't, J> {
     {
         Ok(SitePass {
             thread,
-            walks: self.walks.copy(alloc)?,
+            known: self.known.copy(alloc)?,
             attempts: Vec::new(alloc),
             recorded: Vec::new(alloc),
             seat: linker.serials().split(&mut self.seat, SPLIT_ROOM),
@@ -113,7 +111,7 @@ impl<'s, 't, J: Run> SitePass<'s, 't, J> {
     {
         let SitePass {
             thread: _,
-            walks,
+            known,
             mut attempts,
             mut recorded,
             seat,
@@ -121,8 +119,7 @@ impl<'s, 't, J: Run> SitePass<'s, 't, J> {
         linker.serials().join(&mut self.seat, seat);
         self.attempts.reserve(attempts.len())?;
         self.recorded.reserve(recorded.len())?;
-        self.walks.meet(linker, &walks);
-        self.walks.join(walks);
+        self.known.join(known);
         self.attempts.append(&mut attempts)?;
         self.recorded.append(&mut recorded)?;
         Ok(())
@@ -140,7 +137,7 @@ impl<'s, 't, J: Run> SitePass<'s, 't, J> {
         ensures sites { result ≡ length J.given.jobs }
         ensures linked { length self.now.linked ≡ length J.given.jobs }
     {
-        self.walks.len()
+        self.known.len()
     }
 
     /// The attempts that were made with the pass, and those of passes that were joined to it.
@@ -170,24 +167,18 @@ impl<'s, 't, J: Run> SitePass<'s, 't, J> {
         requires { site < length J.given.jobs }
         ensures { FindsLinkage self.now.linked site result }
     {
-        self.walks.seen(site)
+        self.known.seen(site)
     }
 
-    /// The linkage of a site, if the pass has learnt it, which takes no memory, or its chain shows
-    /// one now.
-    pub(crate) fn find(
-        &mut self,
-        linker: &'s SiteLinker<'t, J>,
-        site: u32,
-    ) -> Result<Option<&'s Linkage<'t, J>>, NoMemory>
-        requires pass { self.old.linker ≡ linker.now }
-        requires site { site < length J.given.jobs }
+    /// The linkage of a site, if the pass has learnt it or its cell shows one now. It takes no
+    /// memory.
+    pub(crate) fn find(&mut self, site: u32) -> Option<&'s Linkage<'t, J>>
+        requires { site < length J.given.jobs }
         ensures learns { LearnsSites self.old self.new }
         ensures recorded { self.new.recorded ≡ self.old.recorded }
-        ensures found { IfOk result (FindsLinkage self.new.linked site) }
-        ensures seen { OnErr result (serial_at self.old.linked site ≡ None) }
+        ensures found { FindsLinkage self.new.linked site result }
     {
-        self.walks.find(linker, site)
+        self.known.find(site)
     }
 
     /// Begins an attempt of a site, and draws its serial.
@@ -219,10 +210,8 @@ impl<'s, 't, J: Run> SitePass<'s, 't, J> {
         &mut self,
         w: &mut Work<'_, 't>,
         rt: &R,
-        linker: &'s SiteLinker<'t, J>,
         linkage: Linkage<'t, J>,
     ) -> Result<&'s Linkage<'t, J>, NoMemory>
-        requires pass { self.old.linker ≡ linker.now }
         requires attempted { Contains self.old.attempts (attempt_of self.old.thread linkage) }
         requires of_types { w.old.seat.now.table ≡ w.old.types.now }
         requires held { HoldsTypes w.old linkage.held }
@@ -247,7 +236,7 @@ impl<'s, 't, J: Run> SitePass<'s, 't, J> {
             serial: linkage.serial(),
         };
         linkage.types_held();
-        match self.walks.put(rt, w.alloc, linker, linkage) {
+        match self.known.put(rt, w.alloc, linkage) {
             Ok(Put::Mine(recorded)) => {
                 self.recorded.push_reserved(made);
                 Ok(recorded)

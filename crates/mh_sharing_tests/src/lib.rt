@@ -1,10 +1,12 @@
-//! What threads share: chains, numbers that are drawn, the table of types, and items that workers
-//! link beside each other.
+//! What threads share: chains, cells in a row, numbers that are drawn, the table of types, and
+//! items that workers link beside each other.
 #![tactic(auto)]
 
 mod both;
 #[cfg(test)]
 mod buckets;
+#[cfg(test)]
+mod cells;
 #[cfg(test)]
 mod chains;
 #[cfg(test)]

@@ -1,13 +1,11 @@
-use denote.Param.Send.{sendable}
-use Rattle.std.proofs.Crossing.{crosses}
-use Rattle.mh_runtime.proofs.Crossing.{lane_send, linker_sync, plan_sync}
+use Rattle.std.proofs.Common.{length, subst}
+use Rattle.mh_runtime.specs.declared.pass.Pass.{Pass}
+use Rattle.mh_runtime.specs.Bases.{base_of}
+use Rattle.mh_runtime.specs.Joining.{HasRoomFor}
+use Rattle.mh_runtime.proofs.WholeJoin.{room-unused}
 use Rattle.mh_runtime.proofs.running.run_pass.Goals as goal
 
-pub fork_join-requires-send-T-Lane : goal.fork_join-requires-send-T-Lane
-fork_join-requires-send-T-Lane g c κs within =
-    let s = c.type_bounds.send-J in let y = c.type_bounds.sync-J in search (lane_send, crosses, sendable) depth 20
-
-pub fork_join-requires-sync-T : goal.fork_join-requires-sync-T
-fork_join-requires-sync-T g c κs within =
-    let s = c.type_bounds.send-J in let y = c.type_bounds.sync-J in let h = c.type_bounds.sync-G in
-    search (linker_sync, plan_sync, crosses, sendable) depth 40
+pub run_lanes-requires-clause-room : goal.run_lanes-requires-clause-room
+run_lanes-requires-clause-room g c κs within =
+    subst (λ (p : Pass _). HasRoomFor (length c.args.plan.now) (base_of p)) c.requires.base
+    (room-unused g.J.Run.given c.args.linker.now c.args.pass c.args.plan.now c.requires.unused c.requires.limits)

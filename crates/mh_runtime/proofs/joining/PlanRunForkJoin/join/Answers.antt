@@ -1,21 +1,24 @@
-use Rattle.std.proofs.Common.{◌≡◌}
-use Rattle.mh_runtime.specs.Lanes.{tables_at}
+use Rattle.std.proofs.Common.{◌∙◌}
+use Rattle.mh_runtime.specs.declared.pass.Pass.{Pass}
+use Rattle.mh_runtime.specs.Bases.{pass_of}
+use Rattle.mh_runtime.specs.Linkers.{IsOf}
 use Rattle.mh_runtime.proofs.ForkedLanes.{joined-reported}
 use Rattle.mh_runtime.proofs.joining.PlanRunForkJoin.join.Goals as goal
 
 pub add-requires-clause-pass : goal.add-requires-clause-pass
 add-requires-clause-pass g c =
+    let is = c.requires.2.0 in
     let reported = c.requires.2.1.so_far in
-    record { leaves = c.requires.2.0; links = reported.linker_is; forms = reported.table_is; types = reported.types_is }
+    record { leaves = is.leaves; links = reported.linker_is ∙ is.links; forms = reported.table_is ∙ is.forms; types = reported.types_is ∙ is.types }
 
 pub add-requires-clause-lane : goal.add-requires-clause-lane
 add-requires-clause-lane g c =
+    let is = c.requires.2.0 in
     let ran = c.requires.4.1 in
-    record { leaves = c.requires.2.0; links = ran.linker_is; forms = ran.table_is; types = ran.types_is }
+    record { leaves = is.leaves; links = ran.linker_is ∙ is.links; forms = ran.table_is ∙ is.forms; types = ran.types_is ∙ is.types }
 
 pub returns : goal.returns
 returns g c = λ before after joined within done.
-    let linker = c.args.self.now.linker.now in
-    joined-reported g.J.Run.given linker.sites (tables_at linker.forms.now linker.types.now) c.args.self.now.plan.now before
-    after c.args.lane c.args.joined.now
-    c.add.new.self joined.1 within (linker.leaves.now ≡ g.J.Run.given.leaves) c.add.result joined.0 done c.add.ensures
+    let base : Pass _ = pass_of g.B.Based.base in
+    joined-reported g.J.Run.given base c.args.self.now.plan.now before after c.args.lane c.args.joined.now c.add.new.self joined.1 within
+    (IsOf g.J.Run.given c.args.self.now.linker.now base) c.add.result joined.0 done c.add.ensures

@@ -20,24 +20,24 @@ pub invariant_of-self-in-Ok-Mine : goal.invariant_of-self-in-Ok-Mine
 unfolding made
 invariant_of-self-in-Ok-Mine g c =
     let put = rw c.in-Ok-Mine.field-0-is at c.in-Ok-Mine.ensures.put in
-    pass-puts g.J.Run.given c.self.inside.walks c.put.new.self c.self.inside.attempts.items c.self.inside.recorded.items c.put.ensures.linked
+    pass-puts g.J.Run.given c.self.inside.known c.put.new.self c.self.inside.attempts.items c.self.inside.recorded.items c.put.ensures.linked
     c.self.invariant c.self.inside.thread c.args.linkage c.in-Ok-Mine.recorded.now (made g c) c.push_reserved.new.self.items
     (rw (← c.self.view_is) at c.requires.attempted) put.0 put.1 (made-is g c)
     (c.push_reserved.ensures.items ∙ ap (λ xs. xs ++ made g c ∷ []) c.reserve.ensures.items)
 
 pub invariant_of-self-in-Ok-Theirs : goal.invariant_of-self-in-Ok-Theirs
 invariant_of-self-in-Ok-Theirs g c = rw c.reserve.ensures.items
-    (pass-learns g.J.Run.given c.self.inside.walks c.put.new.self c.self.inside.attempts.items c.self.inside.recorded.items c.put.ensures.linked
+    (pass-learns g.J.Run.given c.self.inside.known c.put.new.self c.self.inside.attempts.items c.self.inside.recorded.items c.put.ensures.linked
     c.self.invariant)
 
 pub invariant_of-self-in-Err : goal.invariant_of-self-in-Err
 invariant_of-self-in-Err g c = rw c.reserve.ensures.items
-    (pass-learns g.J.Run.given c.self.inside.walks c.put.new.self c.self.inside.attempts.items c.self.inside.recorded.items c.put.ensures.linked
+    (pass-learns g.J.Run.given c.self.inside.known c.put.new.self c.self.inside.attempts.items c.self.inside.recorded.items c.put.ensures.linked
     c.self.invariant)
 
 pub returns-in-Ok-Mine-clause-learns : goal.returns-in-Ok-Mine-clause-learns
 returns-in-Ok-Mine-clause-learns g c = rw (← c.self.view_is) (record {
-  linker = ap (λ cs. record { chains = cs; serials = c.self.inside.seat.tickets }) c.put.ensures.chains;
+  linker = ap (λ cs. record { cells = cs; serials = c.self.inside.seat.tickets }) c.put.ensures.cells;
   thread = refl;
   linked = c.put.ensures.linked;
   attempts = refl;
@@ -53,7 +53,7 @@ returns-in-Ok-Mine-clause-types g c = rw (← c.self.view_is)
 
 pub returns-in-Ok-Theirs-clause-learns : goal.returns-in-Ok-Theirs-clause-learns
 returns-in-Ok-Theirs-clause-learns g c = rw (← c.self.view_is) (record {
-  linker = ap (λ cs. record { chains = cs; serials = c.self.inside.seat.tickets }) c.put.ensures.chains;
+  linker = ap (λ cs. record { cells = cs; serials = c.self.inside.seat.tickets }) c.put.ensures.cells;
   thread = refl;
   linked = c.put.ensures.linked;
   attempts = refl;
@@ -62,7 +62,7 @@ returns-in-Ok-Theirs-clause-learns g c = rw (← c.self.view_is) (record {
 
 pub returns-in-Err-clause-learns : goal.returns-in-Err-clause-learns
 returns-in-Err-clause-learns g c = rw (← c.self.view_is) (record {
-  linker = ap (λ cs. record { chains = cs; serials = c.self.inside.seat.tickets }) c.put.ensures.chains;
+  linker = ap (λ cs. record { cells = cs; serials = c.self.inside.seat.tickets }) c.put.ensures.cells;
   thread = refl;
   linked = c.put.ensures.linked;
   attempts = refl;

@@ -1,0 +1,3 @@
+pub mod PlacedValues
+pub mod Joining
+pub mod WorkedCells

@@ -1,0 +1,145 @@
+//! A first use of the library in a runtime of one's own: it reads leaves, scripts and a class file,
+//! and calls a call site of the class from two threads, which share a linker.
+#![tactic(auto)]
+
+ghost use Rattle.std.specs.Prelude.{◌≡◌, ◌≤◌, length};
+ghost use Rattle.mh_seats.specs.Room.{limit};
+ghost use Rattle.mh_intern.specs.Views as types_seat;
+ghost use Rattle.mh_tickets.specs.Seats as serials_seat;
+ghost use Rattle.mh_handle.specs.Seats as forms_seat;
+ghost use Rattle.mh_jobs.specs.Given.{AreJobs};
+ghost use Rattle.mh_runtime.specs.Input.{given_by};
+ghost use Rattle.mh_runtime.specs.Linkers.{HasRoom, IsOf};
+ghost use Rattle.mh_runtime.specs.Passes.{most_sites};
+
+use mh_base::NoMemory;
+use mh_classfile::read;
+use mh_form::Machine;
+use mh_jobs::{Jobs, Run, push_jobs};
+use mh_leaves::read_manifest;
+use mh_outside::{Inputs, OpenGate, read_whole, real_inputs, real_sink, write_whole};
+use mh_plan::Call;
+use mh_report::push_answer;
+use mh_runtime::{Linker, MOST_SITES, Pass, RunInput, Seats, Tables};
+use mh_script::read_scripts;
+use mh_texts::read_literal;
+use mh_values::Items;
+use std::alloc::Global;
+use std::marker::Brand;
+use std::process::ExitCode;
+use std::sync::Wait;
+use std::thread::{Threads, join_mut};
+
+/// What stops the program: a file that is not there or that is refused, a call that cannot be made,
+/// or want of memory, of forms or of types. A runtime would keep which.
+#[derive(Clone, Copy, Debug)]
+struct Stopped;
+
+impl From<NoMemory> for Stopped {
+    fn from(_: NoMemory) -> Self {
+        Stopped
+    }
+}
+
+// Calls site 0 with two values, and gives the line of the answer. The site is linked now, unless a
+// thread has linked it before.
+fn call<'s, 't, J: Run, R: Wait>(
+    rt: &R,
+    alloc: Global,
+    linker: &'s Linker<'t, J>,
+    pass: &mut Pass<'s, 't, J>,
+    words: [&[u8]; 2],
+) -> Result<Vec<u8>, Stopped>
+    requires pass { IsOf J.given linker.now pass.old }
+    requires room { HasRoom 1 pass.old }
+{
+    let classes = linker.leaves.classes();
+    let mut items = Items::new(alloc);
+    for word in words {
+        items.push(read_literal(alloc, word, classes).or(Err(Stopped))?)?;
+    }
+    let call = Call::Indy(0, items);
+    if !linker.can_make(&call) {
+        return Err(Stopped);
+    }
+    let mut machine = Machine::new(alloc);
+    let answer = linker.call(rt, &mut machine, pass, &OpenGate, &call);
+    let mut line = Vec::new(alloc);
+    push_answer(alloc, &mut line, &answer.or(Err(Stopped))?, classes)?;
+    Ok(line)
+}
+
+// Calls the site from two threads, each with a pass of its own.
+fn call_from_both<'s, 't, J: Run + Send + Sync, R: Threads + Wait + Sync>(
+    rt: &R,
+    alloc: Global,
+    linker: &'s Linker<'t, J>,
+    seats: Seats,
+) -> Result<Vec<u8>, Stopped>
+    requires leaves { linker.now.leaves.now ≡ J.given.leaves }
+    requires types { seats.types ≡ types_seat.new_seat linker.now.types.now limit }
+    requires forms { seats.forms ≡ forms_seat.new_seat linker.now.forms.now limit }
+    requires serials { seats.serials ≡ serials_seat.new_seat linker.now.sites.serials limit }
+{
+    let mut one = linker.first_pass(seats)?;
+    let mut two = linker.split(&mut one, 1)?;
+    let (first, second) = join_mut(
+        rt,
+        &mut || call(rt, alloc, linker, &mut one, [b"i:3", b"i:4"]),
+        &mut || call(rt, alloc, linker, &mut two, [b"i:10", b"i:10"]),
+    );
+    let mut lines = first?;
+    lines.extend_from_slice(&second?).or(Err(Stopped))?;
+    Ok(lines)
+}
+
+// Makes the tables that the threads share, and a linker over them.
+fn link_and_call<'a, J: Run + Send + Sync, R: Threads + Wait + Sync>(
+    rt: &R,
+    alloc: Global,
+    input: &'a RunInput<'a>,
+) -> Result<Vec<u8>, Stopped>
+    requires named { given_by input.now ≡ J.given }
+    requires jobs { AreJobs J.given }
+    requires few { length J.given.jobs ≤ most_sites }
+{
+    let (tables, seats) = Tables::new(alloc)?;
+    let linker = Linker::<J>::new(alloc, input, &tables)?;
+    call_from_both(rt, alloc, &linker, seats)
+}
+
+/// The bytes of a file, at most 1,048,576.
+fn file<I: Inputs>(alloc: Global, inputs: &mut I, name: &str) -> Result<Vec<u8>, Stopped> {
+    read_whole(alloc, inputs, name, 1 << 20).or(Err(Stopped))
+}
+
+/// A line for each thread's call.
+fn lines<R: Threads + Wait + Sync, I: Inputs>(
+    rt: &R,
+    alloc: Global,
+    inputs: &mut I,
+) -> Result<Vec<u8>, Stopped> {
+    let leaves = read_manifest(alloc, &file(alloc, inputs, "leaves.txt")?).or(Err(Stopped))?;
+    let scripts = read_scripts(alloc, &file(alloc, inputs, "scripts.txt")?).or(Err(Stopped))?;
+    let bytes = file(alloc, inputs, "Prices.class")?;
+    let class = read(alloc, &bytes, MOST_SITES).or(Err(Stopped))?;
+    let mut jobs = Jobs::new(alloc);
+    push_jobs(alloc, &mut jobs, &class, &scripts, &leaves)?;
+    if jobs.len() > MOST_SITES as usize {
+        return Err(Stopped);
+    }
+    let input = RunInput {
+        leaves: &leaves,
+        scripts: &scripts,
+        jobs: &jobs,
+    };
+    link_and_call::<Brand, R>(rt, alloc, &input)
+}
+
+fn main(rt: HostRuntime) -> ExitCode {
+    let mut inputs = real_inputs(rt.alloc(), &rt);
+    match lines(&rt, rt.alloc(), &mut inputs) {
+        Ok(text) if write_whole(&mut real_sink(&rt), &text).is_ok() => ExitCode::SUCCESS,
+        _ => ExitCode::FAILURE,
+    }
+}

@@ -1,0 +1,8 @@
+use Rattle.mh_runtime.proofs.SiteSerials.{finds-linkage, keeps-serials}
+use Rattle.mh_runtime.proofs.known_sites.KnownSites.find.Goals as goal
+
+pub returns-clause-linked : goal.returns-clause-linked
+returns-clause-linked g c = rw (← c.self.view_is) (keeps-serials c.self.inside.known c.find.new.self c.find.ensures.learns.values)
+
+pub returns-clause-found : goal.returns-clause-found
+returns-clause-found g c = finds-linkage c.find.new.self c.args.site c.find.result c.find.ensures.found

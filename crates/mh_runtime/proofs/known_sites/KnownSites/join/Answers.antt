@@ -1,0 +1,8 @@
+use Rattle.mh_runtime.proofs.SiteSerials.{keeps-serials}
+use Rattle.mh_runtime.proofs.known_sites.KnownSites.join.Goals as goal
+
+pub returns-clause-mine : goal.returns-clause-mine
+returns-clause-mine g c = rw (← c.self.view_is) (keeps-serials c.self.inside.known c.join.new.self c.join.ensures.mine)
+
+pub returns-clause-theirs : goal.returns-clause-theirs
+returns-clause-theirs g c = rw (← c.other.view_is) (keeps-serials c.other.inside.known c.join.new.self c.join.ensures.theirs)

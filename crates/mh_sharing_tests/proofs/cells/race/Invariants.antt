@@ -1,0 +1,5 @@
+use Rattle.std.proofs.Common.{}
+use Rattle.mh_sharing_tests.proofs.cells.race.Given as goal
+
+abbrev pub invariant-loop-key : goal.invariant-loop-key
+invariant-loop-key g l = Unit {0}

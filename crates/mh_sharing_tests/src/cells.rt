@@ -1,0 +1,135 @@
+ghost use Rattle.std.specs.Prelude.{◌≡◌, ◌<◌, ◌≤◌, length, IfOk};
+
+use crate::entry::{Entry, Single};
+use mh_base::NoMemory;
+use mh_cells::{Cells, Known};
+use mh_setonce::Put;
+use std::alloc::Global;
+use std::sync::Wait;
+use std::test::Fail;
+use std::thread;
+use std::thread::Threads;
+
+/// Puts an entry into the cell of its key, and answers who put the one that stands there; 0 where
+/// no memory is left.
+fn put<R: Wait>(rt: &R, alloc: Global, known: &mut Known<Entry<Single>>, key: u32, by: u32) -> u32
+    requires { key < length known.old.cells }
+    ensures { known.new.cells ≡ known.old.cells }
+{
+    match known.put(rt, alloc, key, Entry::new(key, by)) {
+        Ok(Put::Mine(entry)) => entry.by,
+        Ok(Put::Theirs(entry, _)) => entry.by,
+        Err(_) => 0,
+    }
+}
+
+/// Who put the entry that was learnt of this key; 0 where none was learnt.
+fn seen(known: &Known<Entry<Single>>, key: u32) -> u32
+    requires { key < length known.now.cells }
+{
+    match known.seen(key) {
+        Some(entry) => entry.by,
+        None => 0,
+    }
+}
+
+/// Who put the entry of this key, if it was learnt or its cell shows it; 0 where none is found.
+fn found(known: &mut Known<Entry<Single>>, key: u32) -> u32
+    requires { key < length known.old.cells }
+    ensures { known.new.cells ≡ known.old.cells }
+{
+    match known.find(key) {
+        Some(entry) => entry.by,
+        None => 0,
+    }
+}
+
+#[test]
+fn what_one_has_put_another_one_finds(rt: HostRuntime) -> Result<(), Fail> {
+    let alloc = rt.alloc();
+    let cells: Cells<Entry<Single>> = Cells::new(alloc, 4)?;
+    let mut first = Known::new(alloc, &cells)?;
+    let mut second = Known::new(alloc, &cells)?;
+    assert!(rt; put(&rt, alloc, &mut first, 3, 1) == 1 && seen(&first, 3) == 1);
+    assert!(rt; seen(&second, 3) == 0 && found(&mut second, 3) == 1 && seen(&second, 3) == 1);
+    assert!(rt; found(&mut second, 2) == 0);
+    Ok(())
+}
+
+#[test]
+fn a_cell_that_is_set_is_not_set_again(rt: HostRuntime) -> Result<(), Fail> {
+    let alloc = rt.alloc();
+    let cells: Cells<Entry<Single>> = Cells::new(alloc, 1)?;
+    let mut first = Known::new(alloc, &cells)?;
+    let mut second = Known::new(alloc, &cells)?;
+    assert!(rt; put(&rt, alloc, &mut first, 0, 1) == 1);
+    assert!(rt; put(&rt, alloc, &mut second, 0, 2) == 1 && put(&rt, alloc, &mut first, 0, 3) == 1);
+    Ok(())
+}
+
+#[test]
+fn a_copy_learns_on_its_own(rt: HostRuntime) -> Result<(), Fail> {
+    let alloc = rt.alloc();
+    let cells: Cells<Entry<Single>> = Cells::new(alloc, 4)?;
+    let mut known = Known::new(alloc, &cells)?;
+    assert!(rt; put(&rt, alloc, &mut known, 0, 1) == 1);
+    let mut copy = known.copy(alloc)?;
+    assert!(rt; put(&rt, alloc, &mut copy, 1, 2) == 2);
+    assert!(rt; seen(&copy, 0) == 1 && seen(&known, 1) == 0);
+    known.join(copy);
+    assert!(rt; seen(&known, 0) == 1 && seen(&known, 1) == 2 && seen(&known, 2) == 0);
+    Ok(())
+}
+
+/// Puts an entry of each key below a count for which there is a cell.
+fn put_all<'t, R: Wait>(
+    rt: &R,
+    alloc: Global,
+    cells: &'t Cells<Entry<Single>>,
+    count: u32,
+    by: u32,
+) -> Result<Known<'t, Entry<Single>>, NoMemory>
+    ensures { IfOk result (λ known. known.cells ≡ cells.entry.now) }
+{
+    let mut known = Known::new(alloc, cells)?;
+    for key in 0..count {
+        if (key as usize) < known.len() {
+            put(rt, alloc, &mut known, key, by);
+        }
+    }
+    Ok(known)
+}
+
+/// Whether two threads that put an entry of each key have learnt the same entry of each.
+fn race<R: Threads + Wait + Sync>(
+    rt: &R,
+    alloc: Global,
+    cells: &Cells<Entry<Single>>,
+    count: u32,
+) -> Result<bool, NoMemory>
+    requires { count ≤ length cells.now }
+{
+    let (a, b) = thread::join(
+        rt,
+        move || -> Result<Known<Entry<Single>>, NoMemory>
+            ensures { IfOk result (λ known. known.cells ≡ cells.entry.now) }
+        { put_all(rt, alloc, cells, count, 1) },
+        move || -> Result<Known<Entry<Single>>, NoMemory>
+            ensures { IfOk result (λ known. known.cells ≡ cells.entry.now) }
+        { put_all(rt, alloc, cells, count, 2) },
+    );
+    let (a, b) = (a?, b?);
+    for key in 0..count {
+        if seen(&a, key) == 0 || seen(&a, key) != seen(&b, key) {
+            return Ok(false);
+        }
+    }
+    Ok(true)
+}
+
+#[test]
+fn threads_that_race_for_cells_have_the_same_entries(rt: HostRuntime) -> Result<(), Fail> {
+    let cells: Cells<Entry<Single>> = Cells::new(rt.alloc(), 300)?;
+    assert!(rt; race(&rt, rt.alloc(), &cells, 300)?);
+    Ok(())
+}
