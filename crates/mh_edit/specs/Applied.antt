@@ -16,34 +16,34 @@ use Rattle.mh_edit.specs.declared.key.RetEntry.TheVariants as entry
 use Rattle.mh_edit.specs.Fit.{taken_by}
 use Rattle.mh_edit.specs.Rename.{reframed, edited, ending_with}
 
--- what stands for the result of a part: nothing where the part is void
+-- what stands for the result of a part: nothing if the part is void
 abbrev pub given : {A : Type 0} → BasicRet → A → List A
 given basic_ret.V a = []
 given (basic_ret.Is b) a = a ∷ []
 
--- the place of a result: none where it is void
+-- the place of a result: none if it is void
 abbrev pub out_of : BasicRet → ℕ → Option ℕ
 out_of basic_ret.V p = None
 out_of (basic_ret.Is b) p = Some p
 
--- the name of a conversion: both basic types are those of references, or not
+-- the name of a conversion: a cast if both basic types are those of references, otherwise a conversion
 abbrev pub conv_name : Basic → Basic → ℕ → ℕ → Name
 conv_name basic.L basic.L f i = name.Cast f i
 conv_name b c f i = name.Conv f i
 
--- a name for each entry, from a field and a place on
+-- one conversion for each entry; fields are counted from `f`, places from `i`
 abbrev pub conv_names : List (Option Basic) → List Basic → ℕ → ℕ → List Name
 conv_names (None ∷ entries) (c ∷ params) f i = conv_names entries params f (i + 1)
 conv_names (Some b ∷ entries) (c ∷ params) f i = conv_name b c f i ∷ conv_names entries params (f + 1) (i + 1)
 conv_names _ _ f i = []
 
--- where the old parameters stand: at their place, or where they are made
+-- where the old parameters stand: at their own place, or at the slot of their conversion
 abbrev pub conv_table : List (Option Basic) → ℕ → ℕ → List ℕ
 conv_table [] i made = []
 conv_table (None ∷ entries) i made = i ∷ conv_table entries (i + 1) made
 conv_table (Some b ∷ entries) i made = made ∷ conv_table entries (i + 1) (made + 1)
 
--- the new parameters
+-- the parameters before conversion: an entry gives its basic type, and no entry leaves the old one
 abbrev pub conv_params : List (Option Basic) → List Basic → List Basic
 conv_params (None ∷ entries) (c ∷ params) = c ∷ conv_params entries params
 conv_params (Some b ∷ entries) (c ∷ params) = b ∷ conv_params entries params
@@ -65,17 +65,17 @@ converting entries body =
 abbrev pub finishing : (Option ℕ → Name) → BasicRet → FormBody → FormBody
 finishing last ret body = ending_with body (last body.out) (out_of ret (length body.params + length body.names))
 
--- a body with its result converted, where there is an entry
+-- a body with its result converted, if there is an entry
 abbrev pub returning : RetEntry → FormBody → FormBody
 returning entry.Keep body = body
 returning (entry.New ret) body = finishing (name.Ret body.fields) ret body
 
--- the places of a result, if any
+-- the place of a result as a list: empty if there is no result
 abbrev pub places_of : Option ℕ → List ℕ
 places_of None = []
 places_of (Some p) = p ∷ []
 
--- an element of the array at a place, for each of so many items from one on
+-- one name for each of `count` items of the array at a place, beginning at item `from`
 abbrev pub elem_names : ℕ → ℕ → ℕ → List Name
 elem_names array from count = map (λ k. name.Elem array k) (range_with_len from count)
 
@@ -83,7 +83,7 @@ elem_names array from count = map (λ k. name.Elem array k) (range_with_len from
 abbrev pub all_places : Shape → List ℕ
 all_places shape = range_with_len 0 (length shape.params)
 
--- runs one name, which gives the result
+-- a body of one name, which gives the result
 abbrev pub named_body : Shape → ℕ → Name → FormBody
 named_body shape fields name = record { params = shape.params; fields = fields; names = name ∷ []; out = out_of shape.ret (length shape.params) }
 
@@ -122,43 +122,43 @@ catch_body shape handler = named_body shape 3 (name.Guarded 0 1 2 (all_places sh
 abbrev pub concat_body : Shape → FormBody
 concat_body shape = named_body shape 1 (name.Join 0 (all_places shape))
 
--- a constant for a parameter
+-- a body with a constant in place of a parameter
 abbrev pub binding : ℕ → FormBody → FormBody
 binding pos body = edited body pos 1 [] (name.Get body.fields ∷ []) ((length body.params - 1) ∷ []) 1
 
--- parameters put in
+-- a body with parameters added, which it does not use
 abbrev pub adding : ℕ → List Basic → FormBody → FormBody
 adding pos basics body = edited body pos 0 basics [] [] 0
 
--- parameters replaced
+-- a body with its parameters replaced: the old parameter i is the new one at `reorder[i]`
 abbrev pub permuting : List Basic → List ℕ → FormBody → FormBody
 permuting basics reorder body = reframed body basics [] reorder 0
 
--- a part on parameters that are put in, and its result for one
+-- a body that first runs a part on added parameters; the part's result takes the place of one parameter
 abbrev pub collecting : ℕ → List Basic → BasicRet → FormBody → FormBody
 collecting pos basics ret body =
     edited body pos (taken_by ret) basics
     (name.Link body.fields (range_with_len pos (length basics)) ∷ [])
     (given ret (length body.params + length basics - taken_by ret)) 1
 
--- a part on parameters that stay, and its result for one before them
+-- a body that first runs a part on parameters that stay; the part's result takes the place of one before them
 abbrev pub folding : ℕ → ℕ → BasicRet → FormBody → FormBody
 folding pos count ret body =
     edited body pos (taken_by ret) []
     (name.Link body.fields (range_with_len pos count) ∷ [])
     (given ret (length body.params - taken_by ret)) 1
 
--- a part on the result
+-- a body that last runs a part on its result
 abbrev pub filtering : BasicRet → FormBody → FormBody
 filtering ret body = finishing (λ out. name.Link body.fields (places_of out)) ret body
 
--- an array for the last parameters, whose items it gives
+-- a body with one array in place of its last parameters, which are the array's items
 abbrev pub spreading : ℕ → FormBody → FormBody
 spreading count body =
     let pos = length body.params - count in
     edited body pos count (basic.L ∷ []) (name.CheckArray pos count ∷ elem_names pos 0 count) (range_with_len (pos + 2) count) 0
 
--- the items of the last parameter for it, as an array
+-- a body with parameters in place of its last one, which is the array of them
 abbrev pub gathering : ℕ → Basic → FormBody → FormBody
 gathering count b body =
     let pos = length body.params - 1 in

@@ -17,7 +17,7 @@ is_same_basic basic.I basic.I = true
 is_same_basic basic.J basic.J = true
 is_same_basic _ _ = false
 
--- the body of which roots make a form: it takes nothing, has nothing and does nothing
+-- the body that a root starts from: it has no parameters, fields, names or result
 abbrev pub is_nothing : FormBody → Bool
 is_nothing body = length body.params == 0 && (body.fields == 0 && (length body.names == 0 && not (is_some body.out)))
 
@@ -25,27 +25,27 @@ is_nothing body = length body.params == 0 && (body.fields == 0 && (length body.n
 abbrev pub is_basic_at : List Basic → ℕ → Basic → Bool
 is_basic_at params place b = option_map_or (is_same_basic b) (slice_get params place) false
 
--- how many parameters the result of a part stands for
+-- how many parameters the result of a part takes the place of: none if it is void
 abbrev pub taken_by : BasicRet → ℕ
 taken_by basic_ret.V = 0
 taken_by (basic_ret.Is b) = 1
 
--- the result of a part can stand at a position: for the parameter there, or for nothing
+-- the result of a part can be put at a position: it has the basic type of the parameter there, or is void
 abbrev pub takes_result : List Basic → ℕ → BasicRet → Bool
 takes_result params pos basic_ret.V = nat_le pos (length params)
 takes_result params pos (basic_ret.Is b) = is_basic_at params pos b
 
--- there is a place for each parameter, and the parameter there has its basic type
+-- an order names one new parameter for each old one, of the same basic type
 abbrev pub names_each : List Basic → List ℕ → List Basic → Bool
 names_each basics [] params = length params == 0
 names_each basics (r ∷ reorder) [] = false
 names_each basics (r ∷ reorder) (b ∷ params) = is_basic_at basics r b && names_each basics reorder params
 
--- the last parameters, so many, have this basic type
+-- the last `count` parameters have this basic type
 abbrev pub ends_with : List Basic → ℕ → Basic → Bool
 ends_with params count b = nat_le count (length params) && list_all (is_same_basic b) (drop (length params - count) params)
 
--- a root fits the body that is nothing, and any other key a body that was made
+-- a root fits only the empty body; any other key fits only a body that was made, and has what the key needs
 abbrev pub fits : Key → FormBody → Bool
 fits (key.LeafRoot shape) body = is_nothing body
 fits (key.ConstRoot b) body = is_nothing body

@@ -1,4 +1,4 @@
--- What each key does to the run of a body.
+-- The law of each key: what the run of the new body is, given the run of the old one.
 use Rattle.std.specs.Prelude.{ℕ, ◌+◌, ◌-◌, ◌≡◌, List, [], ◌∷◌, ◌++◌, Option, Some, None, take, drop, length, map, slice_get, if◌then◌else◌}
 use Rattle.std.specs.declared.sync.Arc.{Arc}
 use Rattle.std.specs.declared.alloc.Global.{Global}
@@ -29,12 +29,12 @@ use Rattle.mh_edit.specs.declared.key.RetEntry.TheVariants as entry
 use Rattle.mh_edit.specs.Applied.{conv_count, given}
 use Rattle.mh_edit.specs.Fit.{taken_by}
 
--- a result as one of a basic return type: nothing where that is void, and a slot else
+-- a result, adapted to a basic return type: nothing if that is void, otherwise a slot
 abbrev pub result_as : BasicRet → Option Slot → Option Slot
 result_as basic_ret.V r = None
 result_as (basic_ret.Is b) r = Some (none_as_zero r)
 
--- a run whose result is one of a basic return type
+-- a run whose result is adapted to a basic return type
 abbrev pub returned : BasicRet → Ran (Option Slot) → Ran (Option Slot)
 returned ret r = mapped (result_as ret) r
 
@@ -43,7 +43,7 @@ abbrev pub slots_of_result : Option Slot → List Slot
 slots_of_result None = []
 slots_of_result (Some s) = s ∷ []
 
--- the arguments that have an entry are converted from left to right, each by the next conversion; the first exception ends
+-- Converts the arguments that have an entry, from left to right, each by the next conversion. The first exception ends the run.
 abbrev pub converting_slots : {B : Type 0} → List (Option Basic) → List (Slot → Ran Slot) → List Slot → ℕ → (List Slot → ℕ → Ran B) → Ran B
 converting_slots [] convs [] n next = next [] n
 converting_slots (None ∷ entries) convs (x ∷ xs) n next = converting_slots entries convs xs n (λ ys k. next (x ∷ ys) k)
@@ -51,38 +51,38 @@ converting_slots (Some b ∷ entries) (conv ∷ convs) (x ∷ xs) n next =
     and_then (conv x) n (λ y k. converting_slots entries convs xs k (λ ys m. next (y ∷ ys) m))
 converting_slots _ _ _ n next = Stuck
 
--- the fields of a return conversion: one where there is an entry
+-- the fields of a return conversion: one if there is an entry
 abbrev pub ret_fields : RetEntry → RetConv → List Field
 ret_fields entry.Keep c = []
 ret_fields (entry.New ret) c = field.Ret c ∷ []
 
--- a result, converted where there is an entry
+-- a result, converted if there is an entry
 abbrev pub ret_entry_on : LeafTable → RetEntry → RetConv → Option Slot → Ran (Option Slot)
 ret_entry_on table entry.Keep c r = Gave r []
 ret_entry_on table (entry.New ret) c r = returned ret (ret_converted table.classes c r)
 
--- a leaf, on all arguments
+-- the new body calls the leaf in its field on all arguments
 abbrev pub LeafRootLaw : List Basic → BasicRet → FormBody → Type 0
 LeafRootLaw params ret new =
     (table : LeafTable) (l : LeafId) (args : List Slot) (n : ℕ) →
     length args ≡ length params →
     Refines (returned ret (called table l args n)) (run_on table new (field.Leaf l ∷ []) args n)
 
--- the slot of the field
+-- the new body gives the slot in its field
 abbrev pub ConstRootLaw : FormBody → Type 0
 ConstRootLaw new =
     (table : LeafTable) (s : Slot) (n : ℕ) → run_on table new (field.Val s ∷ []) [] n ≡ Gave (Some s) []
 
--- the argument
+-- the new body gives its argument
 abbrev pub IdentityRootLaw : FormBody → Type 0
 IdentityRootLaw new = (table : LeafTable) (s : Slot) (n : ℕ) → run_on table new [] (s ∷ []) n ≡ Gave (Some s) []
 
--- throws the argument
+-- the new body throws its argument
 abbrev pub ThrowRootLaw : FormBody → Type 0
 ThrowRootLaw new =
     (table : LeafTable) (s : Slot) (n : ℕ) → Refines (raised_slot s) (run_on table new [] (s ∷ []) n)
 
--- a test on the first arguments, and then one of two parts on all
+-- the new body runs a test on the first arguments, and then one of two parts on all arguments
 abbrev pub GuardRootLaw : List Basic → BasicRet → ℕ → FormBody → Type 0
 GuardRootLaw params ret test new =
     (table : LeafTable) (c t e : Arc Bound Global) (args : List Slot) (n : ℕ) →
@@ -92,7 +92,8 @@ GuardRootLaw params ret test new =
     (λ s k. returned ret (run_bound table (if holds_one s then t.value else e.value) args k)))
     (run_on table new (field.Part c ∷ field.Part t ∷ field.Part e ∷ []) args n)
 
--- a part on all arguments; where it throws an exception of the class or below it, the handler on that and the first arguments
+-- The new body runs a part on all arguments. If the part throws an exception of the class or below it,
+-- the handler runs on the exception and the first arguments.
 abbrev pub CatchRootLaw : List Basic → BasicRet → ℕ → FormBody → Type 0
 CatchRootLaw params ret kept new =
     (table : LeafTable) (t : Arc Bound Global) (c : ClassId) (h : Arc Bound Global) (args : List Slot) (n : ℕ) →
@@ -103,14 +104,14 @@ CatchRootLaw params ret kept new =
     (λ e k. run_bound table h.value (slot.L (value.Thrown e) ∷ take kept args) k)))
     (run_on table new (field.Part t ∷ field.Class c ∷ field.Part h ∷ []) args n)
 
--- the pieces, joined with all arguments
+-- the new body joins the pieces with all arguments
 abbrev pub ConcatRootLaw : List Basic → BasicRet → FormBody → Type 0
 ConcatRootLaw params ret new =
     (table : LeafTable) (pieces : List Piece) (args : List Slot) (n : ℕ) →
     length args ≡ length params →
     Refines (returned ret (mapped Some (joined_slots table.classes pieces args))) (run_on table new (field.Joined pieces ∷ []) args n)
 
--- the old body on the arguments with the slot of the field put in
+-- the new body runs the old one on its arguments and, at the position, the slot in the new field
 abbrev pub BindLaw : ℕ → FormBody → FormBody → Type 0
 BindLaw pos old new =
     (table : LeafTable) (fields : List Field) (s : Slot) (args : List Slot) (n : ℕ) →
@@ -120,7 +121,7 @@ BindLaw pos old new =
     (run_on table old fields (spliced pos 0 (s ∷ []) args) n)
     (run_on table new (fields ++ field.Val s ∷ []) args n)
 
--- the old body on the arguments without the new ones
+-- the new body runs the old one on its arguments without those that were added
 abbrev pub AddLaw : ℕ → ℕ → FormBody → FormBody → Type 0
 AddLaw pos put old new =
     (table : LeafTable) (fields : List Field) (args : List Slot) (n : ℕ) →
@@ -128,7 +129,7 @@ AddLaw pos put old new =
     length args ≡ length old.params + put →
     Refines (run_on table old fields (spliced pos put [] args) n) (run_on table new fields args n)
 
--- the old body on the arguments that are named
+-- the new body runs the old one on the arguments that the order names
 abbrev pub PermuteLaw : ℕ → List ℕ → FormBody → FormBody → Type 0
 PermuteLaw count reorder old new =
     (table : LeafTable) (fields : List Field) (args : List Slot) (n : ℕ) →
@@ -136,7 +137,7 @@ PermuteLaw count reorder old new =
     length args ≡ count →
     Refines (found (picked args reorder) (λ xs. run_on table old fields xs n)) (run_on table new fields args n)
 
--- a part on its arguments, and then the old body with the result in their place, or without them where it is void
+-- The new body runs a part on some arguments, and then the old body with the part's result in their place. A void part leaves nothing there.
 abbrev pub CollectLaw : ℕ → ℕ → BasicRet → FormBody → FormBody → Type 0
 CollectLaw pos put ret old new =
     (table : LeafTable) (fields : List Field) (part : Arc Bound Global) (args : List Slot) (n : ℕ) →
@@ -147,7 +148,8 @@ CollectLaw pos put ret old new =
     (λ s k. run_on table old fields (spliced pos put (given ret s) args) k))
     (run_on table new (fields ++ field.Part part ∷ []) args n)
 
--- a part on arguments from a position on, and then the old body with the result put in there, or with nothing put in where it is void
+-- The new body runs a part on some arguments from a position on, and then the old body with the part's result put in there.
+-- A void part puts in nothing.
 abbrev pub FoldLaw : ℕ → ℕ → BasicRet → FormBody → FormBody → Type 0
 FoldLaw pos count ret old new =
     (table : LeafTable) (fields : List Field) (part : Arc Bound Global) (args : List Slot) (n : ℕ) →
@@ -158,7 +160,7 @@ FoldLaw pos count ret old new =
     (λ s k. run_on table old fields (spliced pos 0 (given ret s) args) k))
     (run_on table new (fields ++ field.Part part ∷ []) args n)
 
--- the old body, and then a part on its result, if any
+-- the new body runs the old one, and then a part on its result, if any
 abbrev pub FilterReturnLaw : BasicRet → FormBody → FormBody → Type 0
 FilterReturnLaw ret old new =
     (table : LeafTable) (fields : List Field) (part : Arc Bound Global) (args : List Slot) (n : ℕ) →
@@ -169,7 +171,7 @@ FilterReturnLaw ret old new =
     (λ r k. returned ret (run_bound table part.value (slots_of_result r) k)))
     (run_on table new (fields ++ field.Part part ∷ []) args n)
 
--- the arguments that have an entry converted, then the old body, and then the result converted
+-- the new body converts the arguments that have an entry, runs the old body, and converts its result
 abbrev pub ConvertLaw : List (Option Basic) → RetEntry → FormBody → FormBody → Type 0
 ConvertLaw entries ret old new =
     (table : LeafTable) (fields : List Field) (convs : List Conv) (c : RetConv) (args : List Slot) (n : ℕ) →
@@ -181,7 +183,7 @@ ConvertLaw entries ret old new =
     (λ xs k. and_then (run_on table old fields xs k) k (λ r m. ret_entry_on table ret c r)))
     (run_on table new (fields ++ (map (λ d. field.Conv d) convs ++ ret_fields ret c)) args n)
 
--- the items of the argument at a position, checked to be so many, and then the old body with them in its place
+-- the new body checks that the array at a position has `count` items, and runs the old body with these items in the array's place
 abbrev pub SpreadLaw : ℕ → ℕ → FormBody → FormBody → Type 0
 SpreadLaw pos count old new =
     (table : LeafTable) (fields : List Field) (args : List Slot) (n : ℕ) →
@@ -191,7 +193,7 @@ SpreadLaw pos count old new =
     (found (slice_get args pos) (λ s. and_then (spread_slots count s) n (λ items k. run_on table old fields (spliced pos 1 items args) k)))
     (run_on table new fields args n)
 
--- the array of the arguments from a position on, so many, and then the old body with it in their place
+-- the new body makes an array of `count` arguments from a position on, and runs the old body with the array in their place
 abbrev pub GatherLaw : ℕ → ℕ → FormBody → FormBody → Type 0
 GatherLaw pos count old new =
     (table : LeafTable) (fields : List Field) (c : Comp) (args : List Slot) (n : ℕ) →
@@ -202,7 +204,8 @@ GatherLaw pos count old new =
     (λ s k. run_on table old fields (spliced pos count (s ∷ []) args) k))
     (run_on table new (fields ++ field.Comp c ∷ []) args n)
 
--- the run of the new body by the run of the old body: that it is well formed where all that runs is well formed, and what it then gives
+-- The law of a key: for all arguments and fields, what the run of the new body is, given the run of the old one.
+-- `Refines` claims nothing if the run that it names first is stuck, as that of an ill-formed part is.
 abbrev pub Law : Key → FormBody → FormBody → Type 0
 Law (key.LeafRoot shape) old new = LeafRootLaw shape.params shape.ret new
 Law (key.ConstRoot b) old new = ConstRootLaw new

@@ -1,4 +1,4 @@
--- Bodies in which new parameters and names stand before the old names, or a name after them, with the old places renamed.
+-- How an edit places new names: before the old names, whose places are then renamed, or one name after them.
 use Rattle.std.specs.Prelude.{ℕ, ◌+◌, ◌-◌, List, [], ◌∷◌, ◌++◌, length, Option, map, nat_lt, if◌then◌else◌, slice_index}
 use Rattle.std.specs.List.{range_with_len}
 use Rattle.std.specs.Option.{option_map}
@@ -24,11 +24,11 @@ renamed to (Elem i k) = Elem (to i) k
 renamed to (Join f args) = Join f (map to args)
 renamed to (Raise i) = Raise (to i)
 
--- the new place of an old one: a table has those of the old parameters, and what the old names put comes from a base on
+-- The new place of an old one. The table has the new places of the old parameters. Slots of the old names begin at the base.
 abbrev pub place_by : List ℕ → ℕ → ℕ → ℕ
 place_by table base p = if nat_lt p (length table) then slice_index table p else (p - length table) + base
 
--- new parameters, names before the old ones, and more fields; the table has the new places of the old parameters
+-- a body with new parameters, names before the old ones, and more fields; the table has the new places of the old parameters
 abbrev pub reframed : FormBody → List Basic → List Name → List ℕ → ℕ → FormBody
 reframed body params before table more =
     let to = place_by table (length params + length before) in
@@ -39,16 +39,17 @@ reframed body params before table more =
       out = option_map to body.out;
     }
 
--- places in a list of which some are put in, and some stand in the middle for those that were taken out
+-- The new places of the old parameters: those before `pos` keep theirs, those after it move by `put`.
+-- The places in the middle stand for the parameters that were taken out.
 abbrev pub table : ℕ → ℕ → List ℕ → ℕ → List ℕ
 table pos put mid rest = range_with_len 0 pos ++ (mid ++ range_with_len (pos + put) rest)
 
--- parameters put in for those that are taken out from a position on, and names before the old ones, which make what stands for those
+-- A body with new parameters in place of those taken out at a position. The names before the old ones compute what the old body takes there.
 abbrev pub edited : FormBody → ℕ → ℕ → List Basic → List Name → List ℕ → ℕ → FormBody
 edited body pos taken basics before mid more =
     reframed body (spliced pos taken basics body.params) before (table pos (length basics) mid (length body.params - (pos + taken))) more
 
--- one name and one field more, and the result at another place
+-- a body with one more name and field, and its result at another place
 abbrev pub ending_with : FormBody → Name → Option ℕ → FormBody
 ending_with body name out =
     record {

@@ -17,7 +17,7 @@ use mh_base::{Copied, NoMemory, Seq};
 use mh_form::{Basic, BasicRet, Basics, FormBody, Name, Names, Operands};
 use std::alloc::Global;
 
-/// The place of what stands for the result of a part, if anything does.
+/// The place of a part's result as a list, which is empty if the part is void.
 fn given(alloc: Global, ret: BasicRet, place: u32) -> Result<Operands, NoMemory>
     ensures { IfOk result (λ places. places ≡ given ret place) }
 {
@@ -121,7 +121,7 @@ fn folding(
     edited(alloc, body, splice, part, made, 1)
 }
 
-/// The places of a result, if there is one.
+/// The place of a result as a list, which is empty if there is no result.
 fn places_of(alloc: Global, out: Option<u32>) -> Result<Operands, NoMemory>
     ensures { IfOk result (λ places. places ≡ places_of out) }
 {
@@ -164,7 +164,7 @@ fn spreading(alloc: Global, body: &FormBody, count: u8) -> Result<FormBody, NoMe
     edited(alloc, body, splice, before, items, 0)
 }
 
-/// The same basic type so many times.
+/// The same basic type, `count` times.
 fn repeated(alloc: Global, count: u8, basic: Basic) -> Result<Basics, NoMemory>
     ensures { IfOk result (λ basics. basics ≡ replicate count basic) }
 {
@@ -175,7 +175,7 @@ fn repeated(alloc: Global, count: u8, basic: Basic) -> Result<Basics, NoMemory>
     Ok(basics)
 }
 
-/// A name that makes an array of so many slots from a place on.
+/// A name that makes an array of `count` slots from a place on.
 fn array_name(alloc: Global, comp: u32, from: u32, count: u8) -> Result<Names, NoMemory>
     ensures { IfOk result (λ names. names ≡ MakeArray comp (range_with_len from count) ∷ []) }
 {
@@ -234,9 +234,9 @@ fn body_of(alloc: Global, body: &FormBody, key: &Key) -> Result<FormBody, NoMemo
     }
 }
 
-/// The body that a key makes of another, which it fits: exactly this one, so that forms can be
-/// found by their keys, and what its run is by that of the other. A body whose numbers need more
-/// than 32 bits is out of memory's reach.
+/// The body that a key makes of a body that it fits. It is exactly the body of the definition, so
+/// forms can be found by their keys. The second clause is the key's law: what the new body's run
+/// is, given the old body's run. A body whose numbers need more than 32 bits answers `NoMemory`.
 pub fn apply(alloc: Global, body: &FormBody, key: &Key) -> Result<FormBody, NoMemory>
     requires { IsTrue (fits key.now body.now) }
     ensures exact { IfOk result (λ new. new ≡ applied key.now body.now) }

@@ -14,7 +14,7 @@ fn is_same_basic(a: Basic, b: Basic) -> bool
     }
 }
 
-/// Whether a body is that of which roots make forms.
+/// Whether a body is the empty one, from which roots start.
 fn is_nothing(body: &FormBody) -> bool
     ensures { result ≡ is_nothing body.now }
 {
@@ -30,7 +30,7 @@ fn is_basic_at(params: &[Basic], place: usize, basic: Basic) -> bool
     }
 }
 
-/// How many parameters the result of a part stands for.
+/// How many parameters the result of a part takes the place of: none if it is void.
 pub(crate) fn taken_by(ret: BasicRet) -> u8
     ensures { result ≡ taken_by ret }
 {
@@ -79,8 +79,8 @@ fn ends_with(params: &[Basic], count: usize, basic: Basic) -> bool
     are_all(&params[front..], basic)
 }
 
-/// Whether a key fits a body: a root fits `FormBody::nothing`, and any other key a body that was
-/// made, whose parameters have what the key takes.
+/// Whether a key fits a body. A root fits only `FormBody::nothing`. Any other key fits only a body
+/// that was made, if its parameters have the positions and basic types that the key needs.
 pub fn key_fits(body: &FormBody, key: &Key) -> bool
     ensures { result ≡ fits key.now body.now }
 {

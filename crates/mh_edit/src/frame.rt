@@ -1,4 +1,4 @@
-//! Bodies with names before the old ones, or a name after them.
+//! Bodies with new names: before the old ones, or one after them.
 
 ghost use Rattle.std.specs.Prelude.{◌≡◌, ◌+◌, ◌-◌, ◌≤◌, ◌++◌, IfOk, length};
 ghost use Rattle.mh_values.specs.Computation.{spliced};
@@ -15,7 +15,7 @@ use mh_base::{NoMemory, Seq};
 use mh_form::{Basic, BasicRet, Basics, FormBody, Name, Names, Operands};
 use std::alloc::Global;
 
-/// Parameters that are taken out from a position on, and put in there.
+/// At a position, `taken` parameters are replaced by the parameters `basics`.
 #[derive(Clone, Copy)]
 pub(crate) struct Splice<'a> {
     pub(crate) pos: u32,
@@ -23,7 +23,7 @@ pub(crate) struct Splice<'a> {
     pub(crate) basics: &'a Basics,
 }
 
-/// The place of a result, which a void one lacks.
+/// The place of a result, or `None` if it is void.
 pub(crate) fn out_of(ret: BasicRet, place: u32) -> Option<u32>
     ensures { result ≡ out_of ret place }
 {
@@ -33,8 +33,8 @@ pub(crate) fn out_of(ret: BasicRet, place: u32) -> Option<u32>
     }
 }
 
-/// New parameters, names before the old ones, and more fields. The table has the new places of the
-/// old parameters.
+/// A body with new parameters, names before the old ones, and more fields. The table has the new
+/// places of the old parameters.
 pub(crate) fn reframed(
     alloc: Global,
     body: &FormBody,
@@ -83,8 +83,8 @@ fn spliced(alloc: Global, params: &Basics, splice: Splice<'_>) -> Result<Basics,
     Ok(new)
 }
 
-/// Parameters spliced, and names before the old ones. The places in the middle stand for the
-/// parameters that are taken out.
+/// A body with some parameters replaced, and names before the old ones. The places in the middle
+/// stand for the parameters that are taken out.
 pub(crate) fn edited(
     alloc: Global,
     body: &FormBody,
@@ -102,7 +102,7 @@ pub(crate) fn edited(
     reframed(alloc, body, params, before, places.as_slice(), more)
 }
 
-/// The new places of parameters that are spliced.
+/// The new places of the old parameters when some are replaced.
 fn spliced_table(
     alloc: Global,
     params: &Basics,
@@ -120,7 +120,7 @@ fn spliced_table(
     table(alloc, splice.pos, put, mid, rest)
 }
 
-/// One name more, which takes the result, and one field more.
+/// A body with one more name, which takes the result, and one more field.
 pub(crate) fn finished(body: FormBody, last: Name, ret: BasicRet) -> Result<FormBody, NoMemory>
     ensures { IfOk result (λ new. new ≡ ending_with body last
         (out_of ret (length body.params + length body.names))) }
@@ -141,7 +141,7 @@ pub(crate) fn finished(body: FormBody, last: Name, ret: BasicRet) -> Result<Form
     })
 }
 
-/// The new places of parameters that are converted, where they have an entry.
+/// The new places of parameters: those that have an entry are at the slots of their conversions.
 fn conv_places(alloc: Global, entries: &[Option<Basic>], made: u32) -> Result<Operands, NoMemory>
     ensures { IfOk result (λ places. places ≡ conv_table entries.now 0 made) }
 {
@@ -150,7 +150,7 @@ fn conv_places(alloc: Global, entries: &[Option<Basic>], made: u32) -> Result<Op
     Ok(places)
 }
 
-/// Parameters converted, where they have an entry.
+/// A body that first converts each parameter that has an entry.
 pub(crate) fn converting(
     alloc: Global,
     body: &FormBody,
@@ -169,7 +169,7 @@ pub(crate) fn converting(
     reframed(alloc, body, params, names, places.as_slice(), more)
 }
 
-/// The result converted, where there is an entry.
+/// A body that last converts its result, if there is an entry.
 pub(crate) fn returning(body: FormBody, ret: RetEntry) -> Result<FormBody, NoMemory>
     ensures { IfOk result (λ new. new ≡ returning ret body) }
 {

@@ -4,10 +4,10 @@ use mh_form::{Basic, BasicRet, Basics, Shape};
 /// Places of parameters, from 0.
 pub type Places = Seq<u8>;
 
-/// For each parameter its new basic type, or `None` where it stays as it is.
+/// For each parameter its new basic type, or `None` if it stays as it is.
 pub type Entries = Seq<Option<Basic>>;
 
-/// What becomes of a result.
+/// What a conversion does with the result: keeps it, or makes it one of a basic return type.
 #[derive(Clone, Copy, Debug, PartialEq, Eq)]
 pub enum RetEntry {
     Keep,
@@ -15,9 +15,9 @@ pub enum RetEntry {
 }
 
 /// An edit of a form, by basic types and positions alone, so that handles share the form that it
-/// makes (the idea of OpenJDK's `LambdaFormEditor`). A root makes a form of nothing. What the new
-/// form uses beside its arguments it finds in new fields after the old ones, in the order named
-/// here.
+/// makes (the idea of OpenJDK's `LambdaFormEditor`). A root makes a form from nothing. Values,
+/// parts and classes differ from handle to handle, so they are in fields. An edit adds its fields
+/// after the old ones, in the order listed here.
 #[derive(Drop)]
 pub enum Key {
     /// A call of a leaf. Field: the leaf.
@@ -28,7 +28,7 @@ pub enum Key {
     ConstRoot {
         basic: Basic,
     },
-    /// The one argument.
+    /// Gives its one argument.
     IdentityRoot {
         basic: Basic,
     },
@@ -41,7 +41,7 @@ pub enum Key {
         shape: Shape,
         test: u8,
     },
-    /// A part, with a handler that takes the exception and the first arguments. Fields: the part,
+    /// A part, and a handler that takes the exception and the first arguments. Fields: the part,
     /// the class of exceptions, and the handler.
     CatchRoot {
         shape: Shape,
@@ -55,7 +55,7 @@ pub enum Key {
     Bind {
         pos: u8,
     },
-    /// Parameters are put in, and not used.
+    /// Parameters are added, and not used.
     Add {
         pos: u8,
         basics: Basics,
@@ -65,14 +65,14 @@ pub enum Key {
         basics: Basics,
         reorder: Places,
     },
-    /// A part runs first on parameters that are put in, and its result stands for a parameter.
+    /// A part runs first, on parameters that are added. Its result takes the place of a parameter.
     /// Field: the part.
     Collect {
         pos: u8,
         basics: Basics,
         ret: BasicRet,
     },
-    /// A part runs first on parameters that stay, and its result stands for a parameter before
+    /// A part runs first, on parameters that stay. Its result takes the place of a parameter before
     /// them. Field: the part.
     Fold {
         pos: u8,
@@ -83,8 +83,8 @@ pub enum Key {
     FilterReturn {
         ret: BasicRet,
     },
-    /// Parameters are converted, from left to right, and then the result. Fields: the conversions
-    /// of the parameters that have an entry, and the return conversion where there is one.
+    /// Parameters are converted, from left to right, and last the result. Fields: the conversions
+    /// of the parameters that have an entry, and the return conversion if there is one.
     Convert {
         params: Entries,
         ret: RetEntry,

@@ -38,7 +38,7 @@ pub(crate) fn push_range(places: &mut Operands, from: u32, count: u32) -> Result
     Ok(())
 }
 
-/// The places from one on, so many.
+/// The `count` places from `from` on.
 pub(crate) fn range(alloc: Global, from: u32, count: u32) -> Result<Operands, NoMemory>
     ensures { IfOk result (λ places. places ≡ range_with_len from count) }
 {
@@ -47,7 +47,7 @@ pub(crate) fn range(alloc: Global, from: u32, count: u32) -> Result<Operands, No
     Ok(places)
 }
 
-/// A list of one name, which runs the part in a field on the slots from a place on, so many.
+/// A list of one name, which runs the part in a field on `count` slots from a place on.
 pub(crate) fn link(alloc: Global, field: u32, from: u32, count: u32) -> Result<Names, NoMemory>
     ensures { IfOk result (λ names. names ≡ Link field (range_with_len from count) ∷ []) }
 {
@@ -84,7 +84,7 @@ fn conv_name(from: Basic, to: Basic, conv: u32, slot: u32) -> Name
     }
 }
 
-/// A name for each parameter that has an entry.
+/// A conversion for each parameter that has an entry.
 pub(crate) fn push_convs(
     names: &mut Names,
     entries: &[Option<Basic>],
@@ -107,7 +107,7 @@ pub(crate) fn push_convs(
     }
 }
 
-/// Where the old parameters stand: at their place, or where they are made.
+/// Where the old parameters stand: at their own place, or at the slot of their conversion.
 pub(crate) fn push_conv_places(
     places: &mut Operands,
     entries: &[Option<Basic>],
@@ -130,7 +130,7 @@ pub(crate) fn push_conv_places(
     }
 }
 
-/// The new parameters.
+/// The parameters before conversion: an entry gives its basic type.
 pub(crate) fn push_conv_params(
     to: &mut Basics,
     entries: &[Option<Basic>],

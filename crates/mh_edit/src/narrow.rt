@@ -4,7 +4,7 @@ ghost use Rattle.std.specs.Prelude.{◌≡◌, IfOk};
 
 use mh_base::NoMemory;
 
-/// A number of 32 bits. A form whose numbers need more is out of memory's reach.
+/// A number as one of 32 bits. A larger number answers `NoMemory`, as no form in memory needs one.
 pub(crate) fn narrow(number: u64) -> Result<u32, NoMemory>
     ensures { IfOk result (λ narrowed. narrowed ≡ number) }
 {

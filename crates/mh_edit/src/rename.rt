@@ -9,7 +9,7 @@ use mh_base::{NoMemory, Seq};
 use mh_form::{Name, Names, Operands};
 use std::alloc::Global;
 
-/// The new places of the old parameters, and where the slots begin that the old names put.
+/// The new places of the old parameters, and the place where the slots of the old names begin.
 #[derive(Clone, Copy)]
 pub(crate) struct Renaming<'a> {
     pub(crate) table: &'a [u32],

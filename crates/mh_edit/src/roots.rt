@@ -78,7 +78,7 @@ pub(crate) fn throw_body(alloc: Global, ret: BasicRet) -> Result<FormBody, NoMem
     })
 }
 
-/// The names that run a test on the first arguments, and one of two parts on all.
+/// The names that run a test on the first arguments, and one of two parts on all arguments.
 fn guard_names(alloc: Global, count: u32, test: u32) -> Result<Names, NoMemory>
     ensures { IfOk result (λ names. names ≡ Link 0 (range_with_len 0 test)
         ∷ Select count 1 2 (range_with_len 0 count) ∷ []) }
