@@ -21,21 +21,21 @@ use Rattle.mh_tree.specs.Tree as tree
 use Rattle.mh_tree.specs.Rows.{TypeOrRefusal, component_of, mismatch}
 use Rattle.mh_tree.specs.Typing.{type_of, arity}
 
--- how a call of a tree ends, nothing being returned where its return type is void
+-- how a call of a tree ends; a call whose return type is void returns no value
 abbrev pub Done : Type 0
 Done = Ran (Option Value)
 
--- goes on with a type that is known
+-- continues with the type, if there is one
 abbrev pub known : {A : Type 0} → TypeOrRefusal → (MethodTy → Ran A) → Ran A
 known (Ok t) next = next t
 known (Err e) next = Stuck
 
--- goes on with a value, or throws
+-- continues with the value, or throws the exception
 abbrev pub or_throw : {A B : Type 0} → Result A Exc → (A → Ran B) → Ran B
 or_throw (Ok a) next = next a
 or_throw (Err e) next = Threw e []
 
--- goes on with a value that fits
+-- continues with the value if it fits
 abbrev pub fitted : {A : Type 0} → Result Value Exc → (Value → Ran A) → Ran A
 fitted (Ok v) next = next v
 fitted (Err e) next = Stuck
@@ -44,22 +44,22 @@ fitted (Err e) next = Stuck
 abbrev pub giving : Value → Done
 giving v = Gave (Some v) []
 
--- throws a value: null and what is no exception throw exceptions of their own
+-- throws a value; null and a value that is no exception throw other exceptions instead
 abbrev pub thrown : Value → Done
 thrown (value.Thrown e) = Threw e []
 thrown value.Null = Threw (bare null_pointer_class) []
 thrown v = Threw (bare class_cast_class) []
 
--- the items of a list at these places
+-- the items of a list at these places, in the order of the places
 abbrev pub picked : {A : Type 0} → List A → List ℕ → List A
 picked xs [] = []
 picked xs (i ∷ places) = option_to_list (slice_get xs i) ++ picked xs places
 
--- the arguments of a part, so many, from a place on
+-- the arguments of a part: `count` of them from a place on
 abbrev pub part_of : {A : Type 0} → ℕ → ℕ → List A → List A
 part_of place count args = take count (drop place args)
 
--- a value before values, where none throws
+-- a value before other values, unless one of these throws
 abbrev pub value_and_more : Value → Result (List Value) Exc → Result (List Value) Exc
 value_and_more v (Ok vs) = Ok (v ∷ vs)
 value_and_more v (Err e) = Err e
@@ -78,13 +78,13 @@ conv_all classes _ _ _ = Ok []
 abbrev pub conv_result : List Class → Option Ty → Option Ty → Option Value → Done
 conv_result classes s t r = found (ret_conversion_of classes s t) (λ c. or_throw (ret_conv classes c r) (λ v. Gave v []))
 
--- one of two calls, by the boolean that a test gave
+-- the first call if the test gave true, the second if it gave false
 abbrev pub decided : Option Value → Done → Done → Done
 decided (Some (value.Prim (num.Z true))) a b = a
 decided (Some (value.Prim (num.Z false))) a b = b
 decided _ a b = Stuck
 
--- what a tree does with these arguments, where n leaf calls were made before
+-- What a tree does with these arguments, after `n` earlier leaf calls. The number matters because a leaf of kind `tick` returns it.
 abbrev pub mean : LeafTable → Tree → List Value → ℕ → Done
 mean table (tree.Leaf leaf) args n = leaf_mean table leaf args n
 mean table (tree.Constant ty v) args n = found ty (λ ret. fitted (fit table.classes v ret) giving)
@@ -121,26 +121,26 @@ mean table (tree.Catch target class handler) args n =
     guarded (mean table target args n) (is_caught table.classes class) n
     (λ e k. mean table handler (value.Thrown e ∷ take (arity table handler - 1) args) k)
 
--- a call by a type, at a tree of another one
+-- a call, by the type `asked`, of a tree of type `ty`
 abbrev pub exact_at : LeafTable → Tree → MethodTy → MethodTy → List Value → ℕ → Done
 exact_at table t ty asked args n =
     if is_same_method_type ty asked then mean table t args n else Threw (mismatch table.classes ty asked) []
 
--- a call by a type that must be the tree's (`MethodHandle.invokeExact`)
+-- a call by a type that must be equal to the tree's (`MethodHandle.invokeExact`)
 abbrev pub exact : LeafTable → Tree → MethodTy → List Value → ℕ → Done
 exact table t asked args n = known (type_of table t) (λ ty. exact_at table t ty asked args n)
 
--- a call of what may have no type
+-- the call, unless the tree to be called is refused: then that exception
 abbrev pub unless_refused : TypeOrRefusal → Done → Done
 unless_refused (Ok t) run = run
 unless_refused (Err e) run = Threw e []
 
--- a call by a type as which the tree is used (`MethodHandle.invoke`)
+-- a call of a tree of type `ty` by another type, to which `asType` converts the tree
 abbrev pub generic_at : LeafTable → Tree → MethodTy → MethodTy → List Value → ℕ → Done
 generic_at table t ty asked args n =
     if is_same_method_type ty asked then mean table t args n
     else unless_refused (type_of table (tree.AsType t asked)) (mean table (tree.AsType t asked) args n)
 
--- a call by a type as which the tree is used (`MethodHandle.invoke`)
+-- a call of a tree by any type, to which `asType` converts the tree (`MethodHandle.invoke`)
 abbrev pub generic : LeafTable → Tree → MethodTy → List Value → ℕ → Done
 generic table t asked args n = known (type_of table t) (λ ty. generic_at table t ty asked args n)

@@ -1,4 +1,4 @@
--- For each combinator, the type that it makes of the types of its parts, or the exception with which it is refused.
+-- The rule of each combinator: the type that it gives to parts of these types, or the exception that refuses it.
 use Rattle.std.specs.Prelude.{ℕ, ◌+◌, ◌-◌, ◌==◌, nat_lt, nat_le, Bool, true, false, ◌&&◌, List, [], ◌∷◌, ◌++◌, length, drop, replicate, codes, Option, Some, None, is_some, option_to_list, slice_get, Result, Ok, Err}
 use Rattle.std.specs.List.{list_all}
 use Rattle.mh_base.specs.Provided.{provided, provided_some}
@@ -26,7 +26,7 @@ use Rattle.mh_pieces.specs.declared.piece.Piece.{Piece}
 use Rattle.mh_pieces.specs.Joined.{arg_types}
 use Rattle.mh_pieces.specs.Recipe.{most_concat_slots, returns_text}
 
--- a type, or the exception of a refusal
+-- a type, or the exception that refuses it
 abbrev pub TypeOrRefusal : Type 0
 TypeOrRefusal = Result MethodTy Exc
 
@@ -34,7 +34,7 @@ TypeOrRefusal = Result MethodTy Exc
 abbrev pub illegal : List ℕ → Exc
 illegal word = saying illegal_argument_class word
 
--- goes on where the value fits, and is refused with the fit's exception under the combinator's word where it does not
+-- continues if the value fits; otherwise refuses with the fit's exception, with the combinator's word as its message
 abbrev pub provided_fit : Result Value Exc → List ℕ → TypeOrRefusal → TypeOrRefusal
 provided_fit (Ok v) word next = next
 provided_fit (Err e) word next = Err (with_message word e)
@@ -45,15 +45,15 @@ limited word weight t =
     provided (nat_le (slots_of_all t.params) 254) (illegal word)
     (provided (nat_le weight 256) (saying internal_error_class (codes "weight")) (Ok t))
 
--- the same type with other parameters
+-- a type with other parameters
 abbrev pub taking : List Ty → MethodTy → MethodTy
 taking params t = record { params = params; ret = t.ret }
 
--- how many arguments the result of a part takes the place of: one, or none where it is void
+-- how many parameters the result of a part takes the place of: one, or none if it is void
 abbrev pub count_of : Option Ty → ℕ
 count_of ret = length (option_to_list ret)
 
--- the result of a part serves as the parameter at a place; a void part may stand before any parameter and after the last
+-- the result of a part has the type of the parameter at a place; a void part may stand before any parameter or after the last
 abbrev pub gives_at : Option Ty → ℕ → List Ty → Bool
 gives_at None place params = nat_le place (length params)
 gives_at (Some r) place params = is_same_return (slice_get params place) (Some r)
@@ -63,7 +63,7 @@ abbrev pub component_of : Option Ty → Option Comp
 component_of (Some (ty.Array c)) = Some c
 component_of _ = None
 
--- a parameter to which an array of the component can be passed
+-- an array of the component can be passed to this parameter, if there is one
 abbrev pub takes_array : List Class → Comp → Option Ty → Bool
 takes_array classes c None = false
 takes_array classes c (Some t) = is_type_below classes (ty.Array c) t
@@ -84,7 +84,7 @@ abbrev pub identity_row : Option Ty → TypeOrRefusal
 identity_row ty =
     provided_some ty (illegal (codes "identity")) (λ ret. limited (codes "identity") 1 (record { params = ret ∷ []; ret = Some ret }))
 
--- what throws takes an exception, of a class at or below Throwable, and may have any return type
+-- a tree that throws takes an exception, of a class at or below Throwable, and may have any return type
 abbrev pub throw_row : List Class → Option Ty → ClassId → TypeOrRefusal
 throw_row classes ret class =
     provided (is_subclass classes class throwable_class) (illegal (codes "throw"))
@@ -95,75 +95,75 @@ abbrev pub can_be_joined : List Class → MethodTy → List Piece → Bool
 can_be_joined classes asked pieces =
     are_same_types (arg_types pieces) asked.params && nat_le (slots_of_all asked.params) most_concat_slots && returns_text classes asked.ret
 
--- Concat has the type by which its pieces are joined; no recipe gives pieces that are refused
+-- Concat has the type that is asked for, if the pieces can be joined by it
 abbrev pub concat_row : List Class → MethodTy → List Piece → TypeOrRefusal
 concat_row classes asked pieces = provided (can_be_joined classes asked pieces) (illegal (codes "concat")) (Ok asked)
 
--- Bind takes out a parameter, which the value fits
+-- Bind takes out a parameter; the value must fit it
 abbrev pub bind_row : List Class → MethodTy → ℕ → ℕ → Value → TypeOrRefusal
 bind_row classes target target_weight place value =
     provided_some (slice_get target.params place) (illegal (codes "bind")) (λ parameter.
     provided_fit (fit classes value parameter) (codes "bind") (limited (codes "bind") (1 + target_weight) (taking (spliced place 1 [] target.params) target)))
 
--- Drop puts in parameters
+-- Drop adds parameters, whose arguments it ignores
 abbrev pub drop_row : MethodTy → ℕ → ℕ → List Ty → TypeOrRefusal
 drop_row target target_weight place types =
     provided (nat_le place (length target.params)) (illegal (codes "drop"))
     (limited (codes "drop") (1 + target_weight) (taking (spliced place 0 types target.params) target))
 
--- each number names a parameter of the type that is wanted there
+-- each number of the order names a parameter of the type at its place in the other list
 abbrev pub names_types : List Ty → List ℕ → List Ty → Bool
 names_types params [] [] = true
 names_types params (i ∷ reorder) (t ∷ types) = is_same_return (slice_get params i) (Some t) && names_types params reorder types
 names_types params _ _ = false
 
--- Permute has the type that is asked for, whose named parameters are those of the part
+-- Permute has the type that is asked for; the parameters that the order names have the types of the part's parameters
 abbrev pub permute_row : MethodTy → ℕ → MethodTy → List ℕ → TypeOrRefusal
 permute_row target target_weight asked reorder =
     provided (names_types asked.params reorder target.params && is_same_return asked.ret target.ret) (illegal (codes "permute"))
     (limited (codes "permute") (1 + target_weight) asked)
 
--- FilterArg takes what the filter takes, in the place of the parameter for which the filter gives a value
+-- FilterArg takes the filter's argument in place of the parameter that the filter computes
 abbrev pub filter_row : MethodTy → ℕ → ℕ → MethodTy → ℕ → TypeOrRefusal
 filter_row target target_weight place filter filter_weight =
     provided (length filter.params == 1 && is_some filter.ret && gives_at filter.ret place target.params) (illegal (codes "filter"))
     (limited (codes "filter") (1 + target_weight + filter_weight) (taking (spliced place 1 filter.params target.params) target))
 
--- FilterRet returns what the filter makes of the result, if there is one
+-- FilterRet returns what the filter returns; the filter takes the result, or nothing if there is none
 abbrev pub filterret_row : MethodTy → ℕ → MethodTy → ℕ → TypeOrRefusal
 filterret_row target target_weight filter filter_weight =
     provided (are_same_types filter.params (option_to_list target.ret)) (illegal (codes "filterret"))
     (limited (codes "filterret") (1 + target_weight + filter_weight) (record { params = target.params; ret = filter.ret }))
 
--- the parameters of a fold: without the one for which the combiner gives a value
+-- the parameters of a fold: those of the target without the one that the combiner computes
 abbrev pub folded : MethodTy → ℕ → MethodTy → List Ty
 folded target place combiner = spliced place (count_of combiner.ret) [] target.params
 
--- Fold takes out the parameter that the combiner computes of those that follow
+-- Fold takes out the parameter that the combiner computes; the combiner takes the first parameters after it
 abbrev pub fold_row : MethodTy → ℕ → ℕ → MethodTy → ℕ → TypeOrRefusal
 fold_row target target_weight place combiner combiner_weight =
     provided (gives_at combiner.ret place target.params && begins_with_types (drop place (folded target place combiner)) combiner.params)
     (illegal (codes "fold"))
     (limited (codes "fold") (1 + target_weight + combiner_weight) (taking (folded target place combiner) target))
 
--- Collect takes what the filter takes, in the place of the parameter for which the filter gives a value, if it gives one
+-- Collect takes the filter's arguments in place of the parameter that the filter computes, or before it if the filter is void
 abbrev pub collect_row : MethodTy → ℕ → ℕ → MethodTy → ℕ → TypeOrRefusal
 collect_row target target_weight place filter filter_weight =
     provided (gives_at filter.ret place target.params) (illegal (codes "collect"))
     (limited (codes "collect") (1 + target_weight + filter_weight) (taking (spliced place (count_of filter.ret) filter.params target.params) target))
 
--- the last parameters, so many, are all of one type
+-- the last `count` parameters all have this type
 abbrev pub ends_with : List Ty → ℕ → Ty → Bool
 ends_with params count t = nat_le count (length params) && list_all (λ p. is_same_type p t) (drop (length params - count) params)
 
--- Spread takes an array in the place of the last parameters, which have its component's type
+-- Spread takes an array in place of the last `count` parameters, which all have the type of the array's items
 abbrev pub spread_row : MethodTy → ℕ → Option Ty → ℕ → TypeOrRefusal
 spread_row target target_weight array count =
     provided_some (component_of array) (illegal (codes "spread")) (λ component.
     provided (ends_with target.params count (item_type component)) (illegal (codes "spread"))
     (limited (codes "spread") (1 + target_weight) (taking (spliced (length target.params - count) count (ty.Array component ∷ []) target.params) target)))
 
--- Gather takes items, no more than an array may have, in the place of the last parameter, to which their array is passed
+-- Gather takes items in place of the last parameter, to which their array can be passed; no more items than an array may have
 abbrev pub gather_row : List Class → MethodTy → ℕ → Option Ty → ℕ → TypeOrRefusal
 gather_row classes target target_weight array count =
     provided_some (component_of array) (illegal (codes "gather")) (λ component.
@@ -171,13 +171,13 @@ gather_row classes target target_weight array count =
     (illegal (codes "gather"))
     (limited (codes "gather") (1 + target_weight) (taking (spliced (length target.params - 1) 1 (replicate count (item_type component)) target.params) target)))
 
--- each of these types may be converted to the other list's type at its place
+-- each of these types can be converted to the type at the same place of the other list
 abbrev pub can_all : List Class → List Ty → List Ty → Bool
 can_all classes [] [] = true
 can_all classes (s ∷ ss) (t ∷ ts) = can classes s t && can_all classes ss ts
 can_all classes _ _ = false
 
--- a method type may be used as another one: its arguments are converted to what it takes, and its result to what is asked for
+-- a method type can be converted to another: each argument that is asked for to a parameter, and the result to the one asked for
 abbrev pub can_be_used_as : List Class → MethodTy → MethodTy → Bool
 can_be_used_as classes own asked = can_all classes asked.params own.params && is_some (ret_conversion_of classes own.ret asked.ret)
 
@@ -186,7 +186,7 @@ abbrev pub mismatch : List Class → MethodTy → MethodTy → Exc
 mismatch classes own asked =
     saying wrong_method_type_class (codes "have " ++ method_type_text classes own ++ codes " want " ++ method_type_text classes asked)
 
--- AsType has the type that is asked for, where the part may be used as it
+-- AsType has the type that is asked for, if the part's type can be converted to it
 abbrev pub astype_row : List Class → MethodTy → ℕ → MethodTy → TypeOrRefusal
 astype_row classes target target_weight asked =
     provided (can_be_used_as classes target asked) (mismatch classes target asked) (limited (codes "astype") (1 + target_weight) asked)
@@ -198,12 +198,12 @@ guard_row test test_weight target target_weight fallback fallback_weight =
     (illegal (codes "guard"))
     (limited (codes "guard") (1 + test_weight + target_weight + fallback_weight) target)
 
--- the first parameter takes an exception of the class, and the others are the first of a list
+-- the first parameter takes an exception of the class, and the others are the first types of the list
 abbrev pub takes_exception : List Class → ClassId → List Ty → List Ty → Bool
 takes_exception classes class [] types = false
 takes_exception classes class (first ∷ others) types = is_type_below classes (ty.Class class) first && begins_with_types types others
 
--- a handler takes an exception of the class, then the first parameters of the target, and returns what it returns
+-- a handler takes an exception of the class, then the first parameters of the target, and returns what the target returns
 abbrev pub handles : List Class → ClassId → MethodTy → MethodTy → Bool
 handles classes class handler target = takes_exception classes class handler.params target.params && is_same_return handler.ret target.ret
 

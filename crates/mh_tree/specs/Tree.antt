@@ -7,7 +7,7 @@ use Rattle.mh_values.specs.declared.value.LeafId.{LeafId}
 use Rattle.mh_values.specs.declared.value.Value.{Value}
 use Rattle.mh_pieces.specs.declared.piece.Piece.{Piece}
 
--- a leaf, a concatenation of pieces by a type, or a combinator with the trees that it is made of; a type that is an option may be void
+-- A leaf, a concatenation, or a combinator with the trees of its parts. A type that is an `Option` is `None` if it is void.
 pub data Tree : Type 0 where
   Leaf : (leaf : LeafId) → Tree
   Constant : (ty : Option Ty) (value : Value) → Tree

@@ -1,4 +1,4 @@
--- The method type of a tree, or the exception with which it is refused.
+-- The method type of a tree, or the exception that refuses it.
 use Rattle.std.specs.Prelude.{ℕ, List, [], ◌∷◌, ◌++◌, length, slice_get, Ok, Err}
 use Rattle.mh_values.specs.declared.types.MethodTy.{MethodTy}
 use Rattle.mh_leaf.specs.LeafTable.{LeafTable}
@@ -6,7 +6,7 @@ use Rattle.mh_tree.specs.Tree.{Tree, weight}
 use Rattle.mh_tree.specs.Tree as tree
 use Rattle.mh_tree.specs.Rows.{TypeOrRefusal, leaf_row, constant_row, identity_row, throw_row, concat_row, bind_row, drop_row, permute_row, filter_row, filterret_row, fold_row, collect_row, spread_row, gather_row, astype_row, guard_row, catch_row}
 
--- goes on with the type of a part, or is refused as the part is
+-- continues with the type of a part, or is refused with the part's exception
 abbrev pub with_type : TypeOrRefusal → (MethodTy → TypeOrRefusal) → TypeOrRefusal
 with_type (Ok ty) next = next ty
 with_type (Err e) next = Err e
@@ -39,7 +39,7 @@ type_of table (tree.Catch target class handler) =
     with_type (type_of table target) (λ ty. with_type (type_of table handler) (λ handler_ty.
     catch_row table.classes ty (weight target) class handler_ty (weight handler)))
 
--- how many parameters a type has
+-- how many parameters a type has: none if it is refused
 abbrev pub arity_of : TypeOrRefusal → ℕ
 arity_of (Ok ty) = length ty.params
 arity_of (Err e) = 0
@@ -48,12 +48,13 @@ arity_of (Err e) = 0
 abbrev pub arity : LeafTable → Tree → ℕ
 arity table t = arity_of (type_of table t)
 
--- a type before others, where there is one
+-- a type before others, if there is one
 abbrev pub held_before : TypeOrRefusal → List MethodTy → List MethodTy
 held_before (Ok ty) others = ty ∷ others
 held_before (Err e) others = others
 
--- the types that a tree holds beside its own: those of filters, combiners, tests, branches, targets of a catch and handlers, followed down
+-- The types that a tree holds beside its own. A *side part* is a filter, combiner, test, branch, handler, or target of a catch:
+-- a part that keeps a form of its own. The list has the type of each side part, and those of that part's side parts after it.
 abbrev pub sides : LeafTable → Tree → List MethodTy
 sides table (tree.Bind target place value) = sides table target
 sides table (tree.Drop target place types) = sides table target

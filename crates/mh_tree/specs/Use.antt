@@ -1,4 +1,4 @@
--- A tree that is used as another type (`MethodHandle.asType` and `MethodHandle.asSpreader`, SE 17).
+-- Trees that are converted to another type before use (`MethodHandle.asType` and `MethodHandle.asSpreader`, SE 17).
 use Rattle.std.specs.Prelude.{ℕ, ◌+◌, ◌-◌, nat_le, List, ◌++◌, take, length, replicate, codes, if◌then◌else◌, Option, Ok}
 use Rattle.std.specs.Option.{option_map_or}
 use Rattle.mh_base.specs.Provided.{provided, provided_some}
@@ -12,27 +12,28 @@ use Rattle.mh_tree.specs.Rows.{TypeOrRefusal, component_of, illegal, astype_row,
 use Rattle.mh_tree.specs.Tree.{Tree, AsType}
 use Rattle.mh_tree.specs.Typing.{with_type}
 
--- a tree that is used as a type: itself, where it has that type
+-- a tree converted to a type: the tree itself if it has that type
 abbrev pub used_as : MethodTy → MethodTy → Tree → Tree
 used_as own asked t = if is_same_method_type own asked then t else AsType t asked
 
--- the type of a tree that is used as a type, or the exception with which that is refused
+-- the type of a tree after this conversion, or the exception that refuses it
 abbrev pub use_row : List Class → MethodTy → ℕ → MethodTy → TypeOrRefusal
 use_row classes own weight asked = if is_same_method_type own asked then Ok own else astype_row classes own weight asked
 
--- the weight of a tree that is used as a type: one more, where it has another type
+-- the weight of a tree after this conversion: one more if its type changes
 abbrev pub use_weight : MethodTy → ℕ → MethodTy → ℕ
 use_weight own weight asked = if is_same_method_type own asked then weight else 1 + weight
 
--- a type with items of an array for its last parameters, so many
+-- a type with items of an array in place of its last `count` parameters
 abbrev pub taking_items : MethodTy → Comp → ℕ → MethodTy
 taking_items t c count = record { params = take (length t.params - count) t.params ++ replicate count (item_type c); ret = t.ret }
 
--- a tree that is used as the type that takes the items of an array
+-- a tree converted to the type that takes the items of an array
 abbrev pub items_used_as : MethodTy → Option Ty → ℕ → Tree → Tree
 items_used_as own array count t = option_map_or (λ c. used_as own (taking_items own c count) t) (component_of array) t
 
--- the rule of a spread: the type is an array's, and there are so many parameters; then the use as the type that takes the items; then Spread
+-- The rule of a spread: the type must be an array's, and the tree must have `count` parameters.
+-- The tree is then converted to the type that takes the items, and the rule of Spread applies to that.
 abbrev pub spread_use_row : List Class → MethodTy → ℕ → Option Ty → ℕ → TypeOrRefusal
 spread_use_row classes t weight array count =
     provided_some (component_of array) (illegal (codes "spread")) (λ c.

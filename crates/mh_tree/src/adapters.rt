@@ -12,7 +12,7 @@ use mh_values::{
 };
 use std::alloc::Global;
 
-/// How many arguments the result of a part takes the place of.
+/// How many parameters the result of a part takes the place of: none if it is void.
 fn count_of(ret: Option<Ty>) -> usize
     ensures { result ≡ count_of ret }
 {
@@ -22,7 +22,7 @@ fn count_of(ret: Option<Ty>) -> usize
     }
 }
 
-/// Whether the result of a part serves as the parameter at a place.
+/// Whether the result of a part can take the place of the parameter at a place.
 fn gives_at(ret: Option<Ty>, place: usize, params: &[Ty]) -> bool
     ensures { result ≡ gives_at ret place params.now }
 {
@@ -32,7 +32,7 @@ fn gives_at(ret: Option<Ty>, place: usize, params: &[Ty]) -> bool
     }
 }
 
-/// Whether a filter takes just the result, or nothing where there is none.
+/// Whether a filter takes exactly the result, or nothing if there is none.
 fn takes_result(params: &[Ty], ret: Option<Ty>) -> bool
     ensures { result ≡ are_same_types params.now (option_to_list ret) }
 {
@@ -43,7 +43,7 @@ fn takes_result(params: &[Ty], ret: Option<Ty>) -> bool
 }
 
 /// The type of a tree with a value bound to a parameter (`MethodHandles.insertArguments`, SE 17).
-/// Refused where there is no such parameter, and where the value does not fit it.
+/// Refused if there is no such parameter, or if the value does not fit it.
 pub fn check_bind(
     alloc: Global,
     target: &MethodTy,
@@ -67,8 +67,8 @@ pub fn check_bind(
     limited(alloc, b"bind", weight, MethodTy { params, ret })
 }
 
-/// The type of a tree with parameters that are dropped (`MethodHandles.dropArguments`, SE 17).
-/// Refused where the place is after the end.
+/// The type of a tree with parameters added, whose arguments are dropped
+/// (`MethodHandles.dropArguments`, SE 17). Refused if the place is after the last parameter.
 pub fn check_drop(
     alloc: Global,
     target: &MethodTy,
@@ -89,9 +89,9 @@ pub fn check_drop(
     limited(alloc, b"drop", weight, MethodTy { params, ret })
 }
 
-/// The type of a tree one of whose arguments a filter makes of its own
-/// (`MethodHandles.filterArguments`, SE 17). Refused where there is no such parameter, and where
-/// the filter does not take one argument and give that parameter's type.
+/// The type of a tree with a filter on one argument (`MethodHandles.filterArguments`, SE 17).
+/// Refused if there is no such parameter, or if the filter does not take one argument and give that
+/// parameter's type.
 pub fn check_filter(
     alloc: Global,
     target: &MethodTy,
@@ -123,8 +123,8 @@ pub fn check_filter(
     limited(alloc, b"filter", weight, MethodTy { params, ret })
 }
 
-/// The type of a tree whose result a filter takes (`MethodHandles.filterReturnValue`, SE 17).
-/// Refused where the filter does not take just that result, or nothing where there is none.
+/// The type of a tree with a filter on its result (`MethodHandles.filterReturnValue`, SE 17).
+/// Refused if the filter does not take exactly that result, or nothing if there is none.
 pub fn check_filterret(
     alloc: Global,
     target: &MethodTy,
@@ -150,9 +150,9 @@ pub fn check_filterret(
     )
 }
 
-/// The type of a tree one of whose arguments a combiner makes of those that follow
-/// (`MethodHandles.foldArguments`, SE 17). Refused where the combiner gives a value that is not of
-/// the parameter's type, or does not take the first parameters that follow.
+/// The type of a tree one of whose arguments a combiner computes from those that follow
+/// (`MethodHandles.foldArguments`, SE 17). Refused if the combiner gives a value that is not of the
+/// parameter's type, or does not take the first parameters that follow.
 pub fn check_fold(
     alloc: Global,
     target: &MethodTy,
@@ -184,9 +184,10 @@ pub fn check_fold(
     limited(alloc, b"fold", weight, MethodTy { params, ret })
 }
 
-/// The type of a tree one of whose arguments a filter makes of any number of its own, or before
-/// which a void filter runs (`MethodHandles.collectArguments`, SE 17). Refused where the filter
-/// gives a value that is not of the parameter's type, or none and the place is after the end.
+/// The type of a tree one of whose arguments a filter computes from any number of its own
+/// (`MethodHandles.collectArguments`, SE 17). A void filter only runs first. Refused if the filter
+/// gives a value that is not of the parameter's type, or if it is void and the place is after the
+/// last parameter.
 pub fn check_collect(
     alloc: Global,
     target: &MethodTy,

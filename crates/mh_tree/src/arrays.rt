@@ -28,7 +28,7 @@ fn are_all(types: &[Ty], ty: Ty) -> bool
     types.iter().all(|own| is_same_type(*own, ty))
 }
 
-/// Whether the last parameters, so many, are all of one type.
+/// Whether the last `count` parameters all have this type.
 fn ends_with(params: &[Ty], count: usize, ty: Ty) -> bool
     ensures { result ≡ ends_with params.now count ty }
 {
@@ -36,8 +36,8 @@ fn ends_with(params: &[Ty], count: usize, ty: Ty) -> bool
 }
 
 /// The type of a tree whose last arguments come in an array (`MethodHandle.asSpreader`, SE 17).
-/// Refused where the type is no array, and where the last parameters, so many, are not all of its
-/// component's type.
+/// Refused if the type is no array, or if the last `count` parameters do not all have the type of
+/// the array's items.
 pub fn check_spread(
     alloc: Global,
     target: &MethodTy,
@@ -78,7 +78,7 @@ fn takes_array(component: Comp, last: Option<Ty>, classes: &Classes) -> bool
     }
 }
 
-/// A type, so often.
+/// A type, `count` times.
 fn repeated(alloc: Global, ty: Ty, count: usize) -> Result<Tys, NoMemory>
     ensures { IfOk result (λ types. types ≡ replicate count ty) }
 {
@@ -86,8 +86,8 @@ fn repeated(alloc: Global, ty: Ty, count: usize) -> Result<Tys, NoMemory>
 }
 
 /// The type of a tree whose last argument is an array of several (`MethodHandle.asCollector`, SE
-/// 17). Refused where the type is no array, where such an array cannot be passed to the last
-/// parameter, and for more items than an array may have.
+/// 17). Refused if the type is no array, if such an array cannot be passed to the last parameter,
+/// or if it would have more items than an array may have.
 pub fn check_gather(
     alloc: Global,
     target: &MethodTy,

@@ -12,9 +12,9 @@ use mh_values::{
 };
 use std::alloc::Global;
 
-/// The type of a target that runs where a test gives true, and else a fallback
-/// (`MethodHandles.guardWithTest`, SE 17). Refused where target and fallback differ in type, and
-/// where the test does not give a boolean or does not take the first parameters of the target.
+/// The type of a target that runs if a test gives true, and of the fallback that runs otherwise
+/// (`MethodHandles.guardWithTest`, SE 17). Refused if target and fallback differ in type, or if the
+/// test does not give a boolean or does not take the first parameters of the target.
 pub fn check_guard(
     alloc: Global,
     test: &MethodTy,
@@ -39,7 +39,7 @@ pub fn check_guard(
 }
 
 /// Whether the first parameter takes an exception of the class, and the others are the first of
-/// these types.
+/// the list.
 fn takes_exception(class: ClassId, params: &[Ty], types: &[Ty], classes: &Classes) -> bool
     ensures { result ≡ takes_exception classes.now class params.now types.now }
 {
@@ -52,7 +52,7 @@ fn takes_exception(class: ClassId, params: &[Ty], types: &[Ty], classes: &Classe
 }
 
 /// Whether a handler takes an exception of the class, then the first parameters of the target, and
-/// returns what it returns.
+/// returns what the target returns.
 fn handles(class: ClassId, handler: &MethodTy, target: &MethodTy, classes: &Classes) -> bool
     ensures { result ≡ handles classes.now class handler.now target.now }
 {
@@ -65,9 +65,9 @@ fn handles(class: ClassId, handler: &MethodTy, target: &MethodTy, classes: &Clas
 }
 
 /// The type of a target whose exceptions of a class go to a handler
-/// (`MethodHandles.catchException`, SE 17). Refused where the class is not `java/lang/Throwable` or
-/// below it, and where the handler does not take such an exception and then the first parameters
-/// of the target, or returns another type.
+/// (`MethodHandles.catchException`, SE 17). Refused if the class is not `java/lang/Throwable` or
+/// below it. Refused also if the handler returns another type, or does not take such an exception
+/// and then the first parameters of the target.
 pub fn check_catch(
     alloc: Global,
     target: &MethodTy,

@@ -10,7 +10,7 @@ use mh_convert::{conversion, ret_conversion};
 use mh_values::{Classes, MethodTy, Ty};
 use std::alloc::Global;
 
-/// Whether each of these types may be converted to the other list's type at its place.
+/// Whether each of these types can be converted to the type at the same place of the other list.
 fn can_all(from: &[Ty], to: &[Ty], classes: &Classes) -> bool
     ensures { result ≡ can_all classes.now from.now to.now }
 {
@@ -25,8 +25,8 @@ fn can_all(from: &[Ty], to: &[Ty], classes: &Classes) -> bool
     true
 }
 
-/// Whether a method type may be used as another one: its arguments are converted to what it takes,
-/// and its result to what is asked for.
+/// Whether a method type can be converted to another: each argument that is asked for to a
+/// parameter, and the result to the one that is asked for.
 fn can_be_used_as(own: &MethodTy, asked: &MethodTy, classes: &Classes) -> bool
     ensures { result ≡ can_be_used_as classes.now own.now asked.now }
 {
@@ -34,9 +34,9 @@ fn can_be_used_as(own: &MethodTy, asked: &MethodTy, classes: &Classes) -> bool
         && ret_conversion(own.ret, asked.ret, classes).is_some()
 }
 
-/// The type of a tree that is used as another type (`MethodHandle.asType`, SE 17): the one that is
-/// asked for. Refused by `WrongMethodTypeException` where an argument or the result cannot be
-/// converted, and where the numbers of parameters differ.
+/// The type of a tree converted to another type (`MethodHandle.asType`, SE 17): the one that is
+/// asked for. Refused with a `WrongMethodTypeException` if an argument or the result cannot be
+/// converted, or if the numbers of parameters differ.
 pub fn check_astype(
     alloc: Global,
     target: &MethodTy,

@@ -6,7 +6,7 @@ use mh_base::NoMemory;
 use mh_values::{ClassId, Exc};
 use std::alloc::Global;
 
-/// Why a node has no type.
+/// Why a check gives no type.
 #[derive(Debug, Drop)]
 pub enum CheckError {
     NoMemory,

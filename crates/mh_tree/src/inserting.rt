@@ -8,8 +8,8 @@ use crate::reordering::check_permute;
 use mh_values::{Classes, MethodTy, Tys, Value};
 use std::alloc::Global;
 
-/// What adapts a tree by other arguments, with no part that runs. It owns what the adapted tree
-/// keeps as it is.
+/// An adapter of a tree's arguments that runs no part. It owns the value, types or order that the
+/// adapted tree keeps.
 #[derive(Debug, Drop)]
 pub enum Adapter<'a> {
     /// `MethodHandles.insertArguments` with one value
@@ -29,7 +29,7 @@ pub enum Adapter<'a> {
     },
 }
 
-/// The type of a tree that is adapted, by the rule of the adapter.
+/// The type that an adapter gives to a tree, or the refusal by the adapter's rule.
 pub fn check_adapter(
     alloc: Global,
     target: Typed<'_>,

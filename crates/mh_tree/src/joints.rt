@@ -6,7 +6,8 @@ use crate::adapters::{check_collect, check_filter, check_filterret, check_fold};
 use mh_values::{Classes, MethodTy};
 use std::alloc::Global;
 
-/// What joins a tree with a part that runs before or after it, where the part runs at a position.
+/// How a tree is joined with a part that runs before or after it. The number is the position of the
+/// parameter that the part computes.
 #[derive(Clone, Copy, Debug)]
 pub enum Joint {
     /// `MethodHandles.filterArguments` with one filter
@@ -26,7 +27,7 @@ pub struct Typed<'a> {
     pub weight: u32,
 }
 
-/// The type of a tree that is joined with a part, by the rule of the joint.
+/// The type of a tree joined with a part, or the refusal by the joint's rule.
 pub fn check_joint(
     alloc: Global,
     target: Typed<'_>,

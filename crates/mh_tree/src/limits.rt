@@ -9,11 +9,11 @@ use mh_base::{NoMemory, Seq};
 use mh_values::{ClassId, Exc, MOST_SLOTS, MethodTy, Ty, Tys, all_slots};
 use std::alloc::Global;
 
-/// The most that a tree weighs.
+/// The most that a tree can weigh, in nodes.
 const MOST_WEIGHT: u64 = 256;
 
-/// A type within the limits: at most 254 slots, refused under the combinator's word, and a weight
-/// of at most 256.
+/// The type, if it is within the limits: at most 254 argument slots, and a weight of at most 256.
+/// Otherwise refused with the combinator's word.
 pub(crate) fn limited(
     alloc: Global,
     word: &[u8],
@@ -31,7 +31,7 @@ pub(crate) fn limited(
     Ok(ty)
 }
 
-/// These types with others in place of as many as are taken, from a place on.
+/// These types with others in place of `taken` of them from a place on.
 pub(crate) fn spliced(
     alloc: Global,
     types: &[Ty],

@@ -17,7 +17,7 @@ fn names_type(params: &[Ty], number: u8, ty: Ty) -> bool
     is_same_return(params.get(usize::from(number)).copied(), Some(ty))
 }
 
-/// Whether each number names a parameter of the type that is wanted at its place.
+/// Whether each number names a parameter of the type at its place in the other list.
 fn names_types(params: &[Ty], reorder: &[u8], types: &[Ty]) -> bool
     ensures { result ≡ names_types params.now reorder.now types.now }
 {
@@ -33,8 +33,8 @@ fn names_types(params: &[Ty], reorder: &[u8], types: &[Ty]) -> bool
 }
 
 /// The type of a tree whose arguments are chosen by an order (`MethodHandles.permuteArguments`,
-/// SE 17): the one that is asked for. Refused where the order has not one entry for each parameter,
-/// names one that is not there, or one of another type, and where the return types differ.
+/// SE 17): the one that is asked for. Refused if the order does not have one entry for each
+/// parameter, if an entry names no parameter or one of another type, or if the return types differ.
 pub fn check_permute(
     alloc: Global,
     target: &MethodTy,

@@ -11,7 +11,7 @@ use mh_leaves::Leaves;
 use mh_values::{ClassId, Classes, LeafId, MethodTy, Ty, Value};
 use std::alloc::Global;
 
-/// The type of a leaf: the one with which it is registered. Never refused.
+/// The type of a leaf: the one that it is registered with. Never refused.
 pub fn check_leaf(alloc: Global, leaf: LeafId, leaves: &Leaves) -> Result<MethodTy, CheckError>
     requires { leaf.0 < length leaves.now.leaves }
     ensures { TellsRow result (leaf_row (slice_get leaves.now.leaves leaf.0)) }
@@ -19,8 +19,8 @@ pub fn check_leaf(alloc: Global, leaf: LeafId, leaves: &Leaves) -> Result<Method
     Ok(leaves.ty(leaf).copy(alloc)?)
 }
 
-/// The type of a constant, which takes nothing (`MethodHandles.constant`, SE 17). Refused where the
-/// type is void, and where the value does not fit it.
+/// The type of a constant, which takes no arguments (`MethodHandles.constant`, SE 17). Refused if
+/// the type is void, or if the value does not fit it.
 pub fn check_constant(
     alloc: Global,
     ty: Option<Ty>,
@@ -39,7 +39,7 @@ pub fn check_constant(
     limited(alloc, b"constant", 1, MethodTy { params, ret: ty })
 }
 
-/// The type of an identity (`MethodHandles.identity`, SE 17). Refused where the type is void.
+/// The type of an identity (`MethodHandles.identity`, SE 17). Refused if the type is void.
 pub fn check_identity(
     alloc: Global,
     ty: Option<Ty>,
@@ -55,8 +55,8 @@ pub fn check_identity(
     limited(alloc, b"identity", 1, MethodTy { params, ret: ty })
 }
 
-/// The type of what throws its argument (`MethodHandles.throwException`, SE 17). Refused where the
-/// class is not `java/lang/Throwable` or below it.
+/// The type of a tree that throws its argument (`MethodHandles.throwException`, SE 17). Refused if
+/// the class is not `java/lang/Throwable` or below it.
 pub fn check_throw(
     alloc: Global,
     ret: Option<Ty>,
