@@ -1,4 +1,4 @@
--- What a handle gets that is used as another type: the conversions that change something, and a form that runs them.
+-- What `asType` adds to a handle: the conversions that change something, and a form that runs them.
 use Rattle.std.specs.Prelude.{◌≡◌, ◌+◌, List, [], ◌∷◌, ◌++◌, map, if◌then◌else◌, Option, option_to_list}
 use Rattle.mh_values.specs.declared.class.Class.{Class}
 use Rattle.mh_values.specs.declared.types.Ty.{Ty}
@@ -19,15 +19,15 @@ abbrev pub convs_of : List Class → List Ty → List Ty → List Conv
 convs_of classes (s ∷ ss) (t ∷ ts) = if is_trivial classes s t then convs_of classes ss ts else conversion_between s t ∷ convs_of classes ss ts
 convs_of classes _ _ = []
 
--- the field of the conversion of a result, where that changes something
+-- the field of the result's conversion, if that changes something
 abbrev pub ret_fields_of : List Class → Option Ty → Option Ty → List Field
 ret_fields_of classes s t = if is_trivial_ret classes s t then [] else map (λ c. field.Ret c) (option_to_list (ret_conversion_of classes s t))
 
--- the fields of the conversions to a type, none where nothing changes
+-- the fields of the conversions to a type: none if nothing changes
 abbrev pub convert_fields : List Class → MethodTy → MethodTy → List Field
 convert_fields classes asked t = map (λ c. field.Conv c) (convs_of classes asked.params t.params) ++ ret_fields_of classes t.ret asked.ret
 
--- a handle that is used as a type: it has that type, weighs one more, and has the conversions that change something
+-- a handle after `asType`: it has the type that was asked for, weighs one more, and has the conversions that change something
 pub record IsUsedAs (classes : List Class) (asked : MethodTy) (old new : HandleView) : Type 0 where
   pub ty : new.ty ≡ asked
   pub weight : new.weight ≡ 1 + old.weight

@@ -1,4 +1,4 @@
--- Errors of the calls below, as errors of the calls that make handles.
+-- Errors of rules and of the table of types, as errors of the calls that make handles.
 use Rattle.mh_intern.specs.declared.error.InternError.{InternError}
 use Rattle.mh_intern.specs.declared.error.InternError.TheVariants as intern
 use Rattle.mh_tree.specs.declared.error.CheckError.{CheckError}
@@ -13,12 +13,12 @@ abbrev pub of_edit : EditError → HandleError
 of_edit edit.NoMemory = handle.NoMemory
 of_edit (edit.FormsFull drawn) = handle.FormsFull drawn
 
--- a combinator that was refused
+-- the error of a check of a rule
 abbrev pub of_check : CheckError → HandleError
 of_check check.NoMemory = handle.NoMemory
 of_check (check.Refused e) = handle.Refused e
 
--- a type that was not interned
+-- the error of a request for a type
 abbrev pub of_intern : InternError → HandleError
 of_intern intern.NoMemory = handle.NoMemory
 of_intern (intern.TypesFull bucket) = handle.TypesFull bucket

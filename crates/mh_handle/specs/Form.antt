@@ -10,7 +10,7 @@ pub record FormView : Type 0 where
   pub number : ℕ
   pub recipe : List Key
 
--- what keys make of a body, in order
+-- the body after these edits, in order
 abbrev pub body_from : FormBody → List Key → FormBody
 body_from body [] = body
 body_from body (k ∷ keys) = body_from (applied k body) keys
@@ -19,6 +19,6 @@ body_from body (k ∷ keys) = body_from (applied k body) keys
 abbrev pub body_of : List Key → FormBody
 body_of keys = body_from nothing keys
 
--- the form of which every other one is made
+-- the form that does nothing, from which roots make forms
 abbrev pub base_form : FormView
 base_form = record { number = 0; recipe = [] }

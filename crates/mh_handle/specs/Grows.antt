@@ -10,7 +10,7 @@ use Rattle.mh_handle.specs.Form.{FormView, base_form}
 use Rattle.mh_handle.specs.Parts.{IsPartOf, held_by}
 use Rattle.mh_handle.specs.Stands.{HandleView}
 
--- the new handle has this type and this weight, and side types, a key and fields after those that the old one has
+-- The new handle has this type and weight. It has more side types, one more key and more fields, each after those of the old one.
 pub record Grows (old new : HandleView) (ty : MethodTy) (weight : ℕ) (sides : List MethodTy) (key : Key) (fields : List Field) : Type 0 where
   pub typed : new.ty ≡ ty
   pub weighed : new.weight ≡ weight
@@ -18,11 +18,11 @@ pub record Grows (old new : HandleView) (ty : MethodTy) (weight : ℕ) (sides : 
   pub made : new.form.recipe ≡ old.form.recipe ++ key ∷ []
   pub fielded : new.fields ≡ old.fields ++ fields
 
--- a form with fields and side types, of which a handle is made
+-- a form with fields and side types, before it has a type
 abbrev pub untyped : FormView → List MethodTy → List Field → HandleView
 untyped form sides fields = record { ty = record { params = []; ret = None }; weight = 0; sides = sides; form = form; fields = fields; held = [] }
 
--- the form that does nothing, of which roots are made
+-- the form that does nothing, from which roots make handles
 abbrev pub base_handle : HandleView
 base_handle = untyped base_form [] []
 
@@ -30,12 +30,13 @@ base_handle = untyped base_form [] []
 abbrev pub GrowsBy : HandleView → Growth → Result Handle HandleError → Type 0
 GrowsBy old by made = IfOk made (λ new. Grows old new by.ty by.weight by.parts.sides by.key by.parts.fields)
 
--- the new handle weighs one more, and has no side part more
+-- the new handle weighs one more and has the same side types
 pub record GainsNode (old new : HandleView) : Type 0 where
   pub weighed : new.weight ≡ 1 + old.weight
   pub holds : new.sides ≡ old.sides
 
--- the new handle weighs one more and what the part weighs, holds the part's type and those that the part holds, and has one field more, which holds the part
+-- The new handle weighs one more than the old one and the part together. It also holds the types that the part holds.
+-- It has one more field, which holds the part.
 pub record GainsPart (part old new : HandleView) : Type 0 where
   pub weighed : new.weight ≡ 1 + old.weight + part.weight
   pub holds : new.sides ≡ old.sides ++ held_by part

@@ -1,4 +1,4 @@
--- The hash of a recipe: a number, by which recipes that differ are mostly told apart.
+-- The hash of a recipe. Different recipes mostly have different hashes.
 use Rattle.std.specs.Prelude.{ℕ, ◌+◌, ◌*◌, ◌%◌, List, [], ◌∷◌, Option, Some, None}
 use Rattle.mh_form.specs.declared.basic.Basic.{Basic}
 use Rattle.mh_form.specs.declared.basic.Basic.TheVariants as basic
@@ -48,7 +48,7 @@ ret_entry_number (entry.New ret) = ret_number ret
 abbrev pub shape_mixed : ℕ → Shape → ℕ
 shape_mixed hash shape = all_mixed basic_number (mixed hash (ret_number shape.ret)) shape.params
 
--- the part of a key: its kind and what it says
+-- the part of a key: its kind and its operands
 abbrev pub key_hash : Key → ℕ
 key_hash (key.LeafRoot shape) = shape_mixed 1 shape
 key_hash (key.ConstRoot b) = mixed 2 (basic_number b)

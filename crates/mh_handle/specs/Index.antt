@@ -13,7 +13,7 @@ recipe_of form = form.recipe
 abbrev pub hashes_of : List FormView → List ℕ
 hashes_of forms = map (λ f. hash_of f.recipe) forms
 
--- forms of which no two have one recipe, and the hash of each
+-- forms with different recipes, and the hash of each recipe
 pub record AreSeen (forms : List FormView) (hashes : List ℕ) : Type 0 where
   pub hashes_is : hashes ≡ hashes_of forms
   pub once : Distinct recipe_of forms

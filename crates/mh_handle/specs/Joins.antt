@@ -1,4 +1,4 @@
--- What contracts see of a pass that is split in two, and of two that are joined.
+-- Splitting one pass into two, and joining two passes into one.
 use Rattle.std.specs.Prelude.{◌≡◌, ℕ, ◌^◌, List, [], ◌++◌, Some, not}
 use Rattle.std.specs.List.{filter, list_any}
 use Rattle.mh_edit.specs.declared.key.Key.{Key}
@@ -25,15 +25,15 @@ split_pass pass = record {
 abbrev pub with_seat : SeatView → PassView → PassView
 with_seat seat pass = record { table = pass.table; learnt = pass.learnt; made = pass.made; asked = pass.asked; seat = seat }
 
--- a recipe of which both have learnt a form has one form for both
+-- if both passes have learnt a form of a recipe, it is the same form
 abbrev pub DoAgree : PassView → PassView → Type 0
 DoAgree pass other = (recipe : List Key) (f g : FormView) → learnt_of pass recipe ≡ Some f → learnt_of other recipe ≡ Some g → f ≡ g
 
--- the forms among these whose recipe is that of none that was asked for
+-- the forms among these whose recipe was not asked for
 abbrev pub unasked : List FormView → List FormView → List FormView
 unasked asked forms = filter (λ f. not (list_any (λ g. same_recipe f.recipe g.recipe) asked)) forms
 
--- the pass has learnt, asked for and put into the table what it had and what the other one had
+-- the new pass has learnt, asked for and put into the table what either pass had
 pub record KnowsBoth (old other new : PassView) : Type 0 where
   pub mine : StaysLearnt old new
   pub theirs : StaysLearnt other new

@@ -1,4 +1,4 @@
--- A call that makes a handle answers as the rule of its combinator says.
+-- A call that makes a handle obeys the rule of its combinator.
 use Rattle.std.specs.Prelude.{◌≡◌, Result, Ok, Err}
 use Rattle.mh_values.specs.declared.types.MethodTy.{MethodTy}
 use Rattle.mh_tree.specs.Rows.{TypeOrRefusal}
@@ -10,7 +10,8 @@ use Rattle.mh_handle.specs.declared.handle.Handle.{Handle}
 abbrev pub GivesType : TypeOrRefusal → Type 0
 GivesType row = (t : MethodTy) × (row ≡ Ok t)
 
--- a handle of the very type that the rule gives, or its very refusal; a table is full only where the rule gives a type, and want of memory tells nothing
+-- The answer is a handle of the rule's type, or the rule's refusal. A table is full only if the rule gives a type.
+-- If memory runs out, the answer says nothing about the rule.
 abbrev pub Obeys : TypeOrRefusal → Result Handle HandleError → Type 0
 Obeys row (Ok h) = row ≡ Ok h.ty
 Obeys row (Err (Refused e)) = row ≡ Err e

@@ -1,4 +1,4 @@
--- What contracts see of a table of forms, of its seat and of a pass over it, and what an edit leaves of a pass.
+-- Passes over a table of forms, and how an edit changes a pass.
 use Rattle.std.specs.Prelude.{◌≡◌, ℕ, ◌<◌, ◌⊎◌, List, [], ◌∷◌, ◌++◌, slice_get, Result, Ok, Err, Option, None, Some}
 use Rattle.std.specs.List.{find}
 use denote.Ref.{Bor}
@@ -16,7 +16,7 @@ use Rattle.mh_handle.specs.Index.{recipe_of}
 use Rattle.mh_handle.specs.SameRecipes.{same_recipe}
 pub use Rattle.mh_handle.specs.Seats.{Draws, KnowsAll, SeatView, TableView, seat_at}
 
--- the table of a pass, the forms that it has learnt of it, those that it has put there itself, those that it has asked for, and its seat
+-- A pass: its table, the forms of the table that it has learnt, those that it has put there, those that it has asked for, and its seat.
 pub record PassView : Type 0 where
   pub table : TableView
   pub learnt : List FormView
@@ -24,15 +24,15 @@ pub record PassView : Type 0 where
   pub asked : List FormView
   pub seat : SeatView
 
--- the pass is one over the table
+-- the pass is over this table
 abbrev pub IsPassOf : TableView → PassView → Type 0
 IsPassOf table pass = pass.table ≡ table
 
--- the form of a recipe that a pass has learnt, if it has learnt one
+-- the form that a pass has learnt for a recipe, if any
 abbrev pub learnt_of : PassView → List Key → Option FormView
 learnt_of pass recipe = find (λ form. same_recipe recipe form.recipe) pass.learnt
 
--- what the old pass has learnt the new one has learnt too
+-- the new pass has learnt all that the old one has learnt
 abbrev pub StaysLearnt : PassView → PassView → Type 0
 StaysLearnt old new = (recipe : List Key) (form : FormView) → learnt_of old recipe ≡ Some form → learnt_of new recipe ≡ Some form
 
@@ -40,41 +40,41 @@ StaysLearnt old new = (recipe : List Key) (form : FormView) → learnt_of old re
 abbrev pub pass_at : TableView → SeatView → PassView
 pass_at table seat = record { table = table; learnt = []; made = []; asked = []; seat = seat }
 
--- each form that was asked for is one that the pass has learnt
+-- the pass has learnt each form that it has asked for
 abbrev pub AreLearnt : List FormView → List FormView → Type 0
 AreLearnt learnt asked = (i : ℕ) (f : FormView) → slice_get asked i ≡ Some f → (j : ℕ) × (slice_get learnt j ≡ Some f)
 
--- forms have numbers of this list, each one of its own, in the list's order
+-- each form has a number of its own from this list, in the list's order
 abbrev pub HaveNumbers : List FormView → List ℕ → Type 0
 HaveNumbers [] numbers = Unit {0}
 HaveNumbers (form ∷ forms) [] = ⊥
 HaveNumbers (form ∷ forms) (n ∷ numbers) = ((form.number ≡ n) × HaveNumbers forms numbers) ⊎ HaveNumbers (form ∷ forms) numbers
 
--- forms of two lists that have one recipe are one form
+-- two forms of these lists with the same recipe are the same form
 abbrev pub DoMatch : List FormView → List FormView → Type 0
 DoMatch forms others = (i j : ℕ) (f g : FormView) → slice_get forms i ≡ Some f → slice_get others j ≡ Some g → f.recipe ≡ g.recipe → f ≡ g
 
--- forms with one recipe are one form
+-- forms with the same recipe are the same form
 abbrev pub AreOneEach : List FormView → Type 0
 AreOneEach forms = DoMatch forms forms
 
--- what a pass keeps: walks of its table's chains, whose forms with one recipe are one, those that it has asked for among them; and the forms that it has put
--- into the table with numbers of its seat
+-- The invariant of a pass. Its walks are of its table's chains, have one form for each recipe, and have the forms that it has asked for.
+-- The forms that it has put into the table have numbers of its seat.
 pub record IsPass (walks : List (WalkView FormView)) (made asked : List FormView) (seat : SeatView) : Type 0 where
   pub chains : chains_of walks ≡ seat.table.chains
   pub learnt : AreLearnt (learnt_by walks) asked
   pub once : AreOneEach (learnt_by walks)
   pub numbered : HaveNumbers made seat.numbers
 
--- this is the form of the recipe that the pass has learnt
+-- the pass has learnt this form for the recipe
 abbrev pub IsFormOf : List Key → PassView → FormView → Type 0
 IsFormOf recipe pass form = learnt_of pass recipe ≡ Some form
 
--- the pass has learnt no form of the recipe
+-- the pass has learnt no form for the recipe
 abbrev pub IsUnlearnt : List Key → PassView → Type 0
 IsUnlearnt recipe pass = learnt_of pass recipe ≡ None
 
--- more was learnt of the table, and nothing else changed
+-- the pass may have learnt more of the table; nothing else changed
 pub record Learns (old new : PassView) : Type 0 where
   pub table : new.table ≡ old.table
   pub learnt : StaysLearnt old new
@@ -82,43 +82,44 @@ pub record Learns (old new : PassView) : Type 0 where
   pub asked : new.asked ≡ old.asked
   pub seat : new.seat ≡ old.seat
 
--- no number was drawn, or one, where the pass had learnt no form of the recipe
+-- No number was drawn, or one was, because the pass had learnt no form for the recipe.
 abbrev pub DrawsAtMostOne : List Key → PassView → PassView → Type 0
 DrawsAtMostOne recipe old new = (new.seat ≡ old.seat) ⊎ ((number : ℕ) × Draws number old.seat new.seat × IsUnlearnt recipe old)
 
--- the form was put into the table, with the number that was drawn now
+-- the form was put into the table, with the number that was drawn in this call
 abbrev pub PutsForm : FormView → PassView → PassView → Type 0
 PutsForm form old new = (new.made ≡ old.made ++ form ∷ []) × Draws form.number old.seat new.seat
 
--- the pass has put no form into the table, or this one
+-- the pass has put no form into the table, or only this one
 abbrev pub PutsAtMost : FormView → PassView → PassView → Type 0
 PutsAtMost form old new = (new.made ≡ old.made) ⊎ PutsForm form old new
 
--- the pass has put no form into the table, or one of this recipe
+-- the pass has put no form into the table, or only one of this recipe
 abbrev pub PutsAtMostOne : List Key → PassView → PassView → Type 0
 PutsAtMostOne recipe old new = (new.made ≡ old.made) ⊎ ((form : FormView) × (form.recipe ≡ recipe) × PutsForm form old new)
 
--- the form that the table has for the recipe of ours, after ours was put: ours, or another one
+-- after a try to put our form into the table, the table has a form of its recipe: ours, or that of another pass
 abbrev pub IsPut : List FormView → FormView → Put FormView → Type 0
 IsPut learnt ours (Mine form) = Has recipe_of learnt ours.recipe form.now × (form.now ≡ ours)
 IsPut learnt ours (Theirs form back) = Has recipe_of learnt ours.recipe form.now
 
--- where the table has ours, it was kept with the forms that the pass has put into the table
+-- if the table has our form, it is among the forms that the pass has put into the table
 abbrev pub IsKept : FormView → List FormView → List FormView → FormView → Type 0
 IsKept ours before after form = (after ≡ before) ⊎ ((after ≡ before ++ form ∷ []) × (form ≡ ours))
 
--- a form that the pass had asked for before is answered as it was, and the pass stays as it is; any other is asked for now
+-- If the pass had asked for the form before, it answers that form and stays as it is. Otherwise it has asked for the form now.
 abbrev pub AsksFor : FormView → PassView → PassView → Type 0
 AsksFor form old new =
     (Has recipe_of old.asked form.recipe form × (new ≡ old))
     ⊎ (Lacks recipe_of old.asked form.recipe × (new.asked ≡ old.asked ++ form ∷ []))
 
--- what a refused edit leaves: the form was not asked for before, and is not asked for now
+-- a failed edit: the form was not asked for before, and still is not
 abbrev pub NotAsked : List Key → PassView → PassView → Type 0
 NotAsked recipe old new = Lacks recipe_of old.asked recipe × (new.asked ≡ old.asked)
 
--- what an edit answers that asks for the form of a recipe: the one that the pass has learnt by then, with the number drawn now where the pass has put it into
--- the table; where no number is left, it has learnt none
+-- How an edit, which asks for the form of a recipe, answers and changes the pass. The answer is the form that the pass has learnt by then.
+-- If the pass has put it into the table, it has the number drawn now. If no number is left, the pass has learnt none.
+-- The clauses on numbers are there to count: by them a run draws at most one number for each recipe that a thread asks for.
 abbrev pub Edits : List Key → PassView → PassView → Result (Bor FormView) EditError → Type 0
 Edits recipe old new (Ok form) =
     (form.now.recipe ≡ recipe) × AsksFor form.now old new × DrawsAtMostOne recipe old new × IsFormOf recipe new form.now × PutsAtMost form.now old new
@@ -126,14 +127,14 @@ Edits recipe old new (Err NoMemory) = NotAsked recipe old new × DrawsAtMostOne 
 Edits recipe old new (Err (FormsFull drawn)) =
     NotAsked recipe old new × Draws drawn old.seat new.seat × (16384 < drawn) × IsUnlearnt recipe new × (new.made ≡ old.made)
 
--- what asking for a form answers that was not asked for before: what the edit does where the table shows it, or memory is short; else the pass has not learnt
--- it
+-- How a look for a form that was not asked for before answers. If the table shows the form, or memory runs out, the answer is the edit's.
+-- Otherwise the pass has not learnt the form.
 abbrev pub AsksShown : {E : Type 0} → List Key → PassView → PassView → Result (Option (Bor FormView)) E → Type 0
 AsksShown recipe old new (Ok (Some form)) = Edits recipe old new (Ok form)
 AsksShown recipe old new (Ok None) = Learns old new × IsUnlearnt recipe new
 AsksShown recipe old new (Err e) = Edits recipe old new (Err NoMemory)
 
--- what the making of a form answers that was neither asked for nor learnt
+-- how making a form that was neither asked for nor learnt answers and changes the pass
 abbrev pub MakesForm : List Key → PassView → PassView → Result (Bor FormView) EditError → Type 0
 MakesForm recipe old new (Ok form) =
     (form.now.recipe ≡ recipe) × (new.asked ≡ old.asked ++ form.now ∷ []) × ((number : ℕ) × Draws number old.seat new.seat) × PutsAtMost form.now old new

@@ -1,4 +1,4 @@
--- The recipe of a tree: the keys of the form that a handle runs which stands for it.
+-- The recipe of a tree: the keys of the form of each handle that stands for the tree.
 use Rattle.std.specs.Prelude.{ℕ, ◌-◌, Bool, true, ◌&&◌, List, [], ◌∷◌, ◌++◌, length, map, if◌then◌else◌, Option, Some, None, Ok, Err}
 use Rattle.mh_values.specs.declared.class.Class.{Class}
 use Rattle.mh_values.specs.declared.types.Ty.{Ty}
@@ -17,31 +17,31 @@ use Rattle.mh_edit.specs.declared.key.Key.TheVariants as key
 use Rattle.mh_edit.specs.declared.key.RetEntry.{RetEntry}
 use Rattle.mh_edit.specs.declared.key.RetEntry.TheVariants as entry
 
--- the keys that depend on a type, none where there is none
+-- the keys that depend on a type: none if the type is refused
 abbrev pub at_type : TypeOrRefusal → (MethodTy → List Key) → List Key
 at_type (Ok t) keys = keys t
 at_type (Err e) keys = []
 
--- the key that depends on what is there
+-- the key that depends on an optional part: none if it is missing
 abbrev pub at_some : {A : Type 0} → Option A → (A → Key) → List Key
 at_some (Some a) key = key a ∷ []
 at_some None key = []
 
--- for each parameter that is converted its new basic type; none where the conversion changes nothing
+-- for each parameter its new basic type, or `None` if the conversion changes nothing
 abbrev pub entries_of : List Class → List Ty → List Ty → List (Option Basic)
 entries_of classes (s ∷ ss) (t ∷ ts) = (if is_trivial classes s t then None else Some (basic_of s)) ∷ entries_of classes ss ts
 entries_of classes _ _ = []
 
--- what becomes of the result, which stays as it is where the conversion changes nothing
+-- what becomes of the result: it stays as it is if the conversion changes nothing
 abbrev pub ret_entry_of : List Class → Option Ty → Option Ty → RetEntry
 ret_entry_of classes s t = if is_trivial_ret classes s t then entry.Keep else entry.New (basic_ret_of t)
 
--- each conversion of these parameters changes nothing
+-- no conversion of these parameters changes anything
 abbrev pub are_trivial : List Class → List Ty → List Ty → Bool
 are_trivial classes (s ∷ ss) (t ∷ ts) = is_trivial classes s t && are_trivial classes ss ts
 are_trivial classes _ _ = true
 
--- the key of a conversion to a type, or none where nothing changes
+-- the key of a conversion to a type, or none if nothing changes
 abbrev pub convert_keys : List Class → MethodTy → MethodTy → List Key
 convert_keys classes asked t =
     if are_trivial classes asked.params t.params && is_trivial_ret classes t.ret asked.ret then []
@@ -51,7 +51,7 @@ convert_keys classes asked t =
 abbrev pub collect_keys : ℕ → MethodTy → List Key
 collect_keys place part = key.Collect place (map basic_of part.params) (basic_ret_of part.ret) ∷ []
 
--- the keys of a tree: those of what it was made from, and then its own
+-- The keys of a tree: those of its target, and then its own. A guard or catch has a root of its own, since its parts are side parts.
 abbrev pub recipe : LeafTable → Tree → List Key
 recipe table (tree.Leaf l) = at_type (type_of table (tree.Leaf l)) (λ ty. key.LeafRoot (shape_of ty) ∷ [])
 recipe table (tree.Constant ty v) = at_some ty (λ r. key.ConstRoot (basic_of r))

@@ -1,4 +1,4 @@
--- When two recipes are one.
+-- Equality of recipes, key by key.
 use Rattle.std.specs.Prelude.{ℕ, Bool, List, [], ◌∷◌, ◌++◌, length, map}
 use Rattle.std.specs.Cmp.Lexicographic.{pointwise}
 use Rattle.std.specs.Str.{bytes_eq}
@@ -16,7 +16,7 @@ basic_numbers basics = map basic_number basics
 abbrev pub shape_numbers : Shape → List ℕ
 shape_numbers shape = ret_number shape.ret ∷ basic_numbers shape.params
 
--- a key as numbers: its kind, and all that it says
+-- a key as numbers: its kind, and all its operands
 abbrev pub key_numbers : Key → List ℕ
 key_numbers (key.LeafRoot shape) = 1 ∷ shape_numbers shape
 key_numbers (key.ConstRoot b) = 2 ∷ basic_number b ∷ []
@@ -39,6 +39,6 @@ key_numbers (key.Gather count b) = 15 ∷ count ∷ basic_number b ∷ []
 abbrev pub same_key : Key → Key → Bool
 same_key a b = bytes_eq (key_numbers a) (key_numbers b)
 
--- two recipes are one where they have the same keys in the same order
+-- two recipes are the same if they have the same keys in the same order
 abbrev pub same_recipe : List Key → List Key → Bool
 same_recipe a b = pointwise same_key a b

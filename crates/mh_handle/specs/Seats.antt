@@ -1,4 +1,4 @@
--- What contracts see of a table of forms and of a seat, through which the numbers of its forms are drawn.
+-- Tables of forms, and the seats through which the numbers of forms are drawn.
 use Rattle.std.specs.Prelude.{◌≡◌, ℕ, zero, suc, ◌+◌, ◌-◌, ◌^◌, ◌<◌, List, [], ◌∷◌, ◌++◌, length}
 use Rattle.std.specs.List.{All}
 use Rattle.mh_setonce.specs.Views.{ChainView}
@@ -10,7 +10,7 @@ pub record TableView : Type 0 where
   pub chains : List ChainView
   pub tickets : TicketsId
 
--- the table whose numbers a seat draws, the numbers that it has drawn, and how many it may still draw
+-- a seat: the table whose numbers it draws, the numbers that it has drawn, and how many it may still draw
 pub record SeatView : Type 0 where
   pub table : TableView
   pub numbers : List ℕ
@@ -21,19 +21,19 @@ abbrev pub numbers_to : ℕ → List ℕ
 numbers_to zero = []
 numbers_to (suc n) = numbers_to n ++ suc n ∷ []
 
--- a seat of the table that has drawn this number last
+-- the only seat of a table, after it has drawn the numbers up to this one
 abbrev pub seat_at : TableView → ℕ → SeatView
 seat_at table last = record { table = table; numbers = numbers_to last; room = 2 ^ 62 - last }
 
--- the seat has all the numbers that were drawn of its table: those and its room are 2^62 together
+-- the seat has all the numbers that were ever drawn: their count and its room add up to 2^62
 abbrev pub HasAll : SeatView → Type 0
 HasAll s = length s.numbers + s.room ≡ 2 ^ 62
 
--- where the seat has all numbers, they are 1 to their count, each once
+-- if the seat has all numbers, they are 1 to their count, each once
 abbrev pub KnowsAll : SeatView → Type 0
 KnowsAll s = HasAll s → EachOnce s.numbers
 
--- this number was drawn, which is greater than all that the seat had; where the seat had all others, it is the next one
+-- This number was drawn. It is greater than all that the seat had. If the seat had all others, it is the next one.
 pub record Draws (number : ℕ) (old new : SeatView) : Type 0 where
   pub table : new.table ≡ old.table
   pub numbers : new.numbers ≡ old.numbers ++ number ∷ []
@@ -46,7 +46,7 @@ pub record Draws (number : ℕ) (old new : SeatView) : Type 0 where
 abbrev pub new_seat : TableView → ℕ → SeatView
 new_seat table room = record { table = table; numbers = []; room = room }
 
--- the seat with so much less room
+-- the seat with less room
 abbrev pub with_less_room : ℕ → SeatView → SeatView
 with_less_room room s = record { table = s.table; numbers = s.numbers; room = s.room - room }
 

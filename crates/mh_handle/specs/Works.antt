@@ -1,4 +1,4 @@
--- What the calls that make handles need of a thread's work, and what they leave of it.
+-- What the calls that make handles require of a thread's `Work`, and how they change it.
 use Rattle.std.specs.Prelude.{◌≡◌, ℕ, ◌+◌, ◌*◌, ◌≤◌, ◌<◌, List, [], ◌∷◌, Result, Ok, Err}
 use denote.Ref.{Bor}
 use Rattle.std.specs.Global.{Vec}
@@ -34,18 +34,18 @@ classes_of w = w.leaves.now.classes
 abbrev pub StandsIn : Work → HandleView → Tree → Type 0
 StandsIn w h t = Stands w.leaves.now h t
 
--- how many types a handle holds at most
+-- the most types that one handle holds
 abbrev pub most_held : ℕ
 most_held = 256
 
--- pass and seat are of the tables; so many numbers may be drawn, and for each of them the types of a handle may be held
+-- The pass and the seat are of the work's tables. They have room for that many numbers, and for the types of that many handles.
 pub record IsReady (w : Work) (numbers : ℕ) : Type 0 where
   pub of_table : IsPassOf w.forms.now w.pass.now
   pub room : numbers ≤ w.pass.now.seat.room
   pub of_types : w.seat.now.table ≡ w.types.now
   pub holds : most_held * numbers ≤ w.seat.now.room
 
--- all but what the seat of types has and knows is as it was
+-- nothing changed except what the seat of types holds and has learnt
 pub record IsUnchanged (old new : Work) : Type 0 where
   pub alloc : new.alloc ≡ old.alloc
   pub types : new.types ≡ old.types
@@ -55,8 +55,8 @@ pub record IsUnchanged (old new : Work) : Type 0 where
   pub borrow : new.pass.ghost_name ≡ old.pass.ghost_name
   pub pass : new.pass.now ≡ old.pass.now
 
--- tables and leaves are the same, pass and seat are of the same tables, the pass has learnt what it had, and at most so many numbers were drawn and the types
--- of so many handles held
+-- Tables and leaves are the same, and the pass and the seat are of the same tables. The pass has forgotten nothing.
+-- At most that many numbers were drawn, and the types of at most that many handles were taken.
 pub record GoesOn (numbers : ℕ) (old new : Work) : Type 0 where
   pub types : new.types ≡ old.types
   pub lent : new.seat.ghost_name ≡ old.seat.ghost_name
@@ -71,14 +71,14 @@ pub record GoesOn (numbers : ℕ) (old new : Work) : Type 0 where
 
 -- ---- types
 
--- the types that a rule gives
+-- the type that a rule gives, if it refuses nothing
 abbrev pub types_in : TypeOrRefusal → List MethodTy
 types_in (Ok t) = t ∷ []
 types_in (Err e) = []
 
--- what a call leaves of the seat of types that may ask for these and is handed handles with these holds: the holds of the handle that it makes, which those
--- of its parts may have become, or none more; a refusal by the rule asks for none; and where there was no slot, the bucket of one of the types is full of
--- others
+-- How making a handle changes the seat of types. It may ask for the types `asks`, and it consumes handles with the holds `gone`.
+-- It adds the holds of the new handle, which may be those that it consumed, or adds none if it fails.
+-- A refusal by the rule asks for no type. If no slot was found, the bucket of one of the types is full of other types.
 abbrev pub TradesTypes : List MethodTy → List HoldView → Work → Work → Result Handle HandleError → Type 0
 TradesTypes asks gone old new (Ok h) = Exchanges asks gone h.held old.seat.now new.seat.now
 TradesTypes asks gone old new (Err NoMemory) = Exchanges asks gone [] old.seat.now new.seat.now
@@ -87,7 +87,7 @@ TradesTypes asks gone old new (Err (TypesFull bucket)) =
     Exchanges asks gone [] old.seat.now new.seat.now × ((t : MethodTy) × (1 ≤ times_type t asks) × FindsNoSlot bucket t new.seat.now)
 TradesTypes asks gone old new (Err (Refused e)) = Exchanges [] gone [] old.seat.now new.seat.now
 
--- what a request for a type and an edit leave of the work
+-- how a request for a type and one edit change the pass; `recipe` is that of the new form
 abbrev pub MakesForm : List Key → Work → Work → Result (HoldView × Bor FormView) HandleError → Type 0
 MakesForm recipe old new (Ok made) =
     (made.1.now.recipe ≡ recipe) × AsksFor made.1.now old.pass.now new.pass.now × DrawsAtMostOne recipe old.pass.now new.pass.now
@@ -100,29 +100,29 @@ MakesForm recipe old new (Err (FormsFull drawn)) =
 MakesForm recipe old new (Err (TypesFull bucket)) = new.pass.now ≡ old.pass.now
 MakesForm recipe old new (Err (Refused e)) = ⊥
 
--- the same request's part in the seat: one hold more of the type, or none
+-- how the same request changes the seat: it adds one hold of the type, or none if it fails
 abbrev pub TradesForm : MethodTy → Work → Work → Result (HoldView × Bor FormView) HandleError → Type 0
 TradesForm t old new (Ok made) = Exchanges (t ∷ []) [] (made.0 ∷ []) old.seat.now new.seat.now
 TradesForm t old new (Err (TypesFull bucket)) = Exchanges (t ∷ []) [] [] old.seat.now new.seat.now × FindsNoSlot bucket t new.seat.now
 TradesForm t old new (Err e) = Exchanges (t ∷ []) [] [] old.seat.now new.seat.now
 
--- what a request for one type leaves of the seat
+-- how a request for one type changes the seat
 abbrev pub TradesHold : MethodTy → SeatView → Result HoldView InternError → SeatView → Type 0
 TradesHold t old (Ok h) new = Exchanges (t ∷ []) [] (h ∷ []) old new
 TradesHold t old (Err intern.NoMemory) new = Exchanges (t ∷ []) [] [] old new
 TradesHold t old (Err (intern.TypesFull bucket)) new = Exchanges (t ∷ []) [] [] old new × FindsNoSlot bucket t new
 
--- what one hold more leaves of the seat
+-- how copying one hold changes the seat
 abbrev pub TradesCopy : {E : Type 0} → SeatView → Result HoldView E → SeatView → Type 0
 TradesCopy old (Ok h) new = Exchanges [] [] (h ∷ []) old new
 TradesCopy old (Err e) new = Exchanges [] [] [] old new
 
--- what the copying of a handle leaves of the seat
+-- how copying a handle changes the seat
 abbrev pub CopiesTypes : SeatView → Result Handle NoMemoryValue → SeatView → Type 0
 CopiesTypes old (Ok h) new = Exchanges [] [] h.held old new
 CopiesTypes old (Err e) new = Exchanges [] [] [] old new
 
--- the same of the holds by themselves
+-- how copying the holds of a handle changes the seat
 abbrev pub TradesPair : {A : Type 0} → SeatView → Result (HoldView × Vec HoldView) A → SeatView → Type 0
 TradesPair old (Ok held) new = Exchanges [] [] (held.0 ∷ held.1.items) old new
 TradesPair old (Err e) new = Exchanges [] [] [] old new
@@ -131,8 +131,9 @@ TradesPair old (Err e) new = Exchanges [] [] [] old new
 abbrev pub HoldsTypes : Work → List HoldView → Type 0
 HoldsTypes w holds = AreHeld w.seat.now holds
 
--- what a call leaves of the work that makes a handle by one edit, whose form is the one that the pass has learnt for this recipe, with the number drawn now
--- where the pass has put it into the table; where no number is left it has learnt none; a refusal by the rule leaves all but the seat of types as it was
+-- How making a handle by one edit changes the pass: as `Edits` says for the recipe of the handle's form.
+-- It differs in the errors. A full table of types leaves the pass as it was, because types are asked for before the form.
+-- If memory runs out, the form may have been asked for earlier. A refusal by the rule changes nothing except the seat of types.
 abbrev pub Makes : List Key → Work → Work → Result Handle HandleError → Type 0
 Makes recipe old new (Ok h) =
     (h.form.recipe ≡ recipe) × AsksFor h.form old.pass.now new.pass.now × DrawsAtMostOne recipe old.pass.now new.pass.now

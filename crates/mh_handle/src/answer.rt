@@ -6,16 +6,16 @@ use mh_values::{Classes, Exc, Outcome, Ty, Value};
 use std::alloc::Global;
 use std::marker::Model;
 
-/// How a call ended that was made in a machine, which has its leaf calls, with the number of keys in
-/// the recipe of the form that ran; 0 where none did.
+/// How a call in a machine ended, with the number of keys in the recipe of the form that ran, or 0
+/// if none ran. The machine has the leaf calls.
 #[derive(Debug, Drop)]
 pub struct Ended {
     pub outcome: Outcome,
     pub keys: u32,
 }
 
-/// How a call ended, with the leaf calls that it made and the number of keys in the recipe of the
-/// form that ran. Only a call of a handle makes one that returned or called a leaf.
+/// How a call ended, with its leaf calls and the number of keys in the recipe of the form that ran.
+/// Only a call of a handle makes an answer that returned or called a leaf.
 #[derive(Debug, Drop)]
 pub struct Answer {
     outcome: Outcome,
@@ -32,7 +32,7 @@ impl Model for Answer {
 }
 
 impl Answer {
-    /// A call that throws before any form is run. It takes no memory.
+    /// The answer of a call that throws before any form runs. It takes no memory.
     pub fn thrown(alloc: Global, e: Exc) -> Answer
         ensures { result ≡ record { outcome = Outcome.Throw e; calls = []; keys = 0 } }
     {
@@ -67,7 +67,7 @@ impl Answer {
         &self.calls
     }
 
-    /// The number of keys in the recipe of the form that ran; 0 where none did.
+    /// The number of keys in the recipe of the form that ran; 0 if none ran.
     pub fn keys(&self) -> u32
         ensures { result ≡ self.now.keys }
     {
@@ -75,7 +75,7 @@ impl Answer {
     }
 }
 
-/// A result as one of a return type of which it is the erasure.
+/// The value of a return type whose erasure is this result.
 pub(crate) fn type_result(slot: Option<Slot>, ret: Option<Ty>, classes: &Classes) -> Option<Value>
     requires { typed_result classes.now ret slot ≢ None }
     ensures { typed_result classes.now ret slot ≡ Some result }

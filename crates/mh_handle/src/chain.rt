@@ -9,7 +9,7 @@ pub(crate) const CHAINS: u32 = 64;
 /// How many cells a chain has.
 pub(crate) const CHAIN_ROOM: u32 = 16384;
 
-/// How many of them it makes at once.
+/// How many cells a chain makes at once.
 pub(crate) const ROW_LEN: usize = 128;
 
 /// The number of a key's kind, from 1 on.
@@ -37,7 +37,7 @@ fn kind(key: &Key) -> u32
     }
 }
 
-/// The chain of a recipe with one key more, from that of the recipe.
+/// The chain of a recipe with one more key, given the chain of the recipe.
 pub(crate) fn chain_then(chain: u32, key: &Key) -> u32
     requires { chain < chain_count }
     ensures chain { result ≡ (31 * chain + kind_of key.now) % chain_count }

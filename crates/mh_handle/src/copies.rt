@@ -13,8 +13,8 @@ use mh_form::copy_fields;
 use mh_intern::HeldType;
 
 impl<'t> Handle<'t> {
-    /// A copy of the handle, which stands for what the handle stands for, and holds what it holds.
-    /// It asks for no type and no edit.
+    /// A copy of the handle, which stands for the same tree and holds the same types. It asks for
+    /// no type and no edit.
     pub fn copy(&self, w: &mut Work<'_, 't>) -> Result<Handle<'t>, NoMemory>
         requires ready { IsReady w.old 1 }
         requires held { HoldsTypes w.old self.now.held }
@@ -36,7 +36,7 @@ impl<'t> Handle<'t> {
         Ok(Handle::of(own, self.weight, sides, self.form, fields))
     }
 
-    // One hold more of each type that the handle holds.
+    // One more hold of each type that the handle holds.
     fn holds_again(&self, w: &mut Work<'_, 't>) -> Result<(HeldType, Vec<HeldType>), NoMemory>
         requires ready { IsReady w.old 1 }
         requires held { HoldsTypes w.old self.now.held }
@@ -54,7 +54,7 @@ impl<'t> Handle<'t> {
         }
     }
 
-    /// Gives up the handle, with the types that it holds. It takes no memory.
+    /// Gives up the handle and releases the types that it holds. It takes no memory.
     pub fn give_back(self, w: &mut Work<'_, 't>)
         requires of_types { w.old.seat.now.table ≡ w.old.types.now }
         requires held { HoldsTypes w.old self.held }

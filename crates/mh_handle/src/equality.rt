@@ -10,9 +10,9 @@ use mh_edit::Key::{
 use mh_edit::{Key, Places, RetEntry};
 use mh_form::{Basic, BasicRet, Basics, Shape};
 
-/// A value that can be held against another one.
+/// Values that can be compared.
 pub(crate) trait Same {
-    /// Whether they are one. It takes no memory.
+    /// Whether both are the same. It takes no memory.
     fn is_same(&self, other: &Self) -> bool
         ensures { IsTrue result ↔ (self.now ≡ other.now) };
 }
@@ -53,7 +53,7 @@ impl<T: Same> Same for Seq<T> {
     }
 }
 
-/// Whether both lists are one.
+/// Whether both lists are the same.
 pub(crate) fn are_same<T: Same>(these: &[T], others: &[T]) -> bool
     ensures { IsTrue result ↔ (these.now ≡ others.now) }
 {

@@ -9,9 +9,9 @@ use mh_setonce::Keyed;
 use std::alloc::Global;
 use std::marker::Model;
 
-/// A form (OpenJDK's `LambdaForm`): what a recipe makes, with a number of its own, from 1 to
-/// 16,384; the base of all forms has 0. Contracts see the number and the recipe, which determines
-/// the body.
+/// A form (OpenJDK's `LambdaForm`): the body that a recipe makes, with a number of its own from 1
+/// to 16,384. The base of all forms has the number 0. Contracts see the number and the recipe,
+/// which determines the body.
 #[derive(Drop)]
 pub struct Form {
     number: u64,
@@ -71,7 +71,7 @@ impl Form {
         &self.recipe
     }
 
-    /// What the form does.
+    /// The body of the form: what it does.
     pub fn body(&self) -> &FormBody
         ensures { result.now ≡ body_of self.now.recipe }
     {

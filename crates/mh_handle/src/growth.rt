@@ -21,8 +21,8 @@ use mh_values::MethodTy;
 use std::alloc::Global;
 use std::sync::Wait;
 
-/// What a combinator adds to the handle that it adapts: the key of the edit, and the fields and
-/// parts that go with it; and the type and the weight of the new handle.
+/// What a combinator adds to the handle that it adapts: the key of the edit, its fields and its
+/// parts. It also has the type and the weight of the new handle.
 #[derive(Drop)]
 pub struct Growth<'t> {
     pub ty: MethodTy,
@@ -31,7 +31,7 @@ pub struct Growth<'t> {
     pub parts: Parts<'t>,
 }
 
-/// What a handle is made from: a form with its fields, and the types of its side parts.
+/// A handle before it has a type: a form with its fields, and the types of its side parts.
 #[derive(Drop)]
 struct Untyped<'t> {
     form: &'t Form,
@@ -39,7 +39,7 @@ struct Untyped<'t> {
     sides: Vec<HeldType>,
 }
 
-/// The type of a handle, which is held, and its form.
+/// A hold of the type of a new handle, and its form.
 fn typed_form<'t, R: Wait>(
     w: &mut Work<'_, 't>,
     rt: &R,
@@ -64,8 +64,7 @@ fn typed_form<'t, R: Wait>(
     }
 }
 
-/// The handle that an edit makes of what it is made from. The types of the side parts are given back
-/// where none is made.
+/// The handle that an edit makes. If it makes none, it gives back the types of the side parts.
 fn made_from<'t, R: Wait>(
     w: &mut Work<'_, 't>,
     rt: &R,
@@ -118,8 +117,8 @@ fn made_from<'t, R: Wait>(
 }
 
 impl<'t> Handle<'t> {
-    /// The handle after an edit of its form. The handle and the parts of the growth are given back
-    /// where none is made.
+    /// The handle after an edit of its form. If none is made, the old handle and the parts of the
+    /// growth are given back.
     pub fn grown<R: Wait>(
         self,
         w: &mut Work<'_, 't>,
@@ -157,8 +156,8 @@ impl<'t> Handle<'t> {
         made
     }
 
-    /// A handle whose form is made by a root. The parts of the growth are given back where none is
-    /// made.
+    /// A handle whose form is made by a root. If none is made, the parts of the growth are given
+    /// back.
     pub fn rooted<R: Wait>(
         w: &mut Work<'_, 't>,
         rt: &R,
@@ -194,8 +193,8 @@ pub fn one_field<'t>(alloc: Global, field: Field<'t>) -> Result<Fields<'t>, NoMe
     Ok(fields)
 }
 
-/// Fields followed by others, and types that are held likewise. Where memory is short the types stay
-/// where they are.
+/// Fields followed by others, and held types likewise. If memory runs out, the types stay where
+/// they are.
 fn joined<'t>(
     fields: Fields<'t>,
     more: Fields<'t>,

@@ -10,8 +10,8 @@ use mh_intern::HeldType;
 use mh_values::MethodTy;
 use std::marker::Model;
 
-/// A method handle (`java.lang.invoke.MethodHandle`): a form with the fields that it runs on, the
-/// weight of the tree of combinators that it was made by, and holds of its type and of the types of
+/// A method handle (`java.lang.invoke.MethodHandle`). It has a form with the fields that the form
+/// runs on, and the weight of the combinator tree that made it. It holds its type and the types of
 /// its side parts. Handles of equal recipes share one form.
 #[derive(Drop)]
 pub struct Handle<'t> {
@@ -57,8 +57,8 @@ impl<'t> Model for Handle<'t> {
 }
 
 impl<'t> Handle<'t> {
-    /// A handle of a type that is held, from a form with its fields, and with the types of its side
-    /// parts that are held.
+    /// A handle from a hold of its type, a form with its fields, and holds of the types of its side
+    /// parts.
     pub(crate) fn of(
         own: HeldType,
         weight: u32,
@@ -90,8 +90,7 @@ impl<'t> Handle<'t> {
         }
     }
 
-    /// The handle's type. Its form takes what the type says, with types erased. It holds this type
-    /// and those of its side parts.
+    /// The handle's type. The form's parameters are those of the type, erased.
     pub fn ty(&self) -> &MethodTy
         ensures ty { result.now ≡ self.now.ty }
         ensures shaped { IsShaped self.now }
@@ -99,7 +98,7 @@ impl<'t> Handle<'t> {
         self.own.ty()
     }
 
-    /// The number of nodes of its tree, at most 256.
+    /// The number of nodes of the handle's tree, at most 256.
     pub fn weight(&self) -> u32
         ensures weight { result ≡ self.now.weight }
         ensures light { result ≤ 256 }
@@ -107,14 +106,14 @@ impl<'t> Handle<'t> {
         self.weight
     }
 
-    /// How many types it holds: its own, and for each of its side parts those that the part holds.
+    /// How many types the handle holds: its own, and for each side part those that the part holds.
     pub fn types_held(&self) -> usize
         ensures types { result ≡ length self.now.held }
     {
         1 + self.sides.len()
     }
 
-    /// Its form.
+    /// The handle's form.
     pub fn form(&self) -> &'t Form
         ensures { result.now ≡ self.now.form }
     {

@@ -11,7 +11,7 @@ const HASH_LIMIT: u32 = 16777213;
 pub(crate) trait Hashed {
     ghost part: { Self → ℕ };
 
-    /// Its part of a hash.
+    /// What it contributes to a hash.
     fn hash(&self) -> u32
         ensures part { result ≡ part self.now }
         ensures small { result < hash_limit };

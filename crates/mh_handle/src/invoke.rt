@@ -21,7 +21,7 @@ use mh_values::{Classes, Items, Outcome, Ty};
 use std::alloc::Global;
 
 impl<'t> Handle<'t> {
-    /// Calls the handle on arguments of its type, where `n` leaf calls were made before.
+    /// Calls the handle on arguments of its type, after `n` earlier leaf calls.
     pub fn invoke(
         &self,
         alloc: Global,
@@ -41,8 +41,8 @@ impl<'t> Handle<'t> {
         self.invoke_with(&mut Machine::new(alloc), leaves, args, n)
     }
 
-    /// Calls the handle as `invoke` does, in a machine that is kept from call to call, out of which
-    /// the answer takes the leaf calls.
+    /// Calls the handle as `invoke` does, in a machine that is kept from call to call. The answer
+    /// takes the leaf calls out of the machine.
     pub fn invoke_with(
         &self,
         machine: &mut Machine,
@@ -63,9 +63,9 @@ impl<'t> Handle<'t> {
         Ok(Answer::new(ended, machine.take_calls()))
     }
 
-    /// Calls the handle as `invoke` does, in a machine that is kept from call to call. The leaf calls
-    /// stay in the machine until its next call, so that none of this takes memory, but where a leaf
-    /// or a conversion makes a text, an array or a message, or where the machine has too little room.
+    /// Calls the handle as `invoke` does, in a machine that is kept from call to call. The leaf
+    /// calls stay in the machine until its next call. So it takes memory only if a leaf or a
+    /// conversion makes a text, an array or a message, or if the machine has too little room.
     pub fn invoke_on(
         &self,
         machine: &mut Machine,
@@ -88,8 +88,8 @@ impl<'t> Handle<'t> {
         end(outcome, self.ty().ret, keys, leaves.classes())
     }
 
-    /// Calls a form that was edited from the handle's, on the handle's fields and those of the
-    /// edit, and types the result by a return type.
+    /// Calls a form that an edit made from the handle's form, on the handle's fields followed by
+    /// those of the edit. The result is read as a value of the return type.
     pub fn invoke_edited(
         &self,
         alloc: Global,
@@ -110,8 +110,8 @@ impl<'t> Handle<'t> {
         self.invoke_edited_with(&mut Machine::new(alloc), form, more, ret, leaves, args, n)
     }
 
-    /// Calls a form that was edited from the handle's as `invoke_edited` does, in a machine that is
-    /// kept from call to call, out of which the answer takes the leaf calls.
+    /// Calls an edited form as `invoke_edited` does, in a machine that is kept from call to call.
+    /// The answer takes the leaf calls out of the machine.
     pub fn invoke_edited_with(
         &self,
         machine: &mut Machine,
@@ -142,7 +142,7 @@ impl<'t> Handle<'t> {
     }
 }
 
-/// The end of a run of a form with so many keys, with the result typed by a return type.
+/// The end of a run of a form with `keys` keys; the result is read as a value of the return type.
 fn end(
     outcome: SlotOutcome,
     ret: Option<Ty>,
@@ -163,7 +163,7 @@ fn end(
     })
 }
 
-/// An outcome with its result typed.
+/// An outcome with its result read as a value of the return type.
 fn type_outcome(outcome: SlotOutcome, ret: Option<Ty>, classes: &Classes) -> Outcome
     requires { (calls : List LeafCall) × (typed_ran classes.now ret
         (ran_of_outcome outcome calls) ≢ Stuck) }

@@ -17,7 +17,7 @@ use mh_leaves::Leaves;
 use mh_values::LeafId;
 use std::sync::Wait;
 
-/// A handle of a leaf. It is never refused.
+/// A handle of a leaf. No rule refuses it.
 pub fn leaf<'t, R: Wait>(
     w: &mut Work<'_, 't>,
     rt: &R,
@@ -45,7 +45,7 @@ pub fn leaf<'t, R: Wait>(
     Handle::rooted(w, rt, by)
 }
 
-// What the leaves of a manifest are. It does nothing when it runs.
+// Shows, for proofs, that the leaves of a manifest are well typed. It does nothing when it runs.
 fn are_well_typed(leaves: &Leaves)
     ensures { IsWellTyped leaves.now }
 {

@@ -12,8 +12,8 @@ use std::alloc::Global;
 use std::marker::Model;
 use std::sync::Arc;
 
-/// The fields that a combinator adds, some of which hold handles that become parts of another one,
-/// and the types that those hold.
+/// The fields that a combinator adds, and the types that its parts hold. Some of the fields hold
+/// handles, which become parts of another handle.
 #[derive(Drop)]
 pub struct Parts<'t> {
     pub(crate) fields: Fields<'t>,
@@ -42,7 +42,7 @@ impl<'t> Model for Parts<'t> {
 }
 
 impl<'t> Parts<'t> {
-    /// Neither a field nor a part.
+    /// No field and no part.
     pub fn new(alloc: Global) -> Parts<'t>
         ensures { result ≡ no_parts }
     {
@@ -52,7 +52,7 @@ impl<'t> Parts<'t> {
         }
     }
 
-    /// Fields that hold no handle that was made.
+    /// Fields of which none holds a handle.
     pub fn of_fields(alloc: Global, fields: Fields<'t>) -> Parts<'t>
         ensures { result ≡ record no_parts { fields = fields.entry.items } }
     {
@@ -62,7 +62,7 @@ impl<'t> Parts<'t> {
         }
     }
 
-    /// Adds a handle as a part. Where memory is short the handle was given back.
+    /// Adds a handle as a part. If memory runs out, the handle is given back.
     pub fn push(&mut self, w: &mut Work<'_, 't>, handle: Handle<'t>) -> Result<(), NoMemory>
         requires of_types { w.old.seat.now.table ≡ w.old.types.now }
         requires held { HoldsTypes w.old handle.held }
@@ -111,7 +111,7 @@ impl<'t> Parts<'t> {
         Ok(())
     }
 
-    /// Gives up the parts, with the types that they hold. It takes no memory.
+    /// Gives up the parts and releases the types that they hold. It takes no memory.
     pub fn give_back(self, w: &mut Work<'_, 't>)
         requires of_types { w.old.seat.now.table ≡ w.old.types.now }
         requires held { HoldsTypes w.old self.held }
@@ -123,8 +123,8 @@ impl<'t> Parts<'t> {
     }
 }
 
-// A body with its fields as a part, and room for its field, for the type of a handle and for so many
-// side types. Where memory is short nothing changes.
+// A body with its fields as a part. It also takes memory for the part's field, for the type of a
+// handle and for `sides` side types. If memory runs out, nothing changes.
 fn room_for<'t>(
     alloc: Global,
     fields: &mut Fields<'t>,
@@ -145,7 +145,7 @@ fn room_for<'t>(
     Ok(part)
 }
 
-// Types that are held, at the end of a list that has room for them.
+// Appends held types to a list that has room for them.
 fn append_reserved(held: &mut Vec<HeldType>, mut more: Vec<HeldType>)
     requires { vec_len held.old + vec_len more ≤ vec_capacity held.old }
     ensures { held.new.items ≡ held.old.items ++ more.items }

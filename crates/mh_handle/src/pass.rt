@@ -22,12 +22,12 @@ use std::alloc::Global;
 use std::marker::Model;
 use std::sync::Wait;
 
-/// How many numbers a pass may draw that was split off.
+/// How many numbers a split-off pass may draw.
 const SPLIT_ROOM: u64 = 1 << 32;
 
-/// What one thread of work knows of a table of forms: the forms that it has learnt of the table's
-/// chains, those that it has put there itself, those that it has asked for, each once, and the seat
-/// through which it draws the numbers of the forms that it makes.
+/// What one thread knows of a table of forms. It has the forms that the thread has learnt of the
+/// table's chains, those that it has put there, and those that it has asked for, each once. Its
+/// seat draws the numbers of the forms that it makes.
 #[derive(Drop)]
 pub struct FormPass<'t> {
     walks: FormWalks<'t>,
@@ -94,8 +94,8 @@ impl<'t> FormPass<'t> {
         })
     }
 
-    /// Adds what another pass over the table knows. The seats are joined also where no memory is
-    /// left.
+    /// Adds what another pass over the table knows. If no memory is left, the seats are joined all
+    /// the same.
     pub(crate) fn join(&mut self, table: &'t FormTable, other: FormPass<'t>) -> Result<(), NoMemory>
         requires pass { IsPassOf table.now self.old }
         requires other { IsPassOf table.now other }
@@ -119,7 +119,7 @@ impl<'t> FormPass<'t> {
         Ok(())
     }
 
-    /// How many forms were asked for. No two of them have one recipe.
+    /// How many forms were asked for. No two of them have the same recipe.
     pub fn len(&self) -> u32
         ensures count { result ≡ length self.now.asked }
         ensures numbered { HaveNumbers self.now.made self.now.seat.numbers }
@@ -151,7 +151,7 @@ impl<'t> FormPass<'t> {
         self.walks.find(table, recipe)
     }
 
-    /// Asks for a form that was learnt, and was not asked for.
+    /// Asks for a form that was learnt and not asked for before.
     pub(crate) fn ask(&mut self, form: &'t Form) -> Result<(), NoMemory>
         requires new { Lacks recipe_of self.old.asked form.now.recipe }
         requires learnt { Has recipe_of self.old.learnt form.now.recipe form.now }
@@ -162,7 +162,7 @@ impl<'t> FormPass<'t> {
         self.seen.add(form)
     }
 
-    /// Asks for the form of a recipe that was not asked for, if the table shows it.
+    /// Asks for a form that was not asked for before, if the table shows it.
     pub(crate) fn ask_shown(
         &mut self,
         table: &'t FormTable,
@@ -181,8 +181,8 @@ impl<'t> FormPass<'t> {
         Ok(Some(found))
     }
 
-    /// Makes a form that was neither asked for nor learnt, with a number of its own, unless another
-    /// pass has made it meanwhile.
+    /// Makes a form that was neither asked for nor learnt, with a number of its own. If another
+    /// pass has made it meanwhile, it takes that one.
     pub(crate) fn make<R: Wait>(
         &mut self,
         rt: &R,
@@ -215,7 +215,7 @@ impl<'t> FormPass<'t> {
     }
 }
 
-/// Adds the forms that another pass has made and asked for, or none where no memory is left.
+/// Adds the forms that another pass has made and asked for. If no memory is left, it adds none.
 fn add_all<'t>(
     made: &mut Vec<&'t Form>,
     seen: &mut SeenForms<'t>,
@@ -233,7 +233,7 @@ fn add_all<'t>(
     Ok(())
 }
 
-/// Takes memory for one form more.
+/// Takes memory for one more form.
 fn reserve_one<'t>(forms: &mut Vec<&'t Form>) -> Result<(), NoMemory>
     ensures same { forms.new.items ≡ forms.old.items }
     ensures room { IfOk result (λ _. vec_len forms.new < vec_capacity forms.new) }
@@ -242,7 +242,7 @@ fn reserve_one<'t>(forms: &mut Vec<&'t Form>) -> Result<(), NoMemory>
     Ok(())
 }
 
-/// The form that the table has, whoever put it there. One that this pass has put is kept.
+/// The form that the table has, from whichever pass. If this pass has put it, it is noted as made.
 fn kept<'t>(made: &mut Vec<&'t Form>, put: Put<'t, Form>) -> &'t Form
     requires { vec_len made.old < vec_capacity made.old }
     ensures has { (learnt : List FormView) (ours : FormView) → IsPut learnt ours put.entry

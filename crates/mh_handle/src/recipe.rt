@@ -16,7 +16,7 @@ use std::marker::Model;
 pub struct Recipe {
     keys: Seq<Key>,
     hash: u32,
-    // The chain of a table that has its form.
+    // The chain of a table that holds its form.
     chain: u32,
 }
 
@@ -78,7 +78,7 @@ impl Recipe {
         mix(self.hash, key.hash())
     }
 
-    /// A number by which recipes that differ are mostly told apart.
+    /// A hash: recipes with different hashes differ.
     pub(crate) fn hash(&self) -> u32
         ensures hash { result ≡ hash_of self.now }
         ensures small { result < hash_limit }
@@ -93,7 +93,7 @@ impl Recipe {
         chain_then(self.chain, key)
     }
 
-    /// The chain of a table of forms that has the form of this recipe.
+    /// The chain of a table of forms that holds the form of this recipe.
     pub(crate) fn chain(&self) -> usize
         ensures chain { result ≡ chain_of self.now }
         ensures small { result < chain_count }
@@ -108,7 +108,7 @@ impl Recipe {
         self.keys.len()
     }
 
-    /// Whether both are one recipe. It takes no memory.
+    /// Whether both recipes are the same. It takes no memory.
     pub(crate) fn is_same(&self, other: &Recipe) -> bool
         ensures { IsTrue result ↔ (self.now ≡ other.now) }
     {

@@ -9,7 +9,8 @@ use crate::work::Work;
 use mh_tree::CheckError;
 
 impl<'t> Handle<'t> {
-    /// Gives back a handle of which a combinator makes nothing, and says why. It takes no memory.
+    /// Gives back the handle that a combinator refuses, and answers the refusal. It takes no
+    /// memory.
     pub fn refused(self, w: &mut Work<'_, 't>, error: CheckError) -> Result<Handle<'t>, HandleError>
         requires of_types { w.old.seat.now.table ≡ w.old.types.now }
         requires held { HoldsTypes w.old self.held }

@@ -12,9 +12,9 @@ use mh_values::MethodTy;
 use std::sync::Wait;
 
 impl<'t> Handle<'t> {
-    /// The same form and fields as a handle of another type and weight, for a combinator that adds
-    /// no key. The parameters of both types are equal with types erased. The handle is given back
-    /// where the type cannot be held.
+    /// A handle of another type and weight with the same form and fields, for a combinator that
+    /// adds no key. The erased parameters of both types must be equal. If the type cannot be held,
+    /// the handle is given back.
     pub fn retyped<R: Wait>(
         self,
         w: &mut Work<'_, 't>,

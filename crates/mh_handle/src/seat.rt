@@ -6,7 +6,7 @@ use mh_tickets::TicketSeat;
 use std::marker::Model;
 use std::snapshot::Snapshot;
 
-/// The right to draw the numbers of a table's forms. Each pass over the table has one of its own,
+/// The right to draw numbers for a table's forms. Each pass over the table has a seat of its own,
 /// which cannot be copied. Contracts see its table, the numbers drawn with it, and how many more it
 /// may draw (its room).
 #[derive(Drop)]
@@ -32,7 +32,7 @@ impl Model for FormSeat {
 }
 
 impl FormSeat {
-    /// A seat of a table, from one of the counter of its numbers.
+    /// A seat of a table, made from a seat of its counter.
     pub(crate) fn of(table: &FormTable, tickets: TicketSeat) -> FormSeat
         requires { tickets.tickets ≡ table.now.tickets }
         ensures { result ≡ record
@@ -64,7 +64,7 @@ impl FormSeat {
         FormSeat::of(table, tickets)
     }
 
-    /// The seat has the numbers and the room of both.
+    /// Adds the numbers and the room of another seat.
     pub(crate) fn join(&mut self, table: &FormTable, other: FormSeat)
         requires table { (self.old.table ≡ table.now) × (other.table ≡ table.now) }
         ensures joined { self.new ≡ joined_seats self.old other }

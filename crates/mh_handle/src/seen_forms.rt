@@ -74,7 +74,7 @@ impl<'t> SeenForms<'t> {
         })
     }
 
-    /// A list of the same forms, and of those of another list that have a recipe of their own.
+    /// A list of the same forms, followed by those of another list that have other recipes.
     fn joined(&self, others: &SeenForms<'t>) -> Result<SeenForms<'t>, NoMemory>
         ensures { IfOk result (λ all. all ≡ self.now ++ unasked self.now others.now) }
     {
@@ -87,7 +87,7 @@ impl<'t> SeenForms<'t> {
         Ok(all)
     }
 
-    /// Adds those of other forms that have a recipe of their own, or none where no memory is left.
+    /// Adds those of other forms that have other recipes. If no memory is left, it adds none.
     pub(crate) fn add_all(&mut self, others: &SeenForms<'t>) -> Result<(), NoMemory>
         ensures ok { OnOk result (self.new ≡ self.old ++ unasked self.old others.now) }
         ensures err { OnErr result (self.new ≡ self.old) }
@@ -97,7 +97,7 @@ impl<'t> SeenForms<'t> {
         Ok(())
     }
 
-    /// Takes memory for one form more.
+    /// Takes memory for one more form.
     pub(crate) fn reserve(&mut self) -> Result<(), NoMemory>
         ensures { self.new ≡ self.old }
     {
@@ -106,7 +106,7 @@ impl<'t> SeenForms<'t> {
         Ok(())
     }
 
-    /// Adds a form whose recipe was not asked for.
+    /// Adds a form whose recipe no form in the list has.
     pub(crate) fn add(&mut self, form: &'t Form) -> Result<(), NoMemory>
         requires { Lacks recipe_of self.old form.now.recipe }
         ensures ok { OnOk result (self.new ≡ self.old ++ form.entry.now ∷ []) }

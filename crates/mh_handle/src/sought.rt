@@ -14,7 +14,7 @@ pub(crate) trait Sought {
     fn hash(&self) -> u32
         ensures { result ≡ hash_of (recipe self.now) };
 
-    /// Whether it is this recipe. It takes no memory.
+    /// Whether it is equal to this recipe. It takes no memory.
     fn is_recipe(&self, other: &Recipe) -> bool
         ensures { IsTrue result ↔ (other.now ≡ recipe self.now) };
 }
@@ -31,7 +31,7 @@ impl Sought for Recipe {
     }
 }
 
-/// A recipe and one more key.
+/// A recipe followed by one more key.
 #[derive(Clone, Copy)]
 pub(crate) struct Then<'a> {
     pub(crate) recipe: &'a Recipe,

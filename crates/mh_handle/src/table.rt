@@ -20,8 +20,8 @@ use std::alloc::Global;
 use std::marker::Model;
 use std::sync::Wait;
 
-/// The forms of a run, one for each recipe, which threads share: 64 chains of 16,384 cells each,
-/// and the counter of the forms' numbers. Contracts see the chains and the counter.
+/// The forms of a run, one for each recipe, which threads share. It has 64 chains of 16,384 cells
+/// each, and the counter of the forms' numbers. Contracts see the chains and the counter.
 #[derive(Drop)]
 pub struct FormTable {
     base: Form,
@@ -44,7 +44,7 @@ impl Model for FormTable {
 }
 
 impl FormTable {
-    /// A table without forms but the base, and the seat that has the room for all numbers: 2^62.
+    /// A table with no form except the base, and its first seat, which has room for 2^62 numbers.
     pub fn new(alloc: Global) -> Result<(FormTable, FormSeat), NoMemory>
         ensures chains { IfOk result (λ made. length made.0.chains ≡ chain_count) }
         ensures cells { IfOk result (λ made. All (λ c. room_of c ≡ chain_room) made.0.chains) }
@@ -60,7 +60,7 @@ impl FormTable {
         Ok((table, seat))
     }
 
-    /// The form of which each other one is made: it takes nothing and does nothing.
+    /// The form that takes nothing and does nothing, from which roots make forms.
     pub fn base(&self) -> &Form
         ensures { result.now ≡ base_form }
     {
@@ -90,9 +90,9 @@ impl FormTable {
         FormPass::new(alloc, self, seat)
     }
 
-    /// A second pass over the table, for another thread. It knows the forms that the pass has learnt
-    /// and asked for, and has made none. It may draw 2^32 numbers, for which the pass must have
-    /// room.
+    /// A second pass over the table, for another thread. It knows the forms that the pass has
+    /// learnt and asked for, and has made none. It gets room for 2^32 numbers, which the pass must
+    /// have.
     pub fn split<'t>(
         &'t self,
         alloc: Global,
@@ -108,8 +108,8 @@ impl FormTable {
         pass.split(alloc, self)
     }
 
-    /// One pass that knows what both knew. Where no memory is left, the pass has the numbers and
-    /// the room of both, and else knows what it knew.
+    /// Joins another pass into this one, which then knows what both knew. If no memory is left, it
+    /// has the numbers and the room of both, and otherwise knows what it knew before.
     ///
     /// The two never differ on the form of a recipe.
     pub fn join<'t>(&'t self, pass: &mut FormPass<'t>, other: FormPass<'t>) -> Result<(), NoMemory>
@@ -125,8 +125,8 @@ impl FormTable {
         pass.join(self, other)
     }
 
-    /// The form whose recipe is that of `form` followed by the key, as `Work::edit` says, which
-    /// calls it. Where the chain seems full, it looks again, for which it takes `rt`.
+    /// The form whose recipe is that of `form` followed by the key. `Work::edit` calls it and has
+    /// the details. If the chain seems full, it looks again; for that it takes `rt`.
     pub fn edit<'t, R: Wait>(
         &'t self,
         rt: &R,
@@ -174,7 +174,7 @@ impl FormTable {
     }
 }
 
-/// The chains of a table, none of whose cells is set.
+/// The chains of a new table: no cell is set.
 fn all_chains(alloc: Global) -> Result<Vec<Chain<Form>>, NoMemory>
     ensures count { IfOk result (λ chains. length chains.items ≡ chain_count) }
     ensures room { IfOk result (λ chains. All (λ c. room_of c ≡ chain_room) chains.items) }

@@ -18,8 +18,8 @@ use std::marker::Model;
 use std::mem;
 use std::sync::Wait;
 
-/// What a pass has learnt of its table: a walk of each chain. A chain that the pass has not met
-/// costs no memory of its own.
+/// What a pass has learnt of its table: a walk of each chain. A chain that the pass has not looked
+/// at takes no memory of its own.
 #[derive(Drop)]
 pub(crate) struct FormWalks<'t> {
     walks: Vec<Walk<'t, Form>>,
@@ -79,14 +79,14 @@ impl<'t> FormWalks<'t> {
         table.chains()[place].find(&mut self.walks[place], recipe)
     }
 
-    /// Takes memory for one form more of a recipe.
+    /// Takes memory for one more form, of this recipe.
     pub(crate) fn reserve(&mut self, recipe: &Recipe) -> Result<(), NoMemory>
         ensures { self.new ≡ self.old }
     {
         self.walks[recipe.chain()].reserve()
     }
 
-    /// Puts a form into the table, unless one with its recipe stands there.
+    /// Puts a form into the table, unless the table has one with its recipe.
     pub(crate) fn put<R: Wait>(
         &mut self,
         rt: &R,
@@ -110,7 +110,8 @@ impl<'t> FormWalks<'t> {
         )
     }
 
-    /// Of two walks of one chain, one begins with the other. It changes nothing.
+    /// Shows, for proofs, that of two walks of one chain one begins with the other. It changes
+    /// nothing.
     pub(crate) fn meet(&self, table: &FormTable, other: &FormWalks)
         requires walks { chains_of self.now ≡ table.now.chains }
         requires other { chains_of other.now ≡ table.now.chains }
@@ -123,7 +124,7 @@ impl<'t> FormWalks<'t> {
         }
     }
 
-    /// Of two walks of one chain, the longer one is kept.
+    /// Keeps, for each chain, the longer of the two walks.
     pub(crate) fn join(&mut self, other: FormWalks<'t>)
         requires chains { chains_of other ≡ chains_of self.old }
         requires meet { DoMeet self.old other }
@@ -139,7 +140,7 @@ impl<'t> FormWalks<'t> {
     }
 }
 
-/// The longer of two walks is kept.
+/// Keeps the longer of two walks.
 fn keep_longer<'t>(walk: &mut Walk<'t, Form>, other: &mut Walk<'t, Form>)
     ensures { IsLonger walk.old other.old walk.new }
 {
@@ -147,10 +148,10 @@ fn keep_longer<'t>(walk: &mut Walk<'t, Form>, other: &mut Walk<'t, Form>)
         mem::swap(walk, other);
     }
 }
-/// Puts a form into the chain, unless one with its recipe stands there.
+/// Puts a form into the chain, unless the chain has one with its recipe.
 ///
-/// The forms of the chain and this one have numbers of their own, from 1 to 16,384, so that a cell
-/// is left for it; no contract says so, and a chain that seems full is asked again.
+/// A cell is always left, because each form has a number of its own from 1 to 16,384. No contract
+/// says so. So a chain that seems full is asked again.
 fn put_form<'t, R: Wait>(
     rt: &R,
     alloc: Global,
@@ -173,7 +174,7 @@ fn put_form<'t, R: Wait>(
     unreachable!()
 }
 
-/// The form that was not put, where the chain seems full.
+/// The form that was not put, if the chain seems full.
 fn handed_back(refused: PutRefused<Form>) -> Result<Form, NoMemory>
     ensures { (nodes : List FormView) (chain : ChainView) (form : FormView)
         → Refused recipe_of nodes chain form refused → IfOk result (λ back. back ≡ form) }

@@ -18,8 +18,8 @@ use mh_values::{Classes, MethodTy};
 use std::alloc::Global;
 use std::sync::Wait;
 
-/// What a thread makes handles with: the allocator, the table of types and the thread's own seat of
-/// it, the table of forms and the thread's own pass over it, and the leaves of the run.
+/// What a thread needs to make handles. It has the allocator, the table of types with the thread's
+/// own seat, the table of forms with the thread's own pass, and the leaves of the run.
 pub struct Work<'w, 't> {
     pub alloc: Global,
     pub types: &'t TypeTable,
@@ -40,12 +40,12 @@ impl<'w, 't> Work<'w, 't> {
         classes
     }
 
-    /// The form whose recipe is that of `form` followed by the key. One that the pass has asked for
-    /// is answered without memory, and one that the chain shows without drawing a number; any other
-    /// is made.
+    /// The form whose recipe is that of `form` followed by the key. If the pass has asked for it
+    /// before, that takes no memory. If the table's chain has it, that draws no number. Otherwise
+    /// the form is made.
     ///
-    /// It answers `FormsFull` where the number drawn is above 16,384. A refusal may leave a number
-    /// drawn, which is then spent.
+    /// It answers `FormsFull` if the number drawn is above 16,384. A number that was drawn by a
+    /// call that fails is spent.
     pub fn edit<R: Wait>(&mut self, rt: &R, form: &'t Form, key: Key) -> Result<&'t Form, EditError>
         requires fits { IsTrue (fits key (body_of form.now.recipe)) }
         requires of_forms { IsPassOf self.old.forms.now self.old.pass.now }
@@ -68,7 +68,7 @@ impl<'w, 't> Work<'w, 't> {
         self.types.intern(rt, self.alloc, self.seat, ty)
     }
 
-    /// One hold more of the same type.
+    /// One more hold of the same type.
     pub(crate) fn hold_again(&mut self, held: &HeldType) -> Result<HeldType, NoMemory>
         requires of_types { self.old.seat.now.table ≡ self.old.types.now }
         requires held { HoldsTypes self.old (held.now ∷ []) }
@@ -80,7 +80,7 @@ impl<'w, 't> Work<'w, 't> {
         self.types.dup(self.alloc, self.seat, held)
     }
 
-    /// One hold more of each of these types.
+    /// One more hold of each of these types.
     pub(crate) fn hold_all_again(&mut self, held: &[HeldType]) -> Result<Vec<HeldType>, NoMemory>
         requires of_types { self.old.seat.now.table ≡ self.old.types.now }
         requires held { HoldsTypes self.old held.now }
@@ -92,7 +92,7 @@ impl<'w, 't> Work<'w, 't> {
         self.types.dup_all(self.alloc, self.seat, held)
     }
 
-    /// Lets a hold go. It takes no memory.
+    /// Releases a hold. It takes no memory.
     pub(crate) fn let_go(&mut self, held: HeldType)
         requires of_types { self.old.seat.now.table ≡ self.old.types.now }
         requires held { HoldsTypes self.old (held ∷ []) }
@@ -102,7 +102,7 @@ impl<'w, 't> Work<'w, 't> {
         self.types.release(self.seat, held);
     }
 
-    /// Lets several holds go. It takes no memory.
+    /// Releases several holds. It takes no memory.
     pub(crate) fn let_all_go(&mut self, held: Vec<HeldType>)
         requires of_types { self.old.seat.now.table ≡ self.old.types.now }
         requires held { HoldsTypes self.old held.items }
