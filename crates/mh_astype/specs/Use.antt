@@ -1,4 +1,4 @@
--- What a handle becomes that is used as a type, and what that leaves of a thread's work.
+-- Conversion of a handle by `asType`: the new handle, and how it changes a thread's work.
 use Rattle.std.specs.Prelude.{◌≡◌, ◌≢◌, ℕ, ◌+◌, ◌⊎◌, List, [], ◌++◌, if◌then◌else◌, Result, Err}
 use Rattle.mh_values.specs.declared.class.Class.{Class}
 use Rattle.mh_values.specs.declared.types.MethodTy.{MethodTy}
@@ -19,38 +19,38 @@ use Rattle.mh_handle.specs.Recipe.{convert_keys, entries_of, ret_entry_of}
 use Rattle.mh_handle.specs.Stands.{HandleView}
 use Rattle.mh_handle.specs.Works.{IsUnchanged, Makes, types_in}
 
--- the key of the conversions, none where nothing changes
+-- the key of the conversions to a type: none if nothing changes
 abbrev pub use_keys : List Class → MethodTy → MethodTy → List Key
 use_keys classes own asked = if is_same_method_type own asked then [] else convert_keys classes asked own
 
--- the fields of the conversions, none where the handle has that type
+-- the fields of the conversions to a type: none if the handle has that type
 abbrev pub use_fields : List Class → MethodTy → MethodTy → List Field
 use_fields classes own asked = if is_same_method_type own asked then [] else convert_fields classes asked own
 
--- the handle that a use as a type makes: its weight, the types of its side parts, the recipe of its form, and its fields
+-- the handle after conversion to a type: its weight, the types of its side parts, the recipe of its form, and its fields
 pub record IsUse (classes : List Class) (asked : MethodTy) (old new : HandleView) : Type 0 where
   pub weight : new.weight ≡ use_weight old.ty old.weight asked
   pub sides : new.sides ≡ old.sides
   pub recipe : new.form.recipe ≡ old.form.recipe ++ use_keys classes old.ty asked
   pub fields : new.fields ≡ old.fields ++ use_fields classes old.ty asked
 
--- the types of the nodes that a use as a type makes: that type, where it is another
+-- the types of the nodes that a conversion to a type makes: that type, if it is another one
 abbrev pub used_types : List Class → MethodTy → ℕ → MethodTy → List MethodTy
 used_types classes own weight asked = if is_same_method_type own asked then [] else types_in (astype_row classes own weight asked)
 
--- what the conversions to a type add to a handle: one to its weight, their key, and a field for each that changes something
+-- what the conversions to a type add to a handle: one to its weight, one key, and one field for each that changes something
 pub record AddsConversions (classes : List Class) (asked : MethodTy) (t : HandleView) (by : Growth) : Type 0 where
   pub ty : by.ty ≡ asked
   pub weight : by.weight ≡ 1 + t.weight
   pub key : by.key ≡ Convert (entries_of classes asked.params t.ty.params) (ret_entry_of classes t.ty.ret asked.ret)
   pub parts : by.parts ≡ record no_parts { fields = convert_fields classes asked t.ty }
 
--- what a call leaves of the work that asks for no form: all but the seat of types as it was
+-- a call that asks for no form changes nothing except the seat of types
 abbrev pub AsksNothing : Work → Work → Result Handle HandleError → Type 0
 AsksNothing old new (Err (FormsFull drawn)) = ⊥
 AsksNothing old new result = IsUnchanged old new
 
--- what a call leaves of the work that makes a handle of one recipe into one of another: the form of that is asked for where they differ, and nothing where
--- they are the same
+-- How a call changes the work if it makes a handle of recipe `after` from one of recipe `before`.
+-- If the recipes differ, it asks for the form of the new one. If they are equal, it asks for no form.
 abbrev pub MakesFrom : List Key → List Key → Work → Work → Result Handle HandleError → Type 0
 MakesFrom before after old new result = ((after ≡ before) × AsksNothing old new result) ⊎ ((after ≢ before) × Makes after old new result)

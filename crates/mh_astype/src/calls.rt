@@ -21,9 +21,9 @@ use mh_values::{Classes, Exc, Items, MethodTy, Outcome, is_same_method_type};
 use std::alloc::Global;
 use std::sync::Wait;
 
-/// A call by a type that must be the handle's (`MethodHandle.invokeExact`, SE 17), where `n` leaf
-/// calls were made before. Where the types differ it throws `WrongMethodTypeException`, and no leaf
-/// is called.
+/// A call by a type that must be equal to the handle's (`MethodHandle.invokeExact`, SE 17), after
+/// `n` earlier leaf calls. If the types differ, it throws a `WrongMethodTypeException` and calls no
+/// leaf.
 pub fn invoke_exact<'t>(
     alloc: Global,
     handle: &Handle<'t>,
@@ -40,8 +40,8 @@ pub fn invoke_exact<'t>(
     invoke_exact_with(&mut Machine::new(alloc), handle, leaves, call, args, n)
 }
 
-/// A call as by `invoke_exact`, in a machine that is kept from call to call, out of which the answer
-/// takes the leaf calls.
+/// A call as by `invoke_exact`, in a machine that is kept from call to call. The answer takes the
+/// leaf calls out of the machine.
 pub fn invoke_exact_with<'t>(
     machine: &mut Machine,
     handle: &Handle<'t>,
@@ -63,8 +63,8 @@ pub fn invoke_exact_with<'t>(
     }
 }
 
-/// A call as by `invoke_exact`, in a machine that is kept from call to call, which has its leaf
-/// calls until the next call.
+/// A call as by `invoke_exact`, in a machine that is kept from call to call. The leaf calls stay in
+/// the machine until its next call.
 pub fn invoke_exact_on<'t>(
     machine: &mut Machine,
     handle: &Handle<'t>,
@@ -91,7 +91,7 @@ pub fn invoke_exact_on<'t>(
     }
 }
 
-/// A call through the conversions to the type, of which one changes something.
+/// A call through the conversions to the type, if at least one changes something.
 fn invoke_converted<'t, R: Wait>(
     machine: &mut Machine,
     w: &mut Work<'_, 't>,
@@ -124,7 +124,7 @@ fn invoke_converted<'t, R: Wait>(
     Ok(handle.invoke_edited_with(machine, form, more, call.ret, leaves, args, n)?)
 }
 
-/// A call through the conversions to the type, of which maybe none changes anything.
+/// A call through the conversions to the type, whether or not one changes anything.
 fn invoke_used<'t, R: Wait>(
     machine: &mut Machine,
     w: &mut Work<'_, 't>,
@@ -154,7 +154,7 @@ fn invoke_used<'t, R: Wait>(
     }
 }
 
-/// Why the handle may not be used as the type, if it may not.
+/// Why the handle cannot be converted to the type, or `None` if it can.
 fn refusal<'t>(
     alloc: Global,
     handle: &Handle<'t>,
@@ -171,9 +171,9 @@ fn refusal<'t>(
     }
 }
 
-/// A call by a type as which the handle is used (`MethodHandle.invoke`, SE 17), where `n` leaf
-/// calls were made before: as `as_type`, and then the call, on the handle's own fields. Where the
-/// type is refused it throws that exception, and neither a leaf is called nor an edit made.
+/// A call by any type (`MethodHandle.invoke`, SE 17), after `n` earlier leaf calls. It does what
+/// `as_type` and then a call would do, but makes no handle. If the type is refused, it throws that
+/// exception, calls no leaf and makes no edit.
 pub fn invoke_generic<'t, R: Wait>(
     w: &mut Work<'_, 't>,
     rt: &R,
@@ -196,8 +196,8 @@ pub fn invoke_generic<'t, R: Wait>(
     invoke_generic_with(&mut Machine::new(w.alloc), w, rt, handle, call, args, n)
 }
 
-/// A call as by `invoke_generic`, in a machine that is kept from call to call, out of which the
-/// answer takes the leaf calls.
+/// A call as by `invoke_generic`, in a machine that is kept from call to call. The answer takes the
+/// leaf calls out of the machine.
 pub fn invoke_generic_with<'t, R: Wait>(
     machine: &mut Machine,
     w: &mut Work<'_, 't>,

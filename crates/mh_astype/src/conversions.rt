@@ -16,7 +16,7 @@ use mh_form::{Basic, BasicRet, Field, Fields, shape};
 use mh_values::{Classes, MethodTy, Ty, is_type_below};
 use std::alloc::Global;
 
-/// Whether the conversion of each of these types to the other list's at its place changes nothing.
+/// Whether no type changes if it is converted to the type at its place in the other list.
 fn are_trivial(asked: &[Ty], own: &[Ty], classes: &Classes) -> bool
     ensures { result ≡ are_trivial classes.now asked.now own.now }
 {
@@ -49,7 +49,7 @@ pub(crate) fn is_trivial(asked: &MethodTy, own: &MethodTy, classes: &Classes) ->
         && is_trivial_ret(own.ret, asked.ret, classes)
 }
 
-/// For each parameter that is converted its new basic type, and none for any other.
+/// For each parameter its new basic type, or `None` if its conversion changes nothing.
 fn push_entries(
     entries: &mut Entries,
     asked: &[Ty],
@@ -75,7 +75,7 @@ fn push_entries(
     }
 }
 
-/// What becomes of a result.
+/// What the conversion does with a result.
 fn ret_entry(own: Option<Ty>, asked: Option<Ty>, basic: BasicRet, classes: &Classes) -> RetEntry
     requires { basic ≡ basic_ret_of asked }
     ensures { result ≡ ret_entry_of classes.now own asked }

@@ -1,4 +1,4 @@
-//! Method handles used as other types, and their exact and generic calls.
+//! Conversion of method handles to other types, and their exact and generic calls.
 #![tactic(auto)]
 
 mod calls;

@@ -41,7 +41,7 @@ fn conversions<'t>(
     })
 }
 
-/// The type as which a handle is used that has another type.
+/// The type to convert the handle to, or the refusal.
 fn use_type<'t>(
     w: &Work<'_, 't>,
     target: &Handle<'t>,
@@ -54,7 +54,7 @@ fn use_type<'t>(
     check_astype(w.alloc, target.ty(), target.weight(), ty, w.classes())
 }
 
-/// The handle with the conversions to the type, of which one changes something.
+/// The handle converted to the type, if at least one conversion changes something.
 fn converted<'t, R: Wait>(
     w: &mut Work<'_, 't>,
     rt: &R,
@@ -79,7 +79,7 @@ fn converted<'t, R: Wait>(
     }
 }
 
-/// The handle as one of the type, where no conversion to it changes anything.
+/// The handle converted to the type, if no conversion changes anything.
 fn kept<'t, R: Wait>(
     w: &mut Work<'_, 't>,
     rt: &R,
@@ -106,7 +106,7 @@ fn kept<'t, R: Wait>(
     }
 }
 
-/// The handle with the conversions to the type, of which maybe none changes anything.
+/// The handle converted to the type, whether or not a conversion changes anything.
 fn used<'t, R: Wait>(
     w: &mut Work<'_, 't>,
     rt: &R,
@@ -130,11 +130,10 @@ fn used<'t, R: Wait>(
     }
 }
 
-/// A handle of the type `ty` that converts its arguments to what `target` takes, from left to
-/// right, and then the result (`MethodHandle.asType`, SE 17): `target` itself where it has that
-/// type. One edit is made where a conversion changes something, and none where each one changes
-/// nothing. Refused by `WrongMethodTypeException` where an argument or the result cannot be
-/// converted.
+/// A handle of the type `ty` that converts its arguments to the parameter types of `target`, from
+/// left to right, and then the result (`MethodHandle.asType`, SE 17). If `target` has that type, it
+/// is the answer. If some conversion changes something, one edit is made, otherwise none. Refused
+/// with a `WrongMethodTypeException` if an argument or the result cannot be converted.
 pub fn as_type<'t, R: Wait>(
     w: &mut Work<'_, 't>,
     rt: &R,
