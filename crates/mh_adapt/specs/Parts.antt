@@ -22,15 +22,15 @@ use Rattle.mh_handle.specs.Grows.{Grows}
 use Rattle.mh_handle.specs.Parts.{IsPartOf, held_by, no_parts}
 use Rattle.mh_handle.specs.Stands.{HandleView}
 
--- the key of a filter of this type that takes arguments of its own from a place on
+-- the key of a filter of this type, which takes arguments of its own from a place on
 abbrev pub collect_key : ℕ → MethodTy → Key
 collect_key place f = key.Collect place (map basic_of f.params) (basic_ret_of f.ret)
 
--- the key of a combiner of this type, whose result stands at a place
+-- the key of a combiner of this type, whose result is put at a place
 abbrev pub fold_key : ℕ → MethodTy → Key
 fold_key place c = key.Fold place (length c.params) (basic_ret_of c.ret)
 
--- the key of a filter of this type that takes the result
+-- the key of a filter of this type, which takes the result
 abbrev pub filterret_key : MethodTy → Key
 filterret_key f = key.FilterReturn (basic_ret_of f.ret)
 
@@ -41,7 +41,7 @@ joint_key joint.FilterReturn f = filterret_key f
 joint_key (joint.Fold place) c = fold_key place c
 joint_key (joint.Collect place) f = collect_key place f
 
--- a combiner takes so few arguments that their number fits a key
+-- the number of a combiner's arguments fits a key, which has 8 bits for it
 abbrev pub IsCounted : Joint → MethodTy → Type 0
 IsCounted (joint.Fold place) c = length c.params ≤ 255
 IsCounted _ f = Unit {0}
@@ -52,7 +52,7 @@ adapter_key (adapter.Bind place v) = key.Bind place
 adapter_key (adapter.Drop place types) = key.Add place (map basic_of types.now)
 adapter_key (adapter.Permute asked order) = key.Permute (map basic_of asked.now.params) order.now
 
--- the field of a bound value: the value that fits, none where it does not fit
+-- the field of a bound value, converted to the parameter's type: none if it does not fit
 abbrev pub bound_fields : Result Value Exc → List Field
 bound_fields (Ok fitting) = field.Val (erased fitting) ∷ []
 bound_fields (Err e) = []
@@ -63,13 +63,13 @@ adapter_fields classes (adapter.Bind place v) target = option_map_or (λ param. 
 adapter_fields classes (adapter.Drop place types) target = []
 adapter_fields classes (adapter.Permute asked order) target = []
 
--- what an adapter without a part adds to a handle: one to its weight, its key, and fields
+-- what an adapter without a part adds to a handle: one to its weight, its key and its fields
 pub record AddsNode (t : HandleView) (k : Key) (fields : List Field) (by : Growth) : Type 0 where
   pub weight : by.weight ≡ 1 + t.weight
   pub key : by.key ≡ k
   pub parts : by.parts ≡ record no_parts { fields = fields }
 
--- what an adapter with a part adds to a handle before the part is there: the part's weight and one more, and its key
+-- what an adapter with a part adds to a handle, before the part is added: the part's weight and one more, and its key
 pub record AddsPart (t : HandleView) (k : Key) (part : HandleView) (by : Growth) : Type 0 where
   pub weight : by.weight ≡ 1 + t.weight + part.weight
   pub key : by.key ≡ k

@@ -1,5 +1,4 @@
-//! A handle that is adapted by other arguments: the adapted one is made, or the handle is given
-//! back.
+//! Adapters of a handle's arguments. If the new handle is not made, the old one is given back.
 
 ghost use Rattle.std.specs.Prelude.{◌≡◌, ◌∷◌, [], IfOk, Ok};
 ghost use Rattle.mh_tree.specs.Adapters.{adapter_row, adapter_tree};
@@ -18,8 +17,8 @@ use mh_tree::{Adapter, CheckError};
 use mh_values::MethodTy;
 use std::sync::Wait;
 
-/// A handle that is adapted, where the rule of the adapter gives this type. The handle is given
-/// back where none is made.
+/// The adapted handle, if the adapter's rule gives this type. If none is made, the old handle is
+/// given back.
 pub fn adapt<'t, R: Wait>(
     w: &mut Work<'_, 't>,
     rt: &R,
@@ -46,7 +45,7 @@ pub fn adapt<'t, R: Wait>(
     }
 }
 
-/// A handle that is adapted, refused by the rule of the adapter.
+/// The adapted handle, or the refusal by the adapter's rule.
 pub(crate) fn adapted<'t, R: Wait>(
     w: &mut Work<'_, 't>,
     rt: &R,

@@ -35,7 +35,7 @@ fn joint_key<'t>(alloc: Global, joint: Joint, part: &Handle<'t>) -> Result<Key, 
     }
 }
 
-/// What a joint of this type adds to `target`, with its key, before its part.
+/// What a joint of this type adds to `target`, with its key, before the part is added.
 pub(crate) fn joint_growth<'t>(
     alloc: Global,
     ty: MethodTy,

@@ -14,9 +14,9 @@ use mh_tree::Adapter;
 use mh_values::{MethodTy, Tys, Value};
 use std::sync::Wait;
 
-/// A handle that takes no argument at `position`, where it passes `value` to `target`
-/// (`MethodHandles.insertArguments`, SE 17). Refused where there is no such parameter, and where
-/// the value does not fit it.
+/// A handle that passes `value` to `target` at `position` and takes no argument for it
+/// (`MethodHandles.insertArguments`, SE 17). Refused if there is no such parameter, or if the value
+/// does not fit it.
 pub fn bind<'t, R: Wait>(
     w: &mut Work<'_, 't>,
     rt: &R,
@@ -41,8 +41,8 @@ pub fn bind<'t, R: Wait>(
     adapted(w, rt, target, Adapter::Bind { position, value })
 }
 
-/// A handle that takes arguments of the types `value_types` at `position`, which `target` does not
-/// see (`MethodHandles.dropArguments`, SE 17). Refused where `position` is after the last
+/// A handle that takes arguments of the types `value_types` at `position` and does not pass them to
+/// `target` (`MethodHandles.dropArguments`, SE 17). Refused if `position` is after the last
 /// parameter.
 pub fn drop_args<'t, R: Wait>(
     w: &mut Work<'_, 't>,
@@ -74,8 +74,8 @@ pub fn drop_args<'t, R: Wait>(
 }
 
 /// A handle of the type `ty` that passes to each parameter of `target` the argument that `reorder`
-/// names there (`MethodHandles.permuteArguments`, SE 17). Refused where `reorder` does not name an
-/// argument of the very type for each parameter, and where the return types differ.
+/// names there (`MethodHandles.permuteArguments`, SE 17). Refused if `reorder` does not name an
+/// argument of the same type for each parameter, or if the return types differ.
 pub fn permute<'t, R: Wait>(
     w: &mut Work<'_, 't>,
     rt: &R,

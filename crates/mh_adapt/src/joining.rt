@@ -1,4 +1,4 @@
-//! A handle and the part that joins it: an adapter is made of both, or both are given back.
+//! Joints of a handle and a part. If the new handle is not made, both are given back.
 
 ghost use Rattle.std.specs.Prelude.{◌≡◌, ◌≤◌, ◌+◌, ◌++◌, ◌∷◌, [], Ok, Err, IfOk, IsTrue, length};
 ghost use Rattle.mh_tree.specs.Joints.{joint_row, joint_tree};
@@ -24,14 +24,14 @@ use mh_tree::{CheckError, Joint};
 use mh_values::MethodTy;
 use std::sync::Wait;
 
-/// A handle, and the part that joins it.
+/// A handle, and the part that is joined to it.
 #[derive(Drop)]
 pub struct Pair<'t> {
     pub target: Handle<'t>,
     pub part: Handle<'t>,
 }
 
-/// Gives back a handle that is not adapted, and the part, and says why.
+/// Gives back the handle and the part, and answers the refusal.
 pub(crate) fn refused_with<'t>(
     w: &mut Work<'_, 't>,
     target: Handle<'t>,
@@ -49,7 +49,7 @@ pub(crate) fn refused_with<'t>(
     part.refused(w, error)
 }
 
-/// The handle after the edit, with the part. Both are given back where none is made.
+/// The handle after the edit, with the part. If none is made, both are given back.
 pub(crate) fn grown_with<'t, R: Wait>(
     w: &mut Work<'_, 't>,
     rt: &R,
@@ -81,8 +81,8 @@ pub(crate) fn grown_with<'t, R: Wait>(
     }
 }
 
-/// A handle that is joined with a part, where the rule of the joint gives this type. Both are given
-/// back where none is made.
+/// The handle joined with the part, if the joint's rule gives this type. If none is made, both are
+/// given back.
 pub fn join<'t, R: Wait>(
     w: &mut Work<'_, 't>,
     rt: &R,
@@ -114,7 +114,7 @@ pub fn join<'t, R: Wait>(
     }
 }
 
-/// A handle that is joined with a part, refused by the rule of the joint.
+/// The handle joined with the part, or the refusal by the joint's rule.
 pub(crate) fn joined<'t, R: Wait>(
     w: &mut Work<'_, 't>,
     rt: &R,

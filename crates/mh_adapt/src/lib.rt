@@ -1,5 +1,5 @@
 //! Adapters of method handles: bound values, dropped and permuted arguments, and parts that run
-//! before or after a handle. A call that makes none gives back the handles that it was handed.
+//! before or after a handle. A call that makes no handle gives back those that were passed to it.
 #![tactic(auto)]
 
 mod adapting;

@@ -44,7 +44,7 @@ fn adapter_key(alloc: Global, adapter: &Adapter<'_>) -> Result<Key, NoMemory>
     }
 }
 
-/// The field of a value that is bound: the value that fits the type, none where it does not fit.
+/// The field of a bound value, converted to the parameter's type: `None` if it does not fit.
 fn bound_fields<'t>(
     alloc: Global,
     value: Value,

@@ -13,9 +13,9 @@ use mh_handle::{Handle, HandleError, Work};
 use mh_tree::Joint;
 use std::sync::Wait;
 
-/// A handle that passes what `filter` makes of its argument at a position to `target` in its place
-/// (`MethodHandles.filterArguments` with one filter, SE 17). Refused where `filter` does not take
-/// one argument and give that parameter's type.
+/// Applies `filter` to one argument, and passes its result to `target` in the argument's place
+/// (`MethodHandles.filterArguments` with one filter, SE 17). Refused if `filter` does not take one
+/// argument and return that parameter's type.
 pub fn filter<'t, R: Wait>(
     w: &mut Work<'_, 't>,
     rt: &R,
@@ -42,9 +42,9 @@ pub fn filter<'t, R: Wait>(
     joined(w, rt, target, Joint::Filter(position), filter)
 }
 
-/// A handle that passes its result to `filter` and returns what that gives
-/// (`MethodHandles.filterReturnValue`, SE 17). Refused where `filter` does not take just the result
-/// of `target`, or nothing where that is void.
+/// Applies `filter` to the result of `target`, and returns what `filter` returns
+/// (`MethodHandles.filterReturnValue`, SE 17). Refused if `filter` does not take exactly the result
+/// of `target`, or nothing if that is void.
 pub fn filterret<'t, R: Wait>(
     w: &mut Work<'_, 't>,
     rt: &R,
@@ -70,10 +70,10 @@ pub fn filterret<'t, R: Wait>(
     joined(w, rt, target, Joint::FilterReturn, filter)
 }
 
-/// A handle that runs `combiner` on the arguments from a position on, and then `target` with what
-/// `combiner` gives put in there, or with nothing put in where `combiner` is void
-/// (`MethodHandles.foldArguments`, SE 17). Refused where `combiner` does not give that parameter's
-/// type or does not take the parameters that follow.
+/// Runs `combiner` on the arguments from a position on, and then `target` with the combiner's
+/// result put in there (`MethodHandles.foldArguments`, SE 17). A void combiner puts in nothing.
+/// Refused if `combiner` does not return that parameter's type, or does not take the first
+/// parameters that follow.
 pub fn fold<'t, R: Wait>(
     w: &mut Work<'_, 't>,
     rt: &R,
@@ -100,10 +100,10 @@ pub fn fold<'t, R: Wait>(
     joined(w, rt, target, Joint::Fold(position), combiner)
 }
 
-/// A handle that takes the arguments of `filter` from a position on, runs `filter` on them and
-/// passes what it gives to `target` in their place, or nothing where `filter` is void
-/// (`MethodHandles.collectArguments`, SE 17). Refused where `filter` does not give that parameter's
-/// type, and where it is void and the position is past the end of the last parameter.
+/// Runs `filter` on its arguments, which come from a position on, and passes its result to `target`
+/// in their place (`MethodHandles.collectArguments`, SE 17). A void filter passes nothing. Refused
+/// if `filter` does not return that parameter's type, or if it is void and the position is after
+/// the last parameter.
 pub fn collect<'t, R: Wait>(
     w: &mut Work<'_, 't>,
     rt: &R,

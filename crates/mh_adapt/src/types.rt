@@ -9,7 +9,7 @@ use mh_handle::{Handle, Work};
 use mh_tree::{Adapter, CheckError, Joint, Typed, check_adapter, check_joint};
 use mh_values::MethodTy;
 
-/// The type of a handle that is adapted.
+/// The type of the adapted handle, or the refusal.
 pub(crate) fn adapter_type<'t>(
     w: &Work<'_, 't>,
     target: &Handle<'t>,
@@ -25,7 +25,7 @@ pub(crate) fn adapter_type<'t>(
     check_adapter(w.alloc, target, adapter, w.classes())
 }
 
-/// The type of a handle that is joined with a part.
+/// The type of a handle joined with a part, or the refusal.
 pub(crate) fn joint_type<'t>(
     w: &Work<'_, 't>,
     target: &Handle<'t>,
