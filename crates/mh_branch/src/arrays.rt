@@ -20,7 +20,7 @@ use mh_tree::{CheckError, check_gather};
 use mh_values::{Comp, MethodTy, Ty};
 use std::sync::Wait;
 
-/// The component of what is known to be an array type.
+/// The component of a type that must be an array type.
 fn component_of(ty: Option<Ty>) -> Comp
     requires { (c : Comp) × (component_of ty ≡ Some c) }
     ensures { component_of ty ≡ Some result }
@@ -31,7 +31,7 @@ fn component_of(ty: Option<Ty>) -> Comp
     }
 }
 
-/// Items that are gathered in an array: the type of the array, and how many there are.
+/// What is gathered: the type of the array, and the number of items.
 #[derive(Clone, Copy, Debug)]
 pub struct Gathered {
     pub array: Option<Ty>,
@@ -81,8 +81,8 @@ fn gather_growth<'t>(
     })
 }
 
-/// A gather of a handle, where its rule gives this type. The handle is given back where none is
-/// made.
+/// A gather of a handle, if its rule gives this type. If none is made, the old handle is given
+/// back.
 pub fn gather_of<'t, R: Wait>(
     w: &mut Work<'_, 't>,
     rt: &R,
@@ -111,9 +111,9 @@ pub fn gather_of<'t, R: Wait>(
     }
 }
 
-/// A handle that takes up to 254 items in the place of the last argument of `target`, to which
-/// their array is passed (`MethodHandle.asCollector`, SE 17). Refused where the type is no array,
-/// where such an array cannot be passed to the last parameter, and for 255 items.
+/// A handle that takes up to 254 items in place of the last argument of `target`, and passes their
+/// array to it (`MethodHandle.asCollector`, SE 17). Refused if the type is no array, if such an
+/// array cannot be passed to the last parameter, or if there are 255 items.
 pub fn gather<'t, R: Wait>(
     w: &mut Work<'_, 't>,
     rt: &R,

@@ -38,7 +38,7 @@ impl<'t> Branches<'t> {
         )
     }
 
-    /// Gives back the handles of a guard that is not made, and says why.
+    /// Gives back the handles of a guard, and answers the refusal.
     fn refused(self, w: &mut Work<'_, 't>, error: CheckError) -> Result<Handle<'t>, HandleError>
         requires of_types { w.old.seat.now.table ≡ w.old.types.now }
         requires held { HoldsTypes w.old
@@ -60,8 +60,7 @@ impl<'t> Branches<'t> {
     }
 }
 
-/// A guard of handles, where its rule gives this type. The handles are given back where none is
-/// made.
+/// A guard of handles, if its rule gives this type. If none is made, the handles are given back.
 pub fn guard_of<'t, R: Wait>(
     w: &mut Work<'_, 't>,
     rt: &R,
@@ -104,9 +103,9 @@ pub fn guard_of<'t, R: Wait>(
     }
 }
 
-/// A handle that runs `target` where `test` gives true on the first arguments, and else `fallback`
-/// (`MethodHandles.guardWithTest`, SE 17). Refused where `target` and `fallback` differ in type,
-/// and where the test does not give a boolean or does not take the first parameters of `target`.
+/// A handle that runs `target` if `test` returns true on the first arguments, otherwise `fallback`
+/// (`MethodHandles.guardWithTest`, SE 17). Refused if `target` and `fallback` differ in type, or if
+/// `test` does not return a boolean or does not take the first parameters of `target`.
 pub fn guard<'t, R: Wait>(
     w: &mut Work<'_, 't>,
     rt: &R,
@@ -160,7 +159,7 @@ impl<'t> Caught<'t> {
         )
     }
 
-    /// Gives back the handles of a catch that is not made, and says why.
+    /// Gives back the handles of a catch, and answers the refusal.
     fn refused(self, w: &mut Work<'_, 't>, error: CheckError) -> Result<Handle<'t>, HandleError>
         requires of_types { w.old.seat.now.table ≡ w.old.types.now }
         requires held { HoldsTypes w.old (self.target.held ++ self.handler.held) }
@@ -179,8 +178,7 @@ impl<'t> Caught<'t> {
     }
 }
 
-/// A catch of handles, where its rule gives this type. The handles are given back where none is
-/// made.
+/// A catch of handles, if its rule gives this type. If none is made, the handles are given back.
 pub fn catch_of<'t, R: Wait>(
     w: &mut Work<'_, 't>,
     rt: &R,
@@ -223,10 +221,10 @@ pub fn catch_of<'t, R: Wait>(
     }
 }
 
-/// A handle that runs `target`, and where that throws an exception of the class or of one below it,
-/// `handler` on the exception and the first arguments (`MethodHandles.catchException`, SE 17).
-/// Refused where the class is not `java/lang/Throwable` or below it, and where `handler` does not
-/// take such an exception and then the first parameters of `target`, or returns another type.
+/// A handle that runs `target`. If that throws an exception of the class or of a class below it,
+/// `handler` runs on the exception and the first arguments (`MethodHandles.catchException`, SE 17).
+/// Refused if the class is not `java/lang/Throwable` or below it. Refused also if `handler` returns
+/// another type, or does not take such an exception and then the first parameters of `target`.
 pub fn catch<'t, R: Wait>(
     w: &mut Work<'_, 't>,
     rt: &R,

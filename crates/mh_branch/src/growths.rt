@@ -1,4 +1,4 @@
-//! What branches are made of: their handles, with their weight, their key, and their parts.
+//! What branches are made from: their handles, with their weight, their key, and their parts.
 
 ghost use Rattle.std.specs.Prelude.{◌≡◌, ◌≤◌, ◌+◌, ◌++◌, length, IfOk};
 ghost use Rattle.mh_handle.specs.Parts.{AddsHandle};
@@ -14,7 +14,7 @@ use mh_handle::{Handle, Parts, Work};
 use mh_values::{ClassId, MethodTy};
 use std::alloc::Global;
 
-/// The handles of a guard: a test, what runs where it gives true, and what runs else.
+/// The handles of a guard: a test, the target if it returns true, and the fallback if it does not.
 #[derive(Drop)]
 pub struct Branches<'t> {
     pub test: Handle<'t>,
@@ -35,7 +35,7 @@ impl<'t> Branches<'t> {
     }
 }
 
-/// The handles of a catch: a target, and what handles its exceptions of a class.
+/// The handles of a catch: a target, and a handler of its exceptions.
 #[derive(Drop)]
 pub struct Caught<'t> {
     pub target: Handle<'t>,
@@ -87,7 +87,7 @@ pub(crate) fn catch_key<'t>(
     })
 }
 
-/// One part more. Where memory is short all are given back.
+/// Adds one more part. If memory runs out, all are given back.
 fn with_part<'t>(
     w: &mut Work<'_, 't>,
     parts: Parts<'t>,
@@ -109,7 +109,7 @@ fn with_part<'t>(
     }
 }
 
-/// Two parts more. Where memory is short all are given back.
+/// Adds two more parts. If memory runs out, all are given back.
 fn with_two<'t>(
     w: &mut Work<'_, 't>,
     parts: Parts<'t>,
@@ -132,7 +132,7 @@ fn with_two<'t>(
     }
 }
 
-/// A class of exceptions more, and a part after it. Where memory is short all are given back.
+/// Adds a class of exceptions, and a part after it. If memory runs out, all are given back.
 fn with_handler<'t>(
     w: &mut Work<'_, 't>,
     parts: Parts<'t>,

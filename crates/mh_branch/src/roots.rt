@@ -26,8 +26,8 @@ fn fitted(value: Value, ty: Ty, classes: &Classes) -> Value
     fitted
 }
 
-/// A handle that takes nothing and gives a value (`MethodHandles.constant`, SE 17). Refused where
-/// the type is void, and where the value does not fit it.
+/// A handle that takes nothing and returns a value (`MethodHandles.constant`, SE 17). Refused if
+/// the type is void, or if the value does not fit it.
 pub fn constant<'t, R: Wait>(
     w: &mut Work<'_, 't>,
     rt: &R,
@@ -58,7 +58,7 @@ pub fn constant<'t, R: Wait>(
     Handle::rooted(w, rt, by)
 }
 
-/// A handle that gives its argument (`MethodHandles.identity`, SE 17). Refused where the type is
+/// A handle that returns its argument (`MethodHandles.identity`, SE 17). Refused if the type is
 /// void.
 pub fn identity<'t, R: Wait>(
     w: &mut Work<'_, 't>,
@@ -85,7 +85,7 @@ pub fn identity<'t, R: Wait>(
     Handle::rooted(w, rt, by)
 }
 
-/// A handle that throws its argument (`MethodHandles.throwException`, SE 17). Refused where the
+/// A handle that throws its argument (`MethodHandles.throwException`, SE 17). Refused if the
 /// class is not `java/lang/Throwable` or below it.
 pub fn throw<'t, R: Wait>(
     w: &mut Work<'_, 't>,
