@@ -13,7 +13,7 @@ use mh_values::MethodTy;
 use std::sync::Wait;
 
 /// A handle that joins pieces (`StringConcatFactory.makeConcatWithConstants`, SE 17). The pieces
-/// take the parameters of its type, as those of each recipe that is read do. It is never refused.
+/// must take the parameters of its type, as those that `mh_pieces` reads do. No rule refuses it.
 pub fn concat<'t, R: Wait>(
     w: &mut Work<'_, 't>,
     rt: &R,
