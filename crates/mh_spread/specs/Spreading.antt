@@ -1,4 +1,4 @@
--- What a spread asks of the handle that it adapts: its items are passed as by a use of the handle as another type.
+-- Spreads of a handle: the handle is first converted to a type that takes the array's items.
 use Rattle.std.specs.Prelude.{◌≡◌, ℕ, nat_le, ◌⊎◌, List, [], ◌++◌, length, true, Option, Some, Result, Ok, Err}
 use Rattle.std.specs.Option.{option_map_or}
 use Rattle.mh_values.specs.declared.class.Class.{Class}
@@ -23,7 +23,7 @@ use Rattle.mh_handle.specs.Works.{IsUnchanged, Makes, types_in}
 use Rattle.mh_spread.specs.declared.spreading.Spreading.{Spreading}
 use Rattle.mh_astype.specs.Use.{MakesFrom, used_types}
 
--- what a spread is found to be: the array's component, the type as which the handle is used, and the type of the new handle
+-- a spread: the array's component, the type that the handle is converted to, and the type of the new handle
 pub record IsSpreading (classes : List Class) (t : MethodTy) (weight : ℕ) (array : Option Ty) (count : ℕ) (s : Spreading) : Type 0 where
   pub component : component_of array ≡ Some s.component
   pub within : nat_le count (length t.params) ≡ true
@@ -31,35 +31,36 @@ pub record IsSpreading (classes : List Class) (t : MethodTy) (weight : ℕ) (arr
   pub used : use_row classes t weight s.asked ≡ Ok s.asked
   pub own : spread_row s.asked (use_weight t weight s.asked) array count ≡ Ok s.own
 
--- what a spread is found to be, or its very refusal; want of memory tells nothing
+-- The answer is the spread, or the rule's refusal. If memory runs out, it says nothing about the rule.
 abbrev pub TellsSpreading : List Class → MethodTy → ℕ → Option Ty → ℕ → Result Spreading CheckError → Type 0
 TellsSpreading classes t weight array count (Ok s) = IsSpreading classes t weight array count s
 TellsSpreading classes t weight array count (Err (check.Refused e)) = spread_use_row classes t weight array count ≡ Err e
 TellsSpreading classes t weight array count (Err check.NoMemory) = Unit {0}
 
--- the types of the nodes that a spread makes: the use as the type that takes the items, where that is another, and the spread
+-- the types of the nodes that a spread makes: the type that takes the items, if it is another one, and that of the spread
 abbrev pub spread_types : List Class → MethodTy → ℕ → Option Ty → ℕ → List MethodTy
 spread_types classes t weight array count =
     option_map_or (λ c. used_types classes t weight (taking_items t c count)) (component_of array) [] ++ types_in (spread_use_row classes t weight array count)
 
--- the key of a spread of an array type's items; none if the type is no array
+-- the key of a spread of an array type's items: none if the type is no array
 abbrev pub spread_keys : Option Ty → ℕ → List Key
 spread_keys array count = at_some (component_of array) (λ c. key.Spread count (basic_of (item_type c)))
 
--- the weight of a use as a type, or its very refusal
+-- the weight after a conversion to a type, or the rule's refusal
 abbrev pub TellsUse : List Class → MethodTy → ℕ → MethodTy → Result ℕ CheckError → Type 0
 TellsUse classes t weight asked (Ok n) = (use_row classes t weight asked ≡ Ok asked) × (n ≡ use_weight t weight asked)
 TellsUse classes t weight asked (Err (check.Refused e)) = use_row classes t weight asked ≡ Err e
 TellsUse classes t weight asked (Err check.NoMemory) = Unit {0}
 
--- what is left of the work by two edits, one after the other, from one recipe to a second, where they differ, and then to a third: the first edit, or both
+-- How two edits change the work: from one recipe to a second, unless they are equal, and then to a third.
+-- Either the first edit fails, or it succeeds and the second one follows.
 abbrev pub MakesBoth : List Key → List Key → List Key → Work → Work → Result Handle HandleError → Type 0
 MakesBoth first second third old new (Ok h) = (mid : Work) × (g : Handle) × MakesFrom first second old mid (Ok g) × Makes third mid new (Ok h)
 MakesBoth first second third old new (Err (Refused e)) = IsUnchanged old new
 MakesBoth first second third old new (Err e) =
     MakesFrom first second old new (Err e) ⊎ ((mid : Work) × (g : Handle) × MakesFrom first second old mid (Ok g) × Makes third mid new (Err e))
 
--- what is left of the work by the spread of a tree of this type: the edits of the use as the type that takes the items, and of the spread of that
+-- How the spread of a tree of this type changes the work: by the edit of its conversion to the type that takes the items, and the spread's edit.
 abbrev pub MakesSpread : MethodTy → Option Ty → ℕ → Tree → Work → Work → Result Handle HandleError → Type 0
 MakesSpread own array count t old new result =
     MakesBoth (recipe old.leaves.now t) (recipe old.leaves.now (items_used_as own array count t))

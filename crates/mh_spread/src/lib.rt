@@ -1,4 +1,4 @@
-//! Handles that take an array in the place of their last arguments.
+//! Handles that take an array in place of their last arguments.
 #![tactic(auto)]
 
 mod spreading;

@@ -19,15 +19,15 @@ use mh_values::{ClassId, Classes, Comp, Exc, MethodTy, Ty, is_same_method_type};
 use std::alloc::Global;
 use std::sync::Wait;
 
-/// What a spread is found to be: the component of the array, the type that takes its items as which
-/// the handle is used, and the type of the new handle.
+/// A spread: the component of the array, the type that the handle is converted to, which takes the
+/// array's items, and the type of the new handle.
 pub(crate) struct Spreading {
     pub component: Comp,
     pub asked: MethodTy,
     pub own: MethodTy,
 }
 
-// A type with items of an array for its last parameters, so many.
+// A type with items of an array in place of its last parameters.
 fn taking_items(
     alloc: Global,
     own: &MethodTy,
@@ -48,7 +48,7 @@ fn taking_items(
     })
 }
 
-// The weight of a tree that is used as a type.
+// The weight of a tree after its conversion to a type.
 fn check_use(
     alloc: Global,
     own: &MethodTy,
@@ -95,9 +95,9 @@ fn check_spreading(
     })
 }
 
-/// The type of a tree, whose last arguments come in an array, after it is used as the type that takes
-/// the array's items. Refused where the type is no array, where there are fewer parameters, and where
-/// the items cannot be converted.
+/// The type of a spread of a tree: the tree is converted to the type that takes the array's items,
+/// and then spread. Refused if the type is no array, if there are fewer parameters than items, or
+/// if the items cannot be converted.
 pub fn check_spread_use(
     alloc: Global,
     target: &MethodTy,
@@ -142,11 +142,10 @@ fn spreading_of<'t>(
     )
 }
 
-/// A handle that takes an array in the place of the last `count` arguments of `target`, to which
-/// its items are passed, converted as by `as_type` where `target` takes other types
-/// (`MethodHandle.asSpreader`, SE 17). A call throws where the array does not have so many items.
-/// Refused where the type is no array, where `target` has fewer parameters, and where the items
-/// cannot be converted.
+/// A handle that takes an array in place of the last `count` arguments of `target`, and passes the
+/// items to it (`MethodHandle.asSpreader`, SE 17). If `target` takes other types, the items are
+/// converted as by `as_type`. A call throws if the array does not have `count` items. Refused if
+/// the type is no array, if `target` has fewer parameters, or if the items cannot be converted.
 pub fn spread<'t, R: Wait>(
     w: &mut Work<'_, 't>,
     rt: &R,
