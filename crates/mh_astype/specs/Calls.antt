@@ -13,13 +13,9 @@ use Rattle.mh_handle.specs.declared.answer.Answer.{Answer}
 use Rattle.mh_handle.specs.declared.error.EditError.{EditError}
 use Rattle.mh_handle.specs.declared.error.EditError.TheVariants.{NoMemory, FormsFull}
 use Rattle.mh_handle.specs.declared.work.Work.{Work}
-use Rattle.mh_handle.specs.Form.{FormView}
+use Rattle.mh_handle.specs.Form.{FormView, most_forms}
 use Rattle.mh_handle.specs.Passes.{AsksFor, NotAsked, Draws, DrawsAtMostOne, IsFormOf, IsUnlearnt, PutsAtMost, PutsAtMostOne}
 use Rattle.mh_handle.specs.Recipe.{convert_keys, recipe}
-
--- the greatest number of a form
-abbrev pub most_forms : ℕ
-most_forms = 16384
 
 -- a number that depends on a type: 0 if it is refused
 abbrev pub at_type : TypeOrRefusal → (MethodTy → ℕ) → ℕ

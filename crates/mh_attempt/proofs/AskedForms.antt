@@ -11,12 +11,11 @@ use Rattle.std.proofs.lemmas.Map.Keys.{IsDistinct-push, any_passes_from_place}
 use Rattle.std.proofs.lemmas.Map.Made.{length-from_keys}
 use Rattle.mh_setonce.specs.Walks.{Lacks, Has}
 use Rattle.mh_edit.specs.declared.key.Key.{Key}
-use Rattle.mh_handle.specs.Form.{FormView}
+use Rattle.mh_handle.specs.Form.{FormView, most_forms}
 use Rattle.mh_handle.specs.Index.{recipe_of}
 use Rattle.mh_handle.specs.Passes.{PassView, SeatView, AsksFor, Draws, DrawsAtMostOne, IsUnlearnt}
 use Rattle.mh_handle.specs.SameRecipes.{same_recipe}
 use Rattle.mh_handle.proofs.SameRecipes.{same_recipe-decides, same_recipe-equivalence}
-use Rattle.mh_astype.specs.Calls.{most_forms}
 use Rattle.mh_attempt.specs.Asked.{asked_recipes, DrawsWithin, HasAsked, HasDrawn, HasNoNumber}
 use Rattle.mh_attempt.proofs.RecipeCounts.{is_one, again, one-more}
 

@@ -11,7 +11,7 @@ use Rattle.mh_attempt.specs.declared.error.WorkError.TheVariants as work
 use Rattle.mh_handle.specs.Index.{recipe_of}
 use Rattle.mh_handle.specs.Passes.{PassView}
 use Rattle.mh_handle.specs.SameRecipes.{same_recipe}
-use Rattle.mh_astype.specs.Calls.{most_forms}
+use Rattle.mh_handle.specs.Form.{most_forms}
 
 -- how many numbers an attempt may draw, one for each form that it asks for
 abbrev pub attempt_draws : ℕ

@@ -43,6 +43,7 @@ impl Model for Noted {
 
 impl Noted {
     // A run of a leaf of these types on the slots at these places, counted from a base.
+    #[inline(always)]
     fn of(
         leaf: LeafId,
         slots: &Vec<Slot>,
@@ -107,6 +108,7 @@ impl Calls {
     }
 
     /// The number of calls.
+    #[inline(always)]
     pub fn len(&self) -> usize
         ensures { result ≡ length self.now }
     {
@@ -130,6 +132,7 @@ impl Calls {
 
     /// Puts a call at the end, of a leaf of these types on the slots at these places, counted from
     /// a base. Where no memory is left, nothing is put there.
+    #[inline(always)]
     pub(crate) fn push(
         &mut self,
         leaf: LeafId,

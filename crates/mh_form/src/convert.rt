@@ -10,6 +10,7 @@ use mh_convert::{Conv, RetConv, convert, default_value};
 use mh_values::{Classes, Exc, Value};
 
 /// A value that was given as a slot, or the exception.
+#[inline(always)]
 pub(crate) fn slot_or_throw(given: Result<Value, Exc>) -> Result<Slot, Exc>
     ensures { slot_or_exc result ≡ slot_or_throw given }
 {
@@ -19,6 +20,7 @@ pub(crate) fn slot_or_throw(given: Result<Value, Exc>) -> Result<Slot, Exc>
     }
 }
 
+#[inline(always)]
 pub(crate) fn convert_slot(conv: Conv, slot: Slot, classes: &Classes) -> Result<Slot, Exc>
     requires { converted classes.now conv slot ≢ Stuck }
     ensures { slot_or_exc result ≡ converted classes.now conv slot }
@@ -27,6 +29,7 @@ pub(crate) fn convert_slot(conv: Conv, slot: Slot, classes: &Classes) -> Result<
     slot_or_throw(convert(conv, value, classes))
 }
 
+#[inline(always)]
 pub(crate) fn convert_result(
     conv: RetConv,
     given: Option<Slot>,

@@ -58,6 +58,7 @@ impl Copied for Shape {
 }
 
 impl Copied for Slot {
+    #[inline(always)]
     fn copy(&self, alloc: Global) -> Result<Slot, NoMemory> {
         Ok(match self {
             Slot::I(number) => Slot::I(*number),

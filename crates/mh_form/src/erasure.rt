@@ -44,6 +44,7 @@ pub fn shape(alloc: Global, ty: &MethodTy) -> Result<Shape, NoMemory>
 }
 
 /// A number as a slot.
+#[inline(always)]
 fn number_slot(number: Num) -> Slot
     ensures { result ≡ number_slot (primitive_of number) (whole number) }
 {
@@ -59,6 +60,7 @@ fn number_slot(number: Num) -> Slot
 }
 
 /// A value as a slot.
+#[inline(always)]
 pub fn erase(value: Value) -> Slot
     ensures { result ≡ erased value }
 {
@@ -69,6 +71,7 @@ pub fn erase(value: Value) -> Slot
 }
 
 /// An int in the range of `byte`.
+#[inline(always)]
 fn byte(number: i32) -> i8
     requires { IsTrue (lies_in primitive.B number) }
     ensures { result ≡ number }
@@ -77,6 +80,7 @@ fn byte(number: i32) -> i8
 }
 
 /// An int in the range of `char`.
+#[inline(always)]
 fn character(number: i32) -> u16
     requires { IsTrue (lies_in primitive.C number) }
     ensures { pos result ≡ number }
@@ -85,6 +89,7 @@ fn character(number: i32) -> u16
 }
 
 /// An int in the range of `short`.
+#[inline(always)]
 fn short(number: i32) -> i16
     requires { IsTrue (lies_in primitive.S number) }
     ensures { result ≡ number }
@@ -93,27 +98,29 @@ fn short(number: i32) -> i16
 }
 
 /// The number of a primitive type of which a slot is the erasure.
-fn number_in(primitive: Primitive, slot: Slot) -> Num
-    requires { number_in primitive slot ≢ None }
-    ensures { number_in primitive slot ≡ Some result }
+#[inline(always)]
+pub(crate) fn number_in(primitive: Primitive, slot: &Slot) -> Num
+    requires { number_in primitive slot.now ≢ None }
+    ensures { number_in primitive slot.now ≡ Some result }
 {
     match (primitive, slot) {
-        (Primitive::Z, Slot::I(number)) => Num::Z(number == 1),
-        (Primitive::B, Slot::I(number)) => Num::B(byte(number)),
-        (Primitive::C, Slot::I(number)) => Num::C(character(number)),
-        (Primitive::S, Slot::I(number)) => Num::S(short(number)),
-        (Primitive::I, Slot::I(number)) => Num::I(number),
-        (Primitive::J, Slot::J(number)) => Num::J(number),
+        (Primitive::Z, Slot::I(number)) => Num::Z(*number == 1),
+        (Primitive::B, Slot::I(number)) => Num::B(byte(*number)),
+        (Primitive::C, Slot::I(number)) => Num::C(character(*number)),
+        (Primitive::S, Slot::I(number)) => Num::S(short(*number)),
+        (Primitive::I, Slot::I(number)) => Num::I(*number),
+        (Primitive::J, Slot::J(number)) => Num::J(*number),
         _ => unreachable!(),
     }
 }
 
+#[inline(always)]
 fn typed_value(ty: Ty, slot: Slot, classes: &Classes) -> Value
     requires { typed classes.now ty slot ≢ None }
     ensures { typed classes.now ty slot ≡ Some result }
 {
     match (ty, slot) {
-        (Ty::Prim(primitive), slot) => Value::Prim(number_in(primitive, slot)),
+        (Ty::Prim(primitive), slot) => Value::Prim(number_in(primitive, &slot)),
         (Ty::Class(_) | Ty::Array(_), Slot::L(value)) => value,
         _ => unreachable!(),
     }
@@ -121,6 +128,7 @@ fn typed_value(ty: Ty, slot: Slot, classes: &Classes) -> Value
 
 /// A slot as the value of a type of which it is the erasure; the slot lies in the range of the
 /// type.
+#[inline(always)]
 pub fn typed(ty: Ty, slot: Slot, classes: &Classes) -> Value
     requires { typed classes.now ty slot ≢ None }
     ensures range { IsTrue (lies_within ty slot) }

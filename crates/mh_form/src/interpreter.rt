@@ -33,6 +33,7 @@ struct Guard {
 /// Runs a part on the slots of the run under way, and goes on with the run that waits for it, which
 /// has so many slots: it gets what the part gave, or stays as it is where the part threw.
 #[cycle(run)]
+#[inline(always)]
 fn run_part(
     stack: &mut Stack,
     call: &Invocation<'_>,
@@ -63,6 +64,7 @@ fn run_part(
 
 /// Runs the part in a field on the slots of the run under way, in the same way.
 #[cycle(run)]
+#[inline(always)]
 fn run_entered(
     stack: &mut Stack,
     call: &Invocation<'_>,
@@ -92,6 +94,7 @@ fn run_entered(
 
 /// Runs the part in a field on the slots at these places.
 #[cycle(run)]
+#[inline(always)]
 fn step_link(
     stack: &mut Stack,
     call: &Invocation<'_>,
@@ -164,6 +167,7 @@ fn run_guarded(
 
 /// Runs a guarded part on the slots at these places.
 #[cycle(run)]
+#[inline(never)]
 fn step_guarded(
     stack: &mut Stack,
     call: &Invocation<'_>,
@@ -187,6 +191,7 @@ fn step_guarded(
 }
 
 /// The field of one of two parts: the first where the slot of the test is int 1.
+#[inline(always)]
 fn chosen(test: &Slot, field: u32, other: u32) -> u32
     ensures { result ≡ (if holds_one test.now then field else other) }
 {
@@ -195,6 +200,7 @@ fn chosen(test: &Slot, field: u32, other: u32) -> u32
 
 /// Runs a name on the slots of the run under way, which gets one slot more.
 #[cycle(run)]
+#[inline(always)]
 fn step(
     stack: &mut Stack,
     call: &Invocation<'_>,

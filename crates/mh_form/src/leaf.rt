@@ -19,6 +19,7 @@ use mh_values::{Classes, LeafId, Ty, Tys, Value};
 use std::alloc::Global;
 
 /// A copy of the slot at a place as the value of a type of which it is the erasure.
+#[inline(always)]
 fn typed_slot(
     alloc: Global,
     ty: Ty,
@@ -36,6 +37,7 @@ fn typed_slot(
 
 /// Puts the slots at these places into a vector without items, as the values of types of which they
 /// are the erasures, one for each.
+#[inline(always)]
 pub(crate) fn typed_at(
     values: &mut Vec<Value>,
     types: &Tys,
@@ -61,6 +63,7 @@ pub(crate) fn typed_at(
 
 /// Notes a call of a leaf on the slots at these places, if it runs on the arguments that are
 /// loaded, which are those.
+#[inline(always)]
 fn note(
     stack: &mut Stack,
     call: &Invocation<'_>,
@@ -84,6 +87,7 @@ fn note(
 
 /// Calls a leaf on the arguments that are loaded, which are the slots at these places, and have its
 /// types.
+#[inline(always)]
 fn call_loaded(
     stack: &mut Stack,
     call: &Invocation<'_>,
@@ -108,6 +112,7 @@ fn call_loaded(
 }
 
 /// Calls a leaf on the slots at these places, which are the erasures of values of its types.
+#[inline(always)]
 pub(crate) fn call_at(
     stack: &mut Stack,
     call: &Invocation<'_>,

@@ -13,12 +13,14 @@ use mh_pieces::Pieces;
 use mh_values::{ClassId, Comp, LeafId};
 
 /// The field of a number, if there is one.
+#[inline(always)]
 fn field_at<'a, 't>(bound: &'a Bound<'t>, field: u32) -> Option<&'a Field<'t>>
     ensures { option_copied result ≡ slice_get bound.now.fields.items field }
 {
     bound.fields.as_slice().get(field as usize)
 }
 
+#[inline(always)]
 pub(crate) fn slot_in<'a>(bound: &'a Bound<'_>, leaves: &Leaves, field: u32) -> Option<&'a Slot>
     ensures { option_copied result
         ≡ field_of slot_of (senses_in leaves.now bound.now) field }
@@ -29,6 +31,7 @@ pub(crate) fn slot_in<'a>(bound: &'a Bound<'_>, leaves: &Leaves, field: u32) -> 
     }
 }
 
+#[inline(always)]
 pub(crate) fn leaf_in(bound: &Bound<'_>, leaves: &Leaves, field: u32) -> Option<LeafId>
     ensures { option_map (called leaves.now) result
         ≡ field_of leaf_of (senses_in leaves.now bound.now) field }
@@ -49,6 +52,7 @@ pub(crate) fn class_in(bound: &Bound<'_>, leaves: &Leaves, field: u32) -> Option
     }
 }
 
+#[inline(always)]
 pub(crate) fn conv_in(bound: &Bound<'_>, leaves: &Leaves, field: u32) -> Option<Conv>
     ensures { option_map (converted leaves.now.classes) result
         ≡ field_of conv_of (senses_in leaves.now bound.now) field }
@@ -59,6 +63,7 @@ pub(crate) fn conv_in(bound: &Bound<'_>, leaves: &Leaves, field: u32) -> Option<
     }
 }
 
+#[inline(always)]
 pub(crate) fn ret_in(bound: &Bound<'_>, leaves: &Leaves, field: u32) -> Option<RetConv>
     ensures { option_map (ret_converted leaves.now.classes) result
         ≡ field_of ret_of (senses_in leaves.now bound.now) field }
@@ -79,6 +84,7 @@ pub(crate) fn comp_in(bound: &Bound<'_>, leaves: &Leaves, field: u32) -> Option<
     }
 }
 
+#[inline(always)]
 pub(crate) fn pieces_in<'a>(bound: &'a Bound<'_>, leaves: &Leaves, field: u32) -> Option<&'a Pieces>
     ensures { option_map (joined_slots leaves.now.classes) (option_copied result)
         ≡ field_of joined_of (senses_in leaves.now bound.now) field }

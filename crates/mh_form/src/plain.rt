@@ -19,6 +19,7 @@ use crate::{Bound, Operands};
 use mh_base::{Copied, NoMemory};
 
 /// A copy of the slot in a field.
+#[inline(always)]
 pub(crate) fn get(
     stack: &mut Stack,
     call: &Invocation<'_>,
@@ -38,6 +39,7 @@ pub(crate) fn get(
 }
 
 /// Calls the leaf in a field.
+#[inline(always)]
 pub(crate) fn call_leaf(
     stack: &mut Stack,
     call: &Invocation<'_>,
@@ -58,6 +60,7 @@ pub(crate) fn call_leaf(
 }
 
 /// Converts the slot at a place by the conversion in a field.
+#[inline(always)]
 pub(crate) fn convert(
     stack: &mut Stack,
     call: &Invocation<'_>,
@@ -79,6 +82,7 @@ pub(crate) fn convert(
 }
 
 /// Converts a result by the return conversion in a field.
+#[inline(always)]
 pub(crate) fn convert_returned(
     stack: &mut Stack,
     call: &Invocation<'_>,
@@ -99,6 +103,7 @@ pub(crate) fn convert_returned(
 }
 
 /// Makes an array of the slots at these places, of the component type in a field.
+#[inline(never)]
 pub(crate) fn array(
     stack: &mut Stack,
     call: &Invocation<'_>,
@@ -122,6 +127,7 @@ pub(crate) fn array(
 }
 
 /// Checks that the slot at a place holds an array of so many items.
+#[inline(never)]
 pub(crate) fn check(stack: &mut Stack, slot: u32, count: u32) -> Result<Going, NoMemory>
     requires { step (CheckArray slot count) [] stack.old.frame 0 ≢ Stuck }
     ensures done { IfOk result (λ g. done g stack.new ≡ on_stack stack.old
@@ -133,6 +139,7 @@ pub(crate) fn check(stack: &mut Stack, slot: u32, count: u32) -> Result<Going, N
 }
 
 /// An item of the array in the slot at a place.
+#[inline(never)]
 pub(crate) fn item(stack: &mut Stack, slot: u32, item: u32) -> Result<Going, NoMemory>
     requires { step (Elem slot item) [] stack.old.frame 0 ≢ Stuck }
     ensures done { IfOk result (λ g. done g stack.new ≡ on_stack stack.old
@@ -144,6 +151,7 @@ pub(crate) fn item(stack: &mut Stack, slot: u32, item: u32) -> Result<Going, NoM
 }
 
 /// Joins the pieces in a field, with the slots at these places as their arguments.
+#[inline(always)]
 pub(crate) fn join(
     stack: &mut Stack,
     call: &Invocation<'_>,
@@ -160,10 +168,18 @@ pub(crate) fn join(
     let Some(pieces) = pieces_in(bound, call.leaves, field) else {
         unreachable!()
     };
-    join_at(stack, pieces, args, call.leaves.classes())
+    let joined = join_at(
+        stack.alloc(),
+        pieces,
+        stack.frame(),
+        args,
+        call.leaves.classes(),
+    )?;
+    stack.give(joined)
 }
 
 /// Throws the exception in the slot at a place.
+#[inline(never)]
 pub(crate) fn throw(stack: &mut Stack, slot: u32) -> Result<Going, NoMemory>
     requires { step (Raise slot) [] stack.old.frame 0 ≢ Stuck }
     ensures done { IfOk result (λ g. done g stack.new ≡ on_stack stack.old

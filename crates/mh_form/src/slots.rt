@@ -12,6 +12,7 @@ use mh_values::{ClassId, Exc, Value};
 use std::alloc::Global;
 
 /// The count of leaf calls after these, modulo 2^32.
+#[inline(always)]
 pub(crate) fn raised(n: u32, calls: &Calls) -> u32
     ensures { result ≡ raised n calls.now }
 {
@@ -19,7 +20,7 @@ pub(crate) fn raised(n: u32, calls: &Calls) -> u32
 }
 
 /// The slot at a place.
-#[inline]
+#[inline(always)]
 pub(crate) fn slot_at(slots: &[Slot], place: u32) -> &Slot
     requires { slice_get slots.now place ≢ None }
     ensures { slice_get slots.now place ≡ Some result.now }
@@ -48,6 +49,7 @@ pub(crate) fn pick(alloc: Global, slots: &[Slot], places: &Operands) -> Result<S
 }
 
 /// A copy of the slot at the place of a result, if it has one.
+#[inline(always)]
 pub(crate) fn result_in(
     alloc: Global,
     place: Option<u32>,
@@ -62,6 +64,7 @@ pub(crate) fn result_in(
     Ok(Some(slot_at(slots, place).copy(alloc)?))
 }
 
+#[inline(always)]
 pub(crate) fn holds_one(slot: &Slot) -> bool
     ensures { result ≡ holds_one slot.now }
 {

@@ -92,6 +92,7 @@ impl Stack {
     }
 
     /// Begins anew, on copies of these values as slots, whatever was left.
+    #[inline(always)]
     pub(crate) fn begin_on(&mut self, values: &Items) -> Result<(), NoMemory>
         ensures frame { OnOk result (self.new.frame ≡ map erased values.now) }
         ensures calls { OnOk result (self.new.calls ≡ []) }
@@ -116,6 +117,7 @@ impl Stack {
     }
 
     /// The allocator of the stack; there is one.
+    #[inline(always)]
     pub(crate) fn alloc(&self) -> Global
         ensures { (other : Global) → result ≡ other }
     {
@@ -123,7 +125,7 @@ impl Stack {
     }
 
     /// The slots of the run under way.
-    #[inline]
+    #[inline(always)]
     pub(crate) fn frame(&self) -> &[Slot]
         ensures { result.now ≡ self.now.frame }
     {
@@ -131,7 +133,7 @@ impl Stack {
     }
 
     /// The slot at a place of the run under way.
-    #[inline]
+    #[inline(always)]
     pub(crate) fn at(&self, place: u32) -> &Slot
         requires { slice_get self.now.frame place ≢ None }
         ensures { slice_get self.now.frame place ≡ Some result.now }
@@ -140,7 +142,7 @@ impl Stack {
     }
 
     /// The arguments of the leaf that is called.
-    #[inline]
+    #[inline(always)]
     pub(crate) fn args(&self) -> &[Value]
         ensures { result.now ≡ self.now.args }
     {
@@ -148,7 +150,7 @@ impl Stack {
     }
 
     /// The leaf calls so far.
-    #[inline]
+    #[inline(always)]
     pub(crate) fn calls(&self) -> &Calls
         ensures { result.now ≡ self.now.calls }
     {
@@ -170,7 +172,7 @@ impl Stack {
     }
 
     /// Puts a slot after those of the run under way.
-    #[inline]
+    #[inline(always)]
     pub(crate) fn push(&mut self, slot: Slot) -> Result<(), NoMemory>
         ensures { OnOk result (self.new ≡ with_slot self.old slot) }
     {
@@ -180,6 +182,7 @@ impl Stack {
     }
 
     /// Holds an exception, which ends the run under way.
+    #[inline(always)]
     pub(crate) fn throw(&mut self, exc: Exc) -> Going
         ensures going { result ≡ Going.Threw }
         ensures held { self.new ≡ record self.old { thrown = exc } }
@@ -189,6 +192,7 @@ impl Stack {
     }
 
     /// What a name gave that calls no leaf.
+    #[inline(always)]
     pub(crate) fn give(&mut self, given: Result<Slot, Exc>) -> Result<Going, NoMemory>
         ensures done { IfOk result (λ g. done g self.new ≡ on_stack self.old (slot_or_exc given)) }
         ensures below { IfOk result (λ g. self.new.below ≡ self.old.below) }
@@ -204,6 +208,7 @@ impl Stack {
 
     /// Takes the slots at these places as the arguments of a leaf, of whose types they are the
     /// erasures.
+    #[inline(always)]
     pub(crate) fn load(
         &mut self,
         types: &Tys,
@@ -220,15 +225,9 @@ impl Stack {
         typed_at(&mut self.args, types, slots, places, classes)
     }
 
-    /// Drops the arguments that were taken.
-    pub(crate) fn unload(&mut self)
-        ensures { self.new ≡ record self.old { args = [] } }
-    {
-        self.args.clear();
-    }
-
     /// Notes a call of a leaf on the slots at these places, as values of its types. No value is
     /// made.
+    #[inline(always)]
     pub(crate) fn note(
         &mut self,
         leaf: LeafId,
@@ -246,6 +245,7 @@ impl Stack {
     }
 
     /// What a leaf gave, after its call was noted.
+    #[inline(always)]
     pub(crate) fn finish(&mut self, outcome: Outcome) -> Result<Going, NoMemory>
         ensures done { IfOk result (λ g. done g self.new
             ≡ on_stack self.old (filled (erased_ran (ran_of outcome [])))) }
@@ -259,6 +259,7 @@ impl Stack {
     }
 
     // Puts copies of the slots at these places after all slots.
+    #[inline(always)]
     fn push_copies(&mut self, places: &Operands) -> Result<(), NoMemory>
         requires { picked self.old.frame places.now ≢ None }
         ensures { OnOk result (option_map (with_slots self.old) (picked self.old.frame places.now)
@@ -273,6 +274,7 @@ impl Stack {
     }
 
     // How many slots the run under way has.
+    #[inline(always)]
     fn count(&self) -> usize
         ensures { result ≡ length self.now.frame }
     {
@@ -280,6 +282,7 @@ impl Stack {
     }
 
     // The first slots of the run under way wait, and the others begin a run.
+    #[inline(always)]
     fn begin(&mut self, count: usize)
         requires { count ≤ length self.old.frame }
         ensures { self.new ≡ begun count self.old }
@@ -289,6 +292,7 @@ impl Stack {
 
     /// Begins a run on copies of the slots at these places, while the run under way waits. Answers
     /// how many slots that has.
+    #[inline(always)]
     pub(crate) fn enter(&mut self, places: &Operands) -> Result<usize, NoMemory>
         requires { picked self.old.frame places.now ≢ None }
         ensures frame { OnOk result (picked self.old.frame places.now ≡ Some self.new.frame) }
@@ -330,6 +334,7 @@ impl Stack {
     }
 
     // Takes the slot at a place out of the run under way, in which int 0 stands then.
+    #[inline(always)]
     fn take_at(&mut self, place: usize) -> Slot
         requires { slice_get self.old.frame place ≢ None }
         ensures given { slice_get self.old.frame place ≡ Some result }
@@ -341,6 +346,7 @@ impl Stack {
     }
 
     /// Takes the result out of the run under way, if there is a place for it.
+    #[inline(always)]
     pub(crate) fn take_result(&mut self, out: Option<u32>) -> Option<Slot>
         requires { result_at out self.old.frame ≢ None }
         ensures given { result_at out self.old.frame ≡ Some result }
@@ -353,6 +359,7 @@ impl Stack {
     }
 
     // Takes the slot that the run under way gives: int 0 where it gives none.
+    #[inline(always)]
     fn take_slot(&mut self, out: Option<u32>) -> Slot
         requires { result_at out self.old.frame ≢ None }
         ensures given { option_map none_as_zero (result_at out self.old.frame) ≡ Some result }
@@ -377,6 +384,7 @@ impl Stack {
 
     /// Drops the slots of the run under way, and goes on with the run that waits, which has so
     /// many.
+    #[inline(always)]
     pub(crate) fn leave(&mut self, count: usize)
         requires { count ≤ length self.old.below }
         ensures { self.new ≡ left count self.old }
@@ -387,6 +395,7 @@ impl Stack {
 
     /// Goes on with the run that waits, which has so many slots, and gives it the result of the run
     /// under way.
+    #[inline(always)]
     pub(crate) fn leave_with(&mut self, out: Option<u32>, count: usize) -> Result<(), NoMemory>
         requires out { result_at out self.old.frame ≢ None }
         requires waits { count ≤ length self.old.below }

@@ -10,6 +10,10 @@ pub record FormView : Type 0 where
   pub number : ℕ
   pub recipe : List Key
 
+-- the greatest number of a form: there are at most so many forms beside the base of all
+abbrev pub most_forms : ℕ
+most_forms = 16384
+
 -- the body after these edits, in order
 abbrev pub body_from : FormBody → List Key → FormBody
 body_from body [] = body

@@ -1,7 +1,7 @@
 -- Inputs that are accepted, as far as they are told: none is refused or told not to be there, and a program that fits is run to its end.
 use Rattle.std.proofs.Common.{◌≡◌, ◌<◌, sym, subst, inl, inr, ⊎_elim, List, ℕ, Option, Some, arith}
 use Rattle.mh_outside.specs.Told.{Told}
-use Rattle.mh_astype.specs.Calls.{most_forms}
+use Rattle.mh_handle.specs.Form.{most_forms}
 use Rattle.mh_report.specs.Forms.{draws_needed}
 use Rattle.mh_report.specs.Types.{OverfillBucket, all_types}
 use Rattle.mh_main.specs.declared.program.Program.{Program}

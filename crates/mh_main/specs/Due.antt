@@ -6,7 +6,7 @@ use Rattle.mh_outside.specs.Told.{Told}
 use Rattle.mh_classfile.specs.Class.{Class}
 use Rattle.mh_listing.specs.Listing.{listing}
 use Rattle.mh_handle.specs.declared.answer.Answer.{Answer}
-use Rattle.mh_astype.specs.Calls.{most_forms}
+use Rattle.mh_handle.specs.Form.{most_forms}
 use Rattle.mh_plan.specs.Naming.{naming_of}
 use Rattle.mh_report.specs.Forms.{draws_needed}
 use Rattle.mh_report.specs.Results.{Serials, results_of, results_said, keys_said}

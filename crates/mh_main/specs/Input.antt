@@ -8,7 +8,7 @@ use Rattle.mh_class_pool.specs.declared.fault.ClassKind.{ClassKind}
 use Rattle.mh_classfile.specs.Class.{Class}
 use Rattle.mh_classfile.specs.File.{class_or_fault}
 use Rattle.mh_leaves.specs.Manifest.{manifest, kind_word as manifest_word}
-use Rattle.mh_astype.specs.Calls.{most_forms}
+use Rattle.mh_handle.specs.Form.{most_forms}
 use Rattle.mh_script.specs.Kinds.{kind_word as script_word}
 use Rattle.mh_script.specs.Scripts.{scripts}
 use Rattle.mh_jobs.specs.Given.{Given}

@@ -1,5 +1,5 @@
 ghost use Rattle.std.specs.Prelude.{◌≡◌, ◌<◌, IfOk, length, option_map};
-ghost use Rattle.mh_astype.specs.Calls.{most_forms};
+ghost use Rattle.mh_handle.specs.Form.{most_forms};
 ghost use Rattle.mh_plan.specs.Limits.{IsWithinLimits, calls_in};
 ghost use Rattle.mh_plan.specs.Naming.{naming_of};
 ghost use Rattle.mh_report.specs.Forms.{forms, draws_needed};

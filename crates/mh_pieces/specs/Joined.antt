@@ -29,8 +29,8 @@ abbrev pub piece_text : List Class → Piece → List Value → List ℕ
 piece_text classes (piece.Lit s) args = s
 piece_text classes (piece.Arg t) args = next_text classes args
 
--- the arguments that are left after a piece
-abbrev pub args_after : Piece → List Value → List Value
+-- what is left after a piece, of arguments or of the places at which they stand
+abbrev pub args_after : {A : Type 0} → Piece → List A → List A
 args_after (piece.Lit s) args = args
 args_after (piece.Arg t) args = drop 1 args
 

@@ -9,8 +9,9 @@ use mh_base::{Frozen, NoMemory, Seq};
 use mh_values::{ClassId, Classes, Exc, Items, MOST_CHARACTERS, Outcome, Value};
 use std::alloc::Global;
 
-/// The arguments that are left after a piece.
-fn args_after<'a>(piece: &Piece, args: &'a [Value]) -> &'a [Value]
+/// What is left after a piece, of arguments or of the places at which they stand: a piece that takes
+/// an argument takes the first.
+pub fn args_after<'a, T>(piece: &Piece, args: &'a [T]) -> &'a [T]
     ensures { result.now ≡ args_after piece.now args.now }
 {
     match (piece, args) {
@@ -102,29 +103,10 @@ fn push_joined(
     Ok(())
 }
 
-/// The text that pieces join to, each argument as its text, in one allocation of its length. A text
-/// of more than [`MOST_CHARACTERS`] throws `InternalError`, and is not built.
+/// The text that pieces join to, each argument as its text, in one allocation of its length. The
+/// arguments have the types that the pieces take. A text of more than [`MOST_CHARACTERS`] throws
+/// `InternalError`, and is not built.
 #[tactic(auto, using(crate::proofs::Joins::long_text, crate::proofs::Joins::short_text))]
-pub fn join_values(
-    alloc: Global,
-    pieces: &Pieces,
-    args: &[Value],
-    classes: &Classes,
-) -> Result<Outcome, NoMemory>
-    ensures { IfOk result (λ outcome. outcome ≡ joined classes.now pieces.now args.now) }
-{
-    let pieces = pieces.as_slice();
-    let Some(characters) = joined_length(pieces, args, classes) else {
-        let refusal = Exc::saying(alloc, ClassId::INTERNAL_ERROR, b"string too long")?;
-        return Ok(Outcome::Throw(refusal));
-    };
-    let mut chars = Vec::with_capacity(alloc, characters)?;
-    push_joined(&mut chars, pieces, args, classes)?;
-    let text = Frozen::of(alloc, Seq::from_vec(chars))?;
-    Ok(Outcome::Return(Some(Value::Text(text))))
-}
-
-/// The same of a list of arguments, which have the types that the pieces take.
 pub fn join_pieces(
     alloc: Global,
     pieces: &Pieces,
@@ -134,5 +116,14 @@ pub fn join_pieces(
     requires { HaveTypes classes.now args.now (arg_types pieces.now) }
     ensures { IfOk result (λ outcome. outcome ≡ joined classes.now pieces.now args.now) }
 {
-    join_values(alloc, pieces, args.as_slice(), classes)
+    let pieces = pieces.as_slice();
+    let args = args.as_slice();
+    let Some(characters) = joined_length(pieces, args, classes) else {
+        let refusal = Exc::saying(alloc, ClassId::INTERNAL_ERROR, b"string too long")?;
+        return Ok(Outcome::Throw(refusal));
+    };
+    let mut chars = Vec::with_capacity(alloc, characters)?;
+    push_joined(&mut chars, pieces, args, classes)?;
+    let text = Frozen::of(alloc, Seq::from_vec(chars))?;
+    Ok(Outcome::Return(Some(Value::Text(text))))
 }

@@ -91,8 +91,8 @@ fn array_length(component: Comp, classes: &Classes) -> usize
     component_length(component, classes).saturating_add(3)
 }
 
-/// The number of characters of a value's text.
-pub(crate) fn text_length(value: &Value, classes: &Classes) -> usize
+/// The number of characters of a value's text (`String.valueOf`), as far as 64 bits count them.
+pub fn text_length(value: &Value, classes: &Classes) -> usize
     ensures { result ≡ min (length (text_of classes.now value.now)) (2 ^ 64 - 1) }
 {
     match value {

@@ -7,6 +7,8 @@ mod piece;
 mod recipe;
 mod texts;
 
-pub use joined::{join_pieces, join_values};
+pub use joined::{args_after, join_pieces};
+pub use lengths::text_length;
 pub use piece::{Piece, Pieces};
 pub use recipe::{RecipeError, read_recipe};
+pub use texts::{push_chars, push_text};

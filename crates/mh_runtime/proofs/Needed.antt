@@ -12,7 +12,7 @@ use Rattle.mh_edit.specs.declared.key.Key.{Key}
 use Rattle.mh_handle.specs.Passes.{PassView}
 use Rattle.mh_handle.specs.Recipe.{recipe}
 use Rattle.mh_handle.specs.SameRecipes.{same_recipe}
-use Rattle.mh_astype.specs.Calls.{most_forms}
+use Rattle.mh_handle.specs.Form.{most_forms}
 use Rattle.mh_jobs.specs.Given.{Given}
 use Rattle.mh_link.specs.Sites.{edits_at}
 use Rattle.mh_attempt.proofs.RecipeCounts.{count-within}

@@ -12,7 +12,7 @@ use Rattle.mh_tickets.specs.Draws.{EachOnce, once_up_to}
 use Rattle.mh_seats.specs.Room.{limit, times}
 use Rattle.mh_intern.specs.Held.{on_type, times_type}
 use Rattle.mh_intern.specs.Views.{SeatView}
-use Rattle.mh_astype.specs.Calls.{most_forms}
+use Rattle.mh_handle.specs.Form.{most_forms}
 use Rattle.mh_jobs.specs.Given.{Given}
 use Rattle.mh_attempt.specs.declared.error.WorkError.TheVariants.{FormsFull, TypesFull}
 use Rattle.mh_attempt.specs.Asked.{HasAsked}

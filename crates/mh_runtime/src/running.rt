@@ -7,7 +7,7 @@ ghost use Rattle.mh_report.specs.Types.{Overfill, all_types};
 ghost use Rattle.mh_report.specs.Recorded.{recorded, serials_of, types};
 ghost use Rattle.mh_plan.specs.Calls.{AreCallsOf};
 ghost use Rattle.mh_report.specs.Results.{keys_said, results_of, results_said};
-ghost use Rattle.mh_astype.specs.Calls.{most_forms};
+ghost use Rattle.mh_handle.specs.Form.{most_forms};
 ghost use Rattle.mh_handle.specs.Seats as forms_seat;
 ghost use Rattle.mh_intern.specs.Views as types_seat;
 ghost use Rattle.mh_tickets.specs.Seats as serials_seat;
