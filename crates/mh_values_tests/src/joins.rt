@@ -5,8 +5,8 @@ ghost use Rattle.mh_pieces.specs.declared.piece.Piece.TheVariants as piece;
 
 use crate::bodies::{gives, naming, one_place};
 use mh_base::{Frozen, NoMemory, Seq};
-use mh_form::{Field, Name, Piece, Pieces, Slot};
-use mh_values::{Primitive, Ty};
+use mh_form::{Field, Name, Piece, Pieces, Slot, join_pieces};
+use mh_values::{Classes, Num, Outcome, Primitive, Ty, Value, are_typed};
 use std::alloc::Global;
 use std::test::Fail;
 
@@ -26,5 +26,28 @@ fn joins_pieces(rt: HostRuntime) -> Result<(), Fail> {
     let field = Field::Joined(labelled(rt.alloc())?);
     let body = naming(rt.alloc(), name, 1)?;
     assert!(rt; gives(rt.alloc(), &body, field, Slot::I(1), "s:x=true")?);
+    Ok(())
+}
+
+/// What the pieces join a boolean to.
+fn joined(alloc: Global) -> Result<Outcome, NoMemory> {
+    let classes = Classes::builtin(alloc)?;
+    let pieces = labelled(alloc)?;
+    let args = Seq::from_vec(vec![in alloc; Value::Prim(Num::Z(false))]?);
+    if !are_typed(args.as_slice(), pieces.arg_types().as_slice(), &classes) {
+        return Err(NoMemory);
+    }
+    join_pieces(alloc, &pieces, &args, &classes)
+}
+
+#[test]
+fn joins_arguments(rt: HostRuntime) -> Result<(), Fail> {
+    let outcome = joined(rt.alloc())?;
+    let is_joined = match &outcome {
+        Outcome::Return(Some(Value::Text(text))) => text.as_slice()
+            == ['x', '=', 'f', 'a', 'l', 's', 'e'].as_slice(),
+        _ => false,
+    };
+    assert!(rt; is_joined);
     Ok(())
 }

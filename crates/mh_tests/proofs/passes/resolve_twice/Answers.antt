@@ -1,0 +1,18 @@
+use Rattle.std.proofs.Common.{length, ℕ, arith}
+use Rattle.mh_runtime.specs.Linkers.{HasRoom}
+use Rattle.mh_runtime.proofs.CallRoom.{all_room}
+use Rattle.mh_tests.proofs.passes.resolve_twice.Goals as goal
+
+-- after a split the first pass has room for two calls
+pub resolve-requires-else-other-clause-room : goal.resolve-requires-else-other-clause-room
+resolve-requires-else-other-clause-room g c =
+    let linker = c.args.linker.now in
+    let has = all_room (length g.J.Run.given.jobs) linker (record { types = linker.types.now; forms = linker.forms.now; serials = linker.sites.serials })
+    c.args.seats c.in_ok-one.one c.in_ok-one.ensures.begins
+    (record { types_are = c.requires.types; forms_are = c.requires.forms; serials_are = c.requires.serials }) in
+    let less = c.in_ok-two.ensures.left in
+    c.resolve.ensures.left 1 (record {
+      serials = let a = has.serials in let b = less.serials in omega (arith, a, b);
+      forms = let a = has.forms in let b = less.forms in omega (arith, a, b);
+      holds = let a = has.types in let b = less.holds in omega (arith, a, b);
+    })
