@@ -1,5 +1,5 @@
 -- What pieces join to on slots, piece by piece, is what they join to on the values that stand there.
-use Rattle.std.proofs.Common.{◌≡◌, ◌≢◌, refl, sym, ap, ◌∙◌, subst, ⊥, ℕ, ◌+◌, ◌-◌, ◌^◌, ◌<◌, ◌≤◌, List, [], ◌∷◌, ◌++◌, codes, Option, Some, None, length, drop, get_or, append_assoc, length-append, arith, min}
+use Rattle.std.proofs.Common.{◌≡◌, ◌≢◌, refl, sym, ap, ◌∙◌, ℕ, ◌+◌, ◌-◌, ◌^◌, ◌<◌, ◌≤◌, List, [], ◌∷◌, ◌++◌, codes, Option, Some, None, length, drop, get_or, append_assoc, length-append, arith, min}
 use Rattle.std.specs.Prelude.{option_map, slice_get}
 use Rattle.std.proofs.lemmas.List.{at_drop_more, at_drop_all}
 use Rattle.mh_values.specs.declared.class.Class.{Class}
@@ -7,7 +7,7 @@ use Rattle.mh_values.specs.declared.types.Ty.{Ty}
 use Rattle.mh_values.specs.declared.value.Value.{Value}
 use Rattle.mh_values.specs.declared.value.Value.TheVariants as value
 use Rattle.mh_values.specs.Class.{internal_error_class}
-use Rattle.mh_values.specs.Computation.{Ran, Gave, Threw, Stuck, found}
+use Rattle.mh_values.specs.Computation.{Gave, Threw, Stuck, found}
 use Rattle.mh_values.specs.Exception.{saying}
 use Rattle.mh_values.specs.ValueLimits.{most_characters}
 use Rattle.mh_leaf.specs.Outcome.{ran_of, text}
@@ -192,16 +192,17 @@ joins-of classes slots pieces places whole (Some args) is goes there =
     let e : joined_text classes pieces args ≡ whole = cc in
     ap (λ s. filled (erased_ran (ran_of (text s) []))) e
 
--- a text that is not too long
-pub joins-short : (classes : List Class) (slots : List Slot) (pieces : List Piece) (places : List ℕ) (n : ℕ) (whole : Option (List ℕ)) (s : List ℕ) →
+-- a text that is not too long, written where nothing was
+pub joins-short : (classes : List Class) (slots : List Slot) (pieces : List Piece) (places : List ℕ) (n : ℕ) (whole : Option (List ℕ)) (start s : List ℕ) →
     joined_at classes pieces slots places ≢ Stuck → joined_text_at classes slots pieces places ≡ whole → option_map short_length whole ≡ Some (Some n) →
-    option_map (λ t. [] ++ t) whole ≡ Some s → Gave (slot.L (value.Text s)) [] ≡ joined_at classes pieces slots places
-joins-short classes slots pieces places n None s goes there short is = absurd cc
-joins-short classes slots pieces places n (Some w) s goes there short is =
-    let e : w ≡ s = cc in
+    start ≡ [] → option_map (λ t. start ++ t) whole ≡ Some s → Gave (slot.L (value.Text s)) [] ≡ joined_at classes pieces slots places
+joins-short classes slots pieces places n None start s goes there short empty is = absurd cc
+joins-short classes slots pieces places n (Some w) start s goes there short empty is =
+    let e : start ++ w ≡ s = cc in
+    let all : w ≡ s = sym (ap (λ x. x ++ w) empty) ∙ e in
     let fits : Some n ≡ short_length w = cc in
     sym (joins-of classes slots pieces places w (typed_at classes slots (arg_types pieces) places) refl goes there
-    ∙ (ap (λ o. filled (erased_ran (ran_of o []))) (short_text w n fits) ∙ ap (λ x. Gave (slot.L (value.Text x)) []) e))
+    ∙ (ap (λ o. filled (erased_ran (ran_of o []))) (short_text w n fits) ∙ ap (λ x. Gave (slot.L (value.Text x)) []) all))
 
 -- a text that is too long
 pub joins-long : (classes : List Class) (slots : List Slot) (pieces : List Piece) (places : List ℕ) (whole : Option (List ℕ)) →

@@ -1,4 +1,4 @@
-use Rattle.std.proofs.Common.{◌≡◌, sym, ap, ◌∙◌, subst, IfOk}
+use Rattle.std.proofs.Common.{◌≡◌, sym, ap, ap₂, ◌∙◌, subst, IfOk}
 use Rattle.mh_values.specs.Computation.{raised}
 use Rattle.mh_form.specs.Run.{senses_in}
 use Rattle.mh_form.specs.Slots.{joined_at}
@@ -15,7 +15,7 @@ join_at-requires c =
     let pieces = c.in-Some.pieces.now in
     let step = step-joined call.leaves.now.classes pieces (senses_in call.leaves.now c.args.bound.now) c.args.field frame args
     (raised call.n c.args.stack.now.calls) (sym c.in-Some.ensures) c.requires in
-    λ none. c.requires (step ∙ (sym (ap (λ cs. joined_at cs pieces frame args) c.classes.ensures) ∙ none))
+    λ none. c.requires (step ∙ (sym (ap₂ (λ cs slots. joined_at cs pieces slots args) c.classes.ensures c.frame.ensures) ∙ none))
 
 pub returns-clause-done : goal.returns-clause-done
 returns-clause-done c =
@@ -25,6 +25,5 @@ returns-clause-done c =
     let pieces = c.in-Some.pieces.now in
     let step = step-joined call.leaves.now.classes pieces (senses_in call.leaves.now c.args.bound.now) c.args.field frame args
     (raised call.n c.args.stack.now.calls) (sym c.in-Some.ensures) c.requires in
-    let is : joined_at c.classes.result.now pieces frame args ≡ step_on call.leaves.now call.n c.args.bound.now (Join c.args.field args) c.args.stack.now =
-    sym (step ∙ sym (ap (λ cs. joined_at cs pieces frame args) c.classes.ensures)) in
-    subst (λ v. IfOk c.join_at.result (λ g. done g c.join_at.new.stack ≡ on_stack c.args.stack.now v)) is c.join_at.ensures.done
+    let is = c.in_ok-joined.ensures ∙ (ap₂ (λ cs slots. joined_at cs pieces slots args) c.classes.ensures c.frame.ensures ∙ sym step) in
+    subst (λ v. IfOk c.give.result (λ g. done g c.give.new.self ≡ on_stack c.args.stack.now v)) is c.give.ensures.done
