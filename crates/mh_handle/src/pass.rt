@@ -4,6 +4,7 @@ ghost use Rattle.mh_handle.specs.Form.{FormView, body_of};
 ghost use Rattle.mh_handle.specs.Index.{recipe_of};
 ghost use Rattle.mh_handle.specs.Joins.{DoAgree, KnowsBoth, split_pass, split_room, unasked, with_seat};
 ghost use Rattle.mh_handle.specs.Passes.{HaveNumbers, AsksShown, IsFormOf, IsKept, IsPassOf, IsPut, Learns, MakesForm, StaysLearnt, pass_at};
+ghost use Rattle.mh_tickets.specs.Draws.{AreDistinct};
 ghost use Rattle.mh_handle.specs.Seats.{KnowsAll, joined_seats, with_less_room};
 
 use crate::error::EditError;
@@ -101,6 +102,7 @@ impl<'t> FormPass<'t> {
         requires other { IsPassOf table.now other }
         ensures table { self.new.table ≡ self.old.table }
         ensures seat { self.new.seat ≡ joined_seats self.old.seat other.entry.seat }
+        ensures distinct { AreDistinct self.new.seat.numbers }
         ensures known { KnowsAll self.new.seat }
         ensures agree { DoAgree self.old other.entry }
         ensures ok { OnOk result (KnowsBoth self.old other.entry self.new) }

@@ -1,4 +1,5 @@
 ghost use Rattle.std.specs.Prelude.{◌≡◌, ◌≤◌, ◌<◌};
+ghost use Rattle.mh_tickets.specs.Draws.{AreDistinct};
 ghost use Rattle.mh_handle.specs.Seats.{Draws, KnowsAll, joined_seats, new_seat, with_less_room};
 
 use crate::table::FormTable;
@@ -64,10 +65,11 @@ impl FormSeat {
         FormSeat::of(table, tickets)
     }
 
-    /// Adds the numbers and the room of another seat.
+    /// Adds the numbers and the room of another seat. No number is there twice.
     pub(crate) fn join(&mut self, table: &FormTable, other: FormSeat)
         requires table { (self.old.table ≡ table.now) × (other.table ≡ table.now) }
         ensures joined { self.new ≡ joined_seats self.old other }
+        ensures distinct { AreDistinct self.new.numbers }
         ensures known { KnowsAll self.new }
     {
         let FormSeat { table: _, tickets } = other;

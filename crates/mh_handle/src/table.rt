@@ -5,6 +5,7 @@ ghost use Rattle.mh_handle.specs.Chains.{chain_count, chain_room};
 ghost use Rattle.mh_handle.specs.Form.{base_form, body_of};
 ghost use Rattle.mh_handle.specs.Joins.{DoAgree, KnowsBoth, split_pass, split_room, with_seat};
 ghost use Rattle.mh_handle.specs.Passes.{Edits, IsPassOf, StaysLearnt, pass_at};
+ghost use Rattle.mh_tickets.specs.Draws.{AreDistinct};
 ghost use Rattle.mh_handle.specs.Seats.{KnowsAll, joined_seats, seat_at, with_less_room};
 
 use crate::chain::{CHAIN_ROOM, CHAINS};
@@ -117,6 +118,7 @@ impl FormTable {
         requires other { IsPassOf self.now other }
         ensures table { pass.new.table ≡ pass.old.table }
         ensures seat { pass.new.seat ≡ joined_seats pass.old.seat other.entry.seat }
+        ensures distinct { AreDistinct pass.new.seat.numbers }
         ensures known { KnowsAll pass.new.seat }
         ensures agree { DoAgree pass.old other.entry }
         ensures ok { OnOk result (KnowsBoth pass.old other.entry pass.new) }

@@ -12,6 +12,10 @@ one_more n x = grind (arith, nat_tests)
 pub never_above : (n x : ℕ) → 0 < once_up_to n x → x ≤ n
 never_above n x h = grind (arith, nat_tests)
 
+-- a number stands once there, or not at all
+pub at_most_once : (n x : ℕ) → once_up_to n x ≤ 1
+at_most_once n x = grind (arith, nat_tests)
+
 -- a list with one more number
 pub times_more : (x y : ℕ) (xs : List ℕ) → times x (xs ++ y ∷ []) ≡ times x xs + cond (y == x) 1 0
 times_more x y xs =

@@ -10,7 +10,7 @@ use Rattle.mh_seats.specs.Room.{limit, times}
 use Rattle.mh_tickets.specs.declared.drawn.Drawn.{Drawn}
 use Rattle.mh_tickets.specs.Draws.{EachOnce, drawn, count_of, held_by, Kept, Drew, Looked, without, joined}
 use Rattle.mh_seats.proofs.Totals.{total_set, at_most, alone}
-use Rattle.mh_tickets.proofs.Counting.{one_more, times_more, all_below}
+use Rattle.mh_tickets.proofs.Counting.{all_below, at_most_once, one_more, times_more}
 use Rattle.mh_tickets.proofs.Whole.{has_all, has_count, fits}
 
 set_there : (views : List Drawn) (id : ℕ) (v w : Drawn) → get_elem? views id ≡ some v → get_elem? (set views id w) id ≡ some w
@@ -77,7 +77,18 @@ looks_allowed slots id me s k _ at _ = (
   tt,
   subst (λ (z : List ℕ × List Drawn). Kept record { words = z.0; homes = s.homes; views = z.1 })
       (λ i. (sym (set_word s.words) i, sym (set_again s.views id me.0 at) i)) k,
-  (record { same = refl; all = has_all s k id me.0 at }, refl),
+  (
+    record {
+      same = refl;
+      distinct = λ x.
+          let m = at_most (λ (u : Drawn). times x u.numbers) s.views id me.0 at in
+          let once = at_most_once (slice_index s.words 0) x in
+          let e = k.each_once x in
+          omega arith;
+      all = has_all s k id me.0 at;
+    },
+    refl,
+  ),
 )
 
 -- a cut

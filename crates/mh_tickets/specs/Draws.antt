@@ -13,6 +13,10 @@ once_up_to n x = cond (leb 1 x && leb x n) 1 0
 abbrev pub EachOnce : List ℕ → Type 0
 EachOnce numbers = (x : ℕ) → times x numbers ≡ once_up_to (length numbers) x
 
+-- no number stands there twice
+abbrev pub AreDistinct : List ℕ → Type 0
+AreDistinct numbers = (x : ℕ) → times x numbers ≤ 1
+
 -- a view: numbers, and how many more may be drawn
 abbrev pub drawn : List ℕ → ℕ → Drawn
 drawn numbers room = record { numbers = numbers; room = room }
@@ -44,6 +48,7 @@ pub record Drew (v : Drawn) (last : ℕ) (w : Drawn) : Type 0 where
 -- a look, which changes nothing
 pub record Looked (v w : Drawn) : Type 0 where
   pub same : w ≡ v
+  pub distinct : AreDistinct v.numbers
   pub all : held_by v ≡ limit → EachOnce v.numbers
 
 -- a step that draws

@@ -2,7 +2,7 @@
 ghost use Rattle.std.specs.Prelude.{◌≡◌, ◌<◌, ◌≤◌, [], length, IfOk};
 ghost use Rattle.mh_seats.specs.Room.{limit};
 ghost use Rattle.mh_seats.specs.Steps.{Begins, Moves};
-ghost use Rattle.mh_tickets.specs.Draws.{Drew, EachOnce, drawn, held_by, without, joined};
+ghost use Rattle.mh_tickets.specs.Draws.{AreDistinct, Drew, EachOnce, drawn, held_by, without, joined};
 ghost use Rattle.mh_tickets.specs.Steps.{IsCounter, IsOfCounter};
 
 use crate::kinds::{Counter, Drawing, Joining, Looking, Part, Place, Splitting, Steps};
@@ -31,6 +31,7 @@ pub(crate) fn draw(steps: &Steps, seat: &mut Place) -> u64
 pub(crate) fn look(steps: &Steps, seat: &mut Place)
     requires { IsOfCounter seat.old.table_id steps.now.table_id }
     ensures stays { (seat.new.table_id ≡ seat.old.table_id) × (seat.new.me ≡ seat.old.me) }
+    ensures distinct { AreDistinct seat.old.me.0.numbers }
     ensures all { held_by seat.old.me.0 ≡ limit → EachOnce seat.old.me.0.numbers }
 {
     steps.load::<Looking>(seat, 0);

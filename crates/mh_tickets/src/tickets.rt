@@ -1,6 +1,6 @@
 ghost use Rattle.std.specs.Prelude.{◌≡◌, ◌+◌, ◌<◌, ◌≤◌, length, IfOk};
 ghost use Rattle.mh_seats.specs.Room.{limit};
-ghost use Rattle.mh_tickets.specs.Draws.{EachOnce};
+ghost use Rattle.mh_tickets.specs.Draws.{AreDistinct, EachOnce};
 ghost use Rattle.mh_tickets.specs.Seats.{Draws, KnowsAll, joined_seats, new_seat, with_less_room};
 
 use crate::kinds::Counter;
@@ -68,10 +68,12 @@ impl Tickets {
         }
     }
 
-    /// The seat has the numbers and the room of both. It takes no memory and does not wait.
+    /// The seat has the numbers and the room of both. No number is in it twice, whichever seats are
+    /// still out. It takes no memory and does not wait.
     pub fn join(&self, seat: &mut TicketSeat, other: TicketSeat)
         requires seat { (seat.old.tickets ≡ self.now) × (other.tickets ≡ self.now) }
         ensures joined { seat.new ≡ joined_seats seat.old other }
+        ensures distinct { AreDistinct seat.new.numbers }
         ensures known { KnowsAll seat.new }
     {
         let TicketSeat { place } = other;
