@@ -1,5 +1,5 @@
--- What `StringConcatFactory.makeConcatWithConstants` links (`java.lang.invoke`, Java SE 17): a recipe, which is the first static argument, spells the
--- pieces of a text, and the other static arguments are its constants.
+-- What `StringConcatFactory.makeConcatWithConstants` links (`java.lang.invoke`, Java SE 17). The first static argument is a recipe:
+-- it spells the pieces of a text. The other static arguments are its constants.
 use Rattle.std.specs.Prelude.{ℕ, Bool, true, false, List, [], ◌∷◌, codes, map, Ok, Err}
 use Rattle.std.specs.List.{list_all}
 use Rattle.mh_values.specs.declared.class.Class.{Class}
@@ -21,31 +21,32 @@ abbrev pub recipe_of : Argument → OrThrown (List ℕ)
 recipe_of (argument.Value (value.Text recipe)) = Ok recipe
 recipe_of _ = wrong_sort
 
--- whether a static argument is a value; a class, a method type and a method handle are none
+-- whether a static argument is a value; a class, a method type or a method handle is not
 abbrev pub is_value : Argument → Bool
 is_value (argument.Value v) = true
 is_value _ = false
 
--- a static argument as a constant; one that is no value has a place as well, so that constants are counted before it is refused
+-- A static argument as a constant. One that is no value becomes null, because the constants are counted before it is refused.
 abbrev pub constant_of : Argument → Value
 constant_of (argument.Value v) = v
 constant_of _ = value.Null
 
--- the pieces of a recipe whose constants are static arguments: it spells pieces for the type with as many constants, and each constant is a value
+-- The pieces of a recipe with static arguments as constants. The recipe must fit the type and the number of constants.
+-- Then each constant must be a value.
 abbrev pub pieces_with : List Class → MethodTy → List ℕ → List Argument → OrThrown (List Piece)
 pieces_with classes t recipe constants = do
   pieces ← pieces_of classes recipe (map constant_of constants) t
   require (list_all is_value constants) (unsupported (codes "constant"))
   Ok pieces
 
--- the pieces by static arguments: the recipe is there, and is a text
+-- the pieces that the static arguments give; the recipe must be there, and be a text
 abbrev pub pieces_given : List Class → MethodTy → List Argument → OrThrown (List Piece)
 pieces_given classes t [] = Err no_argument
 pieces_given classes t (first ∷ constants) = do
   recipe ← recipe_of first
   pieces_with classes t recipe constants
 
--- the concatenation that a call site gets
+-- the concatenation that a call site is linked to
 abbrev pub concat_of : List Class → BootstrapCall → OrThrown Tree
 concat_of classes call = do
   pieces ← pieces_given classes call.ty call.arguments

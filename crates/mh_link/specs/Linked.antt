@@ -1,4 +1,4 @@
--- What an attempt links at a call site: a script's lines folded over its registers, and what is recorded of how they end (JVMS SE 17, 5.4.3.6).
+-- What an attempt links at a call site: it runs a script's lines over registers, and how they end is recorded (JVMS SE 17, 5.4.3.6).
 use Rattle.std.specs.Prelude.{ℕ, ◌%◌, ◌==◌, ◌<◌, not, List, [], ◌∷◌, codes, length, pos, Ok, Err, ok_or, slice_get}
 use Rattle.mh_values.specs.declared.class.Class.{Class}
 use Rattle.mh_values.specs.declared.types.MethodTy.{MethodTy}
@@ -33,11 +33,11 @@ use Rattle.mh_jobs.specs.Thrown.{OrThrown, ◌>>=◌, ◌>>◌, require, plainly
 
 -- ---- lines
 
--- a register gets something
+-- the frame after a register is assigned
 abbrev pub assigning : List ℕ → Content → Frame → Frame
 assigning name content frame = record frame { assigned = (name, content) ∷ frame.assigned }
 
--- a line before the last one
+-- the frame after a line that is not the last one
 abbrev pub stepped : LeafTable → Step → Frame → OrThrown Frame
 stepped leaves (step.Let name op) frame = do
   t ← node_of leaves frame op
@@ -47,7 +47,7 @@ stepped leaves (step.FailMod modulus remainder) frame = do
   require (not (frame.serial % modulus == remainder)) (saying runtime_class (codes "failmod"))
   Ok frame
 
--- the last line: the target, whose type must be the site's, or an exception
+-- what the last line answers: a target, whose type must be the site's, or an exception
 abbrev pub ended : LeafTable → End → Frame → OrThrown Tree
 ended leaves (end.Return h) frame = do
   t ← handle_in frame h
@@ -59,14 +59,14 @@ ended leaves (end.Raise class message) frame = do
   require (is_subclass leaves.classes c throwable_class) (illegal (codes "raise"))
   Err (saying c message)
 
--- the lines from where a script stands; the first that throws ends it
+-- what the rest of a script answers; the first line that throws ends it
 abbrev pub ran : LeafTable → List Step → End → Frame → OrThrown Tree
 ran leaves [] e frame = ended leaves e frame
 ran leaves (s ∷ steps) e frame = stepped leaves s frame >>= ran leaves steps e
 
 -- ---- attempts
 
--- the script of a number; that of a job is always there
+-- the script with a number; a job's number always has one
 abbrev pub called_script : List Script → ScriptId → OrThrown Script
 called_script scripts id = ok_or (slice_get scripts id.0) (bare illegal_argument_class)
 
@@ -74,12 +74,12 @@ called_script scripts id = ok_or (slice_get scripts id.0) (bare illegal_argument
 abbrev pub at_start : BootstrapCall → ℕ → Frame
 at_start call serial = record { call = call; serial = serial; assigned = [] }
 
--- the script of a bootstrap method, if it is that of one, is there
+-- if a script stands for the bootstrap method, that script is there
 abbrev pub IsThere : List Script → Method → Type 0
 IsThere scripts (method.Script id) = id.0 < length scripts
 IsThere scripts method.Concat = Unit {0}
 
--- the target that a bootstrap method gives for a call of it, in the attempt of a serial number, or what is thrown
+-- the target that a call of a bootstrap method returns, in the attempt with a serial number, or the exception that it throws
 abbrev pub method_target : LeafTable → List Script → ℕ → BootstrapCall → Method → OrThrown Tree
 method_target leaves scripts serial call (method.Script id) = do
   script ← called_script scripts id
@@ -90,7 +90,7 @@ method_target leaves scripts serial call method.Concat = concat_of leaves.classe
 abbrev pub target_of : LeafTable → List Script → ℕ → BootstrapCall → OrThrown Tree
 target_of leaves scripts serial call = method_target leaves scripts serial call call.method
 
--- the target of an attempt to link a job's site, or what is thrown
+-- the target of an attempt to link a job's site, or the exception that it throws
 abbrev pub outcome : LeafTable → List Script → Job → ℕ → OrThrown Tree
 outcome leaves scripts job serial = job.call >>= target_of leaves scripts serial
 
@@ -104,16 +104,16 @@ abbrev pub linkage : List Class → OrThrown Tree → Linked
 linkage classes (Ok t) = Target t
 linkage classes (Err e) = Error (recorded classes e)
 
--- what the attempt of a serial number links at a job's site
+-- what the attempt with a serial number links at a job's site
 abbrev pub linked : LeafTable → List Script → Job → ℕ → Linked
 linked leaves scripts job serial = linkage leaves.classes (outcome leaves scripts job serial)
 
--- a call of a site: of its target, or the recorded error without a leaf call
+-- a call of a site: it calls the target, or throws the recorded error without a leaf call
 abbrev pub site_call : LeafTable → Linked → List Value → Done
 site_call leaves (Target t) args = mean leaves t args 0
 site_call leaves (Error e) args = Threw e []
 
--- the types that what is linked holds
+-- the types that a linked target holds; an error holds none
 abbrev pub held_by : LeafTable → Linked → List MethodTy
 held_by leaves (Target t) = held leaves t
 held_by leaves (Error e) = []

@@ -1,4 +1,4 @@
--- What an attempt makes: nodes, and the recipes that forms are asked for.
+-- What an attempt makes: nodes of trees, and the recipes of the forms that it asks for.
 use Rattle.std.specs.Prelude.{ℕ, List, [], ◌∷◌, ◌++◌, map, flat_map, Option, Some, slice_get, Ok, Err}
 use Rattle.mh_values.specs.declared.class.Class.{Class}
 use Rattle.mh_values.specs.declared.types.MethodTy.{MethodTy}
@@ -29,7 +29,7 @@ use Rattle.mh_jobs.specs.Thrown.{OrThrown}
 
 -- ---- the nodes of a line
 
--- the registers of an operation that stand for method handles
+-- the registers whose method handles an operation uses
 abbrev pub handles_of : Operation → List Register
 handles_of (operation.Bind h place v) = h ∷ []
 handles_of (operation.Drop h place types) = h ∷ []
@@ -50,7 +50,7 @@ abbrev pub leaf_among : Option Argument → List Tree
 leaf_among (Some (argument.Leaf l)) = tree.Leaf l ∷ []
 leaf_among _ = []
 
--- the node that the use of a register makes: that of a static argument that is a leaf, since all others were made before
+-- The node that the use of a register makes. Only a static argument that is a leaf makes one: the other handles were made before.
 abbrev pub node_of_use : Frame → Register → List Tree
 node_of_use frame (register.Argument n) = leaf_among (slice_get frame.call.arguments n)
 node_of_use frame _ = []
@@ -64,24 +64,24 @@ abbrev pub returned : End → List Register
 returned (end.Return h) = h ∷ []
 returned (end.Raise class message) = []
 
--- the nodes that an operation makes itself: its own, and for a spread, before it, the use of its part as another type
+-- The nodes that an operation makes itself: its own. A spread first makes the conversion of its target to the type that takes the items.
 abbrev pub nodes_of : Tree → List Tree
 nodes_of (tree.Spread t array count) = t ∷ tree.Spread t array count ∷ []
 nodes_of t = t ∷ []
 
 -- ---- the nodes of an attempt
 
--- none where an exception is thrown
+-- these trees, or none if an exception is thrown
 abbrev pub unless_thrown : {A : Type 0} → OrThrown A → (A → List Tree) → List Tree
 unless_thrown (Ok a) made = made a
 unless_thrown (Err e) made = []
 
--- the nodes that a line makes before the last one: a line that throws makes none
+-- the nodes that a line before the last one makes: none if it throws
 abbrev pub nodes_of_step : LeafTable → Step → Frame → List Tree
 nodes_of_step leaves (step.Let name op) frame = unless_thrown (node_of leaves frame op) (λ t. nodes_of_uses frame (handles_of op) ++ nodes_of t)
 nodes_of_step leaves _ frame = []
 
--- the nodes that the lines make from where a script stands, up to the one that throws
+-- the nodes that the rest of a script makes, up to the line that throws
 abbrev pub nodes_from : LeafTable → List Step → End → Frame → List Tree
 nodes_from leaves [] e frame = unless_thrown (ended leaves e frame) (λ t. nodes_of_uses frame (returned e))
 nodes_from leaves (s ∷ steps) e frame = nodes_of_step leaves s frame ++ unless_thrown (stepped leaves s frame) (nodes_from leaves steps e)
@@ -90,17 +90,17 @@ nodes_from leaves (s ∷ steps) e frame = nodes_of_step leaves s frame ++ unless
 abbrev pub concat_nodes : List Class → BootstrapCall → List Tree
 concat_nodes classes call = unless_thrown (concat_of classes call) (λ t. t ∷ [])
 
--- the nodes that a bootstrap method makes for a call of it, in the attempt of a serial number
+-- the nodes that a call of a bootstrap method makes, in the attempt with a serial number
 abbrev pub nodes_of_method : LeafTable → List Script → ℕ → BootstrapCall → Method → List Tree
 nodes_of_method leaves scripts serial call (method.Script id) =
     unless_thrown (called_script scripts id) (λ script. nodes_from leaves script.steps script.end (at_start call serial))
 nodes_of_method leaves scripts serial call method.Concat = concat_nodes leaves.classes call
 
--- the nodes that a call of a bootstrap method makes
+-- the nodes that the bootstrap method of a call makes
 abbrev pub nodes_of_call : LeafTable → List Script → ℕ → BootstrapCall → List Tree
 nodes_of_call leaves scripts serial call = nodes_of_method leaves scripts serial call call.method
 
--- the nodes that the attempt of a serial number makes; some may stand there twice
+-- the nodes that the attempt with a serial number makes; the list may have a node twice
 abbrev pub nodes : LeafTable → List Script → Job → ℕ → List Tree
 nodes leaves scripts job serial = unless_thrown job.call (nodes_of_call leaves scripts serial)
 
@@ -110,11 +110,12 @@ nodes leaves scripts job serial = unless_thrown job.call (nodes_of_call leaves s
 abbrev pub types_of : LeafTable → List Tree → List MethodTy
 types_of leaves made = flat_map (λ t. held_before (type_of leaves t) []) made
 
--- the beginnings of a list, without the empty one
+-- the beginnings of a list, except the empty one
 abbrev pub beginnings : {A : Type 0} → List A → List (List A)
 beginnings [] = []
 beginnings (x ∷ xs) = (x ∷ []) ∷ map (λ front. x ∷ front) (beginnings xs)
 
--- the edits of an attempt, where each tree has a recipe: all beginnings of the recipes of the nodes that it makes
+-- The edits of an attempt: the recipes of its nodes, with all beginnings of each. An edit makes a form from the form with one key less.
+-- So an attempt asks for a form of each beginning too, and the edits do not depend on which line made which form.
 abbrev pub edits : {K : Type 0} → (Tree → List K) → LeafTable → List Script → Job → ℕ → List (List K)
 edits recipe leaves scripts job serial = flat_map (λ t. beginnings (recipe t)) (nodes leaves scripts job serial)

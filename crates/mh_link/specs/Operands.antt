@@ -1,4 +1,4 @@
--- What a run of a script holds, and what operands stand for.
+-- The registers of a script while it runs, and what its operands mean.
 use Rattle.std.specs.Prelude.{ℕ, List, [], ◌∷◌, codes, if◌then◌else◌, Option, Some, None, Ok, Err, ok_or, slice_get, option_map}
 use Rattle.std.specs.Str.{bytes_eq}
 use Rattle.mh_values.specs.declared.class.Class.{Class}
@@ -33,13 +33,13 @@ pub data Content : Type 0 where
   method_type : MethodTy → Content
   class : Ty → Content
 
--- a run of a script: what it is given, with the number of the attempt, and what its lines have assigned so far, the latest first
+-- A script while it runs: the call that it answers, the serial of the attempt, and what its lines have assigned so far, the latest first.
 pub record Frame : Type 0 where
   pub call : BootstrapCall
   pub serial : ℕ
   pub assigned : List (List ℕ × Content)
 
--- a static argument as what a register holds; a leaf is a method handle
+-- the content of a static argument's register; a leaf is a method handle
 abbrev pub content_of : Argument → Content
 content_of (argument.Value v) = value v
 content_of (argument.MethodType t) = method_type t
@@ -68,26 +68,26 @@ no_argument = saying wrong_method_type_class (codes "arguments")
 abbrev pub wrong_sort : {A : Type 0} → OrThrown A
 wrong_sort = Err (saying class_cast_class (codes "arguments"))
 
--- what a register holds; of the registers that a script may name, only those of static arguments may hold nothing
+-- What a register holds. In a script that was read, only the register of a static argument may hold nothing.
 abbrev pub content : Frame → Register → OrThrown Content
 content frame r = ok_or (held_in frame r) no_argument
 
--- the method handle that was held
+-- the content, which must be a method handle
 abbrev pub as_handle : Content → OrThrown Tree
 as_handle (handle t) = Ok t
 as_handle _ = wrong_sort
 
--- the value that was held
+-- the content, which must be a value
 abbrev pub as_value : Content → OrThrown Value
 as_value (value v) = Ok v
 as_value _ = wrong_sort
 
--- the method type that was held
+-- the content, which must be a method type
 abbrev pub as_method_type : Content → OrThrown MethodTy
 as_method_type (method_type t) = Ok t
 as_method_type _ = wrong_sort
 
--- the class that was held
+-- the content, which must be a class
 abbrev pub as_class : Content → OrThrown Ty
 as_class (class t) = Ok t
 as_class _ = wrong_sort
@@ -103,7 +103,7 @@ abbrev pub value_in : Frame → ValueOperand → OrThrown Value
 value_in frame (of_value.Literal v) = Ok v
 value_in frame (of_value.Register r) = content frame r >>= as_value
 
--- a type, nothing being void: that of a descriptor, or the class of a register
+-- a type, or `None` for void: that of a descriptor, or the class of a register
 abbrev pub type_in : List Class → Frame → TypeOperand → OrThrown (Option Ty)
 type_in classes frame of_type.Void = Ok None
 type_in classes frame (of_type.Descriptor text) = do

@@ -1,4 +1,4 @@
--- What each operation of a script makes: a tree of its operands, if that has a type.
+-- What each operation of a script makes: a tree of its operands, which must have a type.
 use Rattle.std.specs.Prelude.{ℕ, nat_le, ◌&&◌, length, codes, Option, is_some, Ok}
 use Rattle.mh_values.specs.declared.types.Ty.{Ty}
 use Rattle.mh_values.specs.declared.types.MethodTy.{MethodTy}
@@ -15,20 +15,20 @@ use Rattle.mh_link.specs.Operands.{Frame, handle_in, value_in, type_in, method_t
 use Rattle.mh_jobs.specs.Names.{class_of, types_of_text, leaf_named}
 use Rattle.mh_jobs.specs.Thrown.{OrThrown, ◌>>=◌, ◌>>◌, require, plainly}
 
--- a tree that is used as a type
+-- a tree converted to a type
 abbrev pub use_of : LeafTable → Tree → MethodTy → OrThrown Tree
 use_of leaves t asked = do
   own ← type_of leaves t
   Ok (used_as own asked t)
 
--- a spread of a tree, which is used as the type that takes the array's items
+-- a spread of a tree, which is first converted to the type that takes the array's items
 abbrev pub spread_of : LeafTable → Tree → Option Ty → ℕ → OrThrown Tree
 spread_of leaves t array count = do
   own ← type_of leaves t
   require (is_some (component_of array) && nat_le count (length own.params)) (illegal (codes "spread"))
   Ok (tree.Spread (items_used_as own array count t) array count)
 
--- the tree that an operation asks for: its operands, from left to right
+-- the tree that an operation asks for; its operands are resolved from left to right
 abbrev pub asked_by : LeafTable → Frame → Operation → OrThrown Tree
 asked_by leaves frame (operation.Leaf method) = do
   l ← leaf_named plainly leaves Any method

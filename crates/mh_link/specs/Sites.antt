@@ -9,15 +9,15 @@ use Rattle.mh_jobs.specs.Given.{Given}
 use Rattle.mh_link.specs.Linked.{Linked, Error, linked}
 use Rattle.mh_link.specs.Made.{edits, nodes, types_of}
 
--- what the attempt of a serial number links at a call site of a run; each site of one has a job
+-- what the attempt with a serial number links at a call site of a run; each site has a job
 abbrev pub linked_at : Given → ℕ → ℕ → Linked
 linked_at given site serial =
     option_map_or (λ job. linked given.leaves given.scripts job serial) (slice_get given.jobs site) (Error (bare illegal_argument_class))
 
--- the edits of that attempt, where each tree has a recipe
+-- the edits of that attempt
 abbrev pub edits_at : {K : Type 0} → (Tree → List K) → Given → ℕ → ℕ → List (List K)
 edits_at recipe given site serial = option_map_or (λ job. edits recipe given.leaves given.scripts job serial) (slice_get given.jobs site) []
 
--- the types of the nodes that that attempt makes
+-- the types of the nodes that this attempt makes
 abbrev pub types_at : Given → ℕ → ℕ → List MethodTy
 types_at given site serial = option_map_or (λ job. types_of given.leaves (nodes given.leaves given.scripts job serial)) (slice_get given.jobs site) []
