@@ -1,4 +1,4 @@
--- Which types a seat is asked for by calls, by the nodes that they make.
+-- The types that calls ask a seat for, given the nodes that they make.
 use Rattle.std.specs.Prelude.{◌≡◌, ℕ, ◌+◌, List, ◌++◌, flat_map, Result, Ok, Err}
 use Rattle.mh_values.specs.declared.types.MethodTy.{MethodTy}
 use Rattle.mh_intern.specs.Exchanges.{FindsNoSlot}
@@ -27,15 +27,15 @@ use Rattle.mh_attempt.specs.Registers.{node_made}
 
 -- ---- the types of nodes
 
--- the types of the nodes of operands of which handles are made, and then of these nodes
+-- the types of the nodes that operands make, followed by those of these nodes
 abbrev pub types_made : LeafTable → List HandleOperand → List Tree → List MethodTy
 types_made leaves operands nodes = types_of leaves (flat_map node_made operands ++ nodes)
 
--- the same of a node that an operation makes of them, with what that makes before it: none where the node is thrown
+-- the same for the nodes that an operation makes itself: none if it throws
 abbrev pub node_types : LeafTable → List HandleOperand → OrThrown Tree → List MethodTy
 node_types leaves operands node = types_of leaves (unless_thrown node (λ n. flat_map node_made operands ++ nodes_of n))
 
--- the types of the nodes that an operation makes, none where it throws: those of its uses of leaves stand first
+-- the types of the nodes that an operation makes, with its uses of leaves first: none if it throws
 abbrev pub line_types : LeafTable → Frame → Operation → List MethodTy
 line_types leaves frame op =
     types_of leaves (unless_thrown (node_of leaves frame op) (λ t. nodes_of_uses frame (handles_of op) ++ nodes_of t))
@@ -44,36 +44,36 @@ line_types leaves frame op =
 abbrev pub end_types : LeafTable → End → Frame → List MethodTy
 end_types leaves e frame = types_of leaves (unless_thrown (ended leaves e frame) (λ t. nodes_of_uses frame (returned e)))
 
--- the types of the nodes that lines make from where a script stands, up to the one that throws
+-- the types of the nodes that the rest of a script makes, up to the line that throws
 abbrev pub script_types : LeafTable → List Step → End → Frame → List MethodTy
 script_types leaves steps e frame = types_of leaves (nodes_from leaves steps e frame)
 
--- the types of the nodes that a call of a bootstrap method makes, in the attempt of a serial number
+-- the types of the nodes that a call of a bootstrap method makes, in the attempt with a serial number
 abbrev pub target_types : LeafTable → List Script → ℕ → BootstrapCall → List MethodTy
 target_types leaves scripts serial call = types_of leaves (nodes_of_call leaves scripts serial call)
 
--- the types of the nodes that the attempt to link a job makes that has a serial
+-- the types of the nodes that the attempt with a serial number makes
 abbrev pub job_types : LeafTable → List Script → Job → ℕ → List MethodTy
 job_types leaves scripts job serial = types_of leaves (nodes leaves scripts job serial)
 
 -- ---- what a seat is asked for
 
--- the seat was asked for no types but these and those before
+-- the seat was asked for no types except these and those that it was asked for before
 abbrev pub AsksNoOther : List MethodTy → SeatView → SeatView → Type 0
 AsksNoOther types old new = (t : MethodTy) → times_type t old.asked + times_type t types ≡ 0 → times_type t new.asked ≡ 0
 
--- a type that the seat was asked for has no slot: its bucket was found full of others
+-- some type found no slot in this bucket, which was full of other types
 abbrev pub HasNoSlot : ℕ → SeatView → Type 0
 HasNoSlot bucket seat = (t : MethodTy) × FindsNoSlot bucket t seat
 
--- what a call leaves of the seat that asks for these types and for no others
+-- how a call that asks for no types except these changes the seat
 abbrev pub AsksTypes : {A : Type 0} → List MethodTy → Work → Work → Result A WorkError → Type 0
 AsksTypes types old new (Ok a) = AsksNoOther types old.seat.now new.seat.now
 AsksTypes types old new (Err (work.TypesFull bucket)) = AsksNoOther types old.seat.now new.seat.now × HasNoSlot bucket new.seat.now
 AsksTypes types old new (Err (work.FormsFull drawn)) = AsksNoOther types old.seat.now new.seat.now
 AsksTypes types old new (Err work.NoMemory) = AsksNoOther types old.seat.now new.seat.now
 
--- the same of a call that may throw
+-- the same for a call that may throw
 abbrev pub AsksTypesOrThrows : {A : Type 0} → List MethodTy → Work → Work → Result A HandleError → Type 0
 AsksTypesOrThrows types old new (Ok a) = AsksNoOther types old.seat.now new.seat.now
 AsksTypesOrThrows types old new (Err (handle.Refused e)) = AsksNoOther types old.seat.now new.seat.now

@@ -1,4 +1,4 @@
--- What the calls that make the node of a line answer.
+-- Answers of the calls that make the node of a line.
 use Rattle.std.specs.Prelude.{◌≡◌, ℕ, ◌%◌, ◌==◌, not, List, codes, Result, Ok, Err}
 use Rattle.mh_values.specs.declared.class.Class.{Class}
 use Rattle.mh_values.specs.declared.value.Exc.{Exc}
@@ -17,14 +17,14 @@ use Rattle.mh_handle.specs.Works.{IsUnchanged}
 use Rattle.mh_jobs.specs.Names.{class_of}
 use Rattle.mh_jobs.specs.Thrown.{OrThrown, ◌>>=◌, ◌>>◌, plainly, require, runtime_class}
 
--- a tree, which must have a type
+-- the tree, which must have a type
 abbrev pub typed : LeafTable → Tree → OrThrown Tree
 typed leaves t = do
   own ← type_of leaves t
   Ok t
 
--- a handle that stands for the tree, or the exception in its place, which leaves all but the seat of types as it was; a table is full only where there
--- is a tree, and want of memory tells nothing
+-- The answer is a handle that stands for the tree, or its exception, which changes nothing except the seat of types.
+-- A table is full only if there is a tree. If memory runs out, the answer says nothing about the tree.
 abbrev pub MakesNode : OrThrown Tree → Work → Work → Result Handle HandleError → Type 0
 MakesNode node old new (Ok h) = (t : Tree) × (node ≡ Ok t) × Stands old.leaves.now h t
 MakesNode node old new (Err (Refused e)) = (node ≡ Err e) × IsUnchanged old new
@@ -34,11 +34,11 @@ MakesNode node old new (Err NoMemory) = Unit {0}
 
 -- ---- lines that make no node
 
--- nothing, where the number of an attempt has another remainder
+-- throws if the serial mod `modulus` is `remainder`
 abbrev pub passes : ℕ → ℕ → ℕ → OrThrown (Unit {0})
 passes serial modulus remainder = require (not (serial % modulus == remainder)) (saying runtime_class (codes "failmod"))
 
--- an exception that is raised: its class must be at or below Throwable
+-- the exception that a line raises; its class must be at or below Throwable
 abbrev pub raised : List Class → List ℕ → List ℕ → OrThrown Exc
 raised classes class message = do
   c ← class_of plainly classes class
@@ -47,7 +47,7 @@ raised classes class message = do
 
 -- ---- whole scripts
 
--- a handle that stands for the target, or the exception in its place; a full table and want of memory tell nothing
+-- The answer is a handle that stands for the target, or its exception. If a table is full or memory runs out, it says nothing about the target.
 abbrev pub TellsTarget : OrThrown Tree → Work → Result Handle HandleError → Type 0
 TellsTarget target old (Ok h) = (t : Tree) × (target ≡ Ok t) × Stands old.leaves.now h t
 TellsTarget target old (Err (Refused e)) = target ≡ Err e

@@ -1,4 +1,4 @@
--- What an attempt records at a call site, and what it answers to calls.
+-- What an attempt records at a call site, and what calls of the site answer.
 use Rattle.std.specs.Prelude.{◌≡◌, ℕ, List, [], map, length, Some, slice_get, Result, Ok, Err}
 use Rattle.mh_values.specs.declared.types.MethodTy.{MethodTy}
 use Rattle.mh_intern.specs.Exchanges.{entries_of}
@@ -23,34 +23,34 @@ use Rattle.mh_attempt.specs.declared.linkage.Linked.TheVariants as held
 
 -- ---- attempts
 
--- the recipes of the forms that a call of a bootstrap method asks for, in the attempt of a serial number
+-- the recipes of the forms that a call of a bootstrap method asks for, in the attempt with a serial number
 abbrev pub target_recipes : LeafTable → List Script → ℕ → BootstrapCall → List (List Key)
 target_recipes leaves scripts serial call = map (recipe leaves) (call_asked leaves scripts serial call)
 
 -- ---- linkages
 
--- a linkage: the job of its call site, the number of the attempt, and the holds of its target, if it has one
+-- a linkage: the job of its call site, the serial of the attempt, and the holds of its target, if it has one
 pub record LinkageView : Type 0 where
   pub job : Job
   pub serial : ℕ
   pub held : List HoldView
 
--- the holds of what is linked
+-- the holds of a linked target; an error has none
 abbrev pub held_in : Linked → List HoldView
 held_in (held.Target h) = h.held
 held_in (held.Error e) = []
 
--- what is held is what is linked: a handle that stands for the target, or the error
+-- the value stands for the linkage of the definition: a handle that stands for the target, or the same error
 abbrev pub IsLinkedBy : LeafTable → Linked → meant.Linked → Type 0
 IsLinkedBy leaves (held.Target h) (Target t) = Stands leaves h t
 IsLinkedBy leaves (held.Error e) (Error f) = e ≡ f
 IsLinkedBy leaves _ _ = ⊥
 
--- these are holds of these types, each as often
+-- the holds are of these types, each as often as in the list
 abbrev pub HasTypes : List HoldView → List MethodTy → Type 0
 HasTypes holds types = (t : MethodTy) → on_type t (entries_of holds) ≡ times_type t types
 
--- the job is one of the run's, and what is held is what the attempt of that number links at its site
+-- the job is one of the run's, and the value is what the attempt with this serial links at its site
 pub record IsLinkage (given : Given) (job : Job) (serial : ℕ) (recorded : Linked) : Type 0 where
   pub named : slice_get given.jobs job.site ≡ Some job
   pub is_job : IsJob given.leaves given.scripts job
@@ -58,21 +58,21 @@ pub record IsLinkage (given : Given) (job : Job) (serial : ℕ) (recorded : Link
   -- it holds the types that such a target holds
   pub holds : HasTypes (held_in recorded) (held_by given.leaves (linked given.leaves given.scripts job serial))
 
--- what an attempt leaves of the seat: the holds of what it has linked more, or none
+-- how an attempt changes the seat: it adds the holds of what it has linked, or none if it fails
 abbrev pub AddsLinked : {E : Type 0} → Work → Work → Result Linked E → Type 0
 AddsLinked old new (Ok linked) = Adds (held_in linked) old new
 AddsLinked old new (Err e) = Adds [] old new
 
--- the same by the linkage that is answered
+-- the same, given the linkage that is the answer
 abbrev pub AddsLinkage : {E : Type 0} → Work → Work → Result LinkageView E → Type 0
 AddsLinkage old new (Ok linkage) = Adds linkage.held old new
 AddsLinkage old new (Err e) = Adds [] old new
 
--- how many keys the form has that a call runs: none runs where an error is recorded
+-- how many keys the form has that a call runs: 0 if an error is recorded, because no form runs
 abbrev pub keys_of : LeafTable → meant.Linked → ℕ
 keys_of leaves (Target t) = length (recipe leaves t)
 keys_of leaves (Error e) = 0
 
--- the keys of a call of a run's site, which an attempt has linked
+-- how many keys the form has that a call of a run's site runs
 abbrev pub site_keys : Given → ℕ → ℕ → ℕ
 site_keys given site serial = keys_of given.leaves (linked_at given site serial)

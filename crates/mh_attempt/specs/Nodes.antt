@@ -1,4 +1,4 @@
--- What the operation of a line asks for, as a value: a combinator with its operands, by the number of its handles.
+-- What the operation of a line asks for: a combinator with its operands, by the number of its handles.
 use Rattle.std.specs.Prelude.{◌≡◌, ℕ, ◌<◌, List, [], ◌∷◌, length, flat_map, Result, Ok, Err, IfOk}
 use Rattle.mh_values.specs.declared.class.Class.{Class}
 use Rattle.mh_values.specs.declared.types.MethodTy.{MethodTy}
@@ -31,7 +31,7 @@ use Rattle.mh_attempt.specs.Registers.{AreHeldBy, Hold, IsHeldIn, StandsFor, Sta
 
 -- ---- combinators
 
--- the type that a combinator of one handle makes of a target's, or the exception with which it is refused
+-- the type that a combinator of one handle gives to a target, or the exception that refuses it
 abbrev pub one_row : List Class → OfOne → MethodTy → ℕ → TypeOrRefusal
 one_row classes (one.Bind place v) target weight = bind_row classes target weight place v
 one_row classes (one.Drop place types) target weight = drop_row target weight place types
@@ -45,7 +45,7 @@ one_tree (one.Drop place types) t = tree.Drop t place types
 one_tree (one.Permute asked order) t = tree.Permute t asked order.now
 one_tree (one.Gather array count) t = tree.Gather t array count
 
--- the type that a combinator of two handles makes of those of a target and of a part, or the exception with which it is refused
+-- the type that a combinator of two handles gives to a target and a part, or the exception that refuses it
 abbrev pub two_row : List Class → OfTwo → MethodTy → ℕ → MethodTy → ℕ → TypeOrRefusal
 two_row classes (two.Joint j) target target_weight part part_weight = joint_row j target target_weight part part_weight
 two_row classes (two.Catch class) target target_weight part part_weight = catch_row classes target target_weight class part part_weight
@@ -57,12 +57,12 @@ two_tree (two.Catch class) t p = tree.Catch t class p
 
 -- ---- what an operation asks for
 
--- it asks for this tree, and of what it makes itself for the form of this tree alone
+-- it asks for this tree, and makes itself only the form of this tree
 pub record IsAlone (m : OrThrown Tree) (itself : Tree → List Tree) (n : Tree) : Type 0 where
   pub asked : m ≡ Ok n
   pub forms : itself ≡ (λ (t : Tree). t ∷ [])
 
--- the node asks for a tree, or for what is thrown in its place, and for the forms of the nodes that it makes itself
+-- the node asks for a tree, or for the exception in its place, and for the forms of the nodes that it makes itself
 abbrev pub IsAsked : LeafTable → Node → OrThrown Tree → (Tree → List Tree) → Type 0
 IsAsked leaves (node.Leaf l) m itself = (l.0 < length leaves.leaves) × IsAlone m itself (tree.Leaf l)
 IsAsked leaves (node.Constant ty v) m itself = IsAlone m itself (tree.Constant ty v)
@@ -76,7 +76,7 @@ IsAsked leaves (node.Spread h array count) m itself =
     (t : Tree) × StandsFor leaves h t × (m ≡ spread_of leaves t array count) × (itself ≡ spread_asked leaves t)
 IsAsked leaves (node.AsType h asked) m itself = (t : Tree) × StandsFor leaves h t × (m ≡ use_of leaves t asked) × (itself ≡ use_asked leaves t)
 
--- the node that is asked for, or what an operand throws; want of memory tells nothing
+-- The answer is the node that is asked for, or the exception of an operand. If memory runs out, it says nothing.
 abbrev pub TellsNode : LeafTable → Result Node CheckError → OrThrown Tree → (Tree → List Tree) → Type 0
 TellsNode leaves (Ok n) m itself = IsAsked leaves n m itself
 TellsNode leaves (Err (check.Refused e)) m itself = m ≡ Err e
@@ -104,22 +104,22 @@ AreHeldIn seat _ = Unit {0}
 
 -- ---- where registers stand for frames
 
--- what an operation asks for in a frame
+-- the tree that an operation asks for in a frame
 abbrev pub asked_of : LeafTable → Operation → Frame → OrThrown Tree
 asked_of leaves op frame = asked_by leaves frame op
 
--- what a joint of the handles of two registers asks for
+-- the tree that a joint of the handles of two registers asks for
 abbrev pub joint_asked : Register → Joint → Register → Frame → OrThrown Tree
 joint_asked h joint f frame = do
   target ← handle_in frame h
   part ← handle_in frame f
   Ok (joint_tree joint target part)
 
--- the node is told that is asked for, and of what this makes itself its own form alone is asked for
+-- the answer is the node that is asked for, which makes itself only its own form
 abbrev pub TellsAlone : (Frame → OrThrown Tree) → LeafTable → Registers → Result Node CheckError → Type 0
 TellsAlone m leaves registers r = (frame : Frame) → Hold leaves registers frame → TellsNode leaves r (m frame) (λ (t : Tree). t ∷ [])
 
--- the handles of the node make the nodes that the uses of these registers make
+-- the node's handles make the same nodes as the uses of these registers
 abbrev pub MakesUses : List Register → Registers → Result Node CheckError → Type 0
 MakesUses used registers r =
     (leaves : LeafTable) (frame : Frame) → Hold leaves registers frame → IfOk r (λ n. flat_map node_made (parts_of n) ≡ nodes_of_uses frame used)
@@ -140,7 +140,7 @@ pub record IsOperand (leaves : LeafTable) (seat : SeatView) (h : HandleOperand) 
   pub stands : StandsForSome leaves h
   pub held : IsHeldIn seat h
 
--- the same of all operands of a node; a leaf is a leaf of the table
+-- the same for all operands of a node; a leaf must be one of the table
 abbrev pub AreOperands : LeafTable → SeatView → Node → Type 0
 AreOperands leaves seat (node.Leaf l) = l.0 < length leaves.leaves
 AreOperands leaves seat (node.One h by) = IsOperand leaves seat h

@@ -1,4 +1,4 @@
--- What the operation of a line leaves, and the call that makes its node.
+-- How the operation of a line changes the work.
 use Rattle.std.specs.Prelude.{◌≡◌, List, [], ◌∷◌, Result, Ok}
 use Rattle.mh_tree.specs.Tree.{Tree}
 use Rattle.mh_handle.specs.declared.error.HandleError.{HandleError}
@@ -16,15 +16,16 @@ use Rattle.mh_attempt.specs.Lines.{MakesNode, typed}
 use Rattle.mh_attempt.specs.Recipes.{line_recipes, recipes_made}
 use Rattle.mh_attempt.specs.Several.{AddsTypes}
 
--- where registers stand for a frame: a handle that stands for the operation's node, or what is thrown in its place; the forms that are asked for are
--- those of the node's recipes, and the types none but those of the nodes that it names
+-- How an operation answers and changes the work, if the registers stand for a frame. The answer stands for its node, or is its exception.
+-- It asks for exactly the forms of the node's recipes, and for no types except those of its nodes.
 pub record MakesOperation (frame : Frame) (operation : Operation) (old new : Work) (r : Result Handle HandleError) : Type 0 where
   pub node : MakesNode (node_of old.leaves.now frame operation) old new r
   pub asks : AsksOrThrows (line_recipes old.leaves.now frame operation) old new r
   pub asked : AsksTypesOrThrows (line_types old.leaves.now frame operation) old new r
 
--- what a call leaves that makes what an operation asks for: a handle that stands for the tree, or what is thrown in its place; the forms that are asked for
--- are those of the operands that are leaves and then those of the nodes that the operation makes itself, and the types none but those of these nodes
+-- How a call that makes what an operation asks for answers and changes the work. The answer stands for the tree, or is its exception.
+-- It asks for the forms of operands that are leaves, then for those of the nodes that the operation makes itself.
+-- It asks for no types except those of these nodes.
 pub record MakesAsked (operands : List HandleOperand) (m : OrThrown Tree) (itself : Tree → List Tree) (old new : Work) (r : Result Handle HandleError)
     : Type 0 where
   pub goes_on : GoesOn 4 old new
@@ -33,6 +34,6 @@ pub record MakesAsked (operands : List HandleOperand) (m : OrThrown Tree) (itsel
   pub asks : (n : Tree) → m ≡ Ok n → AsksIfMade (recipes_made old.leaves.now operands (itself n)) old new r
   pub asked : AsksTypesOrThrows (node_types old.leaves.now operands (m >>= typed old.leaves.now)) old new r
 
--- the same of one tree, whose form alone is asked for after those of the operands
+-- the same for one tree: after the operands' forms it asks only for the form of this tree
 abbrev pub MakesOf : List HandleOperand → Tree → Work → Work → Result Handle HandleError → Type 0
 MakesOf operands n old new r = MakesAsked operands (Ok n) (λ (t : Tree). t ∷ []) old new r

@@ -25,22 +25,22 @@ use Rattle.mh_link.specs.Operations.{node_of}
 
 -- ---- nodes
 
--- a use of a tree, where that has another recipe: one of the same recipe asks for no form
+-- a conversion of a tree, if it has another recipe; one with the same recipe asks for no form
 abbrev pub use_asked : LeafTable → Tree → Tree → List Tree
 use_asked leaves t u = if same_recipe (recipe leaves u) (recipe leaves t) then [] else u ∷ []
 
--- a spread of a tree, and before it the use of the tree that is its part
+-- a spread of a tree, and before it the conversion of the tree
 abbrev pub spread_asked : LeafTable → Tree → Tree → List Tree
 spread_asked leaves t (tree.Spread u array count) = use_asked leaves t u ++ tree.Spread u array count ∷ []
 spread_asked leaves t s = s ∷ []
 
--- the nodes that an operation makes itself and whose forms it asks for, where this is its node
+-- the nodes that an operation makes itself and whose forms it asks for, given its node
 abbrev pub asked_itself : LeafTable → Frame → Operation → Tree → List Tree
 asked_itself leaves frame (operation.Spread h ty count) s = unless_thrown (handle_in frame h) (λ t. spread_asked leaves t s)
 asked_itself leaves frame (operation.AsType h ty) u = unless_thrown (handle_in frame h) (λ t. use_asked leaves t u)
 asked_itself leaves frame op t = t ∷ []
 
--- the nodes whose forms an operation asks for, none where it throws: those of its uses of leaves stand first
+-- the nodes whose forms an operation asks for, with its uses of leaves first: none if it throws
 abbrev pub line_asked : LeafTable → Frame → Operation → List Tree
 line_asked leaves frame op = unless_thrown (node_of leaves frame op) (λ t. nodes_of_uses frame (handles_of op) ++ asked_itself leaves frame op t)
 
@@ -53,22 +53,22 @@ step_asked leaves _ frame = []
 abbrev pub end_asked : LeafTable → End → Frame → List Tree
 end_asked leaves e frame = unless_thrown (ended leaves e frame) (λ t. nodes_of_uses frame (returned e))
 
--- the nodes whose forms the lines ask for from where a script stands, up to the one that throws
+-- the nodes whose forms the rest of a script asks for, up to the line that throws
 abbrev pub script_asked : LeafTable → List Step → End → Frame → List Tree
 script_asked leaves [] e frame = end_asked leaves e frame
 script_asked leaves (s ∷ steps) e frame = step_asked leaves s frame ++ unless_thrown (stepped leaves s frame) (script_asked leaves steps e)
 
--- the nodes whose forms a bootstrap method asks for where it is called so, in the attempt of a serial number
+-- the nodes whose forms a call of a bootstrap method asks for, in the attempt with a serial number
 abbrev pub method_asked : LeafTable → List Script → ℕ → BootstrapCall → Method → List Tree
 method_asked leaves scripts serial call (method.Script id) =
     unless_thrown (called_script scripts id) (λ script. script_asked leaves script.steps script.end (at_start call serial))
 method_asked leaves scripts serial call method.Concat = concat_nodes leaves.classes call
 
--- the nodes whose forms a call of a bootstrap method asks for
+-- the nodes whose forms the bootstrap method of a call asks for
 abbrev pub call_asked : LeafTable → List Script → ℕ → BootstrapCall → List Tree
 call_asked leaves scripts serial call = method_asked leaves scripts serial call call.method
 
--- the nodes whose forms the attempt of a serial number asks for
+-- the nodes whose forms the attempt with a serial number asks for
 abbrev pub attempt_asked : LeafTable → List Script → Job → ℕ → List Tree
 attempt_asked leaves scripts job serial = unless_thrown job.call (call_asked leaves scripts serial)
 
@@ -82,14 +82,14 @@ line_recipes leaves frame op = map (recipe leaves) (line_asked leaves frame op)
 abbrev pub end_recipes : LeafTable → End → Frame → List (List Key)
 end_recipes leaves e frame = map (recipe leaves) (end_asked leaves e frame)
 
--- the recipes of the forms that the lines ask for from where a script stands
+-- the recipes of the forms that the rest of a script asks for
 abbrev pub script_recipes : LeafTable → List Step → End → Frame → List (List Key)
 script_recipes leaves steps e frame = map (recipe leaves) (script_asked leaves steps e frame)
 
--- the recipes of the forms that the attempt of a serial number asks for
+-- the recipes of the forms that the attempt with a serial number asks for
 abbrev pub attempt_recipes : LeafTable → List Script → Job → ℕ → List (List Key)
 attempt_recipes leaves scripts job serial = map (recipe leaves) (attempt_asked leaves scripts job serial)
 
--- the recipes of the forms that are asked for where handles of operands are made, and then these nodes of them
+-- the recipes of the forms that making handles of operands, and then these nodes, asks for
 abbrev pub recipes_made : LeafTable → List HandleOperand → List Tree → List (List Key)
 recipes_made leaves operands nodes = map (recipe leaves) (flat_map node_made operands ++ nodes)

@@ -1,4 +1,4 @@
--- When what a run of a script holds stands for a frame, whose method handles are trees.
+-- The registers of a running script stand for a frame, in which method handles are trees.
 use denote.Ref.{Bor}
 use Rattle.std.specs.Prelude.{◌≡◌, ℕ, ◌<◌, Bool, List, [], ◌∷◌, length, flat_map, if◌then◌else◌, Option, Some, None, slice_get}
 use Rattle.std.specs.Str.{bytes_eq}
@@ -29,12 +29,12 @@ use Rattle.mh_jobs.specs.Thrown.{OrThrown, ◌>>=◌}
 
 -- ---- handles
 
--- a method handle that is held stands for a tree; a leaf of the table stands for itself
+-- an operand stands for a tree: a held handle as handles do, and a leaf of the table for itself
 abbrev pub StandsFor : LeafTable → HandleOperand → Tree → Type 0
 StandsFor leaves (operand.Held h) t = Stands leaves h.now t
 StandsFor leaves (operand.Leaf l) t = (t ≡ tree.Leaf l) × (l.0 < length leaves.leaves)
 
--- the method handle stands for some tree
+-- the operand stands for some tree
 abbrev pub StandsForSome : LeafTable → HandleOperand → Type 0
 StandsForSome leaves o = (t : Tree) × StandsFor leaves o t
 
@@ -49,7 +49,7 @@ abbrev pub held_under : List ℕ → List Assignment → Option Held
 held_under name [] = None
 held_under name (a ∷ assigned) = if is_named name a then Some a.held else held_under name assigned
 
--- the assignments once a name gets this: in the place of what it had, or else after all others
+-- the assignments after one more: in place of what the name had, or after all others if it had nothing
 abbrev pub assigned_to : Bor (List ℕ) → Held → List Assignment → List Assignment
 assigned_to name h [] = record { name = name; held = h } ∷ []
 assigned_to name h (a ∷ assigned) =
@@ -60,19 +60,19 @@ abbrev pub HoldsContent : LeafTable → Held → Content → Type 0
 HoldsContent leaves (held.Handle h) c = (t : Tree) × (c ≡ handle t) × Stands leaves h t
 HoldsContent leaves (held.Number n) c = c ≡ value (values.Boxed (num.J n))
 
--- what is found under a name stands for what was assigned last under it, and nothing for nothing
+-- what is found under a name stands for what was assigned last under it; if nothing was assigned, nothing is found
 abbrev pub HoldsLast : LeafTable → Option Held → Option Content → Type 0
 HoldsLast leaves (Some h) (Some c) = HoldsContent leaves h c
 HoldsLast leaves None None = Unit {0}
 HoldsLast leaves _ _ = ⊥
 
--- under each name stands what was assigned last under it
+-- under each name is what was assigned last under it
 pub record HoldEach (leaves : LeafTable) (assigned : List Assignment) (meant : List (List ℕ × Content)) : Type 0 where
   pub under : (name : List ℕ) → HoldsLast leaves (held_under name assigned) (last_assigned name meant)
 
 -- ---- frames
 
--- a static argument that is a leaf is a leaf of the table
+-- if the static argument is a leaf, it is one of the table
 abbrev pub IsLeafWithin : LeafTable → Argument → Type 0
 IsLeafWithin leaves (argument.Leaf l) = l.0 < length leaves.leaves
 IsLeafWithin leaves _ = Unit {0}
@@ -98,7 +98,7 @@ pub record HoldSame (old new : Registers) : Type 0 where
   pub serial : new.serial ≡ old.serial
   pub assigned : new.assigned.items ≡ old.assigned.items
 
--- there is room for one name more
+-- there is room for one more name
 abbrev pub HasRoomForName : Registers → Type 0
 HasRoomForName registers = vec_len registers.assigned < vec_capacity registers.assigned
 
@@ -113,24 +113,24 @@ IsContent leaves (found.Class t) c = c ≡ class t
 
 -- ---- nodes that uses make
 
--- the node that the use of an operand makes: that of a leaf, of which a handle is made only then
+-- the node that the use of an operand makes: that of a leaf, because its handle is made only then
 abbrev pub node_made : HandleOperand → List Tree
 node_made (operand.Leaf l) = tree.Leaf l ∷ []
 node_made (operand.Held h) = []
 
--- the same of what a register holds
+-- the same for what a register holds
 abbrev pub node_held : Found → List Tree
 node_held (found.Handle o) = node_made o
 node_held other = []
 
 -- ---- what the seat of types holds
 
--- an operand that is held is one whose types the seat holds
+-- if the operand is a held handle, the seat holds its types
 abbrev pub IsHeldIn : SeatView → HandleOperand → Type 0
 IsHeldIn seat (operand.Held h) = AreHeld seat h.now.held
 IsHeldIn seat (operand.Leaf l) = Unit {0}
 
--- the same of what was found in a register
+-- the same for what was found in a register
 abbrev pub IsFoundIn : SeatView → Found → Type 0
 IsFoundIn seat (found.Handle o) = IsHeldIn seat o
 IsFoundIn seat other = Unit {0}
@@ -140,7 +140,7 @@ abbrev pub holds_of : Held → List HoldView
 holds_of (held.Handle h) = h.held
 holds_of (held.Number n) = []
 
--- and of all that lines have assigned
+-- the holds of all that lines have assigned
 abbrev pub holds_in : List Assignment → List HoldView
 holds_in assigned = flat_map (λ a. holds_of a.held) assigned
 
@@ -148,7 +148,7 @@ holds_in assigned = flat_map (λ a. holds_of a.held) assigned
 abbrev pub IsKeptIn : SeatView → Held → Type 0
 IsKeptIn seat h = AreHeld seat (holds_of h)
 
--- the seat holds the types of all handles that registers hold, each as often as it stands there
+-- the seat holds the types of all handles that registers hold, each as often as it occurs
 abbrev pub AreHeldBy : SeatView → Registers → Type 0
 AreHeldBy seat registers = AreHeld seat (holds_in registers.assigned.items)
 

@@ -1,4 +1,4 @@
--- What a run of a script needs where it stands, and what the lines from there leave.
+-- What the rest of a script requires, and how it changes the registers and the work.
 use Rattle.std.specs.Prelude.{◌≡◌, ℕ, ◌+◌, ◌*◌, ◌^◌, ◌<◌, List, ◌++◌, length, map, All, Result, Ok, Err}
 use Rattle.mh_values.specs.declared.types.MethodTy.{MethodTy}
 use Rattle.mh_intern.specs.Exchanges.{Exchanges}
@@ -25,11 +25,12 @@ use Rattle.mh_attempt.specs.Lines.{TellsTarget}
 use Rattle.mh_attempt.specs.Recipes.{script_recipes, step_asked}
 use Rattle.mh_attempt.specs.Registers.{AreHeldBy, Hold, HoldSome, holds_in}
 
--- how many numbers lines may draw before the last one, and with it
+-- the most numbers that these lines and the last one draw
 abbrev pub draws : List Step → ℕ
 draws steps = 4 * length steps + 1
 
--- lines can be run where these registers stand for a frame: numbers are left for them, none divides by 0, and the number of the attempt is a long
+-- The lines can run. There is room for the numbers that they draw, and the registers stand for a frame.
+-- No line divides by 0, and the serial is a long.
 pub record MayRun (steps : List Step) (registers : Registers) (w : Work) : Type 0 where
   pub ready : IsReady w (draws steps)
   pub holds : HoldSome w.leaves.now registers
@@ -37,11 +38,11 @@ pub record MayRun (steps : List Step) (registers : Registers) (w : Work) : Type 
   pub divide : All CanDivide steps
   pub serial : registers.serial < 2 ^ 63
 
--- the seat has these holds in the place of those
+-- the seat has the holds `came` in place of the holds `gone`
 abbrev pub Replaces : List HoldView → List HoldView → Work → Work → Type 0
 Replaces gone came old new = (asks : List MethodTy) × Exchanges asks gone came old.seat.now new.seat.now
 
--- the seat has the types of what registers hold now in the place of those before, and those of a handle more, if there is one
+-- The seat has the types that the registers hold now in place of those before. If there is a handle, it has also those of the handle.
 abbrev pub ReplacesTypes : {E : Type 0} → Registers → Registers → Work → Work → Result Handle E → Type 0
 ReplacesTypes before after old new (Ok h) = Replaces (holds_in before.assigned.items) (holds_in after.assigned.items ++ h.held) old new
 ReplacesTypes before after old new (Err error) = Replaces (holds_in before.assigned.items) (holds_in after.assigned.items) old new
@@ -56,13 +57,13 @@ step_recipes leaves s frame = map (recipe leaves) (step_asked leaves s frame)
 abbrev pub step_types : LeafTable → Step → Frame → List MethodTy
 step_types leaves s frame = types_of leaves (nodes_of_step leaves s frame)
 
--- registers that stand for the frame after a line, or the exception in its place; a full table and want of memory tell nothing
+-- The registers stand for the frame after a line, or the answer is the line's exception. If a table is full or memory runs out, this says nothing.
 abbrev pub TellsStep : LeafTable → OrThrown Frame → Registers → Result (Unit {0}) HandleError → Type 0
 TellsStep leaves next after (Ok u) = (frame : Frame) × (next ≡ Ok frame) × Hold leaves after frame
 TellsStep leaves next after (Err (handle.Refused e)) = next ≡ Err e
 TellsStep leaves next after (Err error) = Unit {0}
 
--- what a line before the last one leaves: registers that stand for the next frame, or what is thrown
+-- how a line before the last one changes registers and work: the registers stand for the next frame, or the line throws
 pub record RunsStep (s : Step) (before after : Registers) (old new : Work) (result : Result (Unit {0}) HandleError) : Type 0 where
   pub goes_on : GoesOn 4 old new
   pub types : Replaces (holds_in before.assigned.items) (holds_in after.assigned.items) old new
@@ -73,8 +74,8 @@ pub record RunsStep (s : Step) (before after : Registers) (old new : Work) (resu
 
 -- ---- all lines
 
--- what lines leave: a handle of the target or what is thrown, the types of that one held and of what the registers hold now, and the forms and types of their
--- nodes asked for
+-- How the rest of a script answers and changes the work. The answer is a handle of the target, or an exception.
+-- The seat holds the types of the target and of the registers. The forms and types of the script's nodes were asked for.
 pub record Runs (steps : List Step) (e : End) (before after : Registers) (old new : Work) (result : Result Handle HandleError) : Type 0 where
   pub goes_on : GoesOn (draws steps) old new
   pub types : ReplacesTypes before after old new result

@@ -1,4 +1,4 @@
--- What is left of the work where handles of several operands are made.
+-- How making handles of several operands changes the work.
 use Rattle.std.specs.Prelude.{List, [], ◌++◌, Result, Ok, Err}
 use Rattle.mh_values.specs.declared.types.MethodTy.{MethodTy}
 use Rattle.mh_intern.specs.Exchanges.{Exchanges}
@@ -17,21 +17,21 @@ abbrev pub NothingRefused : {A : Type 0} → Result A HandleError → Type 0
 NothingRefused (Err (Refused e)) = ⊥
 NothingRefused made = Unit {0}
 
--- the seat has these holds more
+-- the seat has these holds as well
 abbrev pub Adds : List HoldView → Work → Work → Type 0
 Adds came old new = (asks : List MethodTy) × Exchanges asks [] came old.seat.now new.seat.now
 
--- the holds of a handle more, or none where it cannot be made
+-- the seat has the holds of the handle as well, if it is made
 abbrev pub AddsTypes : {E : Type 0} → Work → Work → Result Handle E → Type 0
 AddsTypes old new (Ok h) = Adds h.held old new
 AddsTypes old new (Err error) = Adds [] old new
 
--- those of two
+-- the same for two handles
 abbrev pub AddsBoth : {E : Type 0} → Work → Work → Result (Handle × Handle) E → Type 0
 AddsBoth old new (Ok made) = Adds (made.0.held ++ made.1.held) old new
 AddsBoth old new (Err error) = Adds [] old new
 
--- and of three
+-- the same for three handles
 abbrev pub AddsThree : {E : Type 0} → Work → Work → Result (Handle × Handle × Handle) E → Type 0
 AddsThree old new (Ok made) = Adds (made.0.held ++ made.1.held ++ made.2.held) old new
 AddsThree old new (Err error) = Adds [] old new

@@ -46,8 +46,8 @@ fn caused(alloc: Global, exc: &Exc) -> Result<Exc, NoMemory>
     Exc::of(alloc, parts)
 }
 
-/// What is recorded where an exception is thrown: itself, if it is an `Error`, and else a
-/// `BootstrapMethodError` that it caused.
+/// What is recorded if an exception is thrown: the exception itself if it is an `Error`, otherwise
+/// a `BootstrapMethodError` with the exception as its cause.
 fn recorded(alloc: Global, classes: &Classes, exc: Exc) -> Result<Exc, NoMemory>
     ensures { IfOk result (λ error. error ≡ recorded classes.now exc) }
 {
@@ -58,8 +58,8 @@ fn recorded(alloc: Global, classes: &Classes, exc: Exc) -> Result<Exc, NoMemory>
     }
 }
 
-/// The target that a script gives for a call of it, in the attempt of a serial number. What the
-/// registers hold is given back in the end.
+/// The target that a script returns, in the attempt with a serial number. At the end, what the
+/// registers hold is given back.
 fn scripted<'t, R: Wait>(
     w: &mut Work<'_, 't>,
     rt: &R,
@@ -89,7 +89,7 @@ fn scripted<'t, R: Wait>(
     target
 }
 
-/// The target that a call of a bootstrap method gives, in the attempt of a serial number.
+/// The target that a call of a bootstrap method returns, in the attempt with a serial number.
 fn called<'t, R: Wait>(
     w: &mut Work<'_, 't>,
     rt: &R,
@@ -116,8 +116,8 @@ fn called<'t, R: Wait>(
     }
 }
 
-/// The target that a job gives, in the attempt of a serial number. What the job throws is thrown
-/// before a script runs.
+/// The target of a job, in the attempt with a serial number. If the job has an exception, it is
+/// thrown before a script runs.
 fn target<'t, R: Wait>(
     w: &mut Work<'_, 't>,
     rt: &R,
@@ -143,7 +143,7 @@ fn target<'t, R: Wait>(
     }
 }
 
-/// What is linked for a job, in the attempt of a serial number.
+/// What is linked for a job, in the attempt with a serial number.
 fn link<'t, R: Wait>(
     w: &mut Work<'_, 't>,
     rt: &R,
@@ -167,7 +167,7 @@ fn link<'t, R: Wait>(
 {
     match target(w, rt, scripts, job, serial) {
         Ok(target) => {
-            // It holds its type and those of its sides.
+            // The target holds its type and those of its side parts.
             let _ty = target.ty();
             Ok(Linked::Target(target))
         }
@@ -182,10 +182,11 @@ fn link<'t, R: Wait>(
 }
 
 /// Attempts to link the call site of a job, with a serial number that no other attempt of the run
-/// has: the script's lines are carried out, and what comes of them is recorded, an exception as an
-/// error. It answers `FormsFull` where no number is left for a form that the script asks for, and
-/// `TypesFull` where the bucket of a type is full of others that are held; that records nothing. The
-/// handles that the lines made are given back, except the target.
+/// has. It runs the script's lines and records how they end, an exception as an error. It gives
+/// back the handles that the lines made, except the target.
+///
+/// It answers `FormsFull` if no number is left for a form that the script asks for, and `TypesFull`
+/// if the bucket of a type is full of other types that are held. It then records nothing.
 pub fn attempt<'t, J: Run, R: Wait>(
     w: &mut Work<'_, 't>,
     rt: &R,

@@ -27,7 +27,7 @@ use mh_values::{ClassId, Classes, Items, MethodTy, Str, Value};
 use std::alloc::Global;
 use std::sync::Wait;
 
-/// A constant that is no value.
+/// The error of a constant that is no value.
 fn unsupported(alloc: Global) -> CheckError
     ensures { Throws result (unsupported (codes "constant")) }
 {
@@ -59,7 +59,7 @@ fn are_values(arguments: &[Argument]) -> bool
     arguments.iter().all(|argument| is_value(argument))
 }
 
-/// A static argument as a constant; one that is no value has a place as well.
+/// A static argument as a constant; one that is no value becomes null.
 fn constant_of(alloc: Global, argument: &Argument) -> Result<Value, NoMemory>
     ensures { IfOk result (λ value. value ≡ constant_of argument.now) }
 {
@@ -97,8 +97,8 @@ fn spelled(
     }
 }
 
-/// The pieces of a recipe whose constants are static arguments. Each of them counts before it is
-/// looked at whether it is a value.
+/// The pieces of a recipe whose constants are static arguments. The constants are counted before
+/// any is refused because it is no value.
 fn pieces_with(
     alloc: Global,
     recipe: &Str,
@@ -134,9 +134,9 @@ fn pieces_given(
     pieces_with(alloc, recipe, constants, ty, classes)
 }
 
-/// The handle of a concatenation for a call site. Refused if the recipe is not there or is no text,
-/// if it does not go with the constants and the type of the call site, and if a constant is no value,
-/// in this order.
+/// The handle of a concatenation for a call site. Refused, in this order, if the recipe is missing
+/// or is no text, if it does not fit the constants and the type of the call site, or if a constant
+/// is no value.
 pub(crate) fn concatenated<'t, R: Wait>(
     w: &mut Work<'_, 't>,
     rt: &R,

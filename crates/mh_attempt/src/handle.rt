@@ -19,7 +19,7 @@ use mh_values::{LeafId, MethodTy};
 use std::sync::Wait;
 
 /// A method handle that an operand names: one that a register holds, or a static argument that is a
-/// leaf, of which a handle is made only once a line has passed its checks.
+/// leaf. A handle of the leaf is made only after the line has passed its checks.
 #[derive(Clone, Copy)]
 pub(crate) enum HandleOperand<'f, 't> {
     Held(&'f Handle<'t>),
@@ -64,7 +64,7 @@ impl<'f, 't> HandleOperand<'f, 't> {
         }
     }
 
-    /// A handle of its own: a copy of one that is held, or the handle of the leaf.
+    /// A handle of its own: a copy of the held one, or a new handle of the leaf.
     pub fn made<R: Wait>(&self, w: &mut Work<'_, 't>, rt: &R) -> Result<Handle<'t>, HandleError>
         requires ready { IsReady w.old 1 }
         requires stands { StandsForSome (leaves_of w.old) self.now }

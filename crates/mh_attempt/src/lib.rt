@@ -1,4 +1,4 @@
-//! Attempts: a script is carried out over method handles, and gives what is linked at a call site.
+//! Attempts: they run a script over method handles, and so link a call site.
 #![tactic(auto)]
 
 mod attempts;

@@ -20,8 +20,8 @@ use nodes::operands;
 use parts::made;
 use std::sync::Wait;
 
-/// The handle that an operation makes of what the registers hold. Refused as its operands are, from
-/// left to right, and then by the rule of its combinator.
+/// The handle that an operation makes of what the registers hold. Its operands are checked first,
+/// from left to right, and then the rule of its combinator.
 pub(crate) fn node<'t, R: Wait>(
     w: &mut Work<'_, 't>,
     rt: &R,

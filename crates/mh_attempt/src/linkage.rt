@@ -28,8 +28,8 @@ pub enum Linked<'t> {
     Error(Exc),
 }
 
-/// What an attempt recorded at a call site of the run that `J` names: what the site's script links
-/// in the attempt of that serial number. Contracts see the job of the site and the number.
+/// What an attempt links at a call site of the run that `J` names: the meaning of the site's script
+/// in the attempt with that serial. Contracts see the job of the site, the serial and the holds.
 #[derive(Drop)]
 pub struct Linkage<'t, J: Run> {
     job: &'t Job,
@@ -78,7 +78,7 @@ impl<'t, J: Run> Linkage<'t, J> {
         self.job.site
     }
 
-    /// The serial number of the attempt.
+    /// The serial of the attempt.
     pub fn serial(&self) -> u64
         ensures { result ≡ self.now.serial }
     {
@@ -93,8 +93,8 @@ impl<'t, J: Run> Linkage<'t, J> {
         &self.linked
     }
 
-    /// Calls the site on arguments of its type: the target is called, or the error is thrown before
-    /// any form runs.
+    /// Calls the site on arguments of its type. It calls the target, or throws the error before any
+    /// form runs.
     pub fn call(&self, alloc: Global, leaves: &Leaves, args: &Items) -> Result<Answer, NoMemory>
         requires leaves { leaves.now ≡ J.given.leaves }
         requires typed { HaveTypes J.given.leaves.classes args.now
@@ -106,8 +106,8 @@ impl<'t, J: Run> Linkage<'t, J> {
         self.call_with(&mut Machine::new(alloc), leaves, args)
     }
 
-    /// Calls the site as `call` does, in a machine that is kept from call to call, out of which the
-    /// answer takes the leaf calls.
+    /// Calls the site as `call` does, in a machine that is kept from call to call. The answer takes
+    /// the leaf calls out of the machine.
     pub fn call_with(
         &self,
         machine: &mut Machine,
@@ -127,8 +127,8 @@ impl<'t, J: Run> Linkage<'t, J> {
         }
     }
 
-    /// The types of the holds that the linkage has: those that its target holds. It does nothing when
-    /// it runs.
+    /// Shows, for proofs, which types the linkage holds: those that its target holds. It does
+    /// nothing when it runs.
     pub fn types_held(&self)
         ensures { HasTypes self.now.held
             (held_by J.given.leaves (linked_at J.given self.now.job.site self.now.serial)) }
@@ -136,7 +136,7 @@ impl<'t, J: Run> Linkage<'t, J> {
         let _linked = &self.linked;
     }
 
-    /// Gives up the linkage, with the types that its target holds. It takes no memory.
+    /// Gives up the linkage and releases the types that its target holds. It takes no memory.
     pub fn give_back(self, w: &mut Work<'_, 't>)
         requires of_types { w.old.seat.now.table ≡ w.old.types.now }
         requires held { HoldsTypes w.old self.held }

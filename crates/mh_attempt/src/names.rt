@@ -1,5 +1,5 @@
-//! What the names in scripts mean, or what is thrown where they mean nothing (JVMS SE 17, 5.4.3.1,
-//! 5.4.3.3 and 5.4.3.5).
+//! Resolution of the names in scripts, or the exception if there is nothing of that name (JVMS SE
+//! 17, 5.4.3.1, 5.4.3.3 and 5.4.3.5).
 
 ghost use Rattle.std.specs.Prelude.{◌≡◌, ◌<◌, length, take, drop, IfOk};
 ghost use Rattle.mh_leaves.specs.declared.naming.How.TheVariants.{Any};
@@ -18,7 +18,7 @@ use mh_values::{
 };
 use std::alloc::Global;
 
-/// No class has this name.
+/// The error of a name that no class has.
 fn no_class(alloc: Global, name: &[u8]) -> CheckError
     ensures { Throws result (no_class plainly name.now) }
 {
@@ -37,7 +37,7 @@ fn method_text(alloc: Global, method: &MethodName) -> Result<Seq<u8>, NoMemory>
     Ok(text)
 }
 
-/// The method is not there.
+/// The error of a method that is not there.
 fn no_method(alloc: Global, method: &MethodName) -> CheckError
     ensures { Throws result (no_method plainly method.now) }
 {
@@ -47,7 +47,7 @@ fn no_method(alloc: Global, method: &MethodName) -> CheckError
     }
 }
 
-/// As many bytes from a place on, or as many as are there.
+/// `count` bytes from a place on, or as many as are there.
 fn part(bytes: &[u8], at: usize, len: usize) -> &[u8]
     ensures { result.now ≡ take len (drop at bytes.now) }
 {
@@ -55,7 +55,7 @@ fn part(bytes: &[u8], at: usize, len: usize) -> &[u8]
     &rest[..len.min(rest.len())]
 }
 
-/// The text has no type.
+/// The error of a text that is no descriptor.
 fn no_type(alloc: Global, text: &[u8], error: DescriptorError) -> CheckError
     ensures thrown { Throws result (no_type plainly text.now error) }
     ensures memory { error ≡ DescriptorError.NoMemory → result ≡ CheckError.NoMemory }

@@ -1,4 +1,4 @@
-//! What a run of a script holds, and what its registers stand for.
+//! The registers of a script while it runs.
 
 ghost use Rattle.std.specs.Prelude.{◌≡◌, [], ◌++◌, IfOk, OnOk, codes, option_map, position};
 ghost use Rattle.mh_values.specs.Class.{class_cast_class};
@@ -34,7 +34,7 @@ pub(crate) enum Held<'t> {
 }
 
 impl<'t> Held<'t> {
-    /// Gives up a handle, with the types that it holds.
+    /// Gives up a handle and releases the types that it holds.
     pub fn give_back(self, w: &mut Work<'_, 't>)
         requires of_types { w.old.seat.now.table ≡ w.old.types.now }
         requires held { HoldsTypes w.old (holds_of self) }
@@ -55,8 +55,8 @@ pub(crate) struct Assignment<'f, 't> {
     pub held: Held<'t>,
 }
 
-/// What the registers of a script hold where it stands: what it is called with, the number of the
-/// attempt, and what its lines have assigned, with one assignment for each name.
+/// The registers of a script while it runs: the call that it answers, the serial of the attempt,
+/// and what its lines have assigned, with one assignment for each name.
 #[derive(Drop)]
 pub(crate) struct Registers<'f, 't> {
     pub alloc: Global,
@@ -86,7 +86,7 @@ fn held_under<'a, 't>(assigned: &'a [Assignment<'_, 't>], name: &[u8]) -> Option
     None
 }
 
-// Where lines have assigned a name.
+// The index of the assignment of a name.
 fn place_of(assigned: &[Assignment<'_, '_>], name: &[u8]) -> Option<usize>
     ensures { result ≡ position (is_named name.now) assigned.now }
 {
@@ -126,21 +126,21 @@ fn content_of<'a, 'f, 't>(
     })
 }
 
-/// There is no such static argument.
+/// The error of a static argument that is missing.
 pub(crate) fn no_argument(alloc: Global) -> CheckError
     ensures { Throws result no_argument }
 {
     thrown(alloc, ClassId::WRONG_METHOD_TYPE, b"arguments")
 }
 
-/// A static argument is of another sort.
+/// The error of a static argument of another sort.
 pub(crate) fn wrong_sort(alloc: Global) -> CheckError
     ensures { Throws result (saying class_cast_class (codes "arguments")) }
 {
     thrown(alloc, ClassId::CLASS_CAST, b"arguments")
 }
 
-// The method handle that was held.
+// The content, which must be a method handle.
 fn as_handle<'a, 't>(
     alloc: Global,
     held: Content<'a, '_, 't>,
@@ -157,7 +157,7 @@ fn as_handle<'a, 't>(
     }
 }
 
-// The value that was held.
+// The content, which must be a value.
 fn as_value(alloc: Global, held: Content<'_, '_, '_>) -> Result<Value, CheckError>
     ensures { (leaves : LeafTable) (meant : operands.Content) → IsContent leaves held.entry meant
         → Tells result (as_value meant) }
@@ -168,7 +168,7 @@ fn as_value(alloc: Global, held: Content<'_, '_, '_>) -> Result<Value, CheckErro
     }
 }
 
-// The method type that was held.
+// The content, which must be a method type.
 fn as_method_type(alloc: Global, held: Content<'_, '_, '_>) -> Result<Shared<MethodTy>, CheckError>
     ensures { (leaves : LeafTable) (meant : operands.Content) → IsContent leaves held.entry meant
         → Tells result (as_method_type meant) }
@@ -179,7 +179,7 @@ fn as_method_type(alloc: Global, held: Content<'_, '_, '_>) -> Result<Shared<Met
     }
 }
 
-// The class that was held.
+// The content, which must be a class.
 fn as_class(alloc: Global, held: Content<'_, '_, '_>) -> Result<Ty, CheckError>
     ensures { (leaves : LeafTable) (meant : operands.Content) → IsContent leaves held.entry meant
         → Tells result (as_class meant) }
@@ -205,7 +205,7 @@ impl<'f, 't> Registers<'f, 't> {
         }
     }
 
-    /// Makes room for an assignment. Where memory is short all stays as it was.
+    /// Makes room for an assignment. If memory runs out, nothing changes.
     pub fn reserve(&mut self) -> Result<(), NoMemory>
         ensures same { HoldSame self.old self.new }
         ensures room { OnOk result (HasRoomForName self.new) }
@@ -214,7 +214,7 @@ impl<'f, 't> Registers<'f, 't> {
         Ok(())
     }
 
-    // Assigns a register, and hands out what it held before, if it held anything.
+    // Assigns a register, and answers what it held before, if anything.
     fn exchange(&mut self, name: &'f [u8], held: Held<'t>) -> Option<Held<'t>>
         requires { HasRoomForName self.old }
         ensures before { result ≡ held_under name.now self.old.assigned.items }
@@ -232,7 +232,7 @@ impl<'f, 't> Registers<'f, 't> {
         }
     }
 
-    /// Assigns a register, for which there is room, and gives up what it held before.
+    /// Assigns a register, for which there must be room, and gives up what it held before.
     pub fn assign(&mut self, w: &mut Work<'_, 't>, name: &'f [u8], held: Held<'t>)
         requires room { HasRoomForName self.old }
         requires of_types { w.old.seat.now.table ≡ w.old.types.now }
@@ -250,7 +250,7 @@ impl<'f, 't> Registers<'f, 't> {
         }
     }
 
-    /// Gives up the handles that registers hold, with the types that these hold.
+    /// Gives up the handles that registers hold, and releases the types that these hold.
     pub fn give_back(mut self, w: &mut Work<'_, 't>)
         requires of_types { w.old.seat.now.table ≡ w.old.types.now }
         requires kept { AreHeldBy w.old.seat.now self }
@@ -294,8 +294,8 @@ impl<'f, 't> Registers<'f, 't> {
         }
     }
 
-    // What a register holds; of those that a script may name, only the register of a static
-    // argument may hold nothing.
+    // What a register holds. In a script that was read, only the register of a static argument may
+    // hold nothing.
     fn content(&self, register: &Register) -> Result<Content<'_, 'f, 't>, CheckError>
         ensures holds { (leaves : LeafTable) (frame : Frame) → Hold leaves self.now frame
             → TellsBy (IsContent leaves) result (content frame register.now) }
@@ -311,7 +311,7 @@ impl<'f, 't> Registers<'f, 't> {
         }
     }
 
-    /// The method handle of a register. Thrown where it holds nothing, or something else.
+    /// The method handle of a register. Throws if the register holds nothing or something else.
     pub fn handle(&self, register: &Register) -> Result<HandleOperand<'_, 't>, CheckError>
         ensures stands { (leaves : LeafTable) (frame : Frame) → Hold leaves self.now frame
             → TellsBy (StandsFor leaves) result (handle_in frame register.now) }
@@ -346,7 +346,7 @@ impl<'f, 't> Registers<'f, 't> {
         as_class(self.alloc, held)
     }
 
-    /// The type of an operand, nothing being void.
+    /// The type of an operand, or `None` for void.
     pub fn ty(&self, classes: &Classes, operand: &TypeOperand) -> Result<Option<Ty>, CheckError>
         ensures { (leaves : LeafTable) (frame : Frame) → Hold leaves self.now frame
             → Tells result (type_in classes.now frame operand.now) }

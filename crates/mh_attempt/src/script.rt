@@ -1,4 +1,4 @@
-//! A run of a script: its lines, one after the other, and the last one.
+//! Running a script: its lines, one after the other, and the last one.
 
 ghost use Rattle.std.specs.Prelude.{◌≤◌, ◌<◌, ◌^◌};
 ghost use Rattle.mh_script.specs.declared.script.End.TheVariants as end;
@@ -26,7 +26,7 @@ use mh_values::{ClassId, Classes, Exc, ExcParts, Str, is_same_method_type};
 use std::alloc::Global;
 use std::sync::Wait;
 
-/// Goes on where the number of the attempt has another remainder.
+/// Throws if the serial mod `modulus` equals `remainder`.
 fn pass(alloc: Global, serial: u64, modulus: u32, remainder: u32) -> Result<(), CheckError>
     requires { 1 ≤ modulus }
     ensures { Tells result (passes serial modulus remainder) }
@@ -109,8 +109,8 @@ fn ended<'t, R: Wait>(
     }
 }
 
-/// A line before the last one. A value that its register had is given back once the line has used
-/// it; the registers hold a handle that it makes.
+/// Runs a line before the last one. The registers hold a handle that it makes. What the register
+/// had before is given back once the line has used it.
 fn stepped<'f, 't, R: Wait>(
     w: &mut Work<'_, 't>,
     rt: &R,
@@ -144,8 +144,8 @@ fn stepped<'f, 't, R: Wait>(
     }
 }
 
-/// The lines from where a script stands, up to the first that throws. The registers hold what the
-/// lines have assigned, whatever they answer.
+/// Runs the rest of a script, up to the first line that throws. In either case the registers hold
+/// what the lines have assigned.
 pub(crate) fn ran<'f, 't, R: Wait>(
     w: &mut Work<'_, 't>,
     rt: &R,

@@ -1,4 +1,4 @@
-//! What is thrown while a script runs.
+//! Exceptions that are thrown while a script runs.
 
 ghost use Rattle.mh_values.specs.Exception.{saying};
 ghost use Rattle.mh_attempt.specs.Told.{Throws};

@@ -20,7 +20,7 @@ use mh_values::{Classes, MethodTy};
 use std::alloc::Global;
 use std::sync::Wait;
 
-/// The type of a handle that is made of one other.
+/// The type that a combinator of one handle makes, or the refusal.
 pub(crate) fn check_one(
     alloc: Global,
     target: Typed<'_>,
@@ -41,7 +41,7 @@ pub(crate) fn check_one(
     }
 }
 
-/// The type of a handle that is made of two others.
+/// The type that a combinator of two handles makes, or the refusal.
 pub(crate) fn check_two(
     alloc: Global,
     target: Typed<'_>,
@@ -61,7 +61,7 @@ pub(crate) fn check_two(
     }
 }
 
-/// The handle that is made of one other, where the rule gives this type.
+/// The handle that a combinator of one handle makes, if its rule gives this type.
 pub(crate) fn of_one<'t, R: Wait>(
     w: &mut Work<'_, 't>,
     rt: &R,
@@ -94,7 +94,7 @@ pub(crate) fn of_one<'t, R: Wait>(
     }
 }
 
-/// The handle that is made of two others, where the rule gives this type.
+/// The handle that a combinator of two handles makes, if its rule gives this type.
 pub(crate) fn of_two<'t, R: Wait>(
     w: &mut Work<'_, 't>,
     rt: &R,

@@ -1,4 +1,4 @@
-//! What the operation of a line asks for, as a value: a combinator with its operands.
+//! What the operation of a line asks for: a combinator with its operands.
 
 ghost use Rattle.std.specs.Prelude.{[], ◌∷◌};
 ghost use Rattle.mh_leaf.specs.LeafTable.{LeafTable};
@@ -20,7 +20,7 @@ use mh_script::{Operation, Register};
 use mh_tree::{CheckError, Joint};
 use mh_values::{ClassId, LeafId, MethodTy, Ty, Tys, Value};
 
-/// What makes a handle of one other.
+/// A combinator of one handle.
 #[derive(Drop)]
 pub(crate) enum OfOne<'a> {
     Bind(u8, Value),
@@ -29,15 +29,15 @@ pub(crate) enum OfOne<'a> {
     Gather(Option<Ty>, u8),
 }
 
-/// What makes a handle of two others, which are a target and a part that runs before or after it.
+/// A combinator of two handles: a target, and a part that runs before or after it.
 #[derive(Clone, Copy)]
 pub(crate) enum OfTwo {
     Joint(Joint),
     Catch(ClassId),
 }
 
-/// A combinator with its operands, by the number of its handles. A spread and a use as another type
-/// stand by themselves: each may ask for other forms than that of its node.
+/// A combinator with its operands, by the number of its handles. `Spread` and `AsType` are
+/// cases of their own because they may ask for other forms than that of their node.
 #[derive(Drop)]
 pub(crate) enum Node<'a, 't> {
     Leaf(LeafId),
@@ -52,7 +52,7 @@ pub(crate) enum Node<'a, 't> {
     AsType(HandleOperand<'a, 't>, Shared<MethodTy>),
 }
 
-/// A target, and types that are dropped at a position.
+/// A target, and the types of dropped arguments at a position.
 fn dropped<'a, 't>(
     leaves: &Leaves,
     registers: &'a Registers<'_, 't>,
@@ -71,7 +71,7 @@ fn dropped<'a, 't>(
     Ok(Node::One(target, OfOne::Drop(position, types)))
 }
 
-/// A target and the part that joins it.
+/// A target, and the part that is joined to it.
 fn pair<'a, 't>(
     registers: &'a Registers<'_, 't>,
     target: &Register,
@@ -127,7 +127,7 @@ fn guarded<'a, 't>(
     Ok(Node::Guard(test, target, fallback))
 }
 
-/// The node that an operation asks for. Its operands are looked up from left to right.
+/// The node that an operation asks for. Its operands are resolved from left to right.
 pub(crate) fn operands<'a, 't>(
     leaves: &Leaves,
     registers: &'a Registers<'_, 't>,

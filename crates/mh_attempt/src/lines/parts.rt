@@ -1,5 +1,5 @@
-//! The handle of a node, by the number of its handles. A call that makes a handle of no other asks
-//! the rule itself; else the rule is asked once, before any handle is made.
+//! The handle of a node, by the number of its operands. A rule is checked once, before any handle
+//! is made. If a node has no operand that is a handle, the call that makes it checks the rule.
 
 ghost use Rattle.std.specs.Prelude.{List, [], ◌∷◌};
 ghost use Rattle.mh_tree.specs.Tree.{Tree};
@@ -46,7 +46,7 @@ pub(crate) fn made<'t, R: Wait>(
     }
 }
 
-// Of one handle.
+// The handle of a node with one operand.
 fn made_of_one<'t, R: Wait>(
     w: &mut Work<'_, 't>,
     rt: &R,
@@ -64,7 +64,7 @@ fn made_of_one<'t, R: Wait>(
     of_one(w, rt, target, by, ty)
 }
 
-// Of two handles.
+// The handle of a node with two operands.
 fn made_of_two<'t, R: Wait>(
     w: &mut Work<'_, 't>,
     rt: &R,
@@ -86,7 +86,7 @@ fn made_of_two<'t, R: Wait>(
     of_two(w, rt, made, by, ty)
 }
 
-// Of a test, a target and a fallback.
+// The handle of a guard: a test, a target and a fallback.
 fn guarded<'t, R: Wait>(
     w: &mut Work<'_, 't>,
     rt: &R,

@@ -1,5 +1,5 @@
-//! Handles that are used as another type, and spreads, of which a part is: each may ask for other
-//! forms than that of its node.
+//! Conversions to another type, and spreads, which contain one. Each may ask for other forms than
+//! that of its node.
 
 ghost use Rattle.std.specs.Prelude.{[], ◌∷◌};
 ghost use Rattle.mh_tree.specs.Check.{TellsRow};
@@ -42,8 +42,7 @@ pub(crate) fn spread_out<'t, R: Wait>(
     spread(w, rt, target, array, count)
 }
 
-// The type of a tree that is used as a type. Refused where an argument or the result cannot be
-// converted.
+// The type of a tree after a conversion. Refused if an argument or the result cannot be converted.
 fn check_use(
     alloc: Global,
     own: Typed<'_>,
@@ -58,7 +57,7 @@ fn check_use(
     check_astype(alloc, own.ty, own.weight, asked, classes)
 }
 
-/// A handle that is used as a type.
+/// A handle converted to a type.
 pub(crate) fn used<'t, R: Wait>(
     w: &mut Work<'_, 't>,
     rt: &R,
