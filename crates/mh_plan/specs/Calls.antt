@@ -1,4 +1,4 @@
--- Which calls can be made.
+-- The calls that can be made.
 use Rattle.std.specs.Prelude.{◌<◌, List, length, All}
 use Rattle.mh_values.specs.HasType.{HaveTypes}
 use Rattle.mh_leaf.specs.LeafTable.{LeafTable}
@@ -7,7 +7,7 @@ use Rattle.mh_jobs.specs.Jobs.{params_at}
 use Rattle.mh_plan.specs.declared.call.Call.{Call}
 use Rattle.mh_plan.specs.declared.call.Call.TheVariants.{Exact, Generic, Indy}
 
--- a call that can be made: its leaf or its site is there, and its arguments have the types of its type or of the site's
+-- a call can be made if its leaf or site exists, and its arguments have the parameter types of its type or of the site's
 abbrev pub IsCallOf : LeafTable → List Job → Call → Type 0
 IsCallOf leaves jobs (Exact leaf ty args) = (leaf.0 < length leaves.leaves) × HaveTypes leaves.classes args ty.params
 IsCallOf leaves jobs (Generic leaf ty args) = (leaf.0 < length leaves.leaves) × HaveTypes leaves.classes args ty.params

@@ -8,7 +8,7 @@ abbrev pub calls_in : List (List Call) → ℕ
 calls_in [] = 0
 calls_in (calls ∷ threads) = length calls + calls_in threads
 
--- there are at most as many threads, and together at most as many calls, as a plan may have
+-- a plan has at most as many threads, and as many calls together, as it may have
 pub record IsWithinLimits (threads : List (List Call)) : Type 0 where
   pub few_threads : length threads ≤ most_threads
   pub few_calls : calls_in threads ≤ most_calls

@@ -1,4 +1,4 @@
--- Which call sites the calls of a plan name.
+-- The call sites that the calls of a plan name.
 use Rattle.std.specs.Prelude.{ℕ, ◌==◌, List, [], ◌∷◌, if◌then◌else◌, length, map, sum}
 use Rattle.std.specs.List.{flat_map, list_any}
 use Rattle.mh_plan.specs.declared.call.Call.{Call}
@@ -18,11 +18,11 @@ sites_named (Indy site args) = site ∷ []
 abbrev pub naming_of : List (List Call) → Naming
 naming_of threads = map (λ calls. flat_map sites_named calls) threads
 
--- each number where it first stands, but for those that were seen before
+-- the different numbers of a list, in the order in which they first occur, without those seen before
 abbrev pub first_places : List ℕ → List ℕ → List ℕ
 first_places seen [] = []
 first_places seen (k ∷ ks) = if list_any (λ s. s == k) seen then first_places seen ks else k ∷ first_places (k ∷ seen) ks
 
--- how many pairs there are of a thread and a site that one of its calls names
+-- the number of pairs of a thread and a site that this thread's calls name
 abbrev pub pairs_named : List (List Call) → ℕ
 pairs_named threads = sum (map (λ sites. length (first_places [] sites)) (naming_of threads))

@@ -37,7 +37,7 @@ kind_word NoSite = codes "NoSite"
 kind_word BadType = codes "BadType"
 kind_word BadArguments = codes "BadArguments"
 
--- the number of a kind: of the kinds that apply to a line, the one with the lowest number counts
+-- The number of a kind. If several kinds apply to a line, the lowest number counts.
 abbrev pub kind_number : PlanKind → ℕ
 kind_number BadLine = 1
 kind_number TooMany = 2
@@ -52,7 +52,7 @@ kind_number BadArguments = 6
 abbrev pub is_digit : ℕ → Bool
 is_digit b = nat_le digit_0 b && nat_le b digit_9
 
--- the number of a site: digits without a needless zero
+-- the number of a site: decimal digits without a leading zero
 abbrev pub is_number : List ℕ → Bool
 is_number [] = false
 is_number (b ∷ bs) = list_all is_digit (b ∷ bs) && (length bs == 0 || not (b == digit_0))
@@ -61,11 +61,11 @@ is_number (b ∷ bs) = list_all is_digit (b ∷ bs) && (length bs == 0 || not (b
 abbrev pub leaf_texts : List ℕ → Option Texts
 leaf_texts token = if starts_with nat_eq token (codes "leaf:") then reference_of (drop 5 token) else None
 
--- a word of calls of leaves
+-- a word that begins a call of a leaf
 abbrev pub is_leaf_word : List ℕ → Bool
 is_leaf_word word = bytes_eq word (codes "exact") || bytes_eq word (codes "generic")
 
--- `exact leaf:REF M ARG ..`, `generic leaf:REF M ARG ..` or `indy N ARG ..`, where so many tokens follow the second
+-- `exact leaf:REF M ARG ..`, `generic leaf:REF M ARG ..` or `indy N ARG ..`; the number counts the tokens after the second
 abbrev pub is_call_of : List ℕ → List ℕ → ℕ → Bool
 is_call_of word subject more =
     if bytes_eq word (codes "indy") then is_number subject
@@ -87,19 +87,19 @@ is_thread _ = false
 abbrev pub none_counted : Counts
 none_counted = record { threads = 0; calls = 0 }
 
--- how many threads a plan may have
+-- the most threads that a plan may have
 abbrev pub most_threads : ℕ
 most_threads = 128
 
--- how many calls all its threads may have together
+-- the most calls that its threads may have together
 abbrev pub most_calls : ℕ
 most_calls = 10000
 
--- one more thread, where there may be one
+-- one more thread, if there may be one
 abbrev pub thread_counted : Counts → Result Counts PlanKind
 thread_counted counts = provided (nat_lt counts.threads most_threads) TooMany (Ok (record { threads = counts.threads + 1; calls = counts.calls }))
 
--- one more call, within a thread, where there may be one
+-- one more call, if a thread has begun and there may be one
 abbrev pub call_counted : Counts → List (List ℕ) → Result Counts PlanKind
 call_counted counts tokens =
     provided (is_call tokens && not (counts.threads == 0)) BadLine
@@ -137,11 +137,11 @@ arguments_of classes (token ∷ tokens) (t ∷ types) =
     option_and_then (λ v. option_map (λ vs. v ∷ vs) (arguments_of classes tokens types)) (argument_of classes token t)
 arguments_of classes _ _ = None
 
--- the call that a word begins: an exact one where it says so, and else a generic one
+-- the call of a leaf that a word begins: `exact` an exact one, any other word a generic one
 abbrev pub call_by : List ℕ → LeafId → MethodTy → List Value → Call
 call_by word leaf t values = if bytes_eq word (codes "exact") then Exact leaf t values else Generic leaf t values
 
--- the call of a leaf by a type, with arguments; what follows the leaf begins with the type, which a line of the right form has
+-- The call of a leaf by a type, with arguments. The tokens after the leaf begin with the type; a line of the right form has it.
 abbrev pub leaf_call : LeafTable → List ℕ → List ℕ → List (List ℕ) → Result Call PlanKind
 leaf_call leaves word subject [] = Err BadType
 leaf_call leaves word subject (asked ∷ args) =
@@ -149,11 +149,11 @@ leaf_call leaves word subject (asked ∷ args) =
     provided_some (type_if_read (desc leaves.classes asked)) BadType (λ t.
     provided_some (arguments_of leaves.classes args t.params) BadArguments (λ values. Ok (call_by word leaf t values))))
 
--- the call site of a number, if there are more sites than that, however many digits it has
+-- the call site with a number, if there is one; the number may have any number of digits
 abbrev pub site_numbered : List Job → List ℕ → Option ℕ
 site_numbered jobs token = option_and_then (λ n. if nat_lt n (length jobs) then Some n else None) (unsigned_of token)
 
--- the call of a call site, with arguments of its type; of a site whose type is not readable, without any
+-- The call of a call site, with arguments of its type. If the site's type is not readable, the call has no arguments.
 abbrev pub indy_call : List Class → List Job → List ℕ → List (List ℕ) → Result Call PlanKind
 indy_call classes jobs subject args =
     provided_some (site_numbered jobs subject) NoSite (λ site.
@@ -175,7 +175,7 @@ abbrev pub call_put : List (List Call) → Result Call PlanKind → Result (List
 call_put threads (Ok call) = Ok (with_call threads call)
 call_put threads (Err kind) = Err kind
 
--- the threads after a line that counts: two tokens and more are a call, one begins a thread
+-- the threads after a line of the right form: one token begins a thread, and two or more are a call
 abbrev pub tokens_meaning : LeafTable → List Job → List (List Call) → List (List ℕ) → Result (List (List Call)) PlanKind
 tokens_meaning leaves jobs threads (word ∷ subject ∷ rest) = call_put threads (call_meaning leaves jobs word subject rest)
 tokens_meaning leaves jobs threads _ = Ok (threads ++ [] ∷ [])
@@ -186,16 +186,16 @@ line_meaning leaves jobs threads line = if is_passed line then Ok threads else t
 
 -- ---- plans
 
--- goes on where no line has a fault
+-- continues if no line has a fault
 abbrev pub faultless : {A B : Type 0} → Result A (LineFault PlanKind) → (A → Result B (LineFault PlanKind)) → Result B (LineFault PlanKind)
 faultless (Ok a) next = next a
 faultless (Err fault) next = Err fault
 
--- the calls of each thread of a plan of these lines: the form of all lines comes first, then their calls
+-- The calls of each thread of a plan with these lines. The form of all lines is checked first, then their calls.
 abbrev pub plan_of : LeafTable → List Job → List (List ℕ) → Result (List (List Call)) (LineFault PlanKind)
 plan_of leaves jobs lines =
     faultless (built_from line_counted 1 none_counted lines) (λ counts. built_from (line_meaning leaves jobs) 1 [] lines)
 
--- the calls of each thread, or the faulty line that counts
+-- the calls of each thread, or the fault that counts
 abbrev pub plan : List ℕ → LeafTable → List Job → Result (List (List Call)) (LineFault PlanKind)
 plan bytes leaves jobs = plan_of leaves jobs (lines_of bytes)

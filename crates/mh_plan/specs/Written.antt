@@ -1,4 +1,4 @@
--- What was read as the text of a plan: for each thread the line `thread`, and then a line for each of its calls.
+-- A plan written as text: for each thread the line `thread`, and then a line for each of its calls.
 use Rattle.std.specs.Prelude.{ℕ, List, [], ◌∷◌, ◌++◌, codes, flat_map, map, slice_get}
 use Rattle.std.specs.Fmt.{decimal}
 use Rattle.std.specs.Option.{option_map_or}

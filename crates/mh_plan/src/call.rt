@@ -14,11 +14,11 @@ pub enum Call {
     /// A call of a leaf as `MethodHandle.invokeExact` makes it: with the type of the call, and with
     /// arguments of that type's parameters.
     Exact(LeafId, MethodTy, Items),
-    /// A call of a leaf as `MethodHandle.invoke` makes it: by the type of the call, as which the leaf
-    /// is used, and with arguments of that type's parameters.
+    /// A call of a leaf as `MethodHandle.invoke` makes it: the leaf is converted to the type of the
+    /// call, and the arguments are of that type's parameters.
     Generic(LeafId, MethodTy, Items),
     /// A call of a call site, as `invokedynamic` makes it: the site's number, and arguments of the
-    /// parameters of the site's type; none where that type cannot be read.
+    /// parameters of the site's type. If that type cannot be read, there are no arguments.
     Indy(u32, Items),
 }
 
@@ -55,9 +55,9 @@ fn is_site_call(leaves: &Leaves, jobs: &Jobs, site: u32, args: &Items) -> bool
 }
 
 impl Call {
-    /// Whether the call can be made of these leaves and call sites: its leaf or its site is there,
-    /// and its arguments have the types of its type, or of the site's. A site whose type cannot be
-    /// read takes no arguments. A maker of calls asks this where no plan's reader has.
+    /// Whether the call can be made: its leaf or its site exists, and its arguments have the
+    /// parameter types of its type, or of the site's. A site whose type cannot be read takes no
+    /// arguments. Ask this if the call does not come from a plan's reader.
     pub fn can_be_made(&self, leaves: &Leaves, jobs: &Jobs) -> bool
         ensures yes { IsTrue result → IsCallOf leaves.now jobs.now self.now }
         ensures no { IsCallOf leaves.now jobs.now self.now → IsTrue result }

@@ -15,7 +15,7 @@ use mh_texts::read_unsigned;
 use mh_values::{Classes, Items, LeafId, MethodTy};
 use std::alloc::Global;
 
-/// What the calls of a plan may be of.
+/// What the calls of a plan may call: leaves and call sites.
 #[derive(Clone, Copy)]
 pub(crate) struct Callees<'a> {
     pub leaves: &'a Leaves,
@@ -51,7 +51,7 @@ fn call_by(word: &[u8], leaf: LeafId, ty: MethodTy, values: Items) -> Call
     }
 }
 
-// The call of a leaf by a type.
+// The call of a leaf by a type, with arguments.
 fn read_leaf_call(
     alloc: Global,
     leaves: &Leaves,
@@ -132,7 +132,7 @@ fn add_thread(alloc: Global, threads: &mut Vec<ThreadCalls>) -> Result<(), NoMem
     Ok(())
 }
 
-// Puts a call after those of the last thread.
+// Appends a call to those of the last thread.
 fn add_call(threads: &mut Vec<ThreadCalls>, call: Call) -> Result<(), NoMemory>
     ensures { OnOk result (threads.new.items ≡ with_call threads.old.items call) }
 {
@@ -185,7 +185,7 @@ fn read_line(
     read_tokens(alloc, of, threads, &tokens)
 }
 
-/// The calls of lines whose form is good.
+/// The calls of lines whose form was checked.
 pub(crate) fn read_lines(
     alloc: Global,
     of: &Callees<'_>,

@@ -9,10 +9,10 @@ use crate::{PlanError, PlanKind};
 use mh_base::{LineError, LineFault, NoMemory, is_passed, is_plain, split_at_byte};
 use std::alloc::Global;
 
-/// How many threads a plan may have.
+/// The most threads that a plan may have.
 const MOST_THREADS: u32 = 128;
 
-/// How many calls all threads of a plan may have.
+/// The most calls that all threads of a plan may have together.
 const MOST_CALLS: u32 = 10000;
 
 /// How many threads and calls there are.
@@ -76,7 +76,7 @@ impl Counts {
     }
 }
 
-/// Looks at the form of each line, and at how many threads and calls there are.
+/// Checks the form of each line, and how many threads and calls there are.
 pub(crate) fn check_lines(alloc: Global, lines: &[&[u8]]) -> Result<Counts, PlanError>
     ensures { TellsLines result
         (built_from line_counted 1 none_counted (map (λ l. l.now) lines.now)) }

@@ -18,7 +18,7 @@ fn are_digits(bytes: &[u8]) -> bool
     bytes.iter().all(|byte| is_digit(*byte))
 }
 
-// Whether a token is the number of a site: digits without a needless zero.
+// Whether a token is the number of a site: decimal digits without a leading zero.
 fn is_number(token: &[u8]) -> bool
     ensures { result ≡ is_number token.now }
 {
@@ -42,7 +42,7 @@ fn is_leaf_word(word: &[u8]) -> bool
     word == b"exact".as_slice() || word == b"generic".as_slice()
 }
 
-// Whether this is a call, where so many tokens follow the second.
+// Whether these are the first tokens of a call, given how many tokens follow the second.
 fn is_call_of(word: &[u8], subject: &[u8], more: usize) -> bool
     ensures { result ≡ is_call_of word.now subject.now more }
 {

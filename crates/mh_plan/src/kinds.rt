@@ -7,21 +7,21 @@ use std::alloc::AllocError;
 use std::error::Error;
 use std::fmt;
 
-/// What is wrong with a line of a plan. The first line of the first two kinds counts, then the first of
-/// the others, and in it the first kind.
+/// What is wrong with a line of a plan. The first line of one of the first two kinds counts. If
+/// there is none, the first line of another kind counts, with the first kind that applies to it.
 #[derive(Clone, Copy, Debug, PartialEq, Eq)]
 pub enum PlanKind {
-    /// The line is none of a plan, or a call before the first thread.
+    /// The line does not have the form of a plan's line, or is a call before the first thread.
     BadLine,
-    /// The thread is past 128, or the call past 10,000 of all threads.
+    /// The thread is the 129th, or the call the 10,001st of all threads.
     TooMany,
-    /// No leaf has the texts of the reference.
+    /// No leaf has the owner, name and descriptor of the reference.
     NoLeaf,
-    /// The number is that of no site.
+    /// No site has this number.
     NoSite,
     /// The type of the call is not readable.
     BadType,
-    /// An argument is no literal, or the arguments have not the types of the call's parameters.
+    /// An argument is no literal, or the arguments do not have the types of the call's parameters.
     BadArguments,
 }
 
@@ -40,7 +40,7 @@ impl PlanKind {
         }
     }
 
-    /// The kind's number, from 1: of the kinds that apply to a line, the lowest counts.
+    /// The kind's number, from 1. If several kinds apply to a line, the lowest number counts.
     pub fn number(self) -> u8
         ensures { result ≡ kind_number self }
     {
@@ -55,7 +55,7 @@ impl PlanKind {
     }
 }
 
-/// How a line was taken.
+/// The result of taking a line.
 pub(crate) type LineResult = Result<(), LineError<PlanKind>>;
 
 /// The faulty line of a plan that counts, numbered from 1.

@@ -22,9 +22,10 @@ fn read_all(alloc: Global, of: &Callees<'_>, lines: &[&[u8]]) -> Result<Plan, Pl
     read_lines(alloc, of, lines)
 }
 
-/// Reads a plan of calls of these leaves and of the call sites of these jobs, or gives the faulty
-/// line that counts. Its calls can then be made: nothing of them has to be tested when they run. It
-/// has at most 128 threads and 10,000 calls. A line that no `u32` can number is want of memory.
+/// Reads a plan of calls of these leaves and of the call sites of these jobs, or answers the faulty
+/// line that counts. The calls of a plan that was read need no test before they are made. A plan
+/// has at most 128 threads and 10,000 calls. A line whose number exceeds a `u32` answers
+/// `NoMemory`.
 pub fn read_plan(
     alloc: Global,
     bytes: &[u8],
