@@ -1,4 +1,4 @@
--- Which forms a run makes and can need: one for each recipe.
+-- The forms that a run makes and can need: one for each recipe.
 use Rattle.std.specs.Prelude.{ℕ, ◌*◌, if◌then◌else◌, List, [], ◌∷◌, ◌++◌, length, Ok, Err}
 use Rattle.std.specs.List.{flat_map, range_with_len}
 use Rattle.std.specs.Set.{distinct_count}
@@ -19,59 +19,60 @@ use Rattle.mh_plan.specs.declared.call.Call.TheVariants.{Exact, Generic, Indy}
 use Rattle.mh_plan.specs.Naming.{naming_of, pairs_named}
 use Rattle.mh_report.specs.declared.attempt.Attempt.{Attempt}
 
--- edits that depend on a type, none where there is none
+-- edits that depend on a type: none if it is refused
 abbrev pub at_type : TypeOrRefusal → (MethodTy → List (List Key)) → List (List Key)
 at_type (Ok t) edits = edits t
 at_type (Err e) edits = []
 
--- the recipe of a tree that is used as another type, if that is allowed; it is the tree's own where nothing is converted
+-- The recipe of a tree after its conversion to another type, if that is allowed. It is the tree's own recipe if nothing is converted.
 abbrev pub used_edits : LeafTable → Tree → MethodTy → List (List Key)
 used_edits table t asked =
     at_type (type_of table t) (λ own.
     if is_same_method_type own asked then []
     else at_type (type_of table (tree.AsType t asked)) (λ _. recipe table (tree.AsType t asked) ∷ []))
 
--- the recipes that a call makes: that of its leaf, whatever its type is, and of a generic one that of the leaf's use as its type; a call of
--- a site makes none, since the attempt that links it did
+-- The recipes that a call asks for: that of its leaf, whatever its type is, and for a generic call that of the leaf's conversion.
+-- A call of a site asks for none, because the attempt that linked the site did.
 abbrev pub call_edits : LeafTable → Call → List (List Key)
 call_edits table (Exact leaf ty args) = recipe table (tree.Leaf leaf) ∷ []
 call_edits table (Generic leaf ty args) = recipe table (tree.Leaf leaf) ∷ used_edits table (tree.Leaf leaf) ty
 call_edits table (Indy site args) = []
 
--- the recipes that the calls of one thread make
+-- the recipes that the calls of one thread ask for
 abbrev pub thread_edits : LeafTable → List Call → List (List Key)
 thread_edits table calls = flat_map (λ call. call_edits table call) calls
 
--- the recipes that all calls make
+-- the recipes that all calls ask for
 abbrev pub plan_edits : LeafTable → List (List Call) → List (List Key)
 plan_edits table threads = flat_map (λ calls. thread_edits table calls) threads
 
--- the recipes that an attempt makes
+-- the recipes that an attempt asks for
 abbrev pub attempt_edits : Given → Attempt → List (List Key)
 attempt_edits given attempt = edits_at (recipe given.leaves) given attempt.site attempt.serial
 
--- how many forms a run makes: the number of different recipes that its attempts and its calls make
+-- how many forms a run makes: the number of different recipes that its attempts and calls ask for
 abbrev pub forms : Given → List (List Call) → List Attempt → ℕ
 forms given threads attempts = distinct_count same_recipe (flat_map (attempt_edits given) attempts ++ plan_edits given.leaves threads)
 
--- the recipes that attempts to link a site make which have the serials from 1 to a number
+-- the recipes that attempts to link a site can ask for, if their serials are at most `most`
 abbrev pub site_edits : Given → ℕ → ℕ → List (List Key)
 site_edits given most site = flat_map (λ serial. edits_at (recipe given.leaves) given site serial) (range_with_len 1 most)
 
--- the recipes that attempts to link sites make, likewise
+-- the same for several sites
 abbrev pub sites_edits : Given → ℕ → List ℕ → List (List Key)
 sites_edits given most sites = flat_map (λ site. site_edits given most site) sites
 
--- the recipes that a run can make, whichever attempts link its sites: those of its calls, and of attempts to link each site that a call
--- names. An attempt of a run is one of a thread and a site that the thread names, so that no serial is higher than the number of those
+-- The recipes that a run can ask for, whichever attempts link its sites: those of its calls, and of attempts to link the sites that calls name.
+-- Each thread attempts each site that it names at most once. So no serial exceeds the number of pairs of a thread and a site that it names.
 abbrev pub all_edits : Given → List (List Call) → List (List Key)
 all_edits given threads =
     plan_edits given.leaves threads ++ flat_map (λ sites. sites_edits given (pairs_named threads) sites) (naming_of threads)
 
--- how many forms a run can need: the number of different recipes that it can make
+-- how many forms a run can need: the number of different recipes that it can ask for
 abbrev pub forms_needed : Given → List (List Call) → ℕ
 forms_needed given threads = distinct_count same_recipe (all_edits given threads)
 
--- how many numbers of forms the threads of a run can draw: each thread one for each form that the run can need
+-- How many form numbers the threads of a run can draw: each thread at most one for each form that the run can need.
+-- It is a product because racing threads may each draw a number for the same form. One form is kept, and the other numbers are spent.
 abbrev pub draws_needed : Given → List (List Call) → ℕ
 draws_needed given threads = length threads * forms_needed given threads

@@ -1,4 +1,4 @@
--- What is recorded at the call sites of a run.
+-- The records of the call sites of a run.
 use Rattle.std.specs.Prelude.{ℕ, ◌+◌, List, [], ◌∷◌, ◌++◌, map, Option, option_map, Ok, Err}
 use Rattle.std.specs.Option.{option_map_or}
 use Rattle.std.specs.Set.{distinct_count}
@@ -16,40 +16,40 @@ use Rattle.mh_report.specs.declared.table.Shown.{Shown}
 use Rattle.mh_report.specs.declared.table.Shown.TheVariants as shown
 use Rattle.mh_report.specs.Results.{Serials}
 
--- a target by its type; that of an attempt has one
+-- a target, shown by its type; the target of an attempt always has one
 abbrev pub target_shown : TypeOrRefusal → Shown
 target_shown (Ok t) = shown.Linked t
 target_shown (Err e) = shown.Error e
 
--- what is linked, as it is shown: a target by its type, or the error
+-- what is linked, as a report shows it: the target's type, or the error
 abbrev pub shown_of : LeafTable → link.Linked → Shown
 shown_of leaves (link.Target t) = target_shown (type_of leaves t)
 shown_of leaves (link.Error e) = shown.Error e
 
--- what the attempt of a serial number records at a site
+-- what the attempt with a serial number records at a site
 abbrev pub recorded_at : Given → ℕ → ℕ → Recorded
 recorded_at given site serial = record { serial = serial; shown = shown_of given.leaves (linked_at given site serial) }
 
--- what is recorded at sites that are counted from a number, where they are linked by these attempts
+-- what is recorded at the sites from this number on, if these attempts linked them
 abbrev pub recorded_from : Given → ℕ → Serials → List (Option Recorded)
 recorded_from given site [] = []
 recorded_from given site (serial ∷ table) = option_map (recorded_at given site) serial ∷ recorded_from given (site + 1) table
 
--- what is recorded at each site, where sites are linked by these attempts
+-- what is recorded at each site, if these attempts linked them
 abbrev pub recorded : Given → Serials → List (Option Recorded)
 recorded given table = recorded_from given 0 table
 
--- the serial of the attempt by which each site is linked
+-- for each site the serial of the attempt that linked it
 abbrev pub serials_of : List (Option Recorded) → Serials
 serials_of entries = map (λ entry. option_map (λ r. r.serial) entry) entries
 
 -- ---- types
 
--- the types that what is recorded at a site holds
+-- the types that the target recorded at a site holds
 abbrev pub held_at : Given → ℕ → Option ℕ → List MethodTy
 held_at given site serial = option_map_or (λ s. held_by given.leaves (linked_at given site s)) serial []
 
--- the types that what is recorded at sites holds which are counted from a number
+-- the types that the targets recorded at the sites from this number on hold
 abbrev pub held_from : Given → ℕ → Serials → List MethodTy
 held_from given site [] = []
 held_from given site (serial ∷ table) = held_at given site serial ++ held_from given (site + 1) table

@@ -13,20 +13,20 @@ use Rattle.mh_link.specs.Sites.{linked_at}
 use Rattle.mh_plan.specs.declared.call.Call.{Call}
 use Rattle.mh_plan.specs.declared.call.Call.TheVariants.{Exact, Generic, Indy}
 
--- how a call ended: with what value or exception, and with which leaf calls
+-- how a call ended: its value or exception, and its leaf calls
 abbrev pub Result : Type 0
 Result = Ran (Option Value)
 
--- for each site the serial of the attempt by which it is linked, where it is
+-- for each site the serial of the attempt that linked it, if it is linked
 abbrev pub Serials : Type 0
 Serials = List (Option ℕ)
 
--- the serial of the attempt by which a site is linked, where it is
+-- the serial of the attempt that linked a site, if it is linked
 abbrev pub serial_at : Serials → ℕ → Option ℕ
 serial_at table site = option_flatten (slice_get table site)
 
--- the result of a call where sites are linked by these attempts. A call of a leaf looks at none; one of a site that is not linked is stuck,
--- and a run links each site that its calls name
+-- The result of a call, if these attempts linked the sites. A call of a leaf depends on none of them.
+-- A call of a site that is not linked is stuck; a run links each site that its calls name.
 abbrev pub result_of : Given → Serials → Call → Result
 result_of given table (Exact leaf ty args) = exact given.leaves (tree.Leaf leaf) ty args 0
 result_of given table (Generic leaf ty args) = generic given.leaves (tree.Leaf leaf) ty args 0
@@ -41,15 +41,15 @@ thread_results given table calls = map (λ call. result_of given table call) cal
 abbrev pub results_of : Given → Serials → List (List Call) → List (List Result)
 results_of given table threads = map (λ calls. thread_results given table calls) threads
 
--- what an answer says
+-- the result that an answer has
 abbrev pub result_said : Answer → Result
 result_said answer = ran_of answer.outcome answer.calls
 
--- what the answers of one thread say
+-- the results that the answers of one thread have
 abbrev pub thread_said : List Answer → List Result
 thread_said answers = map (λ answer. result_said answer) answers
 
--- what the answers of each thread say
+-- the results that the answers of each thread have
 abbrev pub results_said : List (List Answer) → List (List Result)
 results_said threads = map (λ answers. thread_said answers) threads
 

@@ -32,7 +32,7 @@ recorded_text classes (Some r) = codes "serial " ++ decimal r.serial ++ codes " 
 abbrev pub site_text : List Class → ℕ → Option Recorded → List ℕ
 site_text classes site entry = codes "site " ++ decimal site ++ codes " " ++ recorded_text classes entry ++ lf
 
--- the lines of sites that are counted from a number
+-- the lines of the sites from this number on
 abbrev pub sites_text : List Class → ℕ → List (Option Recorded) → List ℕ
 sites_text classes site [] = []
 sites_text classes site (entry ∷ table) = site_text classes site entry ++ sites_text classes (site + 1) table
@@ -42,7 +42,7 @@ abbrev pub returned_text : List Class → Option Value → List ℕ
 returned_text classes None = codes "void"
 returned_text classes (Some value) = shown_value classes value
 
--- the numbers of the leaves, with spaces between, or a dash where there is none
+-- the numbers of the leaves, with spaces between, or a dash if there are none
 abbrev pub calls_text : List LeafCall → List ℕ
 calls_text [] = codes "-"
 calls_text (call ∷ calls) = decimal call.leaf.0 ++ flat_map (λ next. codes " " ++ decimal next.leaf.0) calls
@@ -66,7 +66,7 @@ results_text classes results = flat_map (λ result. result_line classes result) 
 abbrev pub thread_text : List Class → ℕ → List Result → List ℕ
 thread_text classes n results = codes "thread " ++ decimal n ++ lf ++ results_text classes results
 
--- the lines of threads that are counted from a number
+-- the lines of the threads from this number on
 abbrev pub threads_text : List Class → ℕ → List (List Result) → List ℕ
 threads_text classes n [] = []
 threads_text classes n (results ∷ threads) = thread_text classes n results ++ threads_text classes (n + 1) threads

@@ -1,4 +1,4 @@
--- Which types a run can need, and whether a table of types has slots for them.
+-- The types that a run can need, and whether a table of types has slots for them.
 use Rattle.std.specs.Prelude.{ℕ, ◌==◌, ◌<◌, ◌≤◌, List, [], ◌∷◌, ◌++◌, filter}
 use Rattle.std.specs.List.{flat_map, range_with_len}
 use Rattle.std.specs.Set.{distinct_count}
@@ -15,9 +15,9 @@ use Rattle.mh_plan.specs.declared.call.Call.TheVariants.{Exact, Generic, Indy}
 use Rattle.mh_plan.specs.Naming.{naming_of, pairs_named}
 use Rattle.mh_report.specs.declared.attempt.Attempt.{Attempt}
 
--- ---- which types a run can need
+-- ---- the types that a run can need
 
--- the type that a call of a leaf makes a handle of: the leaf's; a call of a site makes none, since the attempt that links it did
+-- The types that a call asks for: that of its leaf. A call of a site asks for none, because the attempt that linked the site did.
 abbrev pub call_types : LeafTable → Call → List MethodTy
 call_types table (Exact leaf ty args) = types_of table (tree.Leaf leaf ∷ [])
 call_types table (Generic leaf ty args) = types_of table (tree.Leaf leaf ∷ [])
@@ -35,33 +35,33 @@ plan_types table threads = flat_map (λ calls. thread_types table calls) threads
 abbrev pub attempt_types : Given → Attempt → List MethodTy
 attempt_types given attempt = types_at given attempt.site attempt.serial
 
--- the types of the nodes that attempts to link a site make which have the serials from 1 to a number
+-- the types of the nodes that attempts to link a site can make, if their serials are at most `most`
 abbrev pub site_types : Given → ℕ → ℕ → List MethodTy
 site_types given most site = flat_map (λ serial. types_at given site serial) (range_with_len 1 most)
 
--- the same of attempts to link sites
+-- the same for several sites
 abbrev pub sites_types : Given → ℕ → List ℕ → List MethodTy
 sites_types given most sites = flat_map (λ site. site_types given most site) sites
 
--- the types that a run can need, whichever attempts link its sites: those of the leaves that it calls, and of the nodes of attempts to link each site that a
--- call names. An attempt of a run is one of a thread and a site that the thread names, so that no serial is higher than the number of those
+-- The types that a run can need, whichever attempts link its sites: those of the leaves that it calls, and of the nodes that attempts make.
+-- Each thread attempts each site that it names at most once. So no serial exceeds the number of pairs of a thread and a site that it names.
 abbrev pub all_types : Given → List (List Call) → List MethodTy
 all_types given threads = plan_types given.leaves threads ++ flat_map (λ sites. sites_types given (pairs_named threads) sites) (naming_of threads)
 
 -- ---- whether there are slots for them
 
--- how many of these types are of a bucket
+-- how many of these types belong to a bucket
 abbrev pub in_bucket : ℕ → List MethodTy → ℕ
 in_bucket bucket types = distinct_count is_same_method_type (filter (λ t. bucket_of t == bucket) types)
 
--- each bucket has slots for the types of it
+-- each bucket has slots for its types
 abbrev pub FitBuckets : List MethodTy → Type 0
 FitBuckets types = (bucket : ℕ) → in_bucket bucket types ≤ bucket_slots
 
--- this bucket has fewer slots than there are types of it
+-- this bucket has fewer slots than types
 abbrev pub Overfill : ℕ → List MethodTy → Type 0
 Overfill bucket types = bucket_slots < in_bucket bucket types
 
--- some bucket has fewer
+-- some bucket has fewer slots than types
 abbrev pub OverfillBucket : List MethodTy → Type 0
 OverfillBucket types = (bucket : ℕ) × Overfill bucket types

@@ -1,5 +1,5 @@
-//! What belongs to a finished run: the answers of its calls, the attempts that linked its call
-//! sites, what is recorded there, and the report.
+//! Finished runs: the answers of the calls, the attempts that linked the call sites, what is
+//! recorded there, and the report.
 #![tactic(auto)]
 
 mod answer;

@@ -159,8 +159,8 @@ fn push_outcome(
     }
 }
 
-/// Puts the line of a call after a text: `returns VALUE calls LEAVES`, or `throws EXC calls LEAVES`.
-/// `VALUE` is a literal or `void`; `LEAVES` are the numbers of the leaf calls in order, with a space
+/// Appends the line of a call: `returns VALUE calls LEAVES`, or `throws EXC calls LEAVES`. `VALUE`
+/// is a literal or `void`; `LEAVES` are the numbers of the leaf calls in order, with a space
 /// between, or `-` for none.
 pub fn push_answer(
     alloc: Global,
@@ -251,8 +251,9 @@ pub struct Summary {
     pub types: u32,
 }
 
-/// The report on a run: a line for each call site with what is recorded there, for each thread its
-/// number and a line for each of its calls, and the line that counts.
+/// The report on a run. It has a line for each call site with what is recorded there. For each
+/// thread it has its number and a line for each of its calls. The last line counts attempts, forms
+/// and types.
 pub fn report(
     alloc: Global,
     threads: &ThreadAnswers,
