@@ -1,4 +1,4 @@
--- What the words and the files say.
+-- The meaning of the command line and the files.
 use Rattle.std.specs.Prelude.{◌≡◌, ℕ, ◌-◌, List, [], ◌∷◌, ◌++◌, codes, if◌then◌else◌, nat_lt, ◌≤◌, length, Option, None, Some, Result, Ok, Err}
 use Rattle.std.specs.Fmt.{decimal}
 use Rattle.mh_base.specs.declared.lines.LineFault.{LineFault}
@@ -25,13 +25,14 @@ use Rattle.mh_main.specs.Kinds.{class_word}
 use Rattle.mh_main.specs.Program.{given_of}
 use Rattle.mh_words.specs.Words.{Named, Command, run, sites, generate, command_of}
 
--- what is accepted: a program to run, or classes whose call sites are listed
+-- what a command line and files are accepted as: a program to run, or classes whose call sites are listed
 pub data Accepted : Type 0 where
   program : Program → Accepted
   listed : List Class → Accepted
 
--- the words are refused, an input is refused with its line, all inputs are accepted, or the first input that stops the
--- reading is told not to be there, or it is not told
+-- The meaning of words and files. The words are refused, a file is refused with a line, or all files are accepted.
+-- `missing`: the first file that stops the reading does not exist. `untold`: contracts cannot see that file.
+-- `untold` is needed because contracts see files in memory, and no clause can say what a real file has in it. There the clauses claim nothing.
 pub data Input : Type 0 where
   usage : Input
   refused : List ℕ → Input
@@ -51,48 +52,48 @@ fault_line name number word = codes "refused " ++ name ++ codes " line " ++ deci
 abbrev pub place_line : List ℕ → ℕ → List ℕ → List ℕ
 place_line name at word = codes "refused " ++ name ++ codes " at " ++ decimal at ++ codes " " ++ word ++ codes "\n"
 
--- goes on with an input of at most that many bytes
+-- continues with a file's bytes, if there are at most `limit`
 abbrev pub within : List ℕ → ℕ → Told → (List ℕ → Input) → Input
 within name limit (file bytes) next = if nat_lt limit (length bytes) then refused (too_long_line name) else next bytes
 within name limit nothing next = untold
 within name limit absent next = missing
 
--- goes on with an input that has a meaning
+-- continues with the meaning of a file, if it has no faulty line
 abbrev pub meant : {T K : Type 0} → List ℕ → (K → List ℕ) → Result T (LineFault K) → (T → Input) → Input
 meant name word (Ok value) next = next value
 meant name word (Err fault) next = refused (fault_line name fault.line (word fault.kind))
 
--- how many bytes a manifest may have, and likewise the scripts
+-- the most bytes of a manifest, and of a file of scripts
 abbrev pub leaves_limit : ℕ
 leaves_limit = 262144
 
--- how many bytes a plan may have
+-- the most bytes of a plan
 abbrev pub plan_limit : ℕ
 plan_limit = 1048576
 
--- how many bytes a class file may have
+-- the most bytes of a class file
 abbrev pub class_limit : ℕ
 class_limit = 1048576
 
--- goes on with a class
+-- continues with a class, if the file has no fault
 abbrev pub class_meant : List ℕ → Checked ClassKind Class → (Class → Input) → Input
 class_meant name (Ok c) next = next c
 class_meant name (Err fault) next = refused (place_line name fault.at (class_word fault.kind))
 
--- goes on with the classes of files in order, which have at most so many call sites together
+-- continues with the classes of files in order, if they have at most `room` call sites together
 abbrev pub classes_input : ℕ → List (List ℕ) → (List ℕ → Told) → (List Class → Input) → Input
 classes_input room [] files next = next []
 classes_input room (name ∷ names) files next =
     within name class_limit (files name) (λ bytes. class_meant name (class_or_fault room bytes) (λ c.
     classes_input (room - length c.sites) names files (λ classes. next (c ∷ classes))))
 
--- what the plan of a run says, over what the run is given, where this is written of the run
+-- the program that a plan completes, given the rest of it and what is written at the end
 abbrev pub plan_input : Output → Given → List ℕ → (List ℕ → Told) → Input
 plan_input output given name files =
     within name plan_limit (files name) (λ bytes. meant name plan_word (plan bytes given.leaves given.jobs) (λ threads.
     accepted (program (record { leaves = given.leaves; scripts = given.scripts; jobs = given.jobs; plan = threads; output = output }))))
 
--- what the inputs of these names say, taken in the order manifest, scripts, class files, plan
+-- the program of the files with these names, taken in the order manifest, scripts, class files, plan
 abbrev pub named_input : Output → Named → (List ℕ → Told) → Input
 named_input output names files =
     within names.leaves leaves_limit (files names.leaves) (λ leaves_bytes. meant names.leaves manifest_word (manifest leaves_bytes) (λ leaves.
@@ -100,11 +101,11 @@ named_input output names files =
     classes_input most_sites names.classes files (λ classes.
     plan_input output (record { leaves = leaves; scripts = scripts; jobs = jobs_of leaves scripts classes }) names.plan files)))))
 
--- classes are accepted to be listed
+-- these classes are accepted as ones to list
 abbrev pub to_list : List Class → Input
 to_list classes = accepted (listed classes)
 
--- what class files say whose call sites, at most so many together, are listed
+-- the classes to list of these files, with at most `room` call sites together
 abbrev pub listing_input : ℕ → List (List ℕ) → (List ℕ → Told) → Input
 listing_input room names files = classes_input room names files to_list
 
@@ -112,26 +113,26 @@ listing_input room names files = classes_input room names files to_list
 abbrev pub generated_names : Named
 generated_names = record { leaves = codes "leaves"; scripts = codes "scripts"; plan = codes "plan"; classes = codes "class" ∷ [] }
 
--- what the files say that are made from a number: a run, of which one line is written
+-- the program of the files that are made from a number; one line is written at its end
 unfoldable pub generated_input : ℕ → Input
 generated_input number = named_input (Line number) generated_names (files_of number)
 
--- what the inputs of a command say
+-- the meaning of a command over files
 abbrev pub command_input : Command → (List ℕ → Told) → Input
 command_input (run names) files = named_input Report names files
 command_input (sites names) files = listing_input most_sites names files
 command_input (generate number) files = generated_input number
 
--- the same if the words may be refused
+-- the same for words that may be refused
 abbrev pub input_of : Option Command → (List ℕ → Told) → Input
 input_of None files = usage
 input_of (Some command) files = command_input command files
 
--- what the words and the files say
+-- the meaning of words over files
 abbrev pub input : List (List ℕ) → (List ℕ → Told) → Input
 input words files = input_of (command_of words) files
 
--- if contracts see the inputs up to the first that stops the reading, none stops it, and P holds of what is accepted
+-- If contracts can see the files up to the first that stops the reading, no file stops it, and P holds for what is accepted.
 abbrev pub IfAccepted : Input → (Accepted → Type 0) → Type 0
 IfAccepted usage P = ⊥
 IfAccepted (refused line) P = ⊥
@@ -139,7 +140,7 @@ IfAccepted (accepted a) P = P a
 IfAccepted missing P = ⊥
 IfAccepted untold P = Unit {0}
 
--- if contracts see the inputs up to the first that is refused, there is one, and P holds of its line
+-- If contracts can see the files up to the first that stops the reading, that file is refused, and P holds for its line.
 abbrev pub IfRefused : Input → (List ℕ → Type 0) → Type 0
 IfRefused usage P = ⊥
 IfRefused (refused line) P = P line
@@ -147,7 +148,7 @@ IfRefused (accepted a) P = ⊥
 IfRefused missing P = ⊥
 IfRefused untold P = Unit {0}
 
--- an input is refused
+-- a file is refused
 abbrev pub IsRefused : Input → Type 0
 IsRefused usage = ⊥
 IsRefused (refused line) = Unit {0}
@@ -155,7 +156,7 @@ IsRefused (accepted a) = ⊥
 IsRefused missing = ⊥
 IsRefused untold = ⊥
 
--- the inputs are accepted
+-- all files are accepted
 abbrev pub AreAccepted : Input → Type 0
 AreAccepted usage = ⊥
 AreAccepted (refused line) = ⊥
@@ -163,7 +164,7 @@ AreAccepted (accepted a) = Unit {0}
 AreAccepted missing = ⊥
 AreAccepted untold = ⊥
 
--- contracts see that the first input that stops the reading does not exist
+-- contracts can see that the first file that stops the reading does not exist
 abbrev pub IsMissing : Input → Type 0
 IsMissing usage = ⊥
 IsMissing (refused line) = ⊥
@@ -171,7 +172,7 @@ IsMissing (accepted a) = ⊥
 IsMissing missing = Unit {0}
 IsMissing untold = ⊥
 
--- these are classes of which P holds
+-- these are classes to list, and P holds for them
 abbrev pub AreListed : (List Class → Type 0) → Accepted → Type 0
 AreListed P (program p) = ⊥
 AreListed P (listed classes) = P classes
