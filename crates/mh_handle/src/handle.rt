@@ -5,7 +5,7 @@ ghost use Rattle.mh_handle.specs.Form.{body_of};
 ghost use Rattle.mh_handle.specs.Stands.{HasShape, IsShaped};
 
 use crate::form::Form;
-use mh_form::{Bound, Fields};
+use mh_form::{Bound, Field, Fields};
 use mh_intern::HeldType;
 use mh_values::MethodTy;
 use std::marker::Model;
@@ -118,5 +118,12 @@ impl<'t> Handle<'t> {
         ensures { result.now ≡ self.now.form }
     {
         self.form
+    }
+
+    /// The fields that the form runs on. Those of kind `Part` hold the handle's side parts.
+    pub fn fields(&self) -> &[Field<'t>]
+        ensures { result.now ≡ self.now.fields }
+    {
+        self.bound.fields.as_slice()
     }
 }

@@ -129,6 +129,13 @@ impl<'t> FormPass<'t> {
         self.seen.len()
     }
 
+    /// The forms that were asked for, in the order in which they first were.
+    pub fn asked(&self) -> &[&'t Form]
+        ensures { map (λ f. f.now) result.now ≡ self.now.asked }
+    {
+        self.seen.as_slice()
+    }
+
     /// The form of a recipe and one more key, if it was asked for. It takes no memory.
     pub(crate) fn seen(&self, recipe: &Recipe, key: &Key) -> Option<&'t Form>
         ensures seen { FindsNode recipe_of self.now.asked (recipe.now ++ key.now ∷ []) result }

@@ -101,6 +101,13 @@ impl Recipe {
         self.chain as usize
     }
 
+    /// The keys, from the first on.
+    pub fn keys(&self) -> &[Key]
+        ensures { result.now ≡ self.now }
+    {
+        self.keys.as_slice()
+    }
+
     /// How many keys there are.
     pub fn len(&self) -> usize
         ensures { result ≡ length self.now }

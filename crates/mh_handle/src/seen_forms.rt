@@ -1,4 +1,4 @@
-ghost use Rattle.std.specs.Prelude.{◌≡◌, ◌++◌, ◌∷◌, [], length, OnOk, OnErr, IfOk};
+ghost use Rattle.std.specs.Prelude.{◌≡◌, ◌++◌, ◌∷◌, [], length, map, OnOk, OnErr, IfOk};
 ghost use Rattle.mh_setonce.specs.Walks.{Lacks, FindsNode};
 ghost use Rattle.mh_handle.specs.Index.{recipe_of};
 ghost use Rattle.mh_handle.specs.Joins.{unasked};
@@ -40,6 +40,13 @@ impl<'t> SeenForms<'t> {
             forms: Vec::new(alloc),
             places: Places::new(alloc),
         }
+    }
+
+    /// The forms, in the order in which they were asked for.
+    pub(crate) fn as_slice(&self) -> &[&'t Form]
+        ensures { map (λ f. f.now) result.now ≡ self.now }
+    {
+        self.forms.as_slice()
     }
 
     pub(crate) fn len(&self) -> u32
