@@ -60,8 +60,8 @@ impl Recipe {
         })
     }
 
-    /// Whether this recipe is another one and one more key. It takes no memory.
-    pub(crate) fn is_then(&self, start: &Recipe, key: &Key) -> bool
+    /// Whether this recipe is that of `start` followed by the key. It takes no memory.
+    pub fn is_then(&self, start: &Recipe, key: &Key) -> bool
         ensures { IsTrue result ↔ (self.now ≡ start.now ++ key.now ∷ []) }
     {
         match self.keys.as_slice() {
