@@ -5,36 +5,45 @@ use Rattle.mh_class_bytes.specs.Mutf8.{unit_len, sound_from}
 use Rattle.mh_class_bytes.specs.Format.{reads, fault, repeated}
 use Rattle.mh_class_pool.specs.declared.entry.Entry.TheVariants as entries
 use Rattle.mh_class_pool.specs.declared.entry.Kind.TheVariants as kinds
-use Rattle.mh_class_pool.specs.declared.fault.ClassKind.TheVariants.{Truncated, BadTag, BadIndex, BadText, WrongKind, BadDescriptor}
-use Rattle.mh_class_pool.specs.Entries.{Slot, entry, utf8, utf8_bytes, contents, numeric, named, handle, pool_of}
+use Rattle.mh_class_pool.specs.declared.fault.ClassKind.TheVariants.{Truncated, BadTag, BadIndex, BadText, WrongKind, BadDescriptor, TooManyConstants}
+use Rattle.mh_class_pool.specs.Entries.{Slot, entry, utf8, utf8_bytes, contents, numeric, named, handle, dynamics_from, dynamics, pool_of}
 use Rattle.mh_class_pool.specs.References.{names, own_references, good_descriptor, good_method_name, good_slot, each, good_references}
 
 at_start : List ℕ → Position
 at_start bytes = record { bytes = bytes; at = 0 }
 
-an_integer : reads (entry false) (at_start (3 ∷ 0 ∷ 0 ∷ 1 ∷ 0 ∷ [])) ≡ Ok (entries.Integer 256, record { bytes = 3 ∷ 0 ∷ 0 ∷ 1 ∷ 0 ∷ []; at = 5 })
+an_integer : reads (entry false false) (at_start (3 ∷ 0 ∷ 0 ∷ 1 ∷ 0 ∷ [])) ≡ Ok (entries.Integer 256, record { bytes = 3 ∷ 0 ∷ 0 ∷ 1 ∷ 0 ∷ []; at = 5 })
 unfolding at_start entry contents numeric
 an_integer = refl
 
-a_handle : reads (entry false) (at_start (15 ∷ 6 ∷ 1 ∷ 2 ∷ [])) ≡ Ok (entries.MethodHandle 6 258, record { bytes = 15 ∷ 6 ∷ 1 ∷ 2 ∷ []; at = 4 })
+a_handle : reads (entry false false) (at_start (15 ∷ 6 ∷ 1 ∷ 2 ∷ [])) ≡ Ok (entries.MethodHandle 6 258, record { bytes = 15 ∷ 6 ∷ 1 ∷ 2 ∷ []; at = 4 })
 unfolding at_start entry contents handle
 a_handle = refl
 
-cut_short : reads (entry false) (at_start (7 ∷ 0 ∷ [])) ≡ fault 1 Truncated
+cut_short : reads (entry false false) (at_start (7 ∷ 0 ∷ [])) ≡ fault 1 Truncated
 unfolding at_start entry contents named
 cut_short = refl
 
-no_tag : reads (entry false) (at_start (2 ∷ 0 ∷ [])) ≡ fault 0 BadTag
+no_tag : reads (entry false false) (at_start (2 ∷ 0 ∷ [])) ≡ fault 0 BadTag
 unfolding at_start entry contents
 no_tag = refl
 
-long_at_the_end : reads (entry true) (at_start (5 ∷ [])) ≡ fault 0 BadIndex
+long_at_the_end : reads (entry true false) (at_start (5 ∷ [])) ≡ fault 0 BadIndex
 unfolding at_start entry
 long_at_the_end = refl
 
-zero_byte : reads (entry false) (at_start (1 ∷ 0 ∷ 2 ∷ 65 ∷ 0 ∷ [])) ≡ fault 4 BadText
+zero_byte : reads (entry false false) (at_start (1 ∷ 0 ∷ 2 ∷ 65 ∷ 0 ∷ [])) ≡ fault 4 BadText
 unfolding at_start entry utf8 utf8_bytes sound_from unit_len
 zero_byte = refl
+
+another_dynamic : reads (entry false true) (at_start (17 ∷ [])) ≡ fault 0 TooManyConstants
+unfolding at_start entry
+another_dynamic = refl
+
+-- the Dynamic entries 1 and 4
+two_dynamics : dynamics (None ∷ Some (10, entries.Dynamic 0 5) ∷ Some (15, entries.Long 1 2) ∷ None ∷ Some (24, entries.Dynamic 0 5) ∷ []) ≡ 1 ∷ 4 ∷ []
+unfolding dynamics_from
+two_dynamics = refl
 
 -- a Long takes the indexes 1 and 2
 two_indexes : reads (pool_of 3) (at_start (5 ∷ 0 ∷ 0 ∷ 0 ∷ 1 ∷ 0 ∷ 0 ∷ 0 ∷ 2 ∷ [])) ≡ Ok (
@@ -45,7 +54,7 @@ two_indexes : reads (pool_of 3) (at_start (5 ∷ 0 ∷ 0 ∷ 0 ∷ 1 ∷ 0 ∷ 0
     at = 9;
   },
 )
-unfolding at_start entry contents numeric repeated
+unfolding at_start entry contents numeric repeated dynamics_from
 two_indexes = refl
 
 -- the texts `m` and `I`, a name and type of them, a class `m`, and a method

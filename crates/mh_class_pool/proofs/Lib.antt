@@ -1,4 +1,5 @@
 pub mod NextEntry
+pub mod Dynamics
 pub mod PoolLoop
 pub mod Each
 pub mod Failing

@@ -1,5 +1,6 @@
 -- Entries of the constant pool (JVMS 4.4).
-use Rattle.std.specs.Prelude.{◌≡◌, ℕ, ◌+◌, ◌==◌, nat_le, List, [], ◌∷◌, ◌++◌, length, Bool, true, false, ◌&&◌, ◌||◌, not, Option, Some, None, Ok, Err, ◌<◌, is_ok, slice_index, slice_index_or, if◌then◌else◌}
+use Rattle.std.specs.Prelude.{◌≡◌, ℕ, ◌+◌, ◌==◌, nat_le, List, [], ◌∷◌, ◌++◌, length, map, Bool, true, false, ◌&&◌, ◌||◌, not, Option, Some, None, Ok, Err, ◌<◌, ◌≤◌, ◌^◌, nat_lt, is_ok, slice_index, slice_index_or, if◌then◌else◌}
+use Rattle.std.specs.List.{count_by}
 use Rattle.mh_class_bytes.specs.Mutf8.{sound_len}
 use Rattle.mh_class_bytes.specs.Format.{Format, number, run, here, check, refuse, choose, done, ◌>>=◌, repeated, Reading, reads}
 use Rattle.mh_class_pool.specs.declared.entry.Entry.{Entry}
@@ -7,7 +8,7 @@ use Rattle.mh_class_pool.specs.declared.entry.Entry.TheVariants.{Utf8, Integer, 
 use Rattle.mh_class_pool.specs.declared.entry.Kind.{Kind}
 use Rattle.mh_class_pool.specs.declared.entry.Kind.TheVariants as kinds
 use Rattle.mh_class_pool.specs.declared.fault.ClassKind.{ClassKind}
-use Rattle.mh_class_pool.specs.declared.fault.ClassKind.TheVariants.{Truncated, BadTag, BadText, BadIndex}
+use Rattle.mh_class_pool.specs.declared.fault.ClassKind.TheVariants.{Truncated, BadTag, BadText, BadIndex, TooManyConstants}
 use Rattle.mh_class_pool.specs.Tags.{CONSTANT_Utf8, CONSTANT_Integer, CONSTANT_Float, CONSTANT_Long, CONSTANT_Double, CONSTANT_Class, CONSTANT_String, CONSTANT_Fieldref, CONSTANT_Methodref, CONSTANT_InterfaceMethodref, CONSTANT_NameAndType, CONSTANT_MethodHandle, CONSTANT_MethodType, CONSTANT_Dynamic, CONSTANT_InvokeDynamic, CONSTANT_Module, CONSTANT_Package}
 
 -- the format of a part of a class file
@@ -80,12 +81,13 @@ contents tag at =
 abbrev pub is_wide_tag : ℕ → Bool
 is_wide_tag tag = tag == CONSTANT_Long || tag == CONSTANT_Double
 
--- the next entry; at the last index there is no room for one that takes two
-unfoldable pub entry : Bool → ClassPart Entry
-entry is_last = do
+-- the next entry; at the last index there is no room for one that takes two, and in a pool that is full of Dynamic entries none for another
+unfoldable pub entry : Bool → Bool → ClassPart Entry
+entry is_last is_full = do
   at ← here
   tag ← number Truncated 1
   fits ← check (not (is_last && is_wide_tag tag)) at BadIndex
+  few ← check (not (is_full && tag == CONSTANT_Dynamic)) at TooManyConstants
   choose (tag == CONSTANT_Utf8) utf8 (contents tag at)
 
 -- a Long or a Double, which takes two indexes (4.4.5)
@@ -93,6 +95,11 @@ abbrev pub is_wide : Entry → Bool
 is_wide (Long high low) = true
 is_wide Double = true
 is_wide _ = false
+
+-- a constant that is computed (4.4.10)
+abbrev pub is_dynamic : Entry → Bool
+is_dynamic (Dynamic bootstrap name) = true
+is_dynamic _ = false
 
 -- what a bootstrap method may be given: a loadable constant (4.4, 4.7.23)
 abbrev pub is_argument : Entry → Bool
@@ -132,11 +139,41 @@ Slot = Option (ℕ × Entry)
 abbrev pub indexes_of : ℕ → Entry → List Slot
 indexes_of at e = if is_wide e then Some (at, e) ∷ None ∷ [] else Some (at, e) ∷ []
 
+-- an index, where a Dynamic entry stands there
+abbrev pub if_dynamic : ℕ → Entry → List ℕ
+if_dynamic i e = if is_dynamic e then i ∷ [] else []
+
+-- likewise by what the index names
+abbrev pub dynamic_at : ℕ → Slot → List ℕ
+dynamic_at i None = []
+dynamic_at i (Some s) = if_dynamic i s.1
+
+-- the indexes of the Dynamic entries among slots, which stand from an index on
+unfoldable pub dynamics_from : ℕ → List Slot → List ℕ
+dynamics_from i [] = []
+dynamics_from i (s ∷ slots) = dynamic_at i s ++ dynamics_from (i + 1) slots
+
+-- the indexes of the Dynamic entries of a pool, in order
+abbrev pub dynamics : List Slot → List ℕ
+dynamics pool = dynamics_from 0 pool
+
+-- how many Dynamic entries stand before an index
+abbrev pub dynamics_before : List Slot → ℕ → ℕ
+dynamics_before pool index = count_by (λ i. nat_lt i index) (dynamics pool)
+
+-- the most Dynamic entries that a class file may have: a limit of this project
+abbrev pub most_dynamics : ℕ
+most_dynamics = 256
+
+-- a pool has so many of them that none may follow
+abbrev pub is_full : List Slot → Bool
+is_full pool = nat_le most_dynamics (length (dynamics pool))
+
 -- the next entry, where an index below the count is left for it
 abbrev pub next_slots : ℕ → List Slot → ClassPart (List Slot)
 next_slots count so_far = choose (nat_le count (length so_far)) (done so_far) (do
   at ← here
-  e ← entry (length so_far + 1 == count)
+  e ← entry (length so_far + 1 == count) (is_full so_far)
   done (so_far ++ indexes_of at e))
 
 -- the pool of a count; index 0 is not usable, and each entry takes an index or two
@@ -163,8 +200,15 @@ slot_of at (Err f) = None
 
 -- what stands at the place of a tag; 0 is no such place
 abbrev pub slot_at : List ℕ → ℕ → Slot
-slot_at bytes at = if at == 0 then None else slot_of at (reads (entry false) (record { bytes = bytes; at = at }))
+slot_at bytes at = if at == 0 then None else slot_of at (reads (entry false false) (record { bytes = bytes; at = at }))
 
 -- an entry stands at each place that is kept
 pub record Stand (bytes places : List ℕ) : Type 0 where
-  pub each : (k : ℕ) → k < length places → 0 < slice_index places k → is_ok (reads (entry false) (record { bytes = bytes; at = slice_index places k })) ≡ true
+  pub each : (k : ℕ) → k < length places → 0 < slice_index places k → is_ok (reads (entry false false) (record { bytes = bytes; at = slice_index places k })) ≡ true
+
+-- what is kept of a pool: the places where its entries stand, and the indexes of the Dynamic ones
+pub record AreKept (bytes places kept : List ℕ) : Type 0 where
+  pub stand : Stand bytes places
+  pub dynamics : kept ≡ dynamics (map (slot_at bytes) places)
+  pub few : length kept < length places
+  pub small : length places ≤ 2 ^ 16

@@ -1,6 +1,6 @@
 ghost use Rattle.std.specs.Prelude.{◌≡◌};
 ghost use Rattle.mh_class_bytes.specs.Format.{Reads};
-ghost use Rattle.mh_class_pool.specs.Entries.{utf8_bytes, utf8, numeric, named, paired, handle, contents, entry, is_wide_tag, is_wide, is_argument, is_kind};
+ghost use Rattle.mh_class_pool.specs.Entries.{utf8_bytes, utf8, numeric, named, paired, handle, contents, entry, is_wide_tag, is_wide, is_dynamic, is_argument, is_kind};
 
 use crate::fault::{ClassFault, ClassKind};
 use crate::numbers::{run, u1, u2, u4};
@@ -94,6 +94,13 @@ impl<'b> Entry<'b> {
         ensures { result ≡ is_wide self.now }
     {
         matches!(self, Entry::Long(_, _) | Entry::Double)
+    }
+
+    /// Whether the entry is a constant that is computed (4.4.10).
+    pub fn is_dynamic(&self) -> bool
+        ensures { result ≡ is_dynamic self.now }
+    {
+        matches!(self, Entry::Dynamic(_, _))
     }
 }
 
@@ -208,10 +215,15 @@ pub fn read_contents<'b>(
     }
 }
 
-/// The next entry; at the last index of the pool it must not take two.
+/// The next entry; at the last index of the pool it must not take two, and in a pool that is full of
+/// Dynamic entries it must not be one.
 #[tactic(auto, unfolding(crate::specs::Entries::entry))]
-pub fn read_entry<'b>(is_last: bool, cursor: &mut Cursor<'b>) -> Result<Entry<'b>, ClassFault>
-    ensures reads { Reads (λ x. x) result cursor.old cursor.new (entry is_last) }
+pub fn read_entry<'b>(
+    is_last: bool,
+    is_full: bool,
+    cursor: &mut Cursor<'b>,
+) -> Result<Entry<'b>, ClassFault>
+    ensures reads { Reads (λ x. x) result cursor.old cursor.new (entry is_last is_full) }
 {
     let at = cursor.at();
     let tag = u1(cursor, ClassKind::Truncated)?;
@@ -219,6 +231,12 @@ pub fn read_entry<'b>(is_last: bool, cursor: &mut Cursor<'b>) -> Result<Entry<'b
         return Err(ClassFault {
             at,
             kind: ClassKind::BadIndex,
+        });
+    }
+    if is_full && tag == tags::DYNAMIC {
+        return Err(ClassFault {
+            at,
+            kind: ClassKind::TooManyConstants,
         });
     }
     if tag == tags::UTF8 {

@@ -31,6 +31,8 @@ pub enum ClassKind {
     TooManySites,
     /// A text that is no method descriptor (4.3.3) where one must stand.
     BadDescriptor,
+    /// More than 256 Dynamic entries (4.4.10), which is a limit of this project.
+    TooManyConstants,
 }
 
 /// The first condition, in the order of reading, that does not hold.

@@ -93,7 +93,7 @@ fn parts<'b>(constant: &Constant<'b>) -> (&'static str, i64, &'b [u8]) {
         Constant::Str(text) => ("string", 0, text.bytes()),
         Constant::Handle(handle) => ("handle", i64::from(handle.kind), handle.name.bytes()),
         Constant::MethodType(descriptor) => ("method type", 0, descriptor.bytes()),
-        Constant::Dynamic => ("dynamic", 0, b""),
+        Constant::Dynamic(_) => ("dynamic", 0, b""),
         Constant::Other => ("other", 0, b""),
     }
 }
@@ -150,6 +150,33 @@ fn has_handle(alloc: Global, index: u16) -> bool {
 #[test]
 fn a_handle(rt: HostRuntime) {
     assert!(rt; has_handle(rt.alloc(), 22));
+}
+
+/// Whether the one Dynamic entry of a view is that of [`all_tags`].
+fn has_the_dynamic(view: &ClassView<'_>) -> bool {
+    if view.dynamics() != 1 {
+        return false;
+    }
+    let dynamic = view.dynamic(0);
+    dynamic.index == 26
+        && dynamic.bootstrap == 0
+        && dynamic.name.bytes() == b"m".as_slice()
+        && dynamic.descriptor.bytes() == b"I".as_slice()
+}
+
+/// Whether [`all_tags`] is read with its Dynamic entry, and the number of it.
+fn is_dynamic_read(alloc: Global) -> bool {
+    match read(alloc, all_tags(), 0) {
+        Ok(view) => {
+            has_the_dynamic(&view) && view.number_of(26) == 0 && view.number_of(27) == 1
+        }
+        Err(_) => false,
+    }
+}
+
+#[test]
+fn a_dynamic_constant(rt: HostRuntime) {
+    assert!(rt; is_dynamic_read(rt.alloc()));
 }
 
 /// Whether a file is read as one without call sites and bootstrap methods.

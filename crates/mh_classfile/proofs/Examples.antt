@@ -6,7 +6,7 @@ use Rattle.mh_class_bytes.specs.Mutf8.{unit_len, sound_from}
 use Rattle.mh_class_bytes.specs.Format.{reads, fault, repeated}
 use Rattle.mh_class_pool.specs.declared.entry.Entry.TheVariants as entries
 use Rattle.mh_class_pool.specs.declared.fault.ClassKind.TheVariants.{Truncated, BadMagic, BadVersion, BadIndex, BadCode, WrongKind, TooManySites, BadBootstraps, Trailing}
-use Rattle.mh_class_pool.specs.Entries.{Slot, entry, utf8, utf8_bytes, contents, numeric, named}
+use Rattle.mh_class_pool.specs.Entries.{Slot, entry, utf8, utf8_bytes, contents, numeric, named, dynamics_from}
 use Rattle.mh_class_pool.specs.References.{each, good_slot, own_references, good_descriptor}
 use Rattle.mh_classfile.specs.declared.constant.Constant.TheVariants as constants
 use Rattle.mh_classfile.specs.declared.site.Method.{Method}
@@ -124,14 +124,15 @@ small = magic (0 ∷ 0 ∷ 0 ∷ 61 ∷ 0 ∷ 5 ∷ 1 ∷ 0 ∷ 1 ∷ 65 ∷ 7 �
 small_class : class_or_fault 0 small ≡ Ok (record {
   constants = None ∷ Some constants.Other ∷ Some (constants.Class (65 ∷ [])) ∷ Some
       (constants.Long (cast_signed w64 7)) ∷ None ∷ [];
+  dynamics = [];
   sites = [];
   bootstraps = [];
 })
-unfolding small magic class_file header entry utf8 utf8_bytes contents numeric named sound_from unit_len repeated each good_slot own_references good_descriptor
+unfolding small magic class_file header entry utf8 utf8_bytes contents numeric named sound_from unit_len repeated dynamics_from each good_slot own_references good_descriptor
     class_names named_index interface members field method class_attributes class_attribute has_bootstrap
 small_class = refl
 
 a_byte_more : class_or_fault 0 (small ++ 0 ∷ []) ≡ fault 40 Trailing
-unfolding small magic class_file header entry utf8 utf8_bytes contents numeric named sound_from unit_len repeated each good_slot own_references good_descriptor
+unfolding small magic class_file header entry utf8 utf8_bytes contents numeric named sound_from unit_len repeated dynamics_from each good_slot own_references good_descriptor
     class_names named_index interface members field method class_attributes class_attribute has_bootstrap
 a_byte_more = refl

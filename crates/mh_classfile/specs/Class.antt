@@ -1,10 +1,12 @@
 -- What a class is: its constants, its call sites and its bootstrap methods (JVMS 4.4, 4.7.23).
-use Rattle.std.specs.Prelude.{◌≡◌, ℕ, ◌+◌, ◌*◌, ◌^◌, ◌<◌, List, [], length, map, slice_get, Option, Some, None, unwrap_or}
+use Rattle.std.specs.Prelude.{◌≡◌, ℕ, ◌+◌, ◌*◌, ◌^◌, ◌<◌, nat_lt, List, [], length, map, slice_get, Option, Some, None, unwrap_or}
+use Rattle.std.specs.List.{count_by, range_with_len}
 use Rattle.std.specs.Int.{cast_signed, w32, w64}
 use Rattle.mh_class_pool.specs.declared.entry.Entry.TheVariants as entries
-use Rattle.mh_class_pool.specs.Entries.{Slot, slot, text}
+use Rattle.mh_class_pool.specs.Entries.{Slot, slot, text, dynamics}
 use Rattle.mh_classfile.specs.declared.constant.Constant.{Constant}
 use Rattle.mh_classfile.specs.declared.constant.Constant.TheVariants as constants
+use Rattle.mh_classfile.specs.declared.constant.DynamicView.{DynamicView}
 use Rattle.mh_classfile.specs.declared.constant.HandleRef.{HandleRef}
 use Rattle.mh_classfile.specs.declared.constant.Named.{Named}
 use Rattle.mh_classfile.specs.declared.constant.SiteView.{SiteView}
@@ -16,9 +18,10 @@ pub record Bootstrap : Type 0 where
   pub handle : HandleRef
   pub arguments : List Constant
 
--- a class: constants by index, call sites in order of method and pc, bootstrap methods
+-- a class: constants by index, the Dynamic ones among them in order, call sites in order of method and pc, bootstrap methods
 pub record Class : Type 0 where
   pub constants : List (Option Constant)
+  pub dynamics : List DynamicView
   pub sites : List SiteView
   pub bootstraps : List Bootstrap
 
@@ -60,23 +63,36 @@ handle_of pool _ = member_of pool 0 None
 abbrev pub handle : List Slot → ℕ → HandleRef
 handle pool i = handle_of pool (slot pool i)
 
+-- the bootstrap method of a Dynamic entry, and what is named there
+abbrev pub computed : List Slot → Slot → ℕ × Named
+computed pool (Some (at, entries.Dynamic bootstrap name)) = (bootstrap, name_at pool name)
+computed pool _ = (0, named pool None)
+
+-- what the Dynamic entry at an index says
+abbrev pub dynamic_view : List Slot → ℕ → DynamicView
+dynamic_view pool i = let c = computed pool (slot pool i) in record { index = i; bootstrap = c.0; name = c.1.name; descriptor = c.1.descriptor }
+
 -- the constant of an index; none where no entry is
-abbrev pub constant_of : List Slot → Slot → Option Constant
-constant_of pool None = None
-constant_of pool (Some (at, entries.Integer n)) = Some (constants.Integer (cast_signed w32 n))
-constant_of pool (Some (at, entries.Float)) = Some constants.Float
-constant_of pool (Some (at, entries.Long high low)) = Some (constants.Long (cast_signed w64 (2 ^ 32 * high + low)))
-constant_of pool (Some (at, entries.Double)) = Some constants.Double
-constant_of pool (Some (at, entries.Class name)) = Some (constants.Class (text pool name))
-constant_of pool (Some (at, entries.Str name)) = Some (constants.Str (text pool name))
-constant_of pool (Some (at, entries.MethodHandle kind reference)) = Some (constants.Handle (member_of pool kind (slot pool reference)))
-constant_of pool (Some (at, entries.MethodType name)) = Some (constants.MethodType (text pool name))
-constant_of pool (Some (at, entries.Dynamic bootstrap name)) = Some constants.Dynamic
-constant_of pool (Some _) = Some constants.Other
+abbrev pub constant_of : List Slot → ℕ → Slot → Option Constant
+constant_of pool i None = None
+constant_of pool i (Some (at, entries.Integer n)) = Some (constants.Integer (cast_signed w32 n))
+constant_of pool i (Some (at, entries.Float)) = Some constants.Float
+constant_of pool i (Some (at, entries.Long high low)) = Some (constants.Long (cast_signed w64 (2 ^ 32 * high + low)))
+constant_of pool i (Some (at, entries.Double)) = Some constants.Double
+constant_of pool i (Some (at, entries.Class name)) = Some (constants.Class (text pool name))
+constant_of pool i (Some (at, entries.Str name)) = Some (constants.Str (text pool name))
+constant_of pool i (Some (at, entries.MethodHandle kind reference)) = Some (constants.Handle (member_of pool kind (slot pool reference)))
+constant_of pool i (Some (at, entries.MethodType name)) = Some (constants.MethodType (text pool name))
+constant_of pool i (Some (at, entries.Dynamic bootstrap name)) = Some (constants.Dynamic (dynamic_view pool i))
+constant_of pool i (Some _) = Some constants.Other
+
+-- the constant at an index
+abbrev pub constant_at : List Slot → ℕ → Option Constant
+constant_at pool i = constant_of pool i (slot pool i)
 
 -- the constant at an index that names one
 abbrev pub argument : List Slot → ℕ → Constant
-argument pool i = unwrap_or (constant_of pool (slot pool i)) constants.Other
+argument pool i = unwrap_or (constant_at pool i) constants.Other
 
 -- the bootstrap method of a call site, and what is named there
 abbrev pub called : List Slot → Slot → ℕ × Named
@@ -101,10 +117,15 @@ bootstrap_of pool row = record { handle = handle pool row.handle; arguments = ma
 -- the class of a pool, its call sites and its bootstrap methods
 abbrev pub class_of : List Slot → List Site → List Row → Class
 class_of pool sites rows = record {
-  constants = map (constant_of pool) pool;
+  constants = map (constant_at pool) (range_with_len 0 (length pool));
+  dynamics = map (dynamic_view pool) (dynamics pool);
   sites = map (site_view pool) sites;
   bootstraps = map (bootstrap_of pool) rows;
 }
+
+-- the number of the Dynamic entry at an index: how many stand before the index
+abbrev pub number_of : Class → ℕ → ℕ
+number_of class index = count_by (λ d. nat_lt d.index index) class.dynamics
 
 -- each call site of a class names a bootstrap method that is there (JVMS 4.4.10, 4.7.23)
 abbrev pub HasBootstraps : Class → Type 0

@@ -18,6 +18,18 @@ pub struct Named<'b> {
     pub descriptor: Text<'b>,
 }
 
+/// A constant that is computed: a Dynamic entry (4.4.10).
+#[derive(Debug, Drop)]
+pub struct DynamicView<'b> {
+    /// The index of the entry.
+    pub index: u16,
+    /// The number of its bootstrap method.
+    pub bootstrap: u16,
+    pub name: Text<'b>,
+    /// The descriptor of its type, which is not looked at.
+    pub descriptor: Text<'b>,
+}
+
 /// A constant of the pool (4.4). The numbers of a Float and a Double are passed over.
 #[derive(Debug, Drop)]
 pub enum Constant<'b> {
@@ -31,7 +43,7 @@ pub enum Constant<'b> {
     Handle(HandleRef<'b>),
     /// A method descriptor.
     MethodType(Text<'b>),
-    Dynamic,
+    Dynamic(DynamicView<'b>),
     /// An entry that is no constant, as a Utf8 or a Methodref.
     Other,
 }

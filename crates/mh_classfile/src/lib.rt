@@ -15,7 +15,7 @@ mod reader;
 mod site;
 mod view;
 
-pub use constant::{Constant, HandleRef, SiteView};
+pub use constant::{Constant, DynamicView, HandleRef, SiteView};
 pub use mh_class_pool::{ClassError, ClassFault, ClassKind};
 pub use reader::read;
 pub use view::ClassView;

@@ -1,10 +1,10 @@
 ghost use Rattle.std.specs.Prelude.{◌≡◌, [], ◌<◌, length, None, Some, slice_get, slice_index_or, IfSome, ◌+◌, ◌*◌, ◌^◌};
 ghost use Rattle.std.specs.Int.{cast_signed, w64};
 ghost use Rattle.mh_class_pool.specs.Entries.{slot, text};
-ghost use Rattle.mh_classfile.specs.Class.{class_name, name_at, reference, member_of, handle, constant_of, argument, called, site_view};
+ghost use Rattle.mh_classfile.specs.Class.{class_name, name_at, reference, member_of, handle, constant_at, argument, called, computed, dynamic_view, number_of, site_view};
 
 use crate::bootstraps::Bootstraps;
-use crate::constant::{Constant, HandleRef, Named, SiteView};
+use crate::constant::{Constant, DynamicView, HandleRef, Named, SiteView};
 use crate::site::{Site, Sites};
 use mh_class_bytes::Text;
 use mh_class_pool::{Entry, Pool};
@@ -99,8 +99,31 @@ fn long(high: u32, low: u32) -> i64
     (0x1_0000_0000 * high as u64 + low as u64).cast_signed()
 }
 
+/// The bootstrap method of a Dynamic entry, and what is named there.
+fn computed<'b>(pool: &Pool<'b>, index: u16) -> (u16, Named<'b>)
+    ensures { result ≡ computed pool.now (slot pool.now index) }
+{
+    match pool.get(index as usize) {
+        Some((_, Entry::Dynamic(bootstrap, name))) => (bootstrap, named(pool, name)),
+        _ => (0, nothing_named()),
+    }
+}
+
+/// What the Dynamic entry at an index says.
+fn dynamic<'b>(pool: &Pool<'b>, index: u16) -> DynamicView<'b>
+    ensures { result ≡ dynamic_view pool.now index }
+{
+    let (bootstrap, named) = computed(pool, index);
+    DynamicView {
+        index,
+        bootstrap,
+        name: named.name,
+        descriptor: named.descriptor,
+    }
+}
+
 fn constant<'b>(pool: &Pool<'b>, index: u16) -> Option<Constant<'b>>
-    ensures { result ≡ constant_of pool.now (slot pool.now index) }
+    ensures { result ≡ constant_at pool.now index }
 {
     let (_, entry) = pool.get(index as usize)?;
     Some(match entry {
@@ -112,7 +135,7 @@ fn constant<'b>(pool: &Pool<'b>, index: u16) -> Option<Constant<'b>>
         Entry::Str(name) => Constant::Str(pool.text(name)),
         Entry::MethodHandle(kind, reference) => Constant::Handle(member(pool, kind, reference)),
         Entry::MethodType(name) => Constant::MethodType(pool.text(name)),
-        Entry::Dynamic(_, _) => Constant::Dynamic,
+        Entry::Dynamic(_, _) => Constant::Dynamic(dynamic(pool, index)),
         _ => Constant::Other,
     })
 }
@@ -172,6 +195,28 @@ impl<'b> ClassView<'b> {
         ensures { result ≡ slice_index_or self.now.constants i None }
     {
         constant(&self.pool, i)
+    }
+
+    /// The number of Dynamic entries, which is at most 256.
+    pub fn dynamics(&self) -> u16
+        ensures { result ≡ length self.now.dynamics }
+    {
+        self.pool.dynamics().len() as u16
+    }
+
+    /// The Dynamic entry of a number, in the order of indexes.
+    pub fn dynamic(&self, d: u16) -> DynamicView<'b>
+        requires { d < length self.now.dynamics }
+        ensures { slice_get self.now.dynamics d ≡ Some result }
+    {
+        dynamic(&self.pool, self.pool.dynamics()[d as usize])
+    }
+
+    /// The number of the Dynamic entry at an index of the pool: how many stand before that index.
+    pub fn number_of(&self, index: u16) -> u16
+        ensures { result ≡ number_of self.now index }
+    {
+        self.pool.dynamics_before(index)
     }
 
     /// The number of bootstrap methods.

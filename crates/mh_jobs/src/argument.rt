@@ -97,7 +97,7 @@ pub(crate) fn argument_of(
             Ok(Argument::Class(ty))
         }
         Constant::Handle(handle) => handle_leaf(alloc, leaves, handle),
-        Constant::Float | Constant::Double | Constant::Dynamic | Constant::Other => {
+        Constant::Float | Constant::Double | Constant::Dynamic(_) | Constant::Other => {
             Err(unsupported(alloc, b"constant"))
         }
     }

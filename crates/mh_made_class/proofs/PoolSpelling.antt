@@ -5,7 +5,7 @@ use Rattle.std.proofs.lemmas.List.{append-nil}
 use Rattle.std.specs.List.{AllByRecursion, flat_map}
 use Rattle.mh_class_bytes.specs.Format.{Spells, done, here, ◌>>=◌, repeated}
 use Rattle.mh_class_pool.specs.declared.entry.Entry.{Entry}
-use Rattle.mh_class_pool.specs.Entries.{ClassPart, Slot, entry, is_wide, indexes_of, next_slots}
+use Rattle.mh_class_pool.specs.Entries.{ClassPart, Slot, entry, is_wide, is_full, indexes_of, next_slots}
 use Rattle.mh_made_class.specs.Constants.{entry_bytes}
 use Rattle.mh_made_class.proofs.Spelling.{otherwise, where_true}
 use Rattle.mh_made_class.proofs.EntrySpelling.{IsWritableEntry, entry_spelled}
@@ -56,7 +56,7 @@ not_last count n e le = go (is_wide e) le
 abbrev one_more : ℕ → List Slot → ClassPart (List Slot)
 one_more count so_far = do
   place ← here
-  x ← entry (eqb (length so_far + 1) count)
+  x ← entry (eqb (length so_far + 1) count) (is_full so_far)
   done (so_far ++ indexes_of place x)
 
 next_spelled : (count : ℕ) (so_far : List Slot) (at : ℕ) (e : Entry) → IsWritableEntry e → length so_far + entry_width e ≤ count →
@@ -74,7 +74,7 @@ next_spelled count so_far at e w le =
         entry_bytes e,
         [],
         sym (append-nil (entry_bytes e)),
-        entry_spelled (eqb (length so_far + 1) count) (at + 0)
+        entry_spelled (eqb (length so_far + 1) count) (is_full so_far) (at + 0)
             e w (not_last count (length so_far) e le),
         (refl, refl),
       ),

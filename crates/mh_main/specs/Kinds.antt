@@ -1,7 +1,7 @@
 -- The kinds of faults of class files, as refusals print them.
 use Rattle.std.specs.Prelude.{ℕ, List, codes}
 use Rattle.mh_class_pool.specs.declared.fault.ClassKind.{ClassKind}
-use Rattle.mh_class_pool.specs.declared.fault.ClassKind.TheVariants.{Truncated, BadMagic, BadVersion, BadTag, BadIndex, WrongKind, BadText, BadCode, BadBootstraps, Trailing, TooManySites, BadDescriptor}
+use Rattle.mh_class_pool.specs.declared.fault.ClassKind.TheVariants.{Truncated, BadMagic, BadVersion, BadTag, BadIndex, WrongKind, BadText, BadCode, BadBootstraps, Trailing, TooManySites, BadDescriptor, TooManyConstants}
 
 -- the name of a kind of fault
 abbrev pub class_word : ClassKind → List ℕ
@@ -17,3 +17,4 @@ class_word BadBootstraps = codes "BadBootstraps"
 class_word Trailing = codes "Trailing"
 class_word TooManySites = codes "TooManySites"
 class_word BadDescriptor = codes "BadDescriptor"
+class_word TooManyConstants = codes "TooManyConstants"

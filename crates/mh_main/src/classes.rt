@@ -28,6 +28,7 @@ fn class_word(kind: ClassKind) -> &'static str
         ClassKind::Trailing => "Trailing",
         ClassKind::TooManySites => "TooManySites",
         ClassKind::BadDescriptor => "BadDescriptor",
+        ClassKind::TooManyConstants => "TooManyConstants",
     }
 }
 
