@@ -123,10 +123,15 @@ next_wide start p q places kept count is_last is_filled e r asked h w m =
       so_far = subst (λ (x : List Slot). reads (repeated (next_slots count) more x) q ≡ reads (pool_of count) start) all stepped;
       are_kept = record {
         stand = stand_push start.bytes (places ++ p.at ∷ []) 0 (stand_here start.bytes places p q e r.moves.bytes any r.are_kept.stand)
-        (λ lt. absurd (omega arith));
+            (λ lt. absurd (omega arith));
         dynamics = dynamics-wide start.bytes places kept p.at e r.are_kept.dynamics pushed;
-        few = omega (arith, r.are_kept.few, if_dynamic-few kept (length places) e, length-append places (p.at ∷ []),
-            length-append (places ++ p.at ∷ []) (0 ∷ []));
+        few = omega (
+          arith,
+          r.are_kept.few,
+          if_dynamic-few kept (length places) e,
+          length-append places (p.at ∷ []),
+          length-append (places ++ p.at ∷ []) (0 ∷ []),
+        );
         small = omega (arith, r.small, asked.left, length-append places (p.at ∷ []), length-append (places ++ p.at ∷ []) (0 ∷ []));
       };
       small = r.small;

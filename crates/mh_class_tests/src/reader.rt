@@ -167,9 +167,7 @@ fn has_the_dynamic(view: &ClassView<'_>) -> bool {
 /// Whether [`all_tags`] is read with its Dynamic entry, and the number of it.
 fn is_dynamic_read(alloc: Global) -> bool {
     match read(alloc, all_tags(), 0) {
-        Ok(view) => {
-            has_the_dynamic(&view) && view.number_of(26) == 0 && view.number_of(27) == 1
-        }
+        Ok(view) => { has_the_dynamic(&view) && view.number_of(26) == 0 && view.number_of(27) == 1 }
         Err(_) => false,
     }
 }

@@ -13,6 +13,6 @@ returns c =
     c.deref.ensures.value ∙ (c.self.invariant.dynamics ∙ ap (λ (pool : List Slot). dynamics pool) c.self.view_is) in
     let parted = subst (λ (xs : List ℕ). IsPartitionedBy before xs) (sym same) (are_parted c.args.self.now c.args.index) in
     let point = IsPartitionPoint-from_clause before c.deref.result.now c.partition_point.result c.partition_point.ensures.partitioned parted
-        (λ a r q k. search rules) in
+    (λ a r q k. search rules) in
     count-parted before c.deref.result.now c.partition_point.result c.partition_point.ensures.bound point
     ∙ ap (λ (xs : List ℕ). count_by before xs) same
