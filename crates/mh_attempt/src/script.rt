@@ -106,6 +106,10 @@ fn ended<'t, R: Wait>(
             let exc = raised(w.alloc, w.classes(), class.as_slice(), message)?;
             Err(HandleError::Refused(exc))
         }
+        End::Value(_) => {
+            let exc = Exc::saying(w.alloc, ClassId::CLASS_CAST, b"value")?;
+            Err(HandleError::Refused(exc))
+        }
     }
 }
 

@@ -47,6 +47,7 @@ ended-typed leaves (end.Raise class message) frame t h =
     (λ c. require (is_subclass leaves.classes c throwable_class) (illegal (codes "raise")) >> Err (saying c message)) t h in
     let below = require-parts (is_subclass leaves.classes known.0 throwable_class) (illegal (codes "raise")) (Err (saying known.0 message)) t known.2 in
     absurd (is_thrown (saying known.0 message) t below.1)
+ended-typed leaves (end.Value v) frame t h = absurd cc
 
 -- no line changes what the script is called with
 pub stepped-call : (leaves : LeafTable) (s : Step) (frame next : Frame) → stepped leaves s frame ≡ Ok next → next.call ≡ frame.call

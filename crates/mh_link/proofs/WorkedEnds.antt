@@ -5,6 +5,8 @@ use Rattle.mh_values.specs.Exception.{saying}
 use Rattle.mh_class_bytes.specs.Chars.{chars_from, units_from, shown}
 use Rattle.mh_class_bytes.specs.Mutf8.{sound_from, unit_len}
 use Rattle.mh_tree.specs.Rows.{illegal}
+use Rattle.mh_script.specs.declared.operand.Register.TheVariants as register
+use Rattle.mh_script.specs.declared.operand.ValueOperand.TheVariants as of_value
 use Rattle.mh_script.specs.declared.script.End.TheVariants as end
 use Rattle.mh_link.specs.Linked.{Error}
 use Rattle.mh_jobs.specs.Thrown.{no_class_def_found_class}
@@ -39,3 +41,9 @@ a_throwable_is_no_error :
     ≡ failed (saying (class_at 9) (codes "t"))
 unfolding chars_from units_from unit_len sound_from shown
 a_throwable_is_no_error = refl
+
+a_value_is_no_target :
+    links (codes "()V") [] (end.Value (of_value.Register (register.Argument 9)))
+    ≡ failed (saying (class_at 21) (codes "value"))
+unfolding chars_from units_from unit_len sound_from shown
+a_value_is_no_target = refl

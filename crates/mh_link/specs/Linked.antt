@@ -6,7 +6,7 @@ use Rattle.mh_values.specs.declared.value.Exc.{Exc}
 use Rattle.mh_values.specs.declared.value.Num.TheVariants as num
 use Rattle.mh_values.specs.declared.value.Value.TheVariants as values
 use Rattle.mh_values.specs.declared.value.Value.{Value}
-use Rattle.mh_values.specs.Class.{is_subclass, throwable_class, illegal_argument_class}
+use Rattle.mh_values.specs.Class.{is_subclass, throwable_class, class_cast_class, illegal_argument_class}
 use Rattle.mh_values.specs.Computation.{Threw}
 use Rattle.mh_values.specs.Exception.{bare, saying}
 use Rattle.mh_values.specs.Same.{is_same_method_type}
@@ -47,7 +47,7 @@ stepped leaves (step.FailMod modulus remainder) frame = do
   require (not (frame.serial % modulus == remainder)) (saying runtime_class (codes "failmod"))
   Ok frame
 
--- what the last line answers: a target, whose type must be the site's, or an exception
+-- what the last line answers: a target, whose type must be the site's, or an exception. A line that gives the value of a constant gives no target
 abbrev pub ended : LeafTable → End → Frame → OrThrown Tree
 ended leaves (end.Return h) frame = do
   t ← handle_in frame h
@@ -58,6 +58,7 @@ ended leaves (end.Raise class message) frame = do
   c ← class_of plainly leaves.classes class
   require (is_subclass leaves.classes c throwable_class) (illegal (codes "raise"))
   Err (saying c message)
+ended leaves (end.Value v) frame = Err (saying class_cast_class (codes "value"))
 
 -- what the rest of a script answers; the first line that throws ends it
 abbrev pub ran : LeafTable → List Step → End → Frame → OrThrown Tree

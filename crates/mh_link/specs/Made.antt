@@ -63,6 +63,7 @@ nodes_of_uses frame used = flat_map (node_of_use frame) used
 abbrev pub returned : End → List Register
 returned (end.Return h) = h ∷ []
 returned (end.Raise class message) = []
+returned (end.Value v) = []
 
 -- The nodes that an operation makes itself: its own. A spread first makes the conversion of its target to the type that takes the items.
 abbrev pub nodes_of : Tree → List Tree

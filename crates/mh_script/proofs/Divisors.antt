@@ -16,9 +16,9 @@ use Rattle.mh_script.specs.declared.script.End.TheVariants as end
 use Rattle.mh_script.specs.declared.script.Step.{Step}
 use Rattle.mh_script.specs.declared.script.Step.TheVariants as step
 use Rattle.mh_script.specs.Limits.{CanDivide}
-use Rattle.mh_script.specs.Lines.{said_then, let_line, line_of, operation_of, pair_line}
+use Rattle.mh_script.specs.Lines.{said_then, value_operand, let_line, ending_line, line_of, operation_of, pair_line}
 use Rattle.mh_script.specs.Numbers.{fail_of, if_fail, number_of}
-use Rattle.mh_script.specs.Tokens.{text_literal}
+use Rattle.mh_script.specs.Tokens.{register_of, text_literal}
 
 -- what goes on with what was said
 pub said-parts : {A B : Type 0} (r : Result A ScriptKind) (next : A → Result B ScriptKind) (b : B) → said_then r next ≡ Ok b →
@@ -72,11 +72,21 @@ let-divides classes target word operands s h = cases (length operands == 0) h
         let made = said-parts (operation_of classes word operands) (λ op. Ok (line.Step (step.Let target op))) (line.Step s) k in
         divides-by (step.Let target made.0) s tt made.2
 
+ending-divides : (classes : List Class) (word operand : List ℕ) (s : Step) → ending_line classes word operand ≡ Ok (line.Step s) → CanDivide s
+ending-divides classes word operand s h = cases (bytes_eq word (codes "return")) h
+  where
+    cases : (b : Bool) → (if b then Ok (line.End (end.Return (register_of operand)))
+        else said_then (value_operand classes operand) (λ v. Ok (line.End (end.Value v)))) ≡ Ok (line.Step s) → CanDivide s
+    cases true k = absurd (no_step (end.Return (register_of operand)) s k)
+    cases false k =
+        let made = said-parts (value_operand classes operand) (λ v. Ok (line.End (end.Value v))) (line.Step s) k in
+        absurd (no_step (end.Value made.0) s made.2)
+
 -- a line before the last one
 pub line-divides : (classes : List Class) (tokens : List (List ℕ)) (s : Step) → line_of classes tokens ≡ Ok (line.Step s) → CanDivide s
 line-divides classes [] s h = absurd cc
 line-divides classes (a ∷ []) s h = absurd cc
-line-divides classes (a ∷ b ∷ []) s h = absurd cc
+line-divides classes (a ∷ b ∷ []) s h = ending-divides classes a b s h
 line-divides classes (a ∷ b ∷ c ∷ rest) s h = cases (bytes_eq a (codes "let")) h
   where
     cases : (t : Bool) → (if t then let_line classes b c rest else pair_line classes a b c) ≡ Ok (line.Step s) → CanDivide s

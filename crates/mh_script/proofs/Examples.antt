@@ -118,6 +118,13 @@ a_failure = refl
 a_raise : said (codes "raise a s:b\\sc") ≡ Ok (line.End (end.Raise (codes "a") (codes "b c")))
 a_raise = refl
 
+a_value : said (codes "value a0") ≡ Ok (line.End (end.Value (of_value.Register first)))
+unfolding digits
+a_value = refl
+
+a_null_value : said (codes "value null") ≡ Ok (line.End (end.Value (of_value.Literal value.Null)))
+a_null_value = refl
+
 a_return : said (codes "return a00") ≡ Ok (line.End (end.Return (register.Assigned (codes "a00"))))
 unfolding digits
 a_return = refl

@@ -12,13 +12,13 @@ use Rattle.mh_script.specs.declared.kinds.ScriptKind.TheVariants.{BadLine, BadLi
 use Rattle.mh_script.specs.declared.line.Line.TheVariants as line
 use Rattle.mh_script.specs.declared.script.End.TheVariants as end
 use Rattle.mh_script.specs.declared.script.Step.{Step}
-use Rattle.mh_script.specs.Faults.{fault_in, two_fault, three_fault, let_fault, pair_fault, body_fault}
+use Rattle.mh_script.specs.Faults.{handle_fault, value_fault, fault_in, two_fault, three_fault, let_fault, pair_fault, body_fault}
 use Rattle.mh_script.specs.Forms.{one_form, two_form, three_form, one_place}
 use Rattle.mh_script.specs.Kinds.{fault_unless, lower}
-use Rattle.mh_script.specs.Lines.{one_operation, two_operation, three_operation, operation_of, let_line, pair_line, line_of}
+use Rattle.mh_script.specs.Lines.{said_then, value_operand, one_operation, two_operation, three_operation, operation_of, let_line, pair_line, line_of}
 use Rattle.mh_script.specs.Numbers.{fail_of}
-use Rattle.mh_script.specs.Tokens.{text_literal}
-use Rattle.mh_script.proofs.FaultlessOperations.{no_fault, lower-none, unless-none, some-then, ok-then, one-said, two-said, three-said}
+use Rattle.mh_script.specs.Tokens.{register_of, text_literal}
+use Rattle.mh_script.proofs.FaultlessOperations.{no_fault, lower-none, unless-none, some-then, ok-then, value-said, one-said, two-said, three-said}
 
 -- ---- words
 
@@ -69,10 +69,18 @@ line-choice classes steps true alone word a b rest h = let-said classes steps a 
 line-choice classes steps false true word a b rest h = pair-choice _ _ (fail_of a b) _ (text_literal classes b) a h
 line-choice classes steps false false word a b rest h = cc
 
+ending-choice : (classes : List Class) (steps : List Step) (returns values : Bool) (operand : List ℕ) →
+    (if returns then handle_fault steps operand else (if values then value_fault classes steps operand else Some BadLine)) ≡ None →
+    is_ok (if returns then Ok (line.End (end.Return (register_of operand)))
+    else said_then (value_operand classes operand) (λ v. Ok (line.End (end.Value v)))) ≡ true
+ending-choice classes steps true values operand h = refl
+ending-choice classes steps false true operand h = ok-then (value_operand classes operand) _ (value-said classes steps operand h) (λ v. refl)
+ending-choice classes steps false false operand h = cc
+
 -- tokens without a fault say something
 pub line-said : (classes : List Class) (steps : List Step) (tokens : List (List ℕ)) → body_fault classes steps tokens ≡ None →
     is_ok (line_of classes tokens) ≡ true
 line-said classes steps [] h = cc
 line-said classes steps (word ∷ []) h = cc
-line-said classes steps (word ∷ handle ∷ []) h = refl
+line-said classes steps (word ∷ operand ∷ []) h = ending-choice classes steps (bytes_eq word (codes "return")) (bytes_eq word (codes "value")) operand h
 line-said classes steps (word ∷ a ∷ b ∷ rest) h = line-choice classes steps (bytes_eq word (codes "let")) (length rest == 0) word a b rest h

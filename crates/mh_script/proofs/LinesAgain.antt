@@ -81,6 +81,7 @@ counted classes (line.Step (step.Serial target)) = refl
 counted classes (line.Step (step.FailMod modulus remainder)) = refl
 counted classes (line.End (end.Return h)) = refl
 counted classes (line.End (end.Raise class message)) = refl
+counted classes (line.End (end.Value v)) = refl
 
 pub no_end : (classes : List Class) (l : Line) → IsNoEnd (line_tokens classes l)
 no_end classes (line.Step (step.Let target op)) = refl
@@ -88,6 +89,7 @@ no_end classes (line.Step (step.Serial target)) = refl
 no_end classes (line.Step (step.FailMod modulus remainder)) = refl
 no_end classes (line.End (end.Return h)) = refl
 no_end classes (line.End (end.Raise class message)) = refl
+no_end classes (line.End (end.Value v)) = refl
 
 no_ending : (classes : List Class) (s : Step) → is_ending (step_tokens classes s) ≡ false
 no_ending classes (step.Let target op) = refl
@@ -97,6 +99,7 @@ no_ending classes (step.FailMod modulus remainder) = refl
 ending : (classes : List Class) (e : End) → is_ending (end_tokens classes e) ≡ true
 ending classes (end.Return h) = refl
 ending classes (end.Raise class message) = refl
+ending classes (end.Value v) = refl
 
 within-again : (classes : List Class) (all : List Script) (begun : Begun) (l : Line) (next : Next) → StandsAfter classes begun.steps l →
     standing_fault (length begun.steps) (is_ending (line_tokens classes l)) next ≡ None →

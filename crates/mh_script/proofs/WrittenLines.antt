@@ -12,34 +12,56 @@ use Rattle.mh_script.specs.declared.line.Line.TheVariants as line
 use Rattle.mh_script.specs.declared.script.End.TheVariants as end
 use Rattle.mh_script.specs.declared.script.Step.{Step}
 use Rattle.mh_script.specs.declared.script.Step.TheVariants as step
-use Rattle.mh_script.specs.Faults.{handle_fault, operands_fault, let_fault, pair_fault, body_fault}
+use Rattle.mh_script.specs.Faults.{handle_fault, value_fault, operands_fault, let_fault, pair_fault, body_fault}
 use Rattle.mh_script.specs.Kinds.{fault_unless}
-use Rattle.mh_script.specs.Lines.{said_then, operation_of, let_line, pair_line, line_of}
+use Rattle.mh_script.specs.Lines.{said_then, value_operand, operation_of, let_line, pair_line, line_of}
 use Rattle.mh_script.specs.Tokens.{register_of, is_assignable}
+use Rattle.mh_script.specs.Written.{value_operand_text}
 use Rattle.mh_script.proofs.Divisors.{said-parts}
 use Rattle.mh_script.proofs.FaultlessOperations.{lower-none, unless-none, no_fault}
 use Rattle.mh_base.proofs.LineTokens.{IsFullToken, AreFullTokens}
 use Rattle.mh_script.proofs.Operands.{register-text}
 use Rattle.mh_script.proofs.OperationsAgain.{lower-of_none}
 use Rattle.mh_script.proofs.WrittenOperations.{operation-again}
+use Rattle.mh_script.proofs.WrittenValues.{value-again}
 use Rattle.mh_script.proofs.StandingLines.{StandsAfter, line_tokens, of_tokens, pair-again}
 
 has_one : {A : Type 0} (x : A) (xs : List A) → (length (x ∷ xs) == 0) ≡ false
 has_one x xs = false_from_ne_true (length (x ∷ xs) == 0) (λ e. let none = eqb-true (length (x ∷ xs)) 0 e in omega (arith, none))
 
--- ---- `return H`
+-- ---- `return H`, and `value V`
 
--- a word that has to stand there does
-needed : (holds : Bool) (fault : Option ScriptKind) (kind : ScriptKind) → (if holds then fault else Some kind) ≡ None → holds ≡ true
-needed true fault kind h = refl
-needed false fault kind h = absurd cc
+return-again : (classes : List Class) (steps : List Step) (word operand : List ℕ) (l : Line) → AreFullTokens (word ∷ operand ∷ []) →
+    body_fault classes steps (word ∷ operand ∷ []) ≡ None → line_of classes (word ∷ operand ∷ []) ≡ Ok l → word ≡ codes "return" →
+    ◌≡◌ {A = Result Line ScriptKind} (Ok (line.End (end.Return (register_of operand)))) (Ok l) → StandsAfter classes steps l
+return-again classes steps word operand l are none said is h =
+    of_tokens classes steps (word ∷ operand ∷ []) l (ap (line_tokens classes) (sym (ok_is (line.End (end.Return (register_of operand))) l h))
+    ∙ ap₂ (λ w t. w ∷ t ∷ []) (sym is) (register-text operand)) are none said
 
-return-again : (classes : List Class) (steps : List Step) (word handle : List ℕ) (l : Line) → AreFullTokens (word ∷ handle ∷ []) →
-    body_fault classes steps (word ∷ handle ∷ []) ≡ None → line_of classes (word ∷ handle ∷ []) ≡ Ok l → StandsAfter classes steps l
-return-again classes steps word handle l are none said =
-    let is : word ≡ codes "return" = same_text word (codes "return") (needed _ (handle_fault steps handle) BadLine none) in
-    of_tokens classes steps (word ∷ handle ∷ []) l (ap (line_tokens classes) (sym (ok_is (line.End (end.Return (register_of handle))) l said))
-    ∙ ap₂ (λ w t. w ∷ t ∷ []) (sym is) (register-text handle)) are none said
+value_line-again : (classes : List Class) (steps : List Step) (token : List ℕ) (l : Line) → AreFullTokens (codes "value" ∷ token ∷ []) →
+    value_fault classes steps token ≡ None → said_then (value_operand classes token) (λ v. Ok (line.End (end.Value v))) ≡ Ok l →
+    StandsAfter classes steps l
+value_line-again classes steps token l are none h =
+    let made = said-parts (value_operand classes token) (λ v. Ok (line.End (end.Value v))) l h in
+    let again = value-again classes token made.0 made.1 in
+    of_tokens classes steps (codes "value" ∷ value_operand_text classes made.0 ∷ []) l
+    (ap (line_tokens classes) (sym (ok_is (line.End (end.Value made.0)) l made.2)))
+    (are.0, (again.token are.1.0, tt))
+    (again.faults steps none)
+    (ap (λ r. said_then r (λ v. Ok (line.End (end.Value v)))) again.said ∙ made.2)
+
+ending-again : (classes : List Class) (steps : List Step) (word operand : List ℕ) (l : Line) → AreFullTokens (word ∷ operand ∷ []) →
+    body_fault classes steps (word ∷ operand ∷ []) ≡ None → line_of classes (word ∷ operand ∷ []) ≡ Ok l → StandsAfter classes steps l
+ending-again classes steps word operand l are none said = cases (bytes_eq word (codes "return")) (bytes_eq word (codes "value")) refl refl none said
+  where
+    cases : (r v : Bool) → bytes_eq word (codes "return") ≡ r → bytes_eq word (codes "value") ≡ v →
+        (if r then handle_fault steps operand else (if v then value_fault classes steps operand else Some BadLine)) ≡ None →
+        (if r then Ok (line.End (end.Return (register_of operand)))
+        else said_then (value_operand classes operand) (λ u. Ok (line.End (end.Value u)))) ≡ Ok l → StandsAfter classes steps l
+    cases true v returns values fault h = return-again classes steps word operand l are none said (same_text word (codes "return") returns) h
+    cases false true returns values fault h =
+        value_line-again classes steps operand l (subst IsFullToken (same_text word (codes "value") values) are.0, are.1) fault h
+    cases false false returns values fault h = absurd cc
 
 -- ---- `let R OP`
 
@@ -73,7 +95,7 @@ pub line-again : (classes : List Class) (steps : List Step) (tokens : List (List
     body_fault classes steps tokens ≡ None → line_of classes tokens ≡ Ok l → StandsAfter classes steps l
 line-again classes steps [] l are none said = absurd cc
 line-again classes steps (word ∷ []) l are none said = absurd cc
-line-again classes steps (word ∷ handle ∷ []) l are none said = return-again classes steps word handle l are none said
+line-again classes steps (word ∷ operand ∷ []) l are none said = ending-again classes steps word operand l are none said
 line-again classes steps (word ∷ a ∷ b ∷ rest) l are none said = cases (bytes_eq word (codes "let")) refl rest are none said none said
   where
     alone : (ts : List (List ℕ)) → AreFullTokens (word ∷ a ∷ b ∷ ts) → body_fault classes steps (word ∷ a ∷ b ∷ ts) ≡ None →

@@ -107,13 +107,15 @@ pair_fault classes word first second =
     then lower (fault_unless (is_class_name first) BadLine) (fault_unless (is_some (text_literal classes second)) BadLiteral)
     else Some BadLine)
 
--- `return H`
-abbrev pub return_fault : List Step → List ℕ → List ℕ → Option ScriptKind
-return_fault steps word handle = if bytes_eq word (codes "return") then handle_fault steps handle else Some BadLine
+-- `return H`, or `value V`
+abbrev pub ending_fault : List Class → List Step → List ℕ → List ℕ → Option ScriptKind
+ending_fault classes steps word operand =
+    if bytes_eq word (codes "return") then handle_fault steps operand
+    else (if bytes_eq word (codes "value") then value_fault classes steps operand else Some BadLine)
 
--- a line within a script: `return H`, `let R OP`, or one of a word and two tokens
+-- a line within a script: `return H` or `value V`, `let R OP`, or one of a word and two tokens
 abbrev pub body_fault : List Class → List Step → List (List ℕ) → Option ScriptKind
-body_fault classes steps (word ∷ handle ∷ []) = return_fault steps word handle
+body_fault classes steps (word ∷ operand ∷ []) = ending_fault classes steps word operand
 body_fault classes steps (word ∷ first ∷ second ∷ rest) =
     if bytes_eq word (codes "let") then let_fault classes steps first second rest
     else (if length rest == 0 then pair_fault classes word first second else Some BadLine)

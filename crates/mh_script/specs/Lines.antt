@@ -128,9 +128,15 @@ pair_line classes word first second =
     if bytes_eq word (codes "failmod") then provided_some (fail_of first second) BadLine (λ s. Ok (line.Step s))
     else provided_some (text_literal classes second) BadLiteral (λ message. Ok (line.End (end.Raise first message)))
 
+-- `return H`, or `value V`
+abbrev pub ending_line : List Class → List ℕ → List ℕ → Result Line ScriptKind
+ending_line classes word operand =
+    if bytes_eq word (codes "return") then Ok (line.End (end.Return (register_of operand)))
+    else said_then (value_operand classes operand) (λ v. Ok (line.End (end.Value v)))
+
 -- a line within a script
 abbrev pub line_of : List Class → List (List ℕ) → Result Line ScriptKind
-line_of classes (word ∷ handle ∷ []) = Ok (line.End (end.Return (register_of handle)))
+line_of classes (word ∷ operand ∷ []) = ending_line classes word operand
 line_of classes (word ∷ first ∷ second ∷ rest) =
     if bytes_eq word (codes "let") then let_line classes first second rest else pair_line classes word first second
 line_of classes _ = Err BadLine

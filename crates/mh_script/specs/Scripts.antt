@@ -36,7 +36,7 @@ following (text ∷ texts) = if is_passed text then following texts else (if byt
 -- a line that is to be the last of its script
 abbrev pub is_ending : List (List ℕ) → Bool
 is_ending [] = false
-is_ending (word ∷ rest) = bytes_eq word (codes "return") || bytes_eq word (codes "raise")
+is_ending (word ∷ rest) = bytes_eq word (codes "return") || bytes_eq word (codes "raise") || bytes_eq word (codes "value")
 
 -- the one token `end`
 abbrev pub is_end_line : List (List ℕ) → Bool

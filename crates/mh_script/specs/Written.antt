@@ -87,10 +87,11 @@ step_tokens classes (step.Let target op) = codes "let" ∷ target ∷ operation_
 step_tokens classes (step.Serial target) = codes "let" ∷ target ∷ codes "serial" ∷ []
 step_tokens classes (step.FailMod modulus remainder) = codes "failmod" ∷ decimal modulus ∷ decimal remainder ∷ []
 
--- the tokens of the last line: `return H`, or `raise C s:TEXT`
+-- the tokens of the last line: `return H`, `raise C s:TEXT`, or `value V`
 abbrev pub end_tokens : List Class → End → List (List ℕ)
 end_tokens classes (end.Return h) = codes "return" ∷ register_text h ∷ []
 end_tokens classes (end.Raise class message) = codes "raise" ∷ class ∷ literal_text classes (value.Text message) ∷ []
+end_tokens classes (end.Value v) = codes "value" ∷ value_operand_text classes v ∷ []
 
 -- the tokens of a header: `script OWNER NAME DESC`
 abbrev pub header_tokens : MethodName → List (List ℕ)

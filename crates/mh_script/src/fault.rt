@@ -1,7 +1,7 @@
 ghost use Rattle.std.specs.Prelude.{◌≡◌, map, IfOk};
 ghost use Rattle.mh_values.specs.Grammar.{descriptor_fault, type_fault, types_fault};
 ghost use Rattle.mh_script.specs.Kinds.{fault_unless};
-ghost use Rattle.mh_script.specs.Faults.{bad_descriptor, sort_fault, handle_fault, value_fault, type_operand_fault, method_type_fault, reference_fault, fault_in, two_fault, three_fault, operands_fault, let_fault, pair_fault, return_fault, body_fault};
+ghost use Rattle.mh_script.specs.Faults.{bad_descriptor, sort_fault, handle_fault, value_fault, type_operand_fault, method_type_fault, reference_fault, fault_in, two_fault, three_fault, operands_fault, let_fault, pair_fault, ending_fault, body_fault};
 
 use crate::form::{Place, Three, Two, one_form, three_form, two_form};
 use crate::kinds::{fault_unless, lower};
@@ -251,14 +251,23 @@ fn pair_fault(
 }
 
 // What is wrong with a word and a token after it.
-fn return_fault(steps: &[Step], word: &[u8], handle: &[u8]) -> Option<ScriptKind>
-    ensures { result ≡ return_fault steps.now word.now handle.now }
+fn ending_fault(
+    alloc: Global,
+    classes: &Classes,
+    steps: &[Step],
+    word: &[u8],
+    operand: &[u8],
+) -> Result<Option<ScriptKind>, NoMemory>
+    ensures { IfOk result (λ kind. kind
+        ≡ ending_fault classes.now steps.now word.now operand.now) }
 {
     if word == b"return".as_slice() {
-        handle_fault(steps, handle)
-    } else {
-        Some(ScriptKind::BadLine)
+        return Ok(handle_fault(steps, operand));
     }
+    if word == b"value".as_slice() {
+        return value_fault(alloc, classes, steps, operand);
+    }
+    Ok(Some(ScriptKind::BadLine))
 }
 
 /// What is wrong with a line of a script by its tokens, after these lines.
@@ -272,7 +281,7 @@ pub(crate) fn body_fault(
         ≡ body_fault classes.now steps.now (map (λ t. t.now) tokens.now)) }
 {
     match tokens {
-        [word, handle] => Ok(return_fault(steps, word, handle)),
+        [word, operand] => ending_fault(alloc, classes, steps, word, operand),
         [word, first, second, rest @ ..] => {
             if *word == b"let".as_slice() {
                 let_fault(alloc, classes, steps, (*first, *second), rest)

@@ -1,7 +1,7 @@
 ghost use Rattle.std.specs.Prelude.{◌≡◌, map, IfOk};
 ghost use Rattle.mh_base.specs.Lines.{TellsLine};
 ghost use Rattle.mh_leaves.specs.Reference.{texts_of};
-ghost use Rattle.mh_script.specs.Lines.{method_name, type_operand, method_type_operand, value_operand, numbered, counted, bound, dropped, permuted, one_operation, two_operation, three_operation, operation_of, let_line, pair_line, line_of};
+ghost use Rattle.mh_script.specs.Lines.{method_name, type_operand, method_type_operand, value_operand, numbered, counted, bound, dropped, permuted, one_operation, two_operation, three_operation, operation_of, let_line, pair_line, ending_line, line_of};
 
 use crate::form::{One, Three, Two, one_form, three_form, two_form};
 use crate::number::{read_fail, read_order, read_small};
@@ -321,12 +321,23 @@ fn pair_line(
     Ok(Line::End(End::Raise { class, message }))
 }
 
+// `return H`, or `value V`
+fn ending_line(alloc: Global, classes: &Classes, word: &[u8], operand: &[u8]) -> Said<Line>
+    ensures { TellsLine result (ending_line classes.now word.now operand.now) }
+{
+    if word == b"return".as_slice() {
+        return Ok(Line::End(End::Return(register_of(alloc, operand)?)));
+    }
+    let value = value_operand(alloc, classes, operand)?;
+    Ok(Line::End(End::Value(value)))
+}
+
 /// What the tokens of a line within a script say that has no fault.
 pub(crate) fn line_of(alloc: Global, classes: &Classes, tokens: &[&[u8]]) -> Said<Line>
     ensures { TellsLine result (line_of classes.now (map (λ t. t.now) tokens.now)) }
 {
     match tokens {
-        [_, handle] => Ok(Line::End(End::Return(register_of(alloc, handle)?))),
+        [word, operand] => ending_line(alloc, classes, word, operand),
         [word, first, second, rest @ ..] => {
             if *word == b"let".as_slice() {
                 let_line(alloc, classes, first, second, rest)

@@ -106,7 +106,11 @@ fn is_ending(tokens: &[&[u8]]) -> bool
 {
     match tokens {
         [] => false,
-        [word, ..] => *word == b"return".as_slice() || *word == b"raise".as_slice(),
+        [word, ..] => {
+            *word == b"return".as_slice()
+                || *word == b"raise".as_slice()
+                || *word == b"value".as_slice()
+        }
     }
 }
 

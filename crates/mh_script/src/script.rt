@@ -66,6 +66,8 @@ pub enum End {
     Return(Register),
     /// `raise C s:TEXT`: throws an exception of the class with that message.
     Raise { class: Seq<u8>, message: Str },
+    /// `value V`: the value of a dynamic constant.
+    Value(ValueOperand),
 }
 
 /// A bootstrap method: its name, its lines, and the line that ends it.
