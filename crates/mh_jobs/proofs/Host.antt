@@ -85,7 +85,7 @@ bare handle = record { handle = handle; arguments = [] }
 
 -- the class of a site and its bootstrap method
 abbrev pub class_of : SiteView → class_file.Bootstrap → class_file.Class
-class_of site bootstrap = record { constants = []; sites = site ∷ []; bootstraps = bootstrap ∷ [] }
+class_of site bootstrap = record { constants = []; dynamics = []; sites = site ∷ []; bootstraps = bootstrap ∷ [] }
 
 -- the job of a site of a name and a type, which is the first of the run
 abbrev pub job_with : List ℕ → List ℕ → class_file.Bootstrap → Job

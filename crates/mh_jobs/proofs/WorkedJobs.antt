@@ -125,7 +125,7 @@ unfolding chars_from units_from unit_len sound_from shown
 the_job_of_a_class_is_that_of_its_site = refl
 
 past_its_sites_a_class_has_no_job :
-    job_of host [] (record { constants = []; sites = []; bootstraps = [] }) 0 0
+    job_of host [] (record { constants = []; dynamics = []; sites = []; bootstraps = [] }) 0 0
     ≡ None
 past_its_sites_a_class_has_no_job = refl
 

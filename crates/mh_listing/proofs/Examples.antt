@@ -16,7 +16,7 @@ a_bootstrap : Bootstrap
 a_bootstrap = record { handle = record { kind = 6; owner = codes "a/Boot"; name = codes "li nk"; descriptor = codes "()V" }; arguments = [] }
 
 a_class : Class
-a_class = record { constants = []; sites = a_site ∷ []; bootstraps = a_bootstrap ∷ [] }
+a_class = record { constants = []; dynamics = []; sites = a_site ∷ []; bootstraps = a_bootstrap ∷ [] }
 
 a_line : site_line 3 a_class a_site ≡ codes "site 3 run:()V 5 6 a/Boot.li\\snk:()V f (I)I\n"
 unfolding a_site a_bootstrap a_class units_from unit_len shown digits

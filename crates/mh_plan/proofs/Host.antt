@@ -14,7 +14,7 @@ use Rattle.mh_jobs.proofs.Host.{of, host, site_of, booted}
 
 -- a class whose sites have these types
 abbrev pub class_with : List (List ℕ) → class_file.Class
-class_with types = record { constants = []; sites = map (site_of (codes "f")) types; bootstraps = booted [] ∷ [] }
+class_with types = record { constants = []; dynamics = []; sites = map (site_of (codes "f")) types; bootstraps = booted [] ∷ [] }
 
 -- a run whose sites have these types, and are linked by a script
 abbrev pub given_with : Script → List (List ℕ) → Given
