@@ -2,11 +2,14 @@ pub mod Arguments
 pub mod Bootstraps
 pub mod Entries
 pub mod Host
+pub mod NumberedOn
 pub mod Numbering
 pub mod OfClasses
+pub mod Parted
 pub mod Parts
 pub mod ReadOnce
 pub mod Recorded
 pub mod Telling
 mod WorkedArguments
+mod WorkedConstants
 mod WorkedJobs

@@ -99,6 +99,11 @@ no_type says text (descriptor.NoClass at len) = no_class says (take len (drop at
 no_type says text (descriptor.Unsupported at) = unsupported (codes "type")
 no_type says text _ = no_class says text
 
+-- the descriptor of a constant that is no type, or one that is left out; only an unknown class is named
+abbrev pub no_one_type : List ℕ → DescriptorError → Exc
+no_one_type text (descriptor.NoClass at len) = no_class as_shown (take len (drop at text))
+no_one_type text _ = unsupported (codes "type")
+
 -- ---- what is recorded
 
 -- an exception as the cause of a BootstrapMethodError

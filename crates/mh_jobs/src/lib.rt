@@ -3,6 +3,8 @@
 
 mod argument;
 mod call;
+mod const_jobs;
+mod constants;
 mod error;
 mod job;
 mod jobs;
@@ -11,7 +13,11 @@ mod run;
 mod statics;
 mod thrown;
 mod types;
+mod unresolved;
 
+pub use const_jobs::{ConstJobs, push_constants};
+pub use constants::{ConstBootstrap, ConstJob, const_job_of};
 pub use job::{Argument, BootstrapCall, Job, Method, job_of};
 pub use jobs::{Jobs, push_jobs};
 pub use run::Run;
+pub use unresolved::{Part, StaticArguments};

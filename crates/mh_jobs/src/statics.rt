@@ -20,7 +20,7 @@ pub(crate) type ArgumentsOrThrown = Result<Frozen<Argument>, Exc>;
 pub(crate) type Entries = Seq<ArgumentsOrThrown>;
 
 /// The number of static arguments of a bootstrap method.
-fn count(view: &ClassView<'_>, bootstrap: u16) -> u16
+pub(crate) fn count(view: &ClassView<'_>, bootstrap: u16) -> u16
     requires { bootstrap < length view.now.bootstraps }
     ensures { result ≡ length (constants_at view.now bootstrap) }
 {
@@ -28,7 +28,7 @@ fn count(view: &ClassView<'_>, bootstrap: u16) -> u16
 }
 
 /// A static argument of a bootstrap method.
-fn constant<'b>(view: &ClassView<'b>, bootstrap: u16, k: u16) -> Constant<'b>
+pub(crate) fn constant<'b>(view: &ClassView<'b>, bootstrap: u16, k: u16) -> Constant<'b>
     requires bootstrap { bootstrap < length view.now.bootstraps }
     requires argument { k < length (constants_at view.now bootstrap) }
     ensures { slice_get (constants_at view.now bootstrap) k ≡ Some result }

@@ -2,7 +2,7 @@ ghost use Rattle.std.specs.Prelude.{◌≡◌, take, drop, IfOk};
 ghost use Rattle.mh_values.specs.Exception.{saying};
 ghost use Rattle.mh_jobs.specs.Job.{method_of};
 ghost use Rattle.mh_jobs.specs.Told.{Throws, error_of};
-ghost use Rattle.mh_jobs.specs.Thrown.{as_shown, method_text, no_class, no_method, no_type, unsupported};
+ghost use Rattle.mh_jobs.specs.Thrown.{as_shown, method_text, no_class, no_method, no_one_type, no_type, unsupported};
 
 use crate::error::ResolutionError;
 use mh_base::{Frozen, NoMemory, Seq};
@@ -99,6 +99,20 @@ fn part(bytes: &[u8], at: usize, len: usize) -> &[u8]
 {
     let rest = &bytes[at.min(bytes.len())..];
     &rest[..len.min(rest.len())]
+}
+
+/// The text is none of one type: an unknown class that it names, or else a type that is left out.
+pub(crate) fn no_one_type(alloc: Global, text: &[u8], error: DescriptorError) -> ResolutionError
+    ensures thrown { Throws result (no_one_type text.now error) }
+    ensures memory { error ≡ DescriptorError.NoMemory → result ≡ ResolutionError.NoMemory }
+{
+    match error {
+        DescriptorError::NoMemory => ResolutionError::NoMemory,
+        DescriptorError::NoClass { at, len } => no_class(alloc, part(text, at, len)),
+        DescriptorError::Unsupported { .. } | DescriptorError::Bad { .. } => {
+            unsupported(alloc, b"type")
+        }
+    }
 }
 
 /// The text has no type.

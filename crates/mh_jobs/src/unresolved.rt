@@ -1,0 +1,190 @@
+ghost use Rattle.std.specs.Prelude.{◌≡◌, ◌+◌, ◌<◌, ◌≤◌, ◌^◌, [], length, None, IfOk};
+ghost use Rattle.mh_classfile.specs.Class.{number_of};
+ghost use Rattle.mh_jobs.specs.Job.{constants_at};
+ghost use Rattle.mh_jobs.specs.Parts.{entry_of, named_constant, names_of, part_of, static_arguments};
+ghost use Rattle.mh_jobs.specs.Told.{TellsResolved};
+
+use crate::Argument;
+use crate::argument::argument_of;
+use crate::error::ResolutionError;
+use crate::statics::{constant, count};
+use mh_base::{Copied, Frozen, NoMemory, Seq};
+use mh_classfile::{ClassView, Constant};
+use mh_leaves::Leaves;
+use mh_script::Scripts;
+use mh_values::Exc;
+use std::alloc::Global;
+
+/// A static argument of a bootstrap method, before dynamic constants are resolved (JVMS SE 17,
+/// 5.4.3.6).
+#[derive(Debug, Drop)]
+pub enum Part {
+    Known(Argument),
+    /// A dynamic constant, by its number in the run.
+    Constant(u32),
+}
+
+/// The static arguments of a bootstrap method from left to right, up to the first that is refused
+/// whatever the dynamic constants are, and what is thrown there.
+#[derive(Debug, Drop)]
+pub struct StaticArguments {
+    pub parts: Frozen<Part>,
+    pub thrown: Option<Exc>,
+}
+
+/// What is read of the static arguments of a bootstrap method.
+#[derive(Drop)]
+pub(crate) struct Entry {
+    pub arguments: StaticArguments,
+    /// The dynamic constants among them, also those after one that is refused.
+    pub names: Frozen<u32>,
+}
+
+/// What the dynamic constants of a class are resolved with.
+#[derive(Clone, Copy)]
+pub(crate) struct Numbering<'a, 'b> {
+    pub view: &'a ClassView<'b>,
+    pub scripts: &'a Scripts,
+    pub leaves: &'a Leaves,
+    /// How many dynamic constants the classes before it have.
+    pub first: u32,
+}
+
+/// How many Dynamic entries of a class stand before an index.
+fn number_of(view: &ClassView<'_>, index: u16) -> u16
+    ensures is { result ≡ number_of view.now index }
+    ensures few { result ≤ length view.now.dynamics }
+{
+    view.number_of(index)
+}
+
+/// The number in the run of the dynamic constant that a constant is.
+fn named_constant(from: &Numbering<'_, '_>, constant: &Constant<'_>) -> Option<u32>
+    requires { from.now.first + length from.now.view.now.dynamics < 2 ^ 32 }
+    ensures { result ≡ named_constant from.now.view.now from.now.first constant.now }
+{
+    match constant {
+        Constant::Dynamic(dynamic) => {
+            Some(from.first + number_of(from.view, dynamic.index) as u32)
+        }
+        _ => None,
+    }
+}
+
+/// A static argument by its constant.
+fn part_of(
+    alloc: Global,
+    from: &Numbering<'_, '_>,
+    constant: &Constant<'_>,
+) -> Result<Part, ResolutionError>
+    requires { from.now.first + length from.now.view.now.dynamics < 2 ^ 32 }
+    ensures { TellsResolved result
+        (part_of from.now.leaves.now from.now.view.now from.now.first constant.now) }
+{
+    if let Some(number) = named_constant(from, constant) {
+        return Ok(Part::Constant(number));
+    }
+    let argument = argument_of(alloc, from.leaves, constant)?;
+    Ok(Part::Known(argument))
+}
+
+/// The static arguments of a bootstrap method up to the first that is refused, and what is thrown
+/// there.
+#[tactic(auto, using(crate::proofs::Parted::parting))]
+fn parts_of(
+    alloc: Global,
+    from: &Numbering<'_, '_>,
+    bootstrap: u16,
+) -> Result<(Seq<Part>, Option<Exc>), NoMemory>
+    requires few { from.now.first + length from.now.view.now.dynamics < 2 ^ 32 }
+    requires bootstrap { bootstrap < length from.now.view.now.bootstraps }
+    ensures { IfOk result (λ both. record { parts = both.0; thrown = both.1 }
+        ≡ static_arguments from.now.leaves.now from.now.view.now from.now.first
+        (constants_at from.now.view.now bootstrap)) }
+{
+    let mut parts = Seq::new(alloc);
+    for k in 0..count(from.view, bootstrap) {
+        let constant = constant(from.view, bootstrap, k);
+        match part_of(alloc, from, &constant) {
+            Ok(part) => parts.push(part)?,
+            Err(ResolutionError::NoMemory) => return Err(NoMemory),
+            Err(ResolutionError::Thrown(exc)) => return Ok((parts, Some(exc))),
+        }
+    }
+    Ok((parts, None))
+}
+
+/// The dynamic constants among the static arguments of a bootstrap method.
+#[tactic(auto, using(crate::proofs::Parted::naming))]
+fn names_of(
+    alloc: Global,
+    from: &Numbering<'_, '_>,
+    bootstrap: u16,
+) -> Result<Seq<u32>, NoMemory>
+    requires few { from.now.first + length from.now.view.now.dynamics < 2 ^ 32 }
+    requires bootstrap { bootstrap < length from.now.view.now.bootstraps }
+    ensures { IfOk result (λ names. names ≡ names_of from.now.view.now from.now.first
+        (constants_at from.now.view.now bootstrap)) }
+{
+    let mut names = Seq::new(alloc);
+    for k in 0..count(from.view, bootstrap) {
+        let constant = constant(from.view, bootstrap, k);
+        if let Some(number) = named_constant(from, &constant) {
+            names.push(number)?;
+        }
+    }
+    Ok(names)
+}
+
+/// What is read of the static arguments of a bootstrap method.
+pub(crate) fn entry_of(
+    alloc: Global,
+    from: &Numbering<'_, '_>,
+    bootstrap: u16,
+) -> Result<Entry, NoMemory>
+    requires few { from.now.first + length from.now.view.now.dynamics < 2 ^ 32 }
+    requires bootstrap { bootstrap < length from.now.view.now.bootstraps }
+    ensures { IfOk result (λ entry. entry
+        ≡ entry_of from.now.leaves.now from.now.view.now from.now.first
+        (constants_at from.now.view.now bootstrap)) }
+{
+    let (parts, thrown) = parts_of(alloc, from, bootstrap)?;
+    let names = names_of(alloc, from, bootstrap)?;
+    Ok(Entry {
+        arguments: StaticArguments {
+            parts: Frozen::of(alloc, parts)?,
+            thrown,
+        },
+        names: Frozen::of(alloc, names)?,
+    })
+}
+
+/// What is read where there are no static arguments.
+pub(crate) fn no_entry() -> Entry
+    ensures { result ≡ record { arguments = record { parts = []; thrown = None }; names = [] } }
+{
+    Entry {
+        arguments: StaticArguments {
+            parts: Frozen::new(),
+            thrown: None,
+        },
+        names: Frozen::new(),
+    }
+}
+
+/// What was read, which is not read again.
+pub(crate) fn shared(alloc: Global, entry: &Entry) -> Result<Entry, NoMemory>
+    ensures { IfOk result (λ copy. copy ≡ entry.now) }
+{
+    let thrown = match &entry.arguments.thrown {
+        Some(exc) => Some(exc.copy(alloc)?),
+        None => None,
+    };
+    Ok(Entry {
+        arguments: StaticArguments {
+            parts: entry.arguments.parts.copy()?,
+            thrown,
+        },
+        names: entry.names.copy()?,
+    })
+}
