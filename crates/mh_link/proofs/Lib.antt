@@ -7,10 +7,20 @@ pub mod Leaves
 pub mod Nodes
 pub mod Targets
 pub mod Uses
+pub mod Places
+pub mod Depths
+pub mod DepthIs
+pub mod Resolving
+pub mod Asked
+pub mod FixedPoint
+pub mod RecordedConstants
+pub mod Walks
+pub mod Asking
 mod WorkedAdapters
 mod WorkedBranchCalls
 mod WorkedCalls
 mod WorkedConcatenations
+mod WorkedConstants
 mod WorkedEnds
 mod WorkedLines
 mod WorkedNodes

@@ -4,3 +4,13 @@ pub mod Made
 pub mod Operands
 pub mod Operations
 pub mod Sites
+pub mod Places
+pub mod Named
+pub mod Resolved
+pub mod Depth
+pub mod ConstScripts
+pub mod Constants
+pub mod Asking
+pub mod Walks
+pub mod Completed
+pub mod RecordedConstants

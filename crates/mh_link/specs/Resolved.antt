@@ -1,0 +1,50 @@
+-- The static arguments of a bootstrap method, some of which are constants (JVMS SE 17, 5.4.3.6).
+use Rattle.mh_jobs.specs.declared.job.Argument.TheVariants as argument
+use Rattle.mh_jobs.specs.declared.job.Argument.{Argument}
+use Rattle.mh_jobs.specs.declared.unresolved.Part.TheVariants.{Known, Constant}
+use Rattle.mh_jobs.specs.declared.unresolved.Part.{Part}
+use Rattle.mh_jobs.specs.declared.unresolved.StaticArguments.{StaticArguments}
+use Rattle.std.specs.Prelude.{ℕ, if◌then◌else◌, List, [], ◌∷◌, ◌≡◌, codes, Option, Some, None, Ok, Err, is_ok}
+use Rattle.mh_values.specs.declared.value.Exc.{Exc}
+use Rattle.mh_values.specs.declared.value.Value.{Value}
+use Rattle.mh_jobs.specs.Thrown.{OrThrown, ◌>>=◌, unsupported}
+
+-- what is found of each constant: its recorded value or error, where there is one
+abbrev pub Found : Type 0
+Found = ℕ → Option (OrThrown Value)
+
+-- a constant as an argument; one of which nothing is known is unsupported
+abbrev pub taken : Option (OrThrown Value) → OrThrown Value
+taken (Some value) = value
+taken None = Err (unsupported (codes "constant"))
+
+-- what stands after the last part
+abbrev pub at_end : Option Exc → OrThrown (List Argument)
+at_end None = Ok []
+at_end (Some e) = Err e
+
+-- parts in order, and then what is thrown at their end; the first error ends all
+abbrev pub resolved_parts : Found → Option Exc → List Part → OrThrown (List Argument)
+resolved_parts known thrown [] = at_end thrown
+resolved_parts known thrown (Known a ∷ parts) = do
+  others ← resolved_parts known thrown parts
+  Ok (a ∷ others)
+resolved_parts known thrown (Constant c ∷ parts) = do
+  value ← taken (known c)
+  others ← resolved_parts known thrown parts
+  Ok (argument.Value value ∷ others)
+
+-- the static arguments, where constants are what they are known to be
+abbrev pub resolved : Found → StaticArguments → OrThrown (List Argument)
+resolved known arguments = resolved_parts known arguments.thrown arguments.parts
+
+-- the constants that are looked at for that, in order: up to the first that is an error
+abbrev pub asked : Found → List Part → List ℕ
+asked known [] = []
+asked known (Known a ∷ parts) = asked known parts
+asked known (Constant c ∷ parts) = c ∷ (if is_ok (taken (known c)) then asked known parts else [])
+
+-- two tables know the same of each of these constants
+abbrev pub Agree : Found → Found → List ℕ → Type 0
+Agree known other [] = Unit {0}
+Agree known other (c ∷ cs) = (known c ≡ other c) × Agree known other cs
