@@ -7,8 +7,8 @@ ghost use Rattle.mh_jobs.specs.Told.{TellsResolved};
 use crate::argument::text_of;
 use crate::error::ResolutionError;
 use crate::names::script_of;
-use crate::unresolved::{Entry, Numbering, StaticArguments, entry_of, no_entry};
 use crate::thrown::{no_one_type, unsupported};
+use crate::unresolved::{Entry, Numbering, StaticArguments, entry_of, no_entry};
 use mh_base::{Frozen, NoMemory};
 use mh_classfile::{ClassView, DynamicView, HandleRef};
 use mh_leaves::Leaves;
@@ -132,11 +132,7 @@ pub(crate) fn const_job(
 }
 
 /// What is read of the static arguments of a bootstrap method; nothing, where it is not there.
-fn entry_at(
-    alloc: Global,
-    from: &Numbering<'_, '_>,
-    bootstrap: u16,
-) -> Result<Entry, NoMemory>
+fn entry_at(alloc: Global, from: &Numbering<'_, '_>, bootstrap: u16) -> Result<Entry, NoMemory>
     requires { from.now.first + length from.now.view.now.dynamics < 2 ^ 32 }
     ensures { IfOk result (λ entry. entry
         ≡ entry_of from.now.leaves.now from.now.view.now from.now.first

@@ -116,11 +116,7 @@ fn parts_of(
 
 /// The dynamic constants among the static arguments of a bootstrap method.
 #[tactic(auto, using(crate::proofs::Parted::naming))]
-fn names_of(
-    alloc: Global,
-    from: &Numbering<'_, '_>,
-    bootstrap: u16,
-) -> Result<Seq<u32>, NoMemory>
+fn names_of(alloc: Global, from: &Numbering<'_, '_>, bootstrap: u16) -> Result<Seq<u32>, NoMemory>
     requires few { from.now.first + length from.now.view.now.dynamics < 2 ^ 32 }
     requires bootstrap { bootstrap < length from.now.view.now.bootstraps }
     ensures { IfOk result (λ names. names ≡ names_of from.now.view.now from.now.first
