@@ -12,7 +12,7 @@ use Rattle.mh_jobs.specs.Job.{site_job}
 use Rattle.mh_jobs.specs.Jobs.{jobs_from, jobs_of, with_class}
 
 -- an item of two lists stands in one of them
-either : {A : Type 0} (xs ys : List A) (i : ℕ) (x : A) → slice_get (xs ++ ys) i ≡ Some x →
+pub either : {A : Type 0} (xs ys : List A) (i : ℕ) (x : A) → slice_get (xs ++ ys) i ≡ Some x →
     (slice_get xs i ≡ Some x) ⊎ ((j : ℕ) × (slice_get ys j ≡ Some x))
 either [] ys i x h = inr (i, h)
 either (y ∷ xs) ys zero x h = inl h

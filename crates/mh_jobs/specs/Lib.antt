@@ -5,6 +5,7 @@ pub mod Job
 pub mod Jobs
 pub mod Names
 pub mod Parts
+pub mod Sites
 pub mod Thrown
 pub mod Told
 pub mod Types

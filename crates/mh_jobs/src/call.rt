@@ -42,13 +42,13 @@ fn arguments_at(
 }
 
 /// The bootstrap method that a handle names: a built-in one, or else that of a script.
-fn bootstrap_method(
+pub(crate) fn bootstrap_method(
     alloc: Global,
-    from: &Resolving<'_, '_>,
+    leaves: &Leaves,
+    scripts: &Scripts,
     handle: &HandleRef<'_>,
 ) -> Result<Method, ResolutionError>
-    ensures { TellsResolved result (bootstrap_method
-        from.now.leaves.now.classes from.now.scripts.now handle.now) }
+    ensures { TellsResolved result (bootstrap_method leaves.now.classes scripts.now handle.now) }
 {
     if handle.kind != 6 {
         return Err(unsupported(alloc, b"constant"));
@@ -56,7 +56,7 @@ fn bootstrap_method(
     if is_built_in(handle) {
         return Ok(Method::Concat);
     }
-    let script = script_of(alloc, from.leaves.classes(), from.scripts, handle)?;
+    let script = script_of(alloc, leaves.classes(), scripts, handle)?;
     Ok(Method::Script(script))
 }
 
@@ -84,7 +84,7 @@ fn call_of(
     ensures { TellsResolved result (call_of from.now.leaves.now from.now.scripts.now site.now
         handle.now (constants_at from.now.view.now site.now.bootstrap)) }
 {
-    let method = bootstrap_method(alloc, from, handle)?;
+    let method = bootstrap_method(alloc, from.leaves, from.scripts, handle)?;
     let ty = shared(alloc, ty)?;
     let name = text_of(alloc, &site.name)?;
     let arguments = arguments_at(alloc, from, site.bootstrap)?;

@@ -8,7 +8,7 @@ use crate::argument::text_of;
 use crate::error::ResolutionError;
 use crate::names::script_of;
 use crate::thrown::{no_one_type, unsupported};
-use crate::unresolved::{Entry, Numbering, StaticArguments, entry_of, no_entry};
+use crate::unresolved::{Entry, Numbering, StaticArguments, entry_at};
 use mh_base::{Frozen, NoMemory};
 use mh_classfile::{ClassView, DynamicView, HandleRef};
 use mh_leaves::Leaves;
@@ -129,19 +129,6 @@ pub(crate) fn const_job(
         names,
         call,
     })
-}
-
-/// What is read of the static arguments of a bootstrap method; nothing, where it is not there.
-fn entry_at(alloc: Global, from: &Numbering<'_, '_>, bootstrap: u16) -> Result<Entry, NoMemory>
-    requires { from.now.first + length from.now.view.now.dynamics < 2 ^ 32 }
-    ensures { IfOk result (λ entry. entry
-        ≡ entry_of from.now.leaves.now from.now.view.now from.now.first
-        (constants_at from.now.view.now bootstrap)) }
-{
-    if bootstrap >= from.view.bootstraps() {
-        return Ok(no_entry());
-    }
-    entry_of(alloc, from, bootstrap)
 }
 
 /// The job of a class's Dynamic entry `d`, where the classes before it have `first` dynamic

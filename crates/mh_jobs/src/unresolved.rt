@@ -184,3 +184,20 @@ pub(crate) fn shared(alloc: Global, entry: &Entry) -> Result<Entry, NoMemory>
         names: entry.names.copy()?,
     })
 }
+
+/// What is read of the static arguments of a bootstrap method; nothing, where it is not there.
+pub(crate) fn entry_at(
+    alloc: Global,
+    from: &Numbering<'_, '_>,
+    bootstrap: u16,
+) -> Result<Entry, NoMemory>
+    requires { from.now.first + length from.now.view.now.dynamics < 2 ^ 32 }
+    ensures { IfOk result (λ entry. entry
+        ≡ entry_of from.now.leaves.now from.now.view.now from.now.first
+        (constants_at from.now.view.now bootstrap)) }
+{
+    if bootstrap >= from.view.bootstraps() {
+        return Ok(no_entry());
+    }
+    entry_of(alloc, from, bootstrap)
+}
