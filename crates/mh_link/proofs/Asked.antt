@@ -12,11 +12,10 @@ use Rattle.mh_link.specs.Resolved.{Found, Agree, taken, resolved, asked}
 use Rattle.mh_link.specs.Places.{is_in, Has}
 use Rattle.mh_jobs.specs.declared.constants.ConstBootstrap.{ConstBootstrap}
 use Rattle.mh_jobs.specs.declared.constants.ConstJob.{ConstJob}
-use Rattle.mh_link.specs.ConstScripts.{script_value}
 use Rattle.mh_link.specs.Named.{Constants, Name, AreConstJobs, arguments_of_call}
 use Rattle.mh_link.specs.Depth.{rank, depth, most_depth}
-use Rattle.mh_link.specs.Constants.{too_deep, as_recorded, const_under}
-use Rattle.mh_link.specs.Asking.{asked_of_call, asked_by}
+use Rattle.mh_link.specs.Constants.{too_deep, as_recorded, call_value, const_under}
+use Rattle.mh_link.specs.Asking.{asked_of_call, asked_of_job, asked_by}
 use Rattle.mh_link.proofs.Places.{has-cons, has-here, has-there}
 use Rattle.mh_link.proofs.Depths.{depth-falls, depth-small}
 use Rattle.mh_link.proofs.Resolving.{resolving}
@@ -46,17 +45,18 @@ pub record LooksAt (run : Constants) (c d : ℕ) : Type 0 where
 pub looks-at : (run : Constants) → AreConstJobs run → (found : Found) (c d : ℕ) → Has (asked_by run found c) d → LooksAt run c d
 looks-at run named found c d h = by_depth (depth run c) refl h
   where
-    by_call : (job : ConstJob) → slice_get run.jobs c ≡ Some job → (call : OrThrown ConstBootstrap) → job.call ≡ call → Has (asked_of_call found (arguments_of_call call)) d → Has job.names d
+    by_call : (job : ConstJob) → slice_get run.jobs c ≡ Some job → (call : OrThrown ConstBootstrap) → job.call ≡ call →
+        Has (asked_of_call found (arguments_of_call call)) d → Has job.names d
     by_call job at (Ok call) is h = asked-named found job.names call.arguments.parts (named c job at call is) d h
     by_call job at (Err e) is h = absurd (both_ways (is_in [] d) refl h)
 
     by_job : (k : ℕ) → depth run c ≡ Some k → (o : Option ConstJob) → slice_get run.jobs c ≡ o →
-        Has (option_map_or (λ (job : ConstJob). asked_of_call found (arguments_of_call job.call)) o []) d → LooksAt run c d
+        Has (option_map_or (asked_of_job found) o []) d → LooksAt run c d
     by_job k e None none h = absurd (both_ways (is_in [] d) refl h)
     by_job k e (Some job) at h = record { deep = k; depth = e; job = job; at = at; names = by_call job at job.call refl h }
 
     by_depth : (o : Option ℕ) → depth run c ≡ o →
-        Has (if is_some o then option_map_or (λ (job : ConstJob). asked_of_call found (arguments_of_call job.call)) (slice_get run.jobs c) [] else []) d → LooksAt run c d
+        Has (if is_some o then option_map_or (asked_of_job found) (slice_get run.jobs c) [] else []) d → LooksAt run c d
     by_depth None none h = absurd (both_ways (is_in [] d) refl h)
     by_depth (Some k) e h = by_job k e (slice_get run.jobs c) refl h
 
@@ -85,10 +85,11 @@ agree-each known other (c ∷ cs) each = (each c (has-here c cs), agree-each kno
 abbrev outcome_with : Constants → Bool → Option ConstJob → Found → ℕ → OrThrown Value
 outcome_with run deep at known serial =
     require deep too_deep
-    >> (ok_or at too_deep >>= (λ (job : ConstJob). job.call >>= (λ (call : ConstBootstrap). resolved known call.arguments >>= (λ arguments. script_value run.leaves.classes run.scripts call serial arguments))))
+    >> (ok_or at too_deep >>= (λ (job : ConstJob). job.call >>= (λ (call : ConstBootstrap).
+    resolved known call.arguments >>= (λ arguments. call_value run call serial arguments))))
 
 abbrev asked_with : Bool → Option ConstJob → Found → List ℕ
-asked_with deep at known = if deep then option_map_or (λ (job : ConstJob). asked_of_call known (arguments_of_call job.call)) at [] else []
+asked_with deep at known = if deep then option_map_or (asked_of_job known) at [] else []
 
 with-same : (run : Constants) (known other : Found) (deep : Bool) (at : Option ConstJob) → Agree known other (asked_with deep at known) →
     ((serial : ℕ) → outcome_with run deep at known serial ≡ outcome_with run deep at other serial) × (asked_with deep at known ≡ asked_with deep at other)
@@ -97,13 +98,13 @@ with-same run known other true None agree = (λ serial. refl, refl)
 with-same run known other true (Some job) agree = cases job.call agree
   where
     cases : (call : OrThrown ConstBootstrap) → Agree known other (asked_of_call known (arguments_of_call call)) →
-        ((serial : ℕ) → (call >>= (λ (c : ConstBootstrap). resolved known c.arguments >>= (λ arguments. script_value run.leaves.classes run.scripts c serial arguments)))
-        ≡ (call >>= (λ (c : ConstBootstrap). resolved other c.arguments >>= (λ arguments. script_value run.leaves.classes run.scripts c serial arguments))))
+        ((serial : ℕ) → (call >>= (λ (c : ConstBootstrap). resolved known c.arguments >>= (λ arguments. call_value run c serial arguments)))
+        ≡ (call >>= (λ (c : ConstBootstrap). resolved other c.arguments >>= (λ arguments. call_value run c serial arguments))))
         × (asked_of_call known (arguments_of_call call) ≡ asked_of_call other (arguments_of_call call))
     cases (Err e) agree = (λ serial. refl, refl)
     cases (Ok call) agree =
         let both = resolving known other call.arguments agree in
-        (λ serial. ap (λ (r : OrThrown (List Argument)). r >>= (λ arguments. script_value run.leaves.classes run.scripts call serial arguments)) both.0, both.1)
+        (λ serial. ap (λ (r : OrThrown (List Argument)). r >>= (λ arguments. call_value run call serial arguments)) both.0, both.1)
 
 pub under-same : (run : Constants) (known other : Found) (c : ℕ) → Agree known other (asked_by run known c) →
     ((serial : ℕ) → const_under run known c serial ≡ const_under run other c serial) × (asked_by run known c ≡ asked_by run other c)

@@ -11,6 +11,8 @@ pub mod Places
 pub mod Depths
 pub mod DepthIs
 pub mod Resolving
+pub mod NothingKnown
+pub mod NamedOwn
 pub mod Asked
 pub mod FixedPoint
 pub mod RecordedConstants

@@ -16,10 +16,14 @@ abbrev pub asked_of_call : Found → OrThrown StaticArguments → List ℕ
 asked_of_call known (Ok arguments) = asked known arguments.parts
 asked_of_call known (Err e) = []
 
+-- the constants that the call of a job looks at itself
+abbrev pub asked_of_job : Found → ConstJob → List ℕ
+asked_of_job known job = asked_of_call known (arguments_of_call job.call)
+
 -- the constants that a constant looks at itself: none where it has no depth
 abbrev pub asked_by : Constants → Found → ℕ → List ℕ
 asked_by run known c =
-    if is_some (depth run c) then option_map_or (λ (job : ConstJob). asked_of_call known (arguments_of_call job.call)) (slice_get run.jobs c) [] else []
+    if is_some (depth run c) then option_map_or (asked_of_job known) (slice_get run.jobs c) [] else []
 
 -- all that stands below a number, so many steps deep: each that it looks at, directly followed by all that stands below that
 unfoldable pub below : (ℕ → List ℕ) → ℕ → ℕ → List ℕ

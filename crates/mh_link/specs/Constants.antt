@@ -7,6 +7,8 @@ use Rattle.mh_values.specs.declared.value.Exc.{Exc}
 use Rattle.mh_values.specs.declared.value.Value.{Value}
 use Rattle.mh_values.specs.Class.{class_at}
 use Rattle.mh_values.specs.Exception.{saying}
+use Rattle.mh_jobs.specs.declared.constants.ConstBootstrap.{ConstBootstrap}
+use Rattle.mh_jobs.specs.declared.job.Argument.{Argument}
 use Rattle.mh_jobs.specs.Thrown.{OrThrown, ◌>>=◌, ◌>>◌, require, recorded}
 use Rattle.mh_link.specs.Resolved.{Found, resolved}
 use Rattle.mh_link.specs.ConstScripts.{script_value}
@@ -34,6 +36,10 @@ abbrev pub as_recorded : List Class → OrThrown Value → OrThrown Value
 as_recorded classes (Ok v) = Ok v
 as_recorded classes (Err e) = Err (recorded classes e)
 
+-- the value that the script of a call gives in the attempt of a serial, from these static arguments
+abbrev pub call_value : Constants → ConstBootstrap → ℕ → List Argument → OrThrown Value
+call_value run call serial arguments = script_value run.leaves.classes run.scripts call serial arguments
+
 -- the outcome of the attempt of a serial at a constant, where constants are what they are known to be
 abbrev pub const_outcome : Constants → Found → ℕ → ℕ → OrThrown Value
 const_outcome run known c serial = do
@@ -41,7 +47,7 @@ const_outcome run known c serial = do
   job ← ok_or (slice_get run.jobs c) too_deep
   call ← job.call
   arguments ← resolved known call.arguments
-  script_value run.leaves.classes run.scripts call serial arguments
+  call_value run call serial arguments
 
 -- what is recorded of it
 abbrev pub const_under : Constants → Found → ℕ → ℕ → OrThrown Value

@@ -91,9 +91,13 @@ method_target leaves scripts serial call method.Concat = concat_of leaves.classe
 abbrev pub target_of : LeafTable → List Script → ℕ → BootstrapCall → OrThrown Tree
 target_of leaves scripts serial call = method_target leaves scripts serial call call.method
 
+-- the target of an attempt to answer a call, or the exception that it throws
+abbrev pub call_outcome : LeafTable → List Script → OrThrown BootstrapCall → ℕ → OrThrown Tree
+call_outcome leaves scripts call serial = call >>= target_of leaves scripts serial
+
 -- the target of an attempt to link a job's site, or the exception that it throws
 abbrev pub outcome : LeafTable → List Script → Job → ℕ → OrThrown Tree
-outcome leaves scripts job serial = job.call >>= target_of leaves scripts serial
+outcome leaves scripts job serial = call_outcome leaves scripts job.call serial
 
 -- what is recorded at a site: the target of all calls, or the error that all throw
 pub data Linked : Type 0 where
@@ -105,9 +109,13 @@ abbrev pub linkage : List Class → OrThrown Tree → Linked
 linkage classes (Ok t) = Target t
 linkage classes (Err e) = Error (recorded classes e)
 
+-- what the attempt with a serial number links for a call
+abbrev pub call_linked : LeafTable → List Script → OrThrown BootstrapCall → ℕ → Linked
+call_linked leaves scripts call serial = linkage leaves.classes (call_outcome leaves scripts call serial)
+
 -- what the attempt with a serial number links at a job's site
 abbrev pub linked : LeafTable → List Script → Job → ℕ → Linked
-linked leaves scripts job serial = linkage leaves.classes (outcome leaves scripts job serial)
+linked leaves scripts job serial = call_linked leaves scripts job.call serial
 
 -- a call of a site: it calls the target, or throws the recorded error without a leaf call
 abbrev pub site_call : LeafTable → Linked → List Value → Done

@@ -101,9 +101,13 @@ nodes_of_method leaves scripts serial call method.Concat = concat_nodes leaves.c
 abbrev pub nodes_of_call : LeafTable → List Script → ℕ → BootstrapCall → List Tree
 nodes_of_call leaves scripts serial call = nodes_of_method leaves scripts serial call call.method
 
--- the nodes that the attempt with a serial number makes; the list may have a node twice
+-- the nodes that the attempt with a serial number makes for a call; the list may have a node twice
+abbrev pub call_nodes : LeafTable → List Script → OrThrown BootstrapCall → ℕ → List Tree
+call_nodes leaves scripts call serial = unless_thrown call (nodes_of_call leaves scripts serial)
+
+-- the nodes that the attempt with a serial number makes at a job's site
 abbrev pub nodes : LeafTable → List Script → Job → ℕ → List Tree
-nodes leaves scripts job serial = unless_thrown job.call (nodes_of_call leaves scripts serial)
+nodes leaves scripts job serial = call_nodes leaves scripts job.call serial
 
 -- ---- what is asked for
 
@@ -118,5 +122,9 @@ beginnings (x ∷ xs) = (x ∷ []) ∷ map (λ front. x ∷ front) (beginnings x
 
 -- The edits of an attempt: the recipes of its nodes, with all beginnings of each. An edit makes a form from the form with one key less.
 -- So an attempt asks for a form of each beginning too, and the edits do not depend on which line made which form.
+abbrev pub call_edits : {K : Type 0} → (Tree → List K) → LeafTable → List Script → OrThrown BootstrapCall → ℕ → List (List K)
+call_edits recipe leaves scripts call serial = flat_map (λ t. beginnings (recipe t)) (call_nodes leaves scripts call serial)
+
+-- likewise of an attempt at a job's site
 abbrev pub edits : {K : Type 0} → (Tree → List K) → LeafTable → List Script → Job → ℕ → List (List K)
-edits recipe leaves scripts job serial = flat_map (λ t. beginnings (recipe t)) (nodes leaves scripts job serial)
+edits recipe leaves scripts job serial = call_edits recipe leaves scripts job.call serial

@@ -1,6 +1,8 @@
 -- The static arguments of a bootstrap method, some of which are constants (JVMS SE 17, 5.4.3.6).
 use Rattle.mh_jobs.specs.declared.job.Argument.TheVariants as argument
 use Rattle.mh_jobs.specs.declared.job.Argument.{Argument}
+use Rattle.mh_jobs.specs.declared.job.BootstrapCall.{BootstrapCall}
+use Rattle.mh_jobs.specs.declared.sites.Bootstrap.{Bootstrap}
 use Rattle.mh_jobs.specs.declared.unresolved.Part.TheVariants.{Known, Constant}
 use Rattle.mh_jobs.specs.declared.unresolved.Part.{Part}
 use Rattle.mh_jobs.specs.declared.unresolved.StaticArguments.{StaticArguments}
@@ -38,7 +40,18 @@ resolved_parts known thrown (Constant c ∷ parts) = do
 abbrev pub resolved : Found → StaticArguments → OrThrown (List Argument)
 resolved known arguments = resolved_parts known arguments.thrown arguments.parts
 
--- the constants that are looked at for that, in order: up to the first that is an error
+-- the call of a bootstrap method at a site, where constants are what they are known to be
+abbrev pub call_under : Found → OrThrown Bootstrap → OrThrown BootstrapCall
+call_under known call = do
+  bootstrap ← call
+  arguments ← resolved known bootstrap.arguments
+  Ok (record { method = bootstrap.method; name = bootstrap.name; ty = bootstrap.ty; arguments = arguments })
+
+-- nothing is known of any constant
+abbrev pub nothing_known : Found
+nothing_known c = None
+
+-- the constants that are looked at to resolve parts, in order: up to the first that is an error
 abbrev pub asked : Found → List Part → List ℕ
 asked known [] = []
 asked known (Known a ∷ parts) = asked known parts
