@@ -66,7 +66,8 @@ call-arguments leaves scripts class first d call h = cases (slice_get class.boot
 job-names : (leaves : LeafTable) (scripts : List Script) (class : class_file.Class) (first number : ℕ) (d : DynamicView) →
     NamesItsOwn (const_job leaves scripts class first number d)
 job-names leaves scripts class first number d call is =
-    subst (λ (a : StaticArguments). Name (names_of class first (constants_at class d.bootstrap)) a.parts) (sym (call-arguments leaves scripts class first d call is))
+    subst (λ (a : StaticArguments). Name (names_of class first (constants_at class d.bootstrap)) a.parts)
+    (sym (call-arguments leaves scripts class first d call is))
     (name-parts leaves class first (constants_at class d.bootstrap))
 
 -- each of these jobs names its own constants
