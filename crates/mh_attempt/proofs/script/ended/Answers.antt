@@ -34,3 +34,7 @@ returns-in_err-exc-in-Raise-clause-asked g c frame hold =
 
 pub returns-in_ok-exc-in-Raise-clause-asked : goal.returns-in_ok-exc-in-Raise-clause-asked
 returns-in_ok-exc-in-Raise-clause-asked g c frame hold = no_other-still (end_types (leaves_of c.args.w.now) c.args.end.now frame) c.args.w.now.seat.now
+
+pub returns-in_err-exc-in-Value-clause-types : goal.returns-in_err-exc-in-Value-clause-types
+returns-in_err-exc-in-Value-clause-types g c =
+    adds-unmade c.args.w.now c.args.w.now c.from_residual-in_err-exc-in-Value.result _ c.from_residual-in_err-exc-in-Value.ensures.1 (adds-none c.args.w.now)
