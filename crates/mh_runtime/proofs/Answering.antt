@@ -1,5 +1,5 @@
 -- The answers to the first calls of a thread, and where its calls end.
-use Rattle.std.proofs.Common.{◌≡◌, sym, ◌∙◌, ap, subst, ℕ, ◌<◌, ◌≤◌, List, length, take, Option, None, Some, Result, Ok, Err, arith}
+use Rattle.std.proofs.Common.{◌≡◌, refl, sym, ◌∙◌, ap, subst, ℕ, ◌<◌, ◌≤◌, List, length, take, Result, Ok, Err, arith}
 use Rattle.std.specs.Prelude.{IsErrAnd}
 use Rattle.std.specs.List.{flat_map}
 use Rattle.std.specs.Result.{result_err}
@@ -56,8 +56,7 @@ module _ (items calls : List Call) (i : ℕ) (answers after : List Answer) (same
       let n : length after ≡ length answers = ap length still in
       omega (arith, over, within, count, long, n)
 
--- where the calls end is where the thread ends
-pub ended-by : (calls : List Call) (answers : List Answer) (stop : Option WorkError) (r : Result (Unit {0}) WorkError) → r ≡ ending stop →
-    EndAt calls answers (result_err r) → EndAt calls answers stop
-ended-by calls answers None r is ended = subst (λ x. EndAt calls answers (result_err x)) is ended
-ended-by calls answers (Some e) r is ended = subst (λ x. EndAt calls answers (result_err x)) is ended
+-- how calls ended is said whole by why they stopped
+pub way-ended : (r : Result (Unit {0}) WorkError) → r ≡ ending (result_err r)
+way-ended (Ok done) = refl
+way-ended (Err e) = refl

@@ -21,6 +21,7 @@ pub mod LeafTypes
 pub mod Ledger
 pub mod LinkPasses
 pub mod LinkSteps
+pub mod MadeCalls
 pub mod MoreThreads
 pub mod NamedSites
 pub mod Needed
@@ -32,6 +33,7 @@ pub mod Places
 pub mod RecordedSites
 pub mod Repeating
 pub mod Reports
+pub mod Resolving
 pub mod Rising
 pub mod Room
 pub mod RunLedger
@@ -50,6 +52,7 @@ pub mod ThreadRuns
 pub mod ThreadSteps
 pub mod TypeLists
 pub mod WholeJoin
+pub mod WorkPasses
 pub mod ReportedStops
 pub mod OutsideStops
 pub mod LowestStops

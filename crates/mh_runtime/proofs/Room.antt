@@ -3,7 +3,7 @@ use Rattle.std.proofs.Common.{◌≡◌, sym, ◌∙◌, ap, subst, ℕ, ◌+◌
 use Rattle.std.proofs.lemmas.List.{take_more, take-append-drop}
 use Rattle.mh_handle.specs.declared.work.Work.{Work}
 use Rattle.mh_handle.specs.Works.{GoesOn, IsReady}
-use Rattle.mh_handle.proofs.Going.{goes_on-both}
+use Rattle.mh_handle.proofs.Going.{goes_on-both, goes_on-more}
 use Rattle.mh_plan.specs.declared.call.Call.{Call}
 use Rattle.mh_plan.specs.Limits.{calls_in}
 use Rattle.mh_runtime.specs.Asking.{call_draws, thread_draws}
@@ -56,3 +56,14 @@ module _ {X : Type 0} (each : X → ℕ) (all : List X → ℕ) (draw : Draw eac
       GoesOn (each x) mid new → GoesOn (all (take (i + 1) xs)) old new
   goes-next xs i x old mid new within is before next =
       subst (λ n. GoesOn n old new) (sym (one-more xs i x within is)) (goes_on-both (all (take i xs)) (each x) old mid new before next)
+
+  -- after the first items, of all that may draw
+  pub goes-whole : (xs ys : List X) (i : ℕ) (old new : Work) → xs ≡ ys → GoesOn (all (take i xs)) old new → GoesOn (all ys) old new
+  goes-whole xs ys i old new same goes =
+      subst (λ zs. GoesOn (all zs) old new) same (goes_on-more (all (take i xs)) (all xs) old new (front xs i) goes)
+
+  -- and after the next one
+  pub goes-within : (xs ys : List X) (i : ℕ) (x : X) (old mid new : Work) → xs ≡ ys → i < length xs → x ≡ get_or xs i x →
+      GoesOn (all (take i xs)) old mid → GoesOn (each x) mid new → GoesOn (all ys) old new
+  goes-within xs ys i x old mid new same within is before next =
+      goes-whole xs ys (i + 1) old new same (goes-next xs i x old mid new within is before next)

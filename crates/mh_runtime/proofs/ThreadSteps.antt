@@ -1,5 +1,5 @@
 -- What calls of a thread leave of its pass over the call sites, one after the other.
-use Rattle.std.proofs.Common.{◌≡◌, refl, sym, ◌∙◌, ap, subst, ℕ, ◌+◌, List, [], ◌++◌, append-nil, append_assoc, None, Some, arith}
+use Rattle.std.proofs.Common.{◌≡◌, refl, sym, ◌∙◌, ap, subst, ℕ, ◌+◌, ◌≤◌, List, [], ◌++◌, append-nil, append_assoc, None, Some, arith}
 use Rattle.std.specs.Prelude.{IsSome, Option}
 use Rattle.std.proofs.lemmas.List.Elements.{All-append, All-nil, All-weaker}
 use Rattle.mh_report.specs.declared.attempt.Attempt.{Attempt}
@@ -46,6 +46,11 @@ links-both m n p q r x y = record {
   room = omega (arith, x.room, y.room);
   whole = y.whole ∙ x.whole;
 }
+
+-- where fewer serials are drawn, at most so many are
+pub links-fewer : (m n : ℕ) (p q : LinkPass) → m ≤ n → GoesOnLinking m p q → GoesOnLinking n p q
+links-fewer m n p q few x =
+    record { linker = x.linker; thread = x.thread; linked = x.linked; room = let room = x.room in omega (arith, few, room); whole = x.whole }
 
 pub attempts-none : (pass : LinkPass) → AttemptsMore [] pass pass
 attempts-none pass sites linked run = subst (λ s. IsThreadRun s pass) (sym (append-nil sites)) run

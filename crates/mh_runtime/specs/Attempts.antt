@@ -4,8 +4,7 @@ use Rattle.std.specs.List.{list_any}
 use Rattle.mh_plan.specs.Naming.{first_places}
 use Rattle.mh_report.specs.declared.attempt.Attempt.{Attempt}
 use Rattle.mh_report.specs.Results.{Serials, serial_at}
-use Rattle.mh_handle.specs.declared.work.Work.{Work}
-use Rattle.mh_runtime.specs.Passes.{HasSerials, LearnsSites, LinkPass}
+use Rattle.mh_runtime.specs.Passes.{HasSerials, LinkPass}
 
 -- each of these sites has a serial
 abbrev pub AreLinked : Serials → List ℕ → Type 0
@@ -44,11 +43,3 @@ pub record GoesOnLinking (serials : ℕ) (old new : LinkPass) : Type 0 where
   pub linked : HasSerials old.linked new.linked
   pub room : old.seat.room ≤ new.seat.room + serials
   pub whole : new.seat.room + length new.seat.numbers ≡ old.seat.room + length old.seat.numbers
-
--- a site of which the pass had learnt a linkage changes nothing: no attempt is made and none recorded, no serial and no form number is drawn, and no type is
--- asked for or held
-pub record LeavesAll (old new : LinkPass) (before after : Work) : Type 0 where
-  pub learns : LearnsSites old new
-  pub recorded : new.recorded ≡ old.recorded
-  pub forms : after.pass.now ≡ before.pass.now
-  pub types : after.seat.now ≡ before.seat.now

@@ -1,13 +1,9 @@
--- What calls of sites answer, and how many keys the forms have that calls run.
-use Rattle.std.specs.Prelude.{◌≡◌, ℕ, List, map, Some}
+-- How many keys the forms have that calls run.
+use Rattle.std.specs.Prelude.{ℕ, List, map}
 use Rattle.std.specs.Option.{option_map_or}
-use Rattle.mh_values.specs.declared.value.Value.{Value}
 use Rattle.mh_tree.specs.Tree as tree
-use Rattle.mh_handle.specs.Answers.{AnswerView, IsAnswer}
 use Rattle.mh_astype.specs.Calls.{exact_keys, generic_keys}
 use Rattle.mh_jobs.specs.Given.{Given}
-use Rattle.mh_link.specs.Linked.{site_call}
-use Rattle.mh_link.specs.Sites.{linked_at}
 use Rattle.mh_attempt.specs.Linkage.{site_keys}
 use Rattle.mh_plan.specs.declared.call.Call.{Call}
 use Rattle.mh_plan.specs.declared.call.Call.TheVariants.{Exact, Generic, Indy}
@@ -27,9 +23,3 @@ thread_keys given table calls = map (λ call. keys_of given table call) calls
 -- the same of the calls of each thread
 abbrev pub plan_keys : Given → Serials → List (List Call) → List (List ℕ)
 plan_keys given table threads = map (λ calls. thread_keys given table calls) threads
-
--- the answer of a call of a site is that of the target, or the error, that is linked there
-abbrev pub IsAnswerOf : Given → Serials → ℕ → List Value → AnswerView → Type 0
-IsAnswerOf given linked site args answer =
-    (serial : ℕ) × (serial_at linked site ≡ Some serial)
-    × IsAnswer (site_call given.leaves (linked_at given site serial) args) (site_keys given site serial) answer

@@ -3,12 +3,13 @@ use Rattle.std.specs.Prelude.{◌≡◌, ℕ, ◌+◌, ◌*◌, ◌<◌, ◌≤�
 use Rattle.std.specs.List.{flat_map}
 use denote.Ref.{Bor}
 use Rattle.mh_handle.specs.declared.answer.Answer.{Answer}
+use Rattle.mh_handle.specs.declared.work.Work.{Work}
 use Rattle.mh_handle.specs.Answers.{IsAnswer}
 use Rattle.mh_handle.specs.Joins as form_joins
 use Rattle.mh_handle.specs.Passes as form_pass
 use Rattle.mh_handle.specs.Passes.{IsPassOf, PassView, StaysLearnt}
 use Rattle.mh_handle.specs.Seats as forms_seat
-use Rattle.mh_handle.specs.Works.{most_held}
+use Rattle.mh_handle.specs.Works.{IsReady, leaves_of, most_held}
 use Rattle.mh_intern.specs.Seats.{Knows}
 use Rattle.mh_intern.specs.Views as types_seat
 use Rattle.mh_intern.specs.Views.{SeatView}
@@ -32,7 +33,7 @@ use Rattle.mh_runtime.specs.Attempts.{AreLinked, AttemptsMore, GoesOnLinking}
 use Rattle.mh_runtime.specs.Keys.{keys_of}
 use Rattle.mh_runtime.specs.Lanes.{HasAnswered}
 use Rattle.mh_runtime.specs.Linking.{HoldsRecorded}
-use Rattle.mh_runtime.specs.Passes.{AttemptsUnlearnt, HasBoth, HasSerials, IsLinkageOf, LearnsSites, RecordsLatest, pass_at, split_pass, split_room, with_seat}
+use Rattle.mh_runtime.specs.Passes.{AttemptsUnlearnt, HasBoth, HasSerials, IsLinkageOf, LearnsSites, LinkPass, LinkerView, RecordsLatest, pass_at, split_pass, split_room, with_seat}
 use Rattle.mh_runtime.specs.Stops.{EndAt, answered, begun, ending}
 
 -- ---- what is needed
@@ -74,6 +75,19 @@ pub record HasLessRoom {J : Type 0} (old new : Pass J) : Type 0 where
   pub serials : new.links.seat.room + split_room ≡ old.links.seat.room
   pub forms : new.forms.seat.room + split_room ≡ old.forms.seat.room
   pub holds : new.types.room + split_room ≡ old.types.room
+
+-- ---- works
+
+-- a thread's pass, of what it knows of the sites and what its work borrows: the pass over the forms and the seat of types
+abbrev pub pass_in : {J : Type 0} → LinkPass → Work → Pass J
+pass_in links w = record { links = links; forms = w.pass.now; types = w.seat.now }
+
+-- a work with the run's leaves and a pass over the sites of this linker, which have room for so many calls
+pub record IsReadyFor (given : Given) (linker : LinkerView) (calls : ℕ) (links : LinkPass) (w : Work) : Type 0 where
+  pub leaves : leaves_of w ≡ given.leaves
+  pub linker_is : links.linker ≡ linker
+  pub ready : IsReady w (call_draws * calls)
+  pub serials : calls ≤ links.seat.room
 
 -- ---- passes
 

@@ -1,5 +1,6 @@
 -- What the calls of a thread gave, up to the one that stopped it; and which stop a run reports of its threads.
 use Rattle.std.specs.Prelude.{◌≡◌, ◌≢◌, ℕ, suc, ◌+◌, ◌<◌, ◌⊎◌, List, [], ◌∷◌, length, take, Option, None, Some, Result, Ok, Err, slice_get}
+use Rattle.std.specs.Result.{result_err}
 use Rattle.mh_handle.specs.declared.answer.Answer.{Answer}
 use Rattle.mh_attempt.specs.declared.error.WorkError.{WorkError}
 use Rattle.mh_attempt.specs.declared.error.WorkError.TheVariants.{NoMemory, FormsFull, TypesFull}
@@ -21,6 +22,10 @@ begun answers calls = take (length answers + 1) calls
 abbrev pub EndAt : List Call → List Answer → Option WorkError → Type 0
 EndAt calls answers None = length answers ≡ length calls
 EndAt calls answers (Some e) = length answers < length calls
+
+-- what the calls of a thread gave, by their answers and how they ended
+abbrev pub run_of : List Answer → Result (Unit {0}) WorkError → ThreadRun
+run_of answers made = record { answers = answers; stop = result_err made }
 
 -- how calls ended that stopped so, as a result without a value
 abbrev pub ending : Option WorkError → Result (Unit {0}) WorkError

@@ -1,4 +1,4 @@
-ghost use Rattle.std.specs.Prelude.{◌≡◌, ◌<◌, ◌≤◌, ◌∷◌, [], length, IfOk, OnOk};
+ghost use Rattle.std.specs.Prelude.{◌<◌, ◌∷◌, [], length, IfOk};
 ghost use Rattle.mh_values.specs.HasType.{HaveTypes};
 ghost use Rattle.mh_tree.specs.Meaning.{exact, generic};
 ghost use Rattle.mh_tree.specs.Tree as tree;
@@ -9,18 +9,14 @@ ghost use Rattle.mh_astype.specs.Calls.{exact_keys, generic_keys};
 ghost use Rattle.mh_attempt.specs.Asked.{Asks};
 ghost use Rattle.mh_attempt.specs.AskedTypes.{AsksTypes};
 ghost use Rattle.mh_attempt.specs.Several.{AddsTypes};
-ghost use Rattle.mh_link.specs.Made.{types_of};
-ghost use Rattle.mh_plan.specs.Naming.{sites_named};
-ghost use Rattle.mh_plan.specs.Calls.{IsCallOf};
-ghost use Rattle.mh_report.specs.Forms.{used_edits, call_edits};
-ghost use Rattle.mh_report.specs.Types.{call_types};
-ghost use Rattle.mh_report.specs.Results.{Serials, result_of};
 ghost use Rattle.mh_jobs.specs.Jobs.{params_at};
-ghost use Rattle.mh_runtime.specs.Asking.{RunsOn, RunsOnTypes, call_draws};
-ghost use Rattle.mh_runtime.specs.Attempts.{AreLinked, AttemptsMore, GoesOnLinking};
-ghost use Rattle.mh_runtime.specs.Keys.{IsAnswerOf, keys_of};
-ghost use Rattle.mh_runtime.specs.Linking.{KeepsOthers, KeepsTypes};
-ghost use Rattle.mh_runtime.specs.Passes.{AttemptsUnlearnt, HasSerials};
+ghost use Rattle.mh_link.specs.Made.{types_of};
+ghost use Rattle.mh_plan.specs.declared.call.Call.TheVariants.{Indy};
+ghost use Rattle.mh_plan.specs.Calls.{IsCallOf};
+ghost use Rattle.mh_report.specs.Forms.{used_edits};
+ghost use Rattle.mh_runtime.specs.Asking.{call_draws};
+ghost use Rattle.mh_runtime.specs.Linkers.{IsReadyFor, MakesCall, pass_in};
+ghost use Rattle.mh_runtime.specs.Linking.{KeepsTypes};
 
 use crate::context::Context;
 use crate::site_pass::SitePass;
@@ -121,22 +117,12 @@ impl<'s, 'g, 't, J: Run, G: Gate> Context<'s, 'g, 't, J, G> {
         site: u32,
         args: &Items,
     ) -> Result<Answer, WorkError>
-        requires pass { pass.old.linker ≡ self.now.linker.now }
         requires site { site < length J.given.jobs }
-        requires leaves { leaves_of w.old ≡ J.given.leaves }
         requires typed { HaveTypes J.given.leaves.classes args.now (params_at J.given.jobs site) }
-        requires ready { IsReady w.old call_draws }
-        requires room { 1 ≤ pass.old.seat.room }
+        requires ready { IsReadyFor J.given self.now.linker.now 1 pass.old w.old }
         ensures goes_on { GoesOn call_draws w.old w.new }
-        ensures pass { GoesOnLinking 1 pass.old pass.new }
-        ensures attempts { AttemptsMore (site ∷ []) pass.old pass.new }
-        ensures unlearnt { AttemptsUnlearnt pass.old pass.new }
-        ensures answer { IfOk result (IsAnswerOf J.given pass.new.linked site args.now) }
-        ensures types { KeepsOthers J.given pass.old.recorded pass.new.recorded w.old w.new }
-        ensures runs { RunsOn J.given pass.old.attempts pass.new.attempts []
-            w.old.pass.now w.new.pass.now result }
-        ensures asked { RunsOnTypes J.given pass.old.attempts pass.new.attempts
-            [] w.old.seat.now w.new.seat.now result }
+        ensures makes { MakesCall {J = J} J.given (Indy site args.now) (pass_in pass.old w.old)
+            (pass_in pass.new w.new) result }
     {
         let linkage = self.linker.resolve(w, rt, pass, self.gate, site)?;
         Ok(linkage.call_with(machine, w.leaves, args)?)
@@ -155,25 +141,11 @@ impl<'s, 'g, 't, J: Run, G: Gate> Context<'s, 'g, 't, J, G> {
         pass: &mut SitePass<'s, 't, J>,
         call: &Call,
     ) -> Result<Answer, WorkError>
-        requires pass { pass.old.linker ≡ self.now.linker.now }
-        requires leaves { leaves_of w.old ≡ J.given.leaves }
         requires call { IsCallOf J.given.leaves J.given.jobs call.now }
-        requires ready { IsReady w.old call_draws }
-        requires room { 1 ≤ pass.old.seat.room }
+        requires ready { IsReadyFor J.given self.now.linker.now 1 pass.old w.old }
         ensures goes_on { GoesOn call_draws w.old w.new }
-        ensures pass { GoesOnLinking 1 pass.old pass.new }
-        ensures attempts { AttemptsMore (sites_named call.now) pass.old pass.new }
-        ensures unlearnt { AttemptsUnlearnt pass.old pass.new }
-        ensures linked { OnOk result (AreLinked pass.new.linked (sites_named call.now)) }
-        ensures types { KeepsOthers J.given pass.old.recorded pass.new.recorded w.old w.new }
-
-        // The answer is right under each table that has the serials of what the pass has learnt.
-        ensures answer { (table : Serials) → HasSerials pass.new.linked table → IfOk result
-            (IsAnswer (result_of J.given table call.now) (keys_of J.given table call.now)) }
-        ensures runs { RunsOn J.given pass.old.attempts pass.new.attempts
-            (call_edits J.given.leaves call.now) w.old.pass.now w.new.pass.now result }
-        ensures asked { RunsOnTypes J.given pass.old.attempts pass.new.attempts
-            (call_types J.given.leaves call.now) w.old.seat.now w.new.seat.now result }
+        ensures makes { MakesCall {J = J} J.given call.now (pass_in pass.old w.old)
+            (pass_in pass.new w.new) result }
     {
         match call {
             Call::Exact(id, ty, args) => call_exact(machine, w, rt, *id, ty, args),

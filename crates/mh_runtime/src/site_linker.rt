@@ -1,11 +1,10 @@
-ghost use Rattle.std.specs.Prelude.{◌≡◌, ◌+◌, ◌<◌, ◌≤◌, ◌∷◌, [], length, IfOk, IsSome, OnErr, None};
-ghost use Rattle.mh_handle.specs.Works.{GoesOn, IsReady, leaves_of};
+ghost use Rattle.std.specs.Prelude.{◌≡◌, ◌<◌, ◌≤◌, length, IfOk, None};
+ghost use Rattle.mh_handle.specs.Works.{GoesOn};
 ghost use Rattle.mh_jobs.specs.Given.{AreJobs};
 ghost use Rattle.mh_report.specs.Results.{serial_at};
-ghost use Rattle.mh_runtime.specs.Asking.{RunsOn, RunsOnTypes, call_draws};
-ghost use Rattle.mh_runtime.specs.Attempts.{AttemptsMore, GoesOnLinking, LeavesAll};
-ghost use Rattle.mh_runtime.specs.Linking.{KeepsOthers};
-ghost use Rattle.mh_runtime.specs.Passes.{AttemptsUnlearnt, IsLinkageOf, RecordsLatest, most_sites};
+ghost use Rattle.mh_runtime.specs.Asking.{call_draws};
+ghost use Rattle.mh_runtime.specs.Linkers.{IsReadyFor, Resolves, pass_in};
+ghost use Rattle.mh_runtime.specs.Passes.{most_sites};
 
 use crate::site_pass::SitePass;
 use mh_attempt::{Linkage, WorkError, attempt};
@@ -104,24 +103,12 @@ impl<'t, J: Run> SiteLinker<'t, J> {
         gate: &G,
         site: u32,
     ) -> Result<&'s Linkage<'t, J>, WorkError>
-        requires pass { pass.old.linker ≡ self.now }
         requires new { serial_at pass.old.linked site ≡ None }
         requires site { site < length J.given.jobs }
-        requires leaves { leaves_of w.old ≡ J.given.leaves }
-        requires ready { IsReady w.old call_draws }
-        requires room { 1 ≤ pass.old.seat.room }
+        requires ready { IsReadyFor J.given self.now 1 pass.old w.old }
         ensures goes_on { GoesOn call_draws w.old w.new }
-        ensures pass { GoesOnLinking 1 pass.old pass.new }
-        ensures attempts { AttemptsMore (site ∷ []) pass.old pass.new }
-        ensures linked { IfOk result (λ l. IsLinkageOf pass.new.linked site l.now) }
-        ensures failed { OnErr result (pass.new.recorded ≡ pass.old.recorded) }
-        ensures latest { IfOk result (λ l. RecordsLatest l.now pass.old pass.new) }
-        ensures unlearnt { AttemptsUnlearnt pass.old pass.new }
-        ensures types { KeepsOthers J.given pass.old.recorded pass.new.recorded w.old w.new }
-        ensures runs { RunsOn J.given pass.old.attempts pass.new.attempts []
-            w.old.pass.now w.new.pass.now result }
-        ensures asked { RunsOnTypes J.given pass.old.attempts pass.new.attempts
-            [] w.old.seat.now w.new.seat.now result }
+        ensures resolves { Resolves {J = J} J.given site (pass_in pass.old w.old)
+            (pass_in pass.new w.new) result }
     {
         let serial = pass.begin(self, site)?;
         let linkage = attempt(w, rt, self.scripts, self.jobs.get(site), serial)?;
@@ -143,28 +130,11 @@ impl<'t, J: Run> SiteLinker<'t, J> {
         gate: &G,
         site: u32,
     ) -> Result<&'s Linkage<'t, J>, WorkError>
-        requires pass { pass.old.linker ≡ self.now }
         requires site { site < length J.given.jobs }
-        requires leaves { leaves_of w.old ≡ J.given.leaves }
-        requires ready { IsReady w.old call_draws }
-        requires room { 1 ≤ pass.old.seat.room }
+        requires ready { IsReadyFor J.given self.now 1 pass.old w.old }
         ensures goes_on { GoesOn call_draws w.old w.new }
-        ensures pass { GoesOnLinking 1 pass.old pass.new }
-        ensures attempts { AttemptsMore (site ∷ []) pass.old pass.new }
-        ensures linked { IfOk result (λ l. IsLinkageOf pass.new.linked site l.now) }
-
-        // A site that the pass has learnt is answered, and changes nothing.
-        ensures resolved { OnErr result (serial_at pass.old.linked site ≡ None) }
-        ensures learnt { IsSome (serial_at pass.old.linked site)
-            → LeavesAll pass.old pass.new w.old w.new }
-        ensures failed { OnErr result (pass.new.recorded ≡ pass.old.recorded) }
-        ensures latest { IfOk result (λ l. RecordsLatest l.now pass.old pass.new) }
-        ensures unlearnt { AttemptsUnlearnt pass.old pass.new }
-        ensures types { KeepsOthers J.given pass.old.recorded pass.new.recorded w.old w.new }
-        ensures runs { RunsOn J.given pass.old.attempts pass.new.attempts []
-            w.old.pass.now w.new.pass.now result }
-        ensures asked { RunsOnTypes J.given pass.old.attempts pass.new.attempts
-            [] w.old.seat.now w.new.seat.now result }
+        ensures resolves { Resolves {J = J} J.given site (pass_in pass.old w.old)
+            (pass_in pass.new w.new) result }
     {
         if let Some(found) = pass.find(site) {
             return Ok(found);

@@ -1,5 +1,5 @@
 ghost use Rattle.std.specs.Prelude.{◌≡◌};
-ghost use Rattle.mh_runtime.specs.Stops.{ending, stop_after, stop_at, reported_of};
+ghost use Rattle.mh_runtime.specs.Stops.{stop_after, stop_at, reported_of};
 
 use mh_attempt::WorkError;
 use mh_base::NoMemory;
@@ -34,16 +34,6 @@ impl From<NoMemory> for Stop {
             thread: 0,
             error: WorkError::NoMemory,
         }
-    }
-}
-
-/// Why a thread stopped, if it did, by what its calls answered.
-pub(crate) fn stop_in(made: Result<(), WorkError>) -> Option<WorkError>
-    ensures { made ≡ ending result }
-{
-    match made {
-        Ok(()) => None,
-        Err(error) => Some(error),
     }
 }
 

@@ -1,41 +1,24 @@
-use Rattle.std.proofs.Common.{◌∙◌}
 use Rattle.mh_runtime.proofs.CallRoom.{room_left}
+use Rattle.mh_runtime.proofs.WorkPasses.{still-of}
 use Rattle.mh_runtime.proofs.linker.Linker.call.Goals as goal
 
 pub call-answer-requires-clause-ready : goal.call-answer-requires-clause-ready
 call-answer-requires-clause-ready g c =
-    record { of_table = c.requires.pass.forms; room = c.requires.room.forms; of_types = c.requires.pass.types; holds = c.requires.room.holds }
+    let is = c.requires.pass in
+    let room = c.requires.room in
+    record {
+      leaves = is.leaves;
+      linker_is = is.links;
+      ready = record { of_table = is.forms; room = room.forms; of_types = is.types; holds = room.holds };
+      serials = room.serials;
+    }
 
 pub returns-clause-makes : goal.returns-clause-makes
-returns-clause-makes g c =
-    let reported = c.call-answer.ensures in
-    record {
-      goes_on = record {
-        links = reported.pass;
-        table = reported.goes_on.table;
-        learnt = reported.goes_on.learnt;
-        room = reported.goes_on.room;
-        seat = reported.goes_on.seat;
-        holds = reported.goes_on.holds;
-      };
-      answer = reported.answer;
-      linked = reported.linked;
-      attempts = reported.attempts;
-      unlearnt = reported.unlearnt;
-      types = reported.types;
-      runs = reported.runs;
-      asked = reported.asked;
-    }
+returns-clause-makes g c = c.call-answer.ensures.makes
 
 pub returns-clause-pass : goal.returns-clause-pass
 returns-clause-pass g c =
-    let reported = c.call-answer.ensures in
-    record {
-      leaves = c.requires.pass.leaves;
-      links = reported.pass.linker ∙ c.requires.pass.links;
-      forms = reported.goes_on.table ∙ c.requires.pass.forms;
-      types = reported.goes_on.seat ∙ c.requires.pass.types;
-    }
+    still-of g.J.Run.given c.args.self.now 1 c.args.pass.now _ c.requires.pass c.call-answer.ensures.makes.goes_on
 
 pub returns-clause-left : goal.returns-clause-left
-returns-clause-left g c = room_left _ _ (returns-clause-makes g c).goes_on
+returns-clause-left g c = room_left _ _ c.call-answer.ensures.makes.goes_on

@@ -1,38 +1,21 @@
-use Rattle.std.proofs.Common.{◌∙◌}
+use Rattle.std.proofs.Common.{length}
+use Rattle.mh_runtime.proofs.WorkPasses.{still-of}
 use Rattle.mh_runtime.proofs.linker.Linker.run_thread.Goals as goal
 
 pub run_thread-run-requires-clause-ready : goal.run_thread-run-requires-clause-ready
 run_thread-run-requires-clause-ready g c =
-    record { of_table = c.requires.pass.forms; room = c.requires.room.forms; of_types = c.requires.pass.types; holds = c.requires.room.holds }
+    let is = c.requires.pass in
+    let room = c.requires.room in
+    record {
+      leaves = is.leaves;
+      linker_is = is.links;
+      ready = record { of_table = is.forms; room = room.forms; of_types = is.types; holds = room.holds };
+      serials = room.serials;
+    }
 
 pub returns-clause-runs : goal.returns-clause-runs
-returns-clause-runs g c =
-    let reported = c.run_thread-run.ensures in
-    record {
-      goes_on = record {
-        links = reported.pass;
-        table = reported.goes_on.table;
-        learnt = reported.goes_on.learnt;
-        room = reported.goes_on.room;
-        seat = reported.goes_on.seat;
-        holds = reported.goes_on.holds;
-      };
-      ended = reported.ended;
-      answers = reported.answered;
-      linked = reported.linked;
-      attempts = reported.attempts;
-      unlearnt = reported.unlearnt;
-      types = reported.types;
-      runs = reported.runs;
-      asked = reported.asked;
-    }
+returns-clause-runs g c = c.run_thread-run.ensures.runs
 
 pub returns-clause-pass : goal.returns-clause-pass
 returns-clause-pass g c =
-    let reported = c.run_thread-run.ensures in
-    record {
-      leaves = c.requires.pass.leaves;
-      links = reported.pass.linker ∙ c.requires.pass.links;
-      forms = reported.goes_on.table ∙ c.requires.pass.forms;
-      types = reported.goes_on.seat ∙ c.requires.pass.types;
-    }
+    still-of g.J.Run.given c.args.self.now (length c.args.calls.now) c.args.pass.now _ c.requires.pass c.run_thread-run.ensures.runs.goes_on

@@ -1,179 +1,184 @@
-use Rattle.std.proofs.Common.{◌∙◌, ap, sym, subst, [], arith}
-use Rattle.mh_handle.proofs.Going.{goes_on-before}
+use Rattle.std.proofs.Common.{◌≡◌, ◌∙◌, ap, refl, sym, subst, [], arith}
+use Rattle.mh_handle.proofs.Going.{goes_on-before, goes_on-more, goes_on-still}
 use Rattle.mh_jobs.specs.declared.job.Job.{Job}
 use Rattle.mh_link.specs.Sites.{types_at}
-use Rattle.mh_attempt.specs.Linkage.{LinkageView}
-use Rattle.mh_runtime.specs.Linking.{KeepsOthers, Records}
-use Rattle.mh_runtime.specs.Passes.{LearnsSites, LinkPass}
-use Rattle.mh_runtime.proofs.LinkSteps.{attempts-begun, attempts-learn, begun-attempts, begun-made, begun_by, goes-begun, latest-begun, learns-none, on-err, unlearnt-begun}
-use Rattle.mh_runtime.proofs.ThreadSteps.{unlearnt-same}
-use Rattle.mh_attempt.proofs.Adding.{holds-came}
+use Rattle.mh_attempt.specs.declared.error.WorkError.TheVariants.{NoMemory}
 use Rattle.mh_attempt.specs.Asked.{attempt_draws}
-use Rattle.mh_runtime.proofs.RunSteps.{stops-run}
-use Rattle.mh_runtime.proofs.RecordedTypes.{attempt-keeps}
-use Rattle.mh_runtime.proofs.SeatTypes.{keeps-adds, keeps-recorded}
-use Rattle.mh_runtime.proofs.RunningAttempts.{attempt-runs, attempt-stops}
-use Rattle.mh_runtime.proofs.SeatAsked as seat
+use Rattle.mh_attempt.specs.Linkage.{LinkageView}
+use Rattle.mh_attempt.proofs.Adding.{holds-came}
+use Rattle.mh_report.specs.Results.{serial_at}
+use Rattle.mh_runtime.specs.Asking.{call_draws}
+use Rattle.mh_runtime.specs.Attempts.{GoesOnLinking}
+use Rattle.mh_runtime.specs.Linking.{KeepsOthers, Records}
+use Rattle.mh_runtime.specs.Passes.{IsLinkageOf, LearnsSites, LinkPass}
 use Rattle.mh_runtime.proofs.AskedAnswers as answer
+use Rattle.mh_runtime.proofs.LinkSteps.{attempts-begun, attempts-learn, begun-attempts, begun-made, begun_by, goes-begun, latest-begun, learnt-not, learns-none, on-err, unlearnt-begun}
+use Rattle.mh_runtime.proofs.RecordedTypes.{attempt-keeps}
+use Rattle.mh_runtime.proofs.Resolving.{if-err}
+use Rattle.mh_runtime.proofs.RunningAttempts.{attempt-runs, attempt-stops}
+use Rattle.mh_runtime.proofs.RunSteps.{stops-run}
+use Rattle.mh_runtime.proofs.SeatAsked as seat
+use Rattle.mh_runtime.proofs.SeatTypes.{keeps-adds, keeps-recorded, keeps-still}
+use Rattle.mh_runtime.proofs.ThreadSteps.{links-none, unlearnt-same}
+use Rattle.mh_runtime.proofs.WorkPasses.{goes-calling}
 use Rattle.mh_runtime.proofs.site_linker.SiteLinker.attempt.Goals as goal
 
-pub returns-in_err-serial-clause-attempts : goal.returns-in_err-serial-clause-attempts
-returns-in_err-serial-clause-attempts g c =
-    attempts-learn c.args.site c.args.pass.now c.begin.new.self
-    (subst (λ p. LearnsSites c.args.pass.now p) (sym c.in_err-serial.ensures.err) (learns-none c.args.pass.now))
+-- ---- no memory to begin the attempt
 
-pub returns-in_err-linkage-clause-attempts : goal.returns-in_err-linkage-clause-attempts
-returns-in_err-linkage-clause-attempts g c =
-    attempts-begun c.args.site c.in_ok-serial.serial c.args.pass.now c.begin.new.self c.begin.new.self c.in_ok-serial.ensures.begins
-    (learns-none c.begin.new.self) c.requires.new
+pub returns-in_err-serial-clause-resolves : goal.returns-in_err-serial-clause-resolves
+returns-in_err-serial-clause-resolves g c =
+    let given = g.J.Run.given in
+    let site = c.args.site in
+    let old = c.args.pass.now in
+    let new = c.begin.new.self in
+    let w = c.args.w.now in
+    let r = c.from_residual.result in
+    let still : new ≡ old = c.in_err-serial.ensures.err in
+    let is = c.from_residual.ensures.1 in
+    record {
+      goes_on = goes-calling 1 old new w w (subst (GoesOnLinking 1 old) (sym still) (links-none old 1))
+          (goes_on-more 0 call_draws w w (omega arith) (goes_on-still w));
+      linked = if-err r _ _ is;
+      resolved = on-err r _ c.requires.new;
+      learnt = learnt-not (serial_at old.linked site) c.requires.new;
+      attempts = attempts-learn site old new (subst (LearnsSites old) (sym still) (learns-none old));
+      unlearnt = unlearnt-same old new (ap (λ (p : LinkPass). p.attempts) still);
+      latest = if-err r _ _ is;
+      failed = on-err r _ (ap (λ (p : LinkPass). p.recorded) still);
+      types = subst (λ (p : LinkPass). KeepsOthers given old.recorded p.recorded w w) (sym still)
+          (keeps-recorded given old.recorded w w (keeps-still w w refl));
+      runs = stops-run given old.attempts new.attempts [] w.pass.now w.pass.now NoMemory r is tt;
+      asked = answer.memory-on given old.attempts new.attempts [] w.seat.now w.seat.now r is
+          (rw still (seat.on-none given old.attempts w.seat.now));
+    }
 
-pub returns-in_err-linkage-clause-runs : goal.returns-in_err-linkage-clause-runs
-returns-in_err-linkage-clause-runs g c =
-    let more = begun-attempts c.args.site c.in_ok-serial.serial c.args.pass.now c.begin.new.self c.in_ok-serial.ensures.begins in
-    stops-run g.J.Run.given c.args.pass.now.attempts c.begin.new.self.attempts [] c.args.w.now.pass.now c.attempt.new.w.pass.now
-    c.in_err-linkage.field-0.0 c.from_residual-in_err-linkage.result c.from_residual-in_err-linkage.ensures.1
-    (rw more (attempt-stops g.J.Run.given c.args.pass.now.attempts (begun_by c.args.pass.now c.args.site c.in_ok-serial.serial) c.get.result.now.site
-    c.get.ensures.site c.args.w.now c.attempt.new.w LinkageView c.in_err-linkage.field-0.0 c.in_err-linkage.ensures.asks))
+-- ---- the attempt was begun, and has stopped
+
+pub returns-in_err-linkage-clause-resolves : goal.returns-in_err-linkage-clause-resolves
+returns-in_err-linkage-clause-resolves g c =
+    let given = g.J.Run.given in
+    let site = c.args.site in
+    let serial = c.in_ok-serial.serial in
+    let old = c.args.pass.now in
+    let new = c.begin.new.self in
+    let w = c.args.w.now in
+    let w' = c.attempt.new.w in
+    let r = c.from_residual-in_err-linkage.result in
+    let is = c.from_residual-in_err-linkage.ensures.1 in
+    let begins = c.in_ok-serial.ensures.begins in
+    let more = begun-attempts site serial old new begins in
+    record {
+      goes_on = goes-calling 1 old new w w' (goes-begun site serial old new new begins (learns-none new)) c.in_err-linkage.ensures.goes_on;
+      linked = if-err r _ _ is;
+      resolved = on-err r _ c.requires.new;
+      learnt = learnt-not (serial_at old.linked site) c.requires.new;
+      attempts = attempts-begun site serial old new new begins (learns-none new) c.requires.new;
+      unlearnt = unlearnt-begun site serial old new new begins (learns-none new) c.requires.new;
+      latest = if-err r _ _ is;
+      failed = on-err r _ (ap (λ (p : LinkPass). p.recorded) begins.1);
+      types = subst (λ after. KeepsOthers given old.recorded after w w') (sym (ap (λ (p : LinkPass). p.recorded) begins.1))
+          (keeps-recorded given old.recorded w w' (keeps-adds w w' c.in_err-linkage.ensures.types));
+      runs = stops-run given old.attempts new.attempts [] w.pass.now w'.pass.now c.in_err-linkage.field-0.0 r is
+          (rw more (attempt-stops given old.attempts (begun_by old site serial) c.get.result.now.site c.get.ensures.site w w' LinkageView
+          c.in_err-linkage.field-0.0 c.in_err-linkage.ensures.asks));
+      asked = answer.attempt-stops given old.attempts (begun_by old site serial) c.get.result.now.site c.get.ensures.site w w' LinkageView new.attempts
+          c.in_err-linkage.field-0.0 r more is c.in_err-linkage.ensures.asked;
+    }
+
+-- ---- it was made
 
 pub record-requires-clause-attempted : goal.record-requires-clause-attempted
 record-requires-clause-attempted g c =
     begun-made c.args.site c.in_ok-serial.serial c.args.pass.now c.begin.new.self c.in_ok-linkage.linkage c.in_ok-serial.ensures.begins
     (ap (λ (j : Job). j.site) c.in_ok-linkage.ensures.of.0 ∙ c.get.ensures.site) c.in_ok-linkage.ensures.of.1
 
+pub record-requires-clause-held : goal.record-requires-clause-held
+record-requires-clause-held g c = holds-came c.in_ok-linkage.linkage.held c.args.w.now c.attempt.new.w c.in_ok-linkage.ensures.types
+
+-- but there was no memory to record it
+
 pub returns-in_err-linkage-2-clause-goes_on : goal.returns-in_err-linkage-2-clause-goes_on
 returns-in_err-linkage-2-clause-goes_on g c =
     goes_on-before attempt_draws c.args.w.now c.attempt.new.w c.record.new.w c.in_ok-linkage.ensures.goes_on c.in_err-linkage-2.ensures.unchanged
     (record { seat = c.in_err-linkage-2.ensures.types.table; holds = omega (arith, c.in_err-linkage-2.ensures.types.few) })
 
-pub returns-in_err-linkage-2-clause-pass : goal.returns-in_err-linkage-2-clause-pass
-returns-in_err-linkage-2-clause-pass g c =
-    goes-begun c.args.site c.in_ok-serial.serial c.args.pass.now c.begin.new.self c.record.new.self c.in_ok-serial.ensures.begins
-    c.in_err-linkage-2.ensures.learns
+pub returns-in_err-linkage-2-clause-resolves : goal.returns-in_err-linkage-2-clause-resolves
+returns-in_err-linkage-2-clause-resolves g c =
+    let given = g.J.Run.given in
+    let site = c.args.site in
+    let serial = c.in_ok-serial.serial in
+    let old = c.args.pass.now in
+    let mid = c.begin.new.self in
+    let new = c.record.new.self in
+    let w = c.args.w.now in
+    let v = c.attempt.new.w in
+    let w' = c.record.new.w in
+    let r = c.from_residual-in_err-linkage-2.result in
+    let is = c.from_residual-in_err-linkage-2.ensures.1 in
+    let begins = c.in_ok-serial.ensures.begins in
+    let learns = c.in_err-linkage-2.ensures.learns in
+    let begun = begun_by old site serial in
+    let recorded = ap (λ (p : LinkPass). p.recorded) begins.1 in
+    record {
+      goes_on = goes-calling 1 old new w w' (goes-begun site serial old mid new begins learns) (returns-in_err-linkage-2-clause-goes_on g c);
+      linked = if-err r _ _ is;
+      resolved = on-err r _ c.requires.new;
+      learnt = learnt-not (serial_at old.linked site) c.requires.new;
+      attempts = attempts-begun site serial old mid new begins learns c.requires.new;
+      unlearnt = unlearnt-begun site serial old mid new begins learns c.requires.new;
+      latest = if-err r _ _ is;
+      failed = on-err r _ (c.in_err-linkage-2.ensures.failed ∙ recorded);
+      types = attempt-keeps given c.in_ok-linkage.linkage old.recorded new.recorded w v w' c.in_ok-linkage.ensures.types
+          (subst (λ before. Records given c.in_ok-linkage.linkage before new.recorded v.seat.now w'.seat.now) recorded c.in_err-linkage-2.ensures.types);
+      runs = stops-run given old.attempts new.attempts [] w.pass.now w'.pass.now NoMemory r is tt;
+      asked = answer.memory-on given old.attempts new.attempts [] w.seat.now w'.seat.now r is
+          (rw (learns.attempts ∙ begun-attempts site serial old mid begins)
+          (answer.attempt-asks given old.attempts begun c.get.result.now.site c.get.ensures.site w w'
+          (seat.asks-still (types_at given c.get.result.now.site begun.serial) w.seat.now v.seat.now w'.seat.now c.in_ok-linkage.ensures.asked
+          c.in_err-linkage-2.ensures.asked)));
+    }
 
-pub returns-in_err-linkage-2-clause-attempts : goal.returns-in_err-linkage-2-clause-attempts
-returns-in_err-linkage-2-clause-attempts g c =
-    attempts-begun c.args.site c.in_ok-serial.serial c.args.pass.now c.begin.new.self c.record.new.self c.in_ok-serial.ensures.begins
-    c.in_err-linkage-2.ensures.learns c.requires.new
+-- and it is recorded, or another one was before
 
 pub returns-clause-goes_on : goal.returns-clause-goes_on
 returns-clause-goes_on g c =
     goes_on-before attempt_draws c.args.w.now c.attempt.new.w c.record.new.w c.in_ok-linkage.ensures.goes_on c.in_ok-linkage-2.ensures.unchanged
     (record { seat = c.in_ok-linkage-2.ensures.types.table; holds = omega (arith, c.in_ok-linkage-2.ensures.types.few) })
 
-pub returns-clause-pass : goal.returns-clause-pass
-returns-clause-pass g c =
-    goes-begun c.args.site c.in_ok-serial.serial c.args.pass.now c.begin.new.self c.record.new.self c.in_ok-serial.ensures.begins
-    c.in_ok-linkage-2.ensures.learns
-
-pub returns-clause-attempts : goal.returns-clause-attempts
-returns-clause-attempts g c =
-    attempts-begun c.args.site c.in_ok-serial.serial c.args.pass.now c.begin.new.self c.record.new.self c.in_ok-serial.ensures.begins
-    c.in_ok-linkage-2.ensures.learns c.requires.new
-
-pub returns-clause-runs : goal.returns-clause-runs
-returns-clause-runs g c =
-    let more = c.in_ok-linkage-2.ensures.learns.attempts
-    ∙ begun-attempts c.args.site c.in_ok-serial.serial c.args.pass.now c.begin.new.self c.in_ok-serial.ensures.begins in
-    rw (more, c.in_ok-linkage-2.ensures.unchanged.pass)
-    (attempt-runs g.J.Run.given c.args.pass.now.attempts (begun_by c.args.pass.now c.args.site c.in_ok-serial.serial) c.get.result.now.site
-    c.get.ensures.site c.args.w.now c.attempt.new.w c.in_ok-linkage.linkage c.in_ok-linkage.ensures.asks)
-
--- ---- the seat of types
-
-pub returns-in_err-linkage-clause-types : goal.returns-in_err-linkage-clause-types
-returns-in_err-linkage-clause-types g c =
-    subst (λ after. KeepsOthers g.J.Run.given c.args.pass.now.recorded after c.args.w.now c.attempt.new.w)
-    (sym (ap (λ (p : LinkPass). p.recorded) c.in_ok-serial.ensures.begins.1))
-    (keeps-recorded g.J.Run.given c.args.pass.now.recorded c.args.w.now c.attempt.new.w
-    (keeps-adds c.args.w.now c.attempt.new.w c.in_err-linkage.ensures.types))
-
-pub record-requires-clause-held : goal.record-requires-clause-held
-record-requires-clause-held g c = holds-came c.in_ok-linkage.linkage.held c.args.w.now c.attempt.new.w c.in_ok-linkage.ensures.types
-
-pub returns-in_err-linkage-2-clause-types : goal.returns-in_err-linkage-2-clause-types
-returns-in_err-linkage-2-clause-types g c =
-    attempt-keeps g.J.Run.given c.in_ok-linkage.linkage c.args.pass.now.recorded c.record.new.self.recorded c.args.w.now c.attempt.new.w c.record.new.w
-    c.in_ok-linkage.ensures.types
-    (subst (λ before. Records g.J.Run.given c.in_ok-linkage.linkage before c.record.new.self.recorded c.attempt.new.w.seat.now c.record.new.w.seat.now)
-    (ap (λ (p : LinkPass). p.recorded) c.in_ok-serial.ensures.begins.1) c.in_err-linkage-2.ensures.types)
-
-pub returns-clause-types : goal.returns-clause-types
-returns-clause-types g c =
-    attempt-keeps g.J.Run.given c.in_ok-linkage.linkage c.args.pass.now.recorded c.record.new.self.recorded c.args.w.now c.attempt.new.w c.record.new.w
-    c.in_ok-linkage.ensures.types
-    (subst (λ before. Records g.J.Run.given c.in_ok-linkage.linkage before c.record.new.self.recorded c.attempt.new.w.seat.now c.record.new.w.seat.now)
-    (ap (λ (p : LinkPass). p.recorded) c.in_ok-serial.ensures.begins.1) c.in_ok-linkage-2.ensures.types)
-
--- ---- which types were asked for
-
-pub returns-in_err-serial-clause-asked : goal.returns-in_err-serial-clause-asked
-returns-in_err-serial-clause-asked g c =
-    answer.memory-on g.J.Run.given c.args.pass.now.attempts c.begin.new.self.attempts [] c.args.w.now.seat.now c.args.w.now.seat.now c.from_residual.result
-    c.from_residual.ensures.1
-    (rw c.in_err-serial.ensures.err (seat.on-none g.J.Run.given c.args.pass.now.attempts c.args.w.now.seat.now))
-
-pub returns-in_err-linkage-clause-asked : goal.returns-in_err-linkage-clause-asked
-returns-in_err-linkage-clause-asked g c =
-    answer.attempt-stops g.J.Run.given c.args.pass.now.attempts (begun_by c.args.pass.now c.args.site c.in_ok-serial.serial) c.get.result.now.site
-    c.get.ensures.site c.args.w.now c.attempt.new.w LinkageView c.begin.new.self.attempts c.in_err-linkage.field-0.0 c.from_residual-in_err-linkage.result
-    (begun-attempts c.args.site c.in_ok-serial.serial c.args.pass.now c.begin.new.self c.in_ok-serial.ensures.begins)
-    c.from_residual-in_err-linkage.ensures.1 c.in_err-linkage.ensures.asked
-
-pub returns-in_err-linkage-2-clause-asked : goal.returns-in_err-linkage-2-clause-asked
-returns-in_err-linkage-2-clause-asked g c =
-    let more = c.in_err-linkage-2.ensures.learns.attempts
-    ∙ begun-attempts c.args.site c.in_ok-serial.serial c.args.pass.now c.begin.new.self c.in_ok-serial.ensures.begins in
-    let begun = begun_by c.args.pass.now c.args.site c.in_ok-serial.serial in
-    answer.memory-on g.J.Run.given c.args.pass.now.attempts c.record.new.self.attempts [] c.args.w.now.seat.now c.record.new.w.seat.now
-    c.from_residual-in_err-linkage-2.result c.from_residual-in_err-linkage-2.ensures.1
-    (rw more (answer.attempt-asks g.J.Run.given c.args.pass.now.attempts begun c.get.result.now.site c.get.ensures.site c.args.w.now c.record.new.w
-    (seat.asks-still (types_at g.J.Run.given c.get.result.now.site begun.serial) c.args.w.now.seat.now c.attempt.new.w.seat.now c.record.new.w.seat.now
-    c.in_ok-linkage.ensures.asked c.in_err-linkage-2.ensures.asked)))
-
-pub returns-clause-asked : goal.returns-clause-asked
-returns-clause-asked g c =
-    let more = c.in_ok-linkage-2.ensures.learns.attempts
-    ∙ begun-attempts c.args.site c.in_ok-serial.serial c.args.pass.now c.begin.new.self c.in_ok-serial.ensures.begins in
-    let begun = begun_by c.args.pass.now c.args.site c.in_ok-serial.serial in
-    rw more (answer.attempt-asks g.J.Run.given c.args.pass.now.attempts begun c.get.result.now.site c.get.ensures.site c.args.w.now c.record.new.w
-    (seat.asks-still (types_at g.J.Run.given c.get.result.now.site begun.serial) c.args.w.now.seat.now c.attempt.new.w.seat.now c.record.new.w.seat.now
-    c.in_ok-linkage.ensures.asked c.in_ok-linkage-2.ensures.asked))
-
--- ---- what is recorded, and which attempts came
-
-pub returns-in_err-serial-clause-failed : goal.returns-in_err-serial-clause-failed
-returns-in_err-serial-clause-failed g c = on-err c.from_residual.result _ (ap (λ (p : LinkPass). p.recorded) c.in_err-serial.ensures.err)
-
-pub returns-in_err-serial-clause-unlearnt : goal.returns-in_err-serial-clause-unlearnt
-returns-in_err-serial-clause-unlearnt g c =
-    unlearnt-same c.args.pass.now c.begin.new.self (ap (λ (p : LinkPass). p.attempts) c.in_err-serial.ensures.err)
-
-pub returns-in_err-linkage-clause-failed : goal.returns-in_err-linkage-clause-failed
-returns-in_err-linkage-clause-failed g c =
-    on-err c.from_residual-in_err-linkage.result _ (ap (λ (p : LinkPass). p.recorded) c.in_ok-serial.ensures.begins.1)
-
-pub returns-in_err-linkage-clause-unlearnt : goal.returns-in_err-linkage-clause-unlearnt
-returns-in_err-linkage-clause-unlearnt g c =
-    unlearnt-begun c.args.site c.in_ok-serial.serial c.args.pass.now c.begin.new.self c.begin.new.self c.in_ok-serial.ensures.begins
-    (learns-none c.begin.new.self) c.requires.new
-
-pub returns-in_err-linkage-2-clause-failed : goal.returns-in_err-linkage-2-clause-failed
-returns-in_err-linkage-2-clause-failed g c =
-    on-err c.from_residual-in_err-linkage-2.result _
-    (c.in_err-linkage-2.ensures.failed ∙ ap (λ (p : LinkPass). p.recorded) c.in_ok-serial.ensures.begins.1)
-
-pub returns-in_err-linkage-2-clause-unlearnt : goal.returns-in_err-linkage-2-clause-unlearnt
-returns-in_err-linkage-2-clause-unlearnt g c =
-    unlearnt-begun c.args.site c.in_ok-serial.serial c.args.pass.now c.begin.new.self c.record.new.self c.in_ok-serial.ensures.begins
-    c.in_err-linkage-2.ensures.learns c.requires.new
-
-pub returns-clause-latest : goal.returns-clause-latest
-returns-clause-latest g c =
-    latest-begun c.args.site c.in_ok-serial.serial c.args.pass.now c.begin.new.self c.record.new.self c.in_ok-serial.ensures.begins
-    c.in_ok-linkage-2.ensures.learns c.in_ok-linkage.linkage c.in_ok-linkage-2.linkage.now
-    (ap (λ (j : Job). j.site) c.in_ok-linkage.ensures.of.0 ∙ c.get.ensures.site) c.in_ok-linkage.ensures.of.1 c.in_ok-linkage-2.ensures.recorded
-
-pub returns-clause-unlearnt : goal.returns-clause-unlearnt
-returns-clause-unlearnt g c =
-    unlearnt-begun c.args.site c.in_ok-serial.serial c.args.pass.now c.begin.new.self c.record.new.self c.in_ok-serial.ensures.begins
-    c.in_ok-linkage-2.ensures.learns c.requires.new
+pub returns-clause-resolves : goal.returns-clause-resolves
+returns-clause-resolves g c =
+    let given = g.J.Run.given in
+    let site = c.args.site in
+    let serial = c.in_ok-serial.serial in
+    let old = c.args.pass.now in
+    let mid = c.begin.new.self in
+    let new = c.record.new.self in
+    let w = c.args.w.now in
+    let v = c.attempt.new.w in
+    let w' = c.record.new.w in
+    let ours = c.in_ok-linkage.linkage in
+    let l = c.in_ok-linkage-2.linkage in
+    let begins = c.in_ok-serial.ensures.begins in
+    let learns = c.in_ok-linkage-2.ensures.learns in
+    let begun = begun_by old site serial in
+    let own = ap (λ (j : Job). j.site) c.in_ok-linkage.ensures.of.0 ∙ c.get.ensures.site in
+    let more = learns.attempts ∙ begun-attempts site serial old mid begins in
+    record {
+      goes_on = goes-calling 1 old new w w' (goes-begun site serial old mid new begins learns) (returns-clause-goes_on g c);
+      linked = subst (λ s. IsLinkageOf new.linked s l.now) own c.in_ok-linkage-2.ensures.linked;
+      resolved = tt;
+      learnt = learnt-not (serial_at old.linked site) c.requires.new;
+      attempts = attempts-begun site serial old mid new begins learns c.requires.new;
+      unlearnt = unlearnt-begun site serial old mid new begins learns c.requires.new;
+      latest = latest-begun site serial old mid new begins learns ours l.now own c.in_ok-linkage.ensures.of.1 c.in_ok-linkage-2.ensures.recorded;
+      failed = tt;
+      types = attempt-keeps given ours old.recorded new.recorded w v w' c.in_ok-linkage.ensures.types
+          (subst (λ before. Records given ours before new.recorded v.seat.now w'.seat.now) (ap (λ (p : LinkPass). p.recorded) begins.1)
+          c.in_ok-linkage-2.ensures.types);
+      runs = rw (more, c.in_ok-linkage-2.ensures.unchanged.pass)
+          (attempt-runs given old.attempts begun c.get.result.now.site c.get.ensures.site w v ours c.in_ok-linkage.ensures.asks);
+      asked = rw more
+          (answer.attempt-asks given old.attempts begun c.get.result.now.site c.get.ensures.site w w'
+          (seat.asks-still (types_at given c.get.result.now.site begun.serial) w.seat.now v.seat.now w'.seat.now c.in_ok-linkage.ensures.asked
+          c.in_ok-linkage-2.ensures.asked));
+    }
