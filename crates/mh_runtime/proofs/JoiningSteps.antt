@@ -48,7 +48,8 @@ module _ {J : Type 0} (given : Given) (base : Pass J) (count : ℕ) (lanes : Lis
       let more : length (lanes ++ lane ∷ []) ≡ length lanes + 1 = length-append lanes (lane ∷ []) in
       let numbers : new.pass.forms.seat.numbers ≡ old.pass.forms.seat.numbers ++ lane.pass.forms.seat.numbers =
       ap (λ (s : forms.SeatView). s.numbers) adds.pass.forms_seat_is in
-      let room : new.pass.forms.seat.room ≡ old.pass.forms.seat.room + lane.pass.forms.seat.room = ap (λ (s : forms.SeatView). s.room) adds.pass.forms_seat_is in
+      let room : new.pass.forms.seat.room ≡ old.pass.forms.seat.room + lane.pass.forms.seat.room =
+      ap (λ (s : forms.SeatView). s.room) adds.pass.forms_seat_is in
       let drawn : length new.pass.forms.seat.numbers ≡ length old.pass.forms.seat.numbers + length lane.pass.forms.seat.numbers =
       ap length numbers ∙ length-append old.pass.forms.seat.numbers lane.pass.forms.seat.numbers in
       record {
@@ -75,7 +76,8 @@ module _ {J : Type 0} (given : Given) (base : Pass J) (count : ℕ) (lanes : Lis
       let own_types : List MethodTy = run_types given lane.pass.links.attempts (thread_types given.leaves calls) in
       let passes : map passes_of (lanes ++ lane ∷ []) ≡ map passes_of lanes ++ passes_of lane ∷ [] = map_push passes_of lanes lane in
       let links = adds.pass.links_seat in
-      let links_numbers : new.pass.links.seat.numbers ≡ old.pass.links.seat.numbers ++ lane.pass.links.seat.numbers = ap (λ (s : serials.SeatView). s.numbers) links in
+      let links_numbers : new.pass.links.seat.numbers ≡ old.pass.links.seat.numbers ++ lane.pass.links.seat.numbers =
+      ap (λ (s : serials.SeatView). s.numbers) links in
       let links_more : new.pass.links.seat.room ≡ old.pass.links.seat.room + lane.pass.links.seat.room = ap (λ (s : serials.SeatView). s.room) links in
       let links_count : length new.pass.links.seat.numbers ≡ length old.pass.links.seat.numbers + length lane.pass.links.seat.numbers =
       ap length links_numbers ∙ length-append old.pass.links.seat.numbers lane.pass.links.seat.numbers in
@@ -101,7 +103,8 @@ module _ {J : Type 0} (given : Given) (base : Pass J) (count : ℕ) (lanes : Lis
         learnt = serials-both _ _ _ before.learnt adds.pass.links.mine;
         linked = subst (All (λ (p : ThreadPasses). HasSerials p.links.linked new.pass.links.linked)) (sym passes)
             (All-push (λ (p : ThreadPasses). HasSerials p.links.linked new.pass.links.linked) (map passes_of lanes) (passes_of lane)
-            (All-weaker (λ (p : ThreadPasses). HasSerials p.links.linked old.pass.links.linked) (λ (p : ThreadPasses). HasSerials p.links.linked new.pass.links.linked)
+            (All-weaker (λ (p : ThreadPasses). HasSerials p.links.linked old.pass.links.linked)
+            (λ (p : ThreadPasses). HasSerials p.links.linked new.pass.links.linked)
             (λ p has. serials-both _ _ _ has adds.pass.links.mine) (map passes_of lanes) before.linked)
             adds.pass.links.theirs);
         links_room = omega (arith, before.links_room, links_more, links_count, ran.whole, more);
