@@ -1,4 +1,4 @@
-ghost use Rattle.std.specs.Prelude.{◌≡◌, ℕ, ◌+◌, ◌<◌, ◌≤◌, All, length, IfOk, OnOk, IsTrue};
+ghost use Rattle.std.specs.Prelude.{◌≡◌, ℕ, ◌+◌, ◌<◌, ◌≤◌, All, length, IfOk, OnErr, OnOk, IsTrue};
 ghost use Rattle.mh_tickets.specs.Seats as serials_seat;
 ghost use Rattle.mh_handle.specs.Seats as forms_seat;
 ghost use Rattle.mh_intern.specs.Views as types_seat;
@@ -76,7 +76,8 @@ impl<'t, J: Run> Linker<'t, J> {
         })
     }
 
-    /// The first pass, of thread 0, with seats of the linker's tables.
+    /// The first pass, of thread 0, with seats of the linker's tables. If memory runs out, the seats are
+    /// gone, and with them all serials, form numbers and holds: no other pass can be made then.
     pub fn first_pass<'s>(&'s self, seats: Seats) -> Result<Pass<'s, 't, J>, NoMemory>
         requires leaves { self.now.leaves.now ≡ J.given.leaves }
         requires seats { AreSeats self.now seats }
@@ -97,7 +98,8 @@ impl<'t, J: Run> Linker<'t, J> {
 
     /// A pass for another thread. It has learnt the sites and the forms that this pass has, and has
     /// attempted nothing and holds no type. It has room for 2^32 serials, form numbers and holds,
-    /// which this pass must have: that is room for 65,536 calls.
+    /// which this pass must have: that is room for 65,536 calls. If memory runs out, this pass is as it
+    /// was.
     pub fn split<'s>(
         &'s self,
         pass: &mut Pass<'s, 't, J>,
@@ -110,10 +112,14 @@ impl<'t, J: Run> Linker<'t, J> {
         ensures room { IfOk result (HasRoom 65536) }
         ensures pass { OnOk result (IsOf J.given self.entry.now pass.new) }
         ensures other { IfOk result (IsOf J.given self.entry.now) }
+        ensures err { OnErr result (pass.new ≡ pass.old) }
     {
+        // Room is given away once all memory is there.
+        let known = pass.links.learnt(self.alloc)?;
+        let forms = self.forms.split(self.alloc, &mut pass.forms)?;
         Ok(Pass {
-            links: pass.links.split(self.alloc, &self.sites, thread)?,
-            forms: self.forms.split(self.alloc, &mut pass.forms)?,
+            links: pass.links.split(self.alloc, &self.sites, known, thread),
+            forms,
             types: self.types.split(&mut pass.types, SPLIT_ROOM),
         })
     }

@@ -3,7 +3,7 @@ ghost use Rattle.mh_tickets.specs.Seats.{KnowsAll, joined_seats, with_less_room}
 ghost use Rattle.mh_handle.specs.Works.{HoldsTypes, IsUnchanged};
 ghost use Rattle.mh_attempt.specs.AskedTypes.{AsksNoOther};
 ghost use Rattle.mh_runtime.specs.Linking.{Records};
-ghost use Rattle.mh_runtime.specs.Passes.{BeginsAttempt, FindsLinkage, HasBoth, IsLinkageOf, IsRecorded, LearnsSites, RecordsOurs, attempt_of, pass_at, split_pass, split_room, with_seat};
+ghost use Rattle.mh_runtime.specs.Passes.{BeginsAttempt, FindsLinkage, HasBoth, IsLinkageOf, IsRecorded, LearnsSites, RecordsOurs, attempt_of, linked_by, pass_at, split_pass, split_room, with_seat};
 
 use crate::known_sites::KnownSites;
 use crate::site_linker::SiteLinker;
@@ -70,28 +70,38 @@ impl<'s, 't, J: Run> SitePass<'s, 't, J> {
         })
     }
 
+    /// What the pass has learnt, for a pass that is split off it.
+    pub(crate) fn learnt(&mut self, alloc: Global) -> Result<KnownSites<'s, 't, J>, NoMemory>
+        ensures same { self.new ≡ self.old }
+        ensures cells { IfOk result (λ known. known.cells ≡ self.old.linker.cells) }
+        ensures linked { IfOk result (λ known. linked_by known ≡ self.old.linked) }
+    {
+        self.known.copy(alloc)
+    }
+
     /// A pass for another thread, which has learnt what this one has, and has attempted nothing. It
-    /// may draw 2^32 serials, for which this one must have room.
+    /// may draw 2^32 serials, for which this one must have room. It takes no memory.
     pub(crate) fn split(
         &mut self,
         alloc: Global,
         linker: &'s SiteLinker<'t, J>,
+        known: KnownSites<'s, 't, J>,
         thread: u32,
-    ) -> Result<SitePass<'s, 't, J>, NoMemory>
+    ) -> SitePass<'s, 't, J>
         requires pass { self.old.linker ≡ linker.now }
+        requires cells { known.cells ≡ self.old.linker.cells }
+        requires linked { linked_by known ≡ self.old.linked }
         requires room { split_room < self.old.seat.room }
-        ensures ok { IfOk result (λ other. other ≡ split_pass thread self.old) }
-        ensures left { OnOk result
-            (self.new ≡ with_seat (with_less_room split_room self.old.seat) self.old) }
-        ensures err { OnErr result (self.new ≡ self.old) }
+        ensures other { result ≡ split_pass thread self.old }
+        ensures left { self.new ≡ with_seat (with_less_room split_room self.old.seat) self.old }
     {
-        Ok(SitePass {
+        SitePass {
             thread,
-            known: self.known.copy(alloc)?,
+            known,
             attempts: Vec::new(alloc),
             recorded: Vec::new(alloc),
             seat: linker.serials().split(&mut self.seat, SPLIT_ROOM),
-        })
+        }
     }
 
     /// Adds what another pass has learnt, attempted and recorded. The seats are joined also where no
