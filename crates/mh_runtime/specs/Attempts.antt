@@ -32,7 +32,7 @@ pub record IsThreadRun (sites : List ℕ) (pass : LinkPass) : Type 0 where
   pub reached : All (λ a. Contains sites a.site) pass.attempts
   pub in_order : sites_of pass.attempts ≡ filter (λ k. list_any (λ s. s == k) (sites_of pass.attempts)) (first_places [] sites)
 
--- calls that name these sites were made, where those before were made to their end
+-- calls that name these sites were made, if those before were made to their end
 abbrev pub AttemptsMore : List ℕ → LinkPass → LinkPass → Type 0
 AttemptsMore more old new = (sites : List ℕ) → AreLinked old.linked sites → IsThreadRun sites old → IsThreadRun (sites ++ more) new
 

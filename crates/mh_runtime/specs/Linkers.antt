@@ -1,5 +1,5 @@
 -- What the calls of a linker need of a thread's pass, and what they leave of it.
-use Rattle.std.specs.Prelude.{◌≡◌, ℕ, ◌+◌, ◌*◌, ◌<◌, ◌≤◌, List, [], ◌∷◌, length, None, Result, IfOk, IsSome, OnErr, OnOk}
+use Rattle.std.specs.Prelude.{◌≡◌, ℕ, ◌+◌, ◌*◌, ◌<◌, ◌≤◌, List, [], ◌∷◌, ◌++◌, length, None, Result, IfOk, IsSome, OnErr, OnOk}
 use Rattle.std.specs.List.{flat_map}
 use denote.Ref.{Bor}
 use Rattle.mh_handle.specs.declared.answer.Answer.{Answer}
@@ -20,6 +20,7 @@ use Rattle.mh_attempt.specs.declared.error.WorkError.{WorkError}
 use Rattle.mh_attempt.specs.Linkage.{LinkageView}
 use Rattle.mh_plan.specs.declared.call.Call.{Call}
 use Rattle.mh_plan.specs.Naming.{sites_named}
+use Rattle.mh_report.specs.declared.attempt.Attempt.{Attempt}
 use Rattle.mh_report.specs.Forms.{call_edits, thread_edits}
 use Rattle.mh_report.specs.Results.{Serials, result_of, serial_at}
 use Rattle.mh_report.specs.Types.{call_types, thread_types}
@@ -120,6 +121,14 @@ pub record JoinsPass {J : Type 0} (old other new : Pass J) : Type 0 where
   pub types : new.types ≡ types_seat.joined_seats old.types other.types
   pub types_known : Knows new.types
 
+-- the pass has what it had learnt, attempted and recorded, whatever else it has
+pub record KeepsPass {J : Type 0} (old new : Pass J) : Type 0 where
+  pub thread : new.links.thread ≡ old.links.thread
+  pub linked : HasSerials old.links.linked new.links.linked
+  pub attempts : (more : List Attempt) × (new.links.attempts ≡ old.links.attempts ++ more)
+  pub recorded : (more : List Attempt) × (new.links.recorded ≡ old.links.recorded ++ more)
+  pub forms : StaysLearnt old.forms new.forms
+
 -- ---- calls
 
 -- the pass stays with its linker, its tables and its thread, what it has learnt stays so, and at most the room for so many calls is gone
@@ -147,7 +156,7 @@ pub record Resolves {J : Type 0} (given : Given) (site : ℕ) (old new : Pass J)
   -- a site that the pass had learnt is answered, and changes nothing
   pub resolved : OnErr result (serial_at old.links.linked site ≡ None)
   pub learnt : IsSome (serial_at old.links.linked site) → LeavesPass old new
-  -- an attempt is made of a site alone that was not learnt; where its linkage was recorded, it is the pass's latest; a refusal records nothing
+  -- an attempt is made only of a site that was not learnt; if its linkage was recorded, it is the pass's latest; an error records nothing
   pub attempts : AttemptsMore (site ∷ []) old.links new.links
   pub unlearnt : AttemptsUnlearnt old.links new.links
   pub latest : IfOk result (λ l. RecordsLatest l.now old.links new.links)

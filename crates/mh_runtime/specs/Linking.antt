@@ -21,13 +21,13 @@ abbrev pub HoldsInstead : Given → List Attempt → List Attempt → SeatView �
 HoldsInstead given before after old new =
     (t : MethodTy) → on_type t new.holds + times_type t (types_held given before) ≡ on_type t old.holds + times_type t (types_held given after)
 
--- a seat that holds what the linkages of recorded attempts hold, where it held what those before hold; room and holds are so many together as before
+-- the seat holds what the linkages of recorded attempts hold, if it held what those before hold; room and holds are together as many as before
 pub record HoldsRecorded (given : Given) (before after : List Attempt) (old new : SeatView) : Type 0 where
   pub table : new.table ≡ old.table
   pub whole : new.room + length new.holds ≡ old.room + length old.holds
   pub types : HoldsInstead given before after old new
 
--- the recording of a linkage leaves its holds in the seat where it is recorded, and hands them back where it is not
+-- a linkage was recorded and its holds stay in the seat, or it was not and they were handed back
 pub record Records (given : Given) (linkage : LinkageView) (before after : List Attempt) (old new : SeatView) : Type 0 where
   pub table : new.table ≡ old.table
   pub whole : new.room + length new.holds ≡ old.room + length old.holds
@@ -35,7 +35,7 @@ pub record Records (given : Given) (linkage : LinkageView) (before after : List 
   pub types : (t : MethodTy) → on_type t new.holds + times_type t (types_held given before) + on_type t (entries_of linkage.held)
       ≡ on_type t old.holds + times_type t (types_held given after)
 
--- the same of the seat of a work
+-- the seat of a work does the same
 abbrev pub KeepsOthers : Given → List Attempt → List Attempt → Work → Work → Type 0
 KeepsOthers given before after old new = HoldsRecorded given before after old.seat.now new.seat.now
 

@@ -110,7 +110,7 @@ abbrev pub FindsLinkage : Serials → ℕ → Option (Bor LinkageView) → Type 
 FindsLinkage linked site None = serial_at linked site ≡ None
 FindsLinkage linked site (Some l) = IsLinkageOf linked site l.now
 
--- what is learnt of a site after a put of a linkage: ours, or another one; ours is handed back then, and where there is no memory
+-- what is learnt of a site after a put of a linkage: ours, or another one; ours is handed back then, and if memory ran out
 abbrev pub PutsLinkage : Serials → LinkageView → Result (Put LinkageView) LinkageView → Type 0
 PutsLinkage linked ours (Ok (Mine l)) = (l.now ≡ ours) × IsLinkageOf linked ours.job.site l.now
 PutsLinkage linked ours (Ok (Theirs l back)) = (back ≡ ours) × IsLinkageOf linked ours.job.site l.now
@@ -151,7 +151,7 @@ RecordsLatest l old new =
     (new.recorded ≡ old.recorded)
     ⊎ ((new.attempts ≡ old.attempts ++ attempt_of old.thread l ∷ []) × (new.recorded ≡ old.recorded ++ attempt_of old.thread l ∷ []))
 
--- the attempts that came are of sites of which the pass had learnt no linkage
+-- the attempts that came are of sites that the pass had not learnt
 abbrev pub AttemptsUnlearnt : LinkPass → LinkPass → Type 0
 AttemptsUnlearnt old new = (more : List Attempt) × (new.attempts ≡ old.attempts ++ more) × All (λ a. serial_at old.linked a.site ≡ None) more
 

@@ -128,11 +128,10 @@ impl<'s, 'g, 't, J: Run, G: Gate> Context<'s, 'g, 't, J, G> {
         Ok(linkage.call_with(machine, w.leaves, args)?)
     }
 
-    /// Makes a call of a thread, in the machine that its calls have in common: of a leaf by a handle
-    /// of it, as the first of its invocation, or of a call site by what is linked there, which is
-    /// attempted now where the pass has learnt no linkage of it. Each handle that is made is given
-    /// back, also if no memory, no form or no slot of a type was left, except those of recorded
-    /// targets.
+    /// Makes a call of a thread, in the machine that its calls have in common. A leaf is called by a
+    /// handle of it, as the first call of its invocation. A call site is called by its linkage, and is
+    /// attempted now if the pass has learnt none. Each handle that is made is given back, except a
+    /// recorded target, also if memory, form numbers or type slots run out.
     pub(crate) fn call<R: Wait>(
         &self,
         machine: &mut Machine,

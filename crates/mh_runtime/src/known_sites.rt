@@ -81,7 +81,7 @@ impl<'s, 't, J: Run> KnownSites<'s, 't, J> {
     }
 
     /// Puts a linkage into the cell of its site, unless one stands there. It is handed back then,
-    /// and where no memory is left.
+    /// and if memory runs out.
     pub(crate) fn put<R: Wait>(
         &mut self,
         rt: &R,

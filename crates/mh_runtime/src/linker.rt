@@ -5,7 +5,7 @@ ghost use Rattle.mh_intern.specs.Views as types_seat;
 ghost use Rattle.mh_jobs.specs.Given.{AreJobs};
 ghost use Rattle.mh_plan.specs.Calls.{IsCallOf};
 ghost use Rattle.mh_runtime.specs.Input.{given_by};
-ghost use Rattle.mh_runtime.specs.Linkers.{AreSeats, BeginsPass, CanSplit, HasLessRoom, HasRoom, IsOf, JoinsPass, MakesCall, Resolves, RunsThread, SplitsPass};
+ghost use Rattle.mh_runtime.specs.Linkers.{AreSeats, BeginsPass, CanSplit, HasLessRoom, HasRoom, IsOf, JoinsPass, KeepsPass, MakesCall, Resolves, RunsThread, SplitsPass};
 ghost use Rattle.mh_runtime.specs.Passes.{most_sites};
 
 use crate::context::Context;
@@ -77,7 +77,7 @@ impl<'t, J: Run> Linker<'t, J> {
     }
 
     /// The first pass, of thread 0, with seats of the linker's tables. If memory runs out, the seats are
-    /// gone, and with them all serials, form numbers and holds: no other pass can be made then.
+    /// lost, and the linker can have no pass.
     pub fn first_pass<'s>(&'s self, seats: Seats) -> Result<Pass<'s, 't, J>, NoMemory>
         requires leaves { self.now.leaves.now ≡ J.given.leaves }
         requires seats { AreSeats self.now seats }
@@ -124,9 +124,9 @@ impl<'t, J: Run> Linker<'t, J> {
         })
     }
 
-    /// Adds what another pass has learnt, attempted, recorded, drawn and held. If memory runs out,
-    /// the pass has the serials, the form numbers and the holds of both, and the other's attempts are
-    /// lost.
+    /// Adds what another pass has learnt, attempted, recorded, drawn and held. If memory runs out, the
+    /// pass has what it had, and the serials, the form numbers and the holds of both. What the other one
+    /// has learnt and attempted may be lost.
     pub fn join<'s>(
         &'s self,
         pass: &mut Pass<'s, 't, J>,
@@ -135,7 +135,8 @@ impl<'t, J: Run> Linker<'t, J> {
         requires pass { IsOf J.given self.now pass.old }
         requires other { IsOf J.given self.now other }
         ensures ok { OnOk result (JoinsPass pass.old other.entry pass.new) }
-        ensures pass { OnOk result (IsOf J.given self.entry.now pass.new) }
+        ensures err { OnErr result (KeepsPass pass.old pass.new) }
+        ensures pass { IsOf J.given self.entry.now pass.new }
         ensures serials { pass.new.links.seat
             ≡ serials_seat.joined_seats pass.old.links.seat other.entry.links.seat }
         ensures numbers { pass.new.forms.seat
@@ -157,8 +158,8 @@ impl<'t, J: Run> Linker<'t, J> {
 
     /// The linkage of a site: that which the pass has learnt, or the site shows, or that of an attempt
     /// that is made now, unless another thread has recorded one meanwhile. One that the pass has
-    /// learnt takes no memory and changes nothing. If it is refused nothing was recorded, and the
-    /// serial of an attempt is spent. The gate is called before and after a linkage is recorded.
+    /// learnt takes no memory and changes nothing. If the attempt fails, nothing was recorded, and its
+    /// serial is spent. The gate is called before and after a linkage is recorded.
     pub fn resolve<'s, R: Wait, G: Gate>(
         &'s self,
         rt: &R,

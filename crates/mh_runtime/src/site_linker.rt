@@ -93,8 +93,8 @@ impl<'t, J: Run> SiteLinker<'t, J> {
         &self.cells
     }
 
-    // Attempts a site of which the pass has learnt no linkage, and records what that gives unless
-    // another thread has recorded before.
+    // Attempts a site that the pass has not learnt, and records the linkage, unless another thread has
+    // recorded one before.
     fn attempt<'s, R: Wait, G: Gate>(
         &'s self,
         w: &mut Work<'_, 't>,
@@ -120,8 +120,8 @@ impl<'t, J: Run> SiteLinker<'t, J> {
 
     /// The linkage of a site: that which the pass has learnt, or its cell shows, or that of an
     /// attempt that is made now, unless another thread has recorded one meanwhile. One that the pass
-    /// has learnt takes no memory. After a refusal nothing was recorded, and the serial of the
-    /// attempt is spent.
+    /// has learnt takes no memory. If the attempt fails, nothing was recorded, and its serial is
+    /// spent.
     pub(crate) fn resolve<'s, R: Wait, G: Gate>(
         &'s self,
         w: &mut Work<'_, 't>,

@@ -104,8 +104,8 @@ impl<'s, 't, J: Run> SitePass<'s, 't, J> {
         }
     }
 
-    /// Adds what another pass has learnt, attempted and recorded. The seats are joined also where no
-    /// memory is left; what the other has attempted is lost then.
+    /// Adds what another pass has learnt, attempted and recorded. If memory runs out, the seats are
+    /// joined all the same, and the rest of the other pass is lost.
     pub(crate) fn join(
         &mut self,
         linker: &'s SiteLinker<'t, J>,
@@ -118,6 +118,7 @@ impl<'s, 't, J: Run> SitePass<'s, 't, J> {
         ensures seat { self.new.seat ≡ joined_seats self.old.seat other.entry.seat }
         ensures known { KnowsAll self.new.seat }
         ensures ok { OnOk result (HasBoth self.old other.entry self.new) }
+        ensures err { OnErr result (self.new ≡ with_seat self.new.seat self.old) }
     {
         let SitePass {
             thread: _,
@@ -214,8 +215,8 @@ impl<'s, 't, J: Run> SitePass<'s, 't, J> {
         Ok(serial)
     }
 
-    /// Records the linkage of an attempt, unless another one is recorded at its site, which is
-    /// learnt; ours is given back then, and where no memory is left.
+    /// Records the linkage of an attempt, unless another one is recorded at its site. That one is
+    /// learnt then, and ours is given back, as it also is if memory runs out.
     pub(crate) fn record<R: Wait>(
         &mut self,
         w: &mut Work<'_, 't>,
