@@ -10,6 +10,7 @@ pub mod FullBuckets
 pub mod SeatKinds
 pub mod HeldTypes
 pub mod Items
+pub mod KeptPasses
 pub mod JoinedForms
 pub mod JoinedTypes
 pub mod JoiningEnds

@@ -135,7 +135,7 @@ impl<'t, J: Run> Linker<'t, J> {
         requires pass { IsOf J.given self.now pass.old }
         requires other { IsOf J.given self.now other }
         ensures ok { OnOk result (JoinsPass pass.old other.entry pass.new) }
-        ensures err { OnErr result (KeepsPass pass.old pass.new) }
+        ensures kept { KeepsPass pass.old pass.new }
         ensures pass { IsOf J.given self.entry.now pass.new }
         ensures serials { pass.new.links.seat
             ≡ serials_seat.joined_seats pass.old.links.seat other.entry.links.seat }
