@@ -34,7 +34,8 @@ any_index is_last is_full p q e h = go (or_fault Truncated (number_at 1 p)) h
     go (Err f) k = absurd cc
     go (Ok x) k =
         passes (is_full && eqb x.0 17) TooManyConstants p.at x.1 (λ z. rest x.0 z.1) (e, q)
-        (passes (is_last && is_wide_tag x.0) BadIndex p.at x.1 (λ y. and_then (tested (is_full && eqb x.0 17) TooManyConstants p.at y.1) (λ z. rest x.0 z.1)) (e, q) k)
+        (passes (is_last && is_wide_tag x.0) BadIndex p.at x.1
+        (λ y. and_then (tested (is_full && eqb x.0 17) TooManyConstants p.at y.1) (λ z. rest x.0 z.1)) (e, q) k)
 
 pub step : (count : ℕ) (slots : List Slot) (p q : Position) (e : Entry) → length slots < count →
     reads (entry (eqb (length slots + 1) count) (is_full slots)) p ≡ Ok (e, q) →
@@ -58,7 +59,8 @@ slot_here bytes p q e same pos h =
     let k : eqb p.at 0 ≡ false = grind (arith, nat_tests) in
     rw (k, here bytes p q e same h) refl
 
-pub stand_push : (bytes places : List ℕ) (at : ℕ) → Stand bytes places → (0 < at → is_ok (reads (entry false false) (record { bytes = bytes; at = at })) ≡ true) →
+pub stand_push : (bytes places : List ℕ) (at : ℕ) → Stand bytes places →
+    (0 < at → is_ok (reads (entry false false) (record { bytes = bytes; at = at })) ≡ true) →
     Stand bytes (places ++ at ∷ [])
 stand_push bytes places at s h = record {
   each = λ k lt pos. elim (cases_lt k (length places)) [

@@ -204,7 +204,8 @@ slot_at bytes at = if at == 0 then None else slot_of at (reads (entry false fals
 
 -- an entry stands at each place that is kept
 pub record Stand (bytes places : List ℕ) : Type 0 where
-  pub each : (k : ℕ) → k < length places → 0 < slice_index places k → is_ok (reads (entry false false) (record { bytes = bytes; at = slice_index places k })) ≡ true
+  pub each : (k : ℕ) → k < length places → 0 < slice_index places k →
+      is_ok (reads (entry false false) (record { bytes = bytes; at = slice_index places k })) ≡ true
 
 -- what is kept of a pool: the places where its entries stand, and the indexes of the Dynamic ones
 pub record AreKept (bytes places kept : List ℕ) : Type 0 where

@@ -128,11 +128,11 @@ small_class : class_or_fault 0 small ≡ Ok (record {
   sites = [];
   bootstraps = [];
 })
-unfolding small magic class_file header entry utf8 utf8_bytes contents numeric named sound_from unit_len repeated dynamics_from each good_slot own_references good_descriptor
-    class_names named_index interface members field method class_attributes class_attribute has_bootstrap
+unfolding small magic class_file header entry utf8 utf8_bytes contents numeric named sound_from unit_len repeated dynamics_from each good_slot own_references
+    good_descriptor class_names named_index interface members field method class_attributes class_attribute has_bootstrap
 small_class = refl
 
 a_byte_more : class_or_fault 0 (small ++ 0 ∷ []) ≡ fault 40 Trailing
-unfolding small magic class_file header entry utf8 utf8_bytes contents numeric named sound_from unit_len repeated dynamics_from each good_slot own_references good_descriptor
-    class_names named_index interface members field method class_attributes class_attribute has_bootstrap
+unfolding small magic class_file header entry utf8 utf8_bytes contents numeric named sound_from unit_len repeated dynamics_from each good_slot own_references
+    good_descriptor class_names named_index interface members field method class_attributes class_attribute has_bootstrap
 a_byte_more = refl

@@ -25,6 +25,8 @@ module _ (table : LeafTable) (h : HandleView) (args : List Value) (some : Stands
   callable_edited form more ty its none own =
       subst (λ (t : MethodTy). typed_ran table.classes t.ret (run_on table (body_of form.recipe) (h.fields ++ more) (map erased args) 0) ≢ Stuck) (sym own)
       (subst (λ (f : FormView). typed_ran table.classes h.ty.ret (run_on table (body_of f.recipe) (h.fields ++ more) (map erased args) 0) ≢ Stuck) (sym its)
-      (subst (λ (l : List Field). typed_ran table.classes h.ty.ret (run_on table (body_of h.form.recipe) (h.fields ++ l) (map erased args) 0) ≢ Stuck) (sym none)
+      (subst
+      (λ (l : List Field). typed_ran table.classes h.ty.ret (run_on table (body_of h.form.recipe) (h.fields ++ l) (map erased args) 0) ≢ Stuck)
+      (sym none)
       (subst (λ (l : List Field). typed_ran table.classes h.ty.ret (run_on table (body_of h.form.recipe) l (map erased args) 0) ≢ Stuck)
       (sym (append-nil h.fields)) callable)))

@@ -13,8 +13,8 @@ left_after bytes at n buf (Some rest) within read =
     ap (λ (xs : List ℕ). Some xs) (sym (sym (drop-drop n at bytes) ∙ ap (λ (xs : List ℕ). drop n xs) read ∙ drop_at (take n buf) rest n long))
 
 -- a file that was open at a place, after a read
-pub StandsAt-read : (told : Told) (at n : ℕ) (buf : List ℕ) (old new : Option (List ℕ)) → n ≤ length buf → StandsAt told at old → Consumes old new (take n buf) →
-    StandsAt told (at + n) new
+pub StandsAt-read : (told : Told) (at n : ℕ) (buf : List ℕ) (old new : Option (List ℕ)) → n ≤ length buf → StandsAt told at old →
+    Consumes old new (take n buf) → StandsAt told (at + n) new
 StandsAt-read told at n buf old new within stands read = record {
   there = stands.there;
   rest = λ bytes is. left_after bytes at n buf new within (rw (stands.rest bytes is) at read);

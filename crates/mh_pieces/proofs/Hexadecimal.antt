@@ -66,7 +66,8 @@ hexadecimal_length_more n h small =
 pub ruleset length_steps = (hexadecimal_length_one, hexadecimal_length_more)
 
 -- the last digit behind the others, behind what stands before them
-pub hexadecimal_written : (before front : List ℕ) (n d : ℕ) → 16 ≤ n → n < 2 ^ 32 → front ≡ before ++ digits 16 false (n / 16) → d ≡ digit_glyph false (n % 16) →
+pub hexadecimal_written : (before front : List ℕ) (n d : ℕ) → 16 ≤ n → n < 2 ^ 32 →
+    front ≡ before ++ digits 16 false (n / 16) → d ≡ digit_glyph false (n % 16) →
     front ++ d ∷ [] ≡ before ++ digits 16 false n
 hexadecimal_written before front n d h small is last_is =
     ap (λ x. x ++ d ∷ []) is

@@ -39,7 +39,8 @@ recipe_read : pieces_of classes (1 ∷ 45 ∷ 1 ∷ 45 ∷ 1 ∷ 2 ∷ []) (valu
 unfolding digits
 recipe_read = refl
 
-recipe_joined : joined classes pieces (value.Prim (num.Z true) ∷ value.Prim (num.J (negsuc 4)) ∷ value.Null ∷ []) ≡ returned (value.Text (codes "true--5-null7"))
+recipe_joined : joined classes pieces (value.Prim (num.Z true) ∷ value.Prim (num.J (negsuc 4)) ∷ value.Null ∷ []) ≡
+    returned (value.Text (codes "true--5-null7"))
 unfolding digits
 recipe_joined = refl
 

@@ -286,7 +286,8 @@ pub fn run_all<R: Threads + Wait + Sync, G: Gate + Sync>(
     ensures types { IfOk result
         (λ run. run.types ≡ types (given_by input.now) (serials_of run.table)) }
     ensures stop { IfErr result (IsStopOf plan.now) }
-    ensures full { IfFull (error_of result) (most_forms < draws_needed (given_by input.now) plan.now) }
+    ensures full { IfFull (error_of result)
+        (most_forms < draws_needed (given_by input.now) plan.now) }
     ensures no_slot { IfTypesFull (error_of result)
         (λ bucket. Overfill bucket (all_types (given_by input.now) plan.now)) }
 {

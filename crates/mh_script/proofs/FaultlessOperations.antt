@@ -62,7 +62,8 @@ value-choice false fault (Some v) colon operand h = refl
 value-choice false fault None true operand h = cc
 value-choice false fault None false operand h = cc
 
-pub value-said : (classes : List Class) (steps : List Step) (token : List ℕ) → value_fault classes steps token ≡ None → is_ok (value_operand classes token) ≡ true
+pub value-said : (classes : List Class) (steps : List Step) (token : List ℕ) → value_fault classes steps token ≡ None →
+    is_ok (value_operand classes token) ≡ true
 value-said classes steps token h =
     value-choice (is_register token) (sort_fault steps sort.Value token) (operand_literal classes token) (has_colon token)
     (of_value.Register (register_of token)) h

@@ -44,8 +44,8 @@ returned-text : (classes : List Class) → AreClasses classes → (pieces : List
 returned-text classes are pieces args None h = absurd cc
 returned-text classes are pieces args (Some t) h = joined_returns classes are pieces args t [] h
 
-pub concat-sound : (classes : List Class) → AreClasses classes → (asked : MethodTy) (pieces : List Piece) (u : MethodTy) → concat_row classes asked pieces ≡ Ok u →
-    IsSound classes (λ args n. ran_of (joined classes pieces args) []) u
+pub concat-sound : (classes : List Class) → AreClasses classes → (asked : MethodTy) (pieces : List Piece) (u : MethodTy) →
+    concat_row classes asked pieces ≡ Ok u → IsSound classes (λ args n. ran_of (joined classes pieces args) []) u
 concat-sound classes are asked pieces u typed =
     let q = concat_row-parts classes asked pieces u typed in
     subst (IsSound classes (λ args n. ran_of (joined classes pieces args) [])) (sym q.3)

@@ -25,5 +25,6 @@ returns-clause-types g c = (c.made.ensures _ _ (c.in_ok-node.ensures.asked c.req
 
 pub returns-clause-line : goal.returns-clause-line
 returns-clause-line g c frame hold =
-    operation-made frame c.args.operation.now (parts_of c.in_ok-node.node) c.args.w.now c.made.new.w c.made.result (c.in_ok-node.ensures.makes c.args.w.now.leaves.now frame hold)
+    operation-made frame c.args.operation.now (parts_of c.in_ok-node.node) c.args.w.now c.made.new.w c.made.result
+    (c.in_ok-node.ensures.makes c.args.w.now.leaves.now frame hold)
     (c.made.ensures _ _ (c.in_ok-node.ensures.asked frame hold))

@@ -7,7 +7,8 @@ abbrev pub invariant-loop-bytes : goal.invariant-loop-bytes
 invariant-loop-bytes g l = record {
   told : (n : List ℕ) → g.I.Inputs.told l.inputs n ≡ g.I.Inputs.told l.initial.inputs n;
   front : IsFront (g.I.Inputs.told l.initial.inputs l.name) l.bytes.items;
-  reads : ReadsOnce (l.limit + 1) 1 (g.I.Inputs.reached l.initial.inputs) (g.I.Inputs.reached l.inputs) (g.I.Inputs.starts l.initial.inputs) (g.I.Inputs.starts l.inputs);
+  reads : ReadsOnce (l.limit + 1) 1 (g.I.Inputs.reached l.initial.inputs) (g.I.Inputs.reached l.inputs)
+      (g.I.Inputs.starts l.initial.inputs) (g.I.Inputs.starts l.inputs);
   unread : length l.bytes.items ≡ 0 → g.I.Inputs.starts l.inputs ≤ g.I.Inputs.starts l.initial.inputs;
   no_fault : (n : List ℕ) → g.I.Inputs.faults l.inputs n ≡ g.I.Inputs.faults l.initial.inputs n;
 }
