@@ -57,9 +57,9 @@ fn run_words<R: Threads + Wait + Sync, I: Inputs, S: Sink>(
     sink: &mut S,
 ) -> ExitCode
     ensures { EndsWith (exit_status result) (map string_bytes words.now)
-        (outside (I.told inputs.old) (I.faults inputs.old) (I.reached inputs.old)
+        (outside (I.contents inputs.old) (I.faults inputs.old) (I.reached inputs.old)
         (I.starts inputs.old) (S.taken sink.old) (S.faults sink.old))
-        (outside (I.told inputs.new) (I.faults inputs.new) (I.reached inputs.new)
+        (outside (I.contents inputs.new) (I.faults inputs.new) (I.reached inputs.new)
         (I.starts inputs.new) (S.taken sink.new) (S.faults sink.new)) }
 {
     let Ok(texts) = texts_of(alloc, words) else {
@@ -79,9 +79,9 @@ pub fn run<R: Threads + Wait + Sync, W: Iterator<Item = String> + Drop, I: Input
 ) -> ExitCode
     requires { IfOk args (λ args. W.can_next args × IsFinite (W.remaining args)) }
     ensures given { IfOk args (λ args. EndsOnGiven (exit_status result) (Drains W.next_gives args)
-        (outside (I.told inputs.old) (I.faults inputs.old) (I.reached inputs.old)
+        (outside (I.contents inputs.old) (I.faults inputs.old) (I.reached inputs.old)
         (I.starts inputs.old) (S.taken sink.old) (S.faults sink.old))
-        (outside (I.told inputs.new) (I.faults inputs.new) (I.reached inputs.new)
+        (outside (I.contents inputs.new) (I.faults inputs.new) (I.reached inputs.new)
         (I.starts inputs.new) (S.taken sink.new) (S.faults sink.new))) }
     ensures no_text { IfErr args (λ _. IsStill (S.faults sink.old) (S.faults sink.new)
         → IsUsageOrWant (exit_status result)) }

@@ -60,7 +60,7 @@ impl GeneratedFiles {
 }
 
 impl Inputs for GeneratedFiles {
-    ghost told = { λ s. files_of s.number };
+    ghost contents = { λ s. files_of s.number };
 
     ghost faults = { λ _ _. 0 };
 

@@ -2,7 +2,7 @@
 use Rattle.std.proofs.Common.{◌≡◌, ◌≢◌, ◌∙◌, sym, ℕ, List, Option, Some, arith}
 use Rattle.std.specs.Io.KnownBytes.{Appends}
 use Rattle.mh_outside.specs.Causes.{AppendsPart, AreSame, IsStill, Rose}
-use Rattle.mh_outside.specs.Told.{Told}
+use Rattle.mh_outside.specs.Contents.{Contents}
 use Rattle.mh_words.specs.Words.{Command, command_of}
 use Rattle.mh_main.specs.declared.answer.TopAnswer.{TopAnswer}
 use Rattle.mh_main.specs.declared.program.Program.{Program}
@@ -16,7 +16,7 @@ use Rattle.mh_main.proofs.Stilled.{never-both, stop-done, stop-missing, stop-ref
 use Rattle.mh_main.proofs.Taken.{run-done, taken-there, taken-unrefused}
 
 -- where a program was run
-pub record RunEnds (words : List (List ℕ)) (files : List ℕ → Told) (before now : List ℕ → ℕ) (old new : Option (List ℕ)) (faults faults' : ℕ)
+pub record RunEnds (words : List (List ℕ)) (files : List ℕ → Contents) (before now : List ℕ → ℕ) (old new : Option (List ℕ)) (faults faults' : ℕ)
     (answer : TopAnswer) : Type 0 where
   pub headline : answer.status ≡ done → Writes (Reports words files answer) old new
   pub answers : answer.status ≡ done → AnswersCalls words files answer
@@ -29,7 +29,7 @@ pub record RunEnds (words : List (List ℕ)) (files : List ℕ → Told) (before
   pub unread_wanted : IsMissing (input words files) → IsStill faults faults' → IsUnreadOrWant answer.status
 
 pub run-ends :
-    (words : List (List ℕ)) (files : List ℕ → Told) (before now : List ℕ → ℕ) (old new : Option (List ℕ)) (faults faults' : ℕ) (answer : TopAnswer)
+    (words : List (List ℕ)) (files : List ℕ → Contents) (before now : List ℕ → ℕ) (old new : Option (List ℕ)) (faults faults' : ℕ) (answer : TopAnswer)
     (command : Command) (p : Program) →
     Some command ≡ command_of words →
     IfAccepted (command_input command files) (λ a. a ≡ program p) →
@@ -56,7 +56,7 @@ run-ends words files before now old new faults faults' answer command p asked is
 }
 
 -- where the reading stopped
-pub record StopEnds (words : List (List ℕ)) (files : List ℕ → Told) (before now : List ℕ → ℕ) (old new : Option (List ℕ)) (faults faults' : ℕ)
+pub record StopEnds (words : List (List ℕ)) (files : List ℕ → Contents) (before now : List ℕ → ℕ) (old new : Option (List ℕ)) (faults faults' : ℕ)
     (answer : TopAnswer) : Type 0 where
   pub refusal : answer.status ≡ refused → Writes (RefusesInput words files before now) old new
   pub unreadable : answer.status ≡ unread → Writes (FailsToRead (command_of words) files before now) old new
@@ -67,7 +67,7 @@ pub record StopEnds (words : List (List ℕ)) (files : List ℕ → Told) (befor
   pub unread_wanted : IsMissing (input words files) → IsStill faults faults' → IsUnreadOrWant answer.status
 
 pub stop-ends :
-    (words : List (List ℕ)) (files : List ℕ → Told) (before now : List ℕ → ℕ) (old new : Option (List ℕ)) (faults faults' : ℕ) (answer : TopAnswer)
+    (words : List (List ℕ)) (files : List ℕ → Contents) (before now : List ℕ → ℕ) (old new : Option (List ℕ)) (faults faults' : ℕ) (answer : TopAnswer)
     (command : Command) (stop : Stop) →
     Some command ≡ command_of words →
     IsStopAmong (IsReachedInput command files) before now stop →

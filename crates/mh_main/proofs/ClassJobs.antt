@@ -1,7 +1,7 @@
 -- Class files whose call sites become jobs, one after the other.
 use Rattle.std.proofs.Common.{◌≡◌, ◌≤◌, ◌∙◌, subst, ap, ℕ, ◌+◌, ◌-◌, List, ◌∷◌, length, Result, Ok, Err, IfOk, arith}
 use Rattle.std.specs.Prelude.{fold}
-use Rattle.mh_outside.specs.Told.{Told}
+use Rattle.mh_outside.specs.Contents.{Contents}
 use Rattle.mh_leaf.specs.LeafTable.{LeafTable}
 use Rattle.mh_classfile.specs.Class.{Class}
 use Rattle.mh_script.specs.declared.script.Script.{Script}
@@ -21,18 +21,18 @@ jobs-left leaves scripts before mid c is =
 
 -- the jobs of the class files after the first one were made
 pub made-all : {E : Type 0} (r : Result (List Job) E) (leaves : LeafTable) (scripts : List Script) (name : List ℕ) (names : List (List ℕ))
-    (files files' : List ℕ → Told) (before mid : List Job) → ((n : List ℕ) → files' n ≡ files n) →
+    (files files' : List ℕ → Contents) (before mid : List Job) → ((n : List ℕ) → files' n ≡ files n) →
     MakesJobs leaves scripts (most_sites - length before) (files name) before mid →
     IfOk r (MakesAllJobs leaves scripts (most_sites - length mid) names files' mid) →
     IfOk r (MakesAllJobs leaves scripts (most_sites - length before) (name ∷ names) files before)
-made-all (Ok all) leaves scripts name names files files' before mid told m h =
-    let e : files' ≡ files = λ i n. told n i in
+made-all (Ok all) leaves scripts name names files files' before mid contents m h =
+    let e : files' ≡ files = λ i n. contents n i in
     let c : Class = m.0 in
     let are : AreClassesOf (most_sites - length before - length c.sites) names files h.0 =
     subst (λ n. AreClassesOf n names files h.0) (jobs-left leaves scripts before mid c m.2)
-    (subst (λ (f : List ℕ → Told). AreClassesOf (most_sites - length mid) names f h.0) e h.1) in
+    (subst (λ (f : List ℕ → Contents). AreClassesOf (most_sites - length mid) names f h.0) e h.1) in
     (c ∷ h.0, (m.1, are), h.2 ∙ ap (λ (jobs : List Job). fold (with_class leaves scripts) jobs h.0) m.2)
-made-all (Err e) leaves scripts name names files files' before mid told m h = tt
+made-all (Err e) leaves scripts name names files files' before mid contents m h = tt
 
 -- a class's jobs after others are as few as there may be call sites
 pub few_jobs : (leaves : LeafTable) (scripts : List Script) (before all : List Job) (c : Class) → all ≡ with_class leaves scripts before c →

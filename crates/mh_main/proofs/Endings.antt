@@ -1,7 +1,7 @@
 -- What is due where the reading stopped.
 use Rattle.std.proofs.Common.{◌≡◌, ◌≢◌, refl, sym, subst, inl, inr, ℕ, List, Option, Some, arith}
 use Rattle.mh_outside.specs.Causes.{AreSame}
-use Rattle.mh_outside.specs.Told.{Told}
+use Rattle.mh_outside.specs.Contents.{Contents}
 use Rattle.mh_classfile.specs.Class.{Class}
 use Rattle.mh_listing.specs.Listing.{listing}
 use Rattle.mh_main.specs.declared.answer.TopAnswer.{TopAnswer}
@@ -10,14 +10,14 @@ use Rattle.mh_main.specs.declared.stop.Stop.TheVariants.{NoMemory, ReadFault, To
 use Rattle.mh_main.specs.declared.program.Program.{Program}
 use Rattle.mh_words.specs.Words.{Command, sites, command_of}
 use Rattle.mh_runtime.specs.Passes.{most_sites}
-use Rattle.mh_main.specs.Input.{Accepted, AreListed, IfAccepted, IfRefused, Input, accepted, command_input, fault_line, input_of, listed, listing_input, missing, place_line, program, refused, too_long_line, untold, usage}
+use Rattle.mh_main.specs.Input.{Accepted, AreListed, IfAccepted, IfRefused, Input, accepted, command_input, fault_line, input_of, listed, listing_input, missing, place_line, program, refused, too_long_line, unseen, usage}
 use Rattle.mh_main.specs.Status.{no_memory, refused as refusal, unread}
 use Rattle.mh_main.specs.Stops.{Refuses, IsStopAmong, IsReachedInput, stop_line, stop_status, unread_line}
 use Rattle.mh_main.specs.Due.{FailsToRead, IsDue, IsDueOf, IsEmptyAnswer, IsOutputOf, NeedsManyForms, NeedsManyTypes, RefusesInput}
 
 -- a stop that comes with a refusal has the line of the input that is refused
 pub refused-at-stop :
-    (words : List (List ℕ)) (files : List ℕ → Told) (before now : List ℕ → ℕ) (command : Command) (stop : Stop) →
+    (words : List (List ℕ)) (files : List ℕ → Contents) (before now : List ℕ → ℕ) (command : Command) (stop : Stop) →
     Some command ≡ command_of words →
     stop_status stop ≡ refusal →
     IsStopAmong (IsReachedInput command files) before now stop →
@@ -37,7 +37,7 @@ refused-at-stop words files before now command (Place at place kind) asked is st
 
 -- a stop that comes with a read fault has the line of the input that could not be read
 pub unread-at-stop :
-    (words : List (List ℕ)) (files : List ℕ → Told) (before now : List ℕ → ℕ) (command : Command) (stop : Stop) →
+    (words : List (List ℕ)) (files : List ℕ → Contents) (before now : List ℕ → ℕ) (command : Command) (stop : Stop) →
     Some command ≡ command_of words →
     stop_status stop ≡ unread →
     IsStopAmong (IsReachedInput command files) before now stop →
@@ -52,7 +52,7 @@ unread-at-stop words files before now command (Place at place kind) asked is sto
 
 -- a stop that is no want of memory has a line that is due
 pub due-at-stop :
-    (words : List (List ℕ)) (files : List ℕ → Told) (before now : List ℕ → ℕ) (answer : TopAnswer) (command : Command) (stop : Stop) →
+    (words : List (List ℕ)) (files : List ℕ → Contents) (before now : List ℕ → ℕ) (answer : TopAnswer) (command : Command) (stop : Stop) →
     Some command ≡ command_of words →
     IsEmptyAnswer answer →
     stop_status stop ≢ no_memory →
@@ -75,11 +75,11 @@ taken usage a P is holds = is
 taken (refused line) a P is holds = is
 taken (accepted b) a P is holds = subst P (sym is) holds
 taken missing a P is holds = is
-taken untold a P is holds = tt
+taken unseen a P is holds = tt
 
 -- what is due of a program is due of the words and files that give it
 pub due-of-program :
-    (words : List (List ℕ)) (files : List ℕ → Told) (before now : List ℕ → ℕ) (answer : TopAnswer) (command : Command) (p : Program) (bytes : List ℕ) →
+    (words : List (List ℕ)) (files : List ℕ → Contents) (before now : List ℕ → ℕ) (answer : TopAnswer) (command : Command) (p : Program) (bytes : List ℕ) →
     Some command ≡ command_of words →
     IfAccepted (command_input command files) (λ a. a ≡ program p) →
     AreSame before now →
@@ -103,7 +103,7 @@ due-of-program words files before now answer command p bytes asked is same (inr 
 
 -- what holds of a program holds of what is accepted of the words and files that give it
 pub accepted-of :
-    (words : List (List ℕ)) (files : List ℕ → Told) (command : Command) (p : Program) (P : Accepted → Type 0) →
+    (words : List (List ℕ)) (files : List ℕ → Contents) (command : Command) (p : Program) (P : Accepted → Type 0) →
     Some command ≡ command_of words →
     IfAccepted (command_input command files) (λ a. a ≡ program p) →
     P (program p) →
@@ -119,11 +119,11 @@ listed-as (refused line) Q P each is = is
 listed-as (accepted (program p)) Q P each is = absurd is
 listed-as (accepted (listed classes)) Q P each is = each classes is
 listed-as missing Q P each is = is
-listed-as untold Q P each is = tt
+listed-as unseen Q P each is = tt
 
 -- and of the words and files that give the classes
 pub listed-of :
-    (words : List (List ℕ)) (files : List ℕ → Told) (names : List (List ℕ)) (Q : List Class → Type 0) (P : Accepted → Type 0) →
+    (words : List (List ℕ)) (files : List ℕ → Contents) (names : List (List ℕ)) (Q : List Class → Type 0) (P : Accepted → Type 0) →
     ((classes : List Class) → Q classes → P (listed classes)) →
     Some (sites names) ≡ command_of words →
     IfAccepted (listing_input most_sites names files) (AreListed Q) →
@@ -133,7 +133,7 @@ listed-of words files names Q P each asked is =
 
 -- a listing is due of the words and files that give its classes
 pub due-of-listing :
-    (words : List (List ℕ)) (files : List ℕ → Told) (before now : List ℕ → ℕ) (answer : TopAnswer) (names : List (List ℕ)) (bytes : List ℕ) →
+    (words : List (List ℕ)) (files : List ℕ → Contents) (before now : List ℕ → ℕ) (answer : TopAnswer) (names : List (List ℕ)) (bytes : List ℕ) →
     Some (sites names) ≡ command_of words →
     IfAccepted (listing_input most_sites names files) (AreListed (λ classes. bytes ≡ listing classes)) →
     AreSame before now →

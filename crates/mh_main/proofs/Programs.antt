@@ -2,7 +2,7 @@
 use Rattle.std.proofs.Common.{◌≡◌, refl, sym, subst, inl, inr, ℕ, List, Result}
 use Rattle.mh_base.specs.declared.lines.LineFault.{LineFault}
 use Rattle.mh_outside.specs.Causes.{AreSame}
-use Rattle.mh_outside.specs.Told.{Told}
+use Rattle.mh_outside.specs.Contents.{Contents}
 use Rattle.mh_leaf.specs.LeafTable.{LeafTable}
 use Rattle.mh_leaves.specs.Manifest.{manifest, kind_word as manifest_word}
 use Rattle.mh_script.specs.declared.script.Script.{Script}
@@ -20,14 +20,14 @@ use Rattle.mh_main.specs.declared.program.Program.{Program}
 use Rattle.mh_main.specs.declared.stop.Stop.{Stop}
 use Rattle.mh_words.specs.Words.{Named}
 use Rattle.mh_runtime.specs.Passes.{most_sites}
-use Rattle.mh_main.specs.Input.{HasMeaning, IfAccepted, Input, leaves_limit, classes_input, named_input, plan_input, plan_limit, program, untold}
+use Rattle.mh_main.specs.Input.{HasMeaning, IfAccepted, Input, leaves_limit, classes_input, named_input, plan_input, plan_limit, program, unseen}
 use Rattle.mh_main.specs.Classes.{HasJobs}
 use Rattle.mh_main.specs.Stops.{IsStopAmong, IsStopOf, ReachesClass, ReachesInput, Refuses, StopsClasses, StopsText, TextsMean}
-use Rattle.mh_main.proofs.ReadOn.{classes-read, refuses-untold, text-read, text-stopped}
+use Rattle.mh_main.proofs.ReadOn.{classes-read, refuses-unseen, text-read, text-stopped}
 use Rattle.mh_main.proofs.Reaching.{stops-at, stops-later}
 
--- what holds where the inputs are not told, and where they go on after the manifest and the scripts, holds of all
-texts-read : (Q : Input → Type 0) (output : Output) (names : Named) (files : List ℕ → Told) (leaves : LeafTable) (all : List Script) → Q untold →
+-- what holds if the inputs are not seen, and if they go on after the manifest and the scripts, holds of all
+texts-read : (Q : Input → Type 0) (output : Output) (names : Named) (files : List ℕ → Contents) (leaves : LeafTable) (all : List Script) → Q unseen →
     TextsMean names files leaves all →
     Q (classes_input most_sites names.classes files (λ classes.
     plan_input output (record { leaves = leaves; scripts = all; jobs = jobs_of leaves all classes }) names.plan files)) →
@@ -37,8 +37,8 @@ texts-read Q output names files leaves all free mean h =
     (text-read Q leaves_limit names.scripts script_word scripts (files names.scripts) all _ free mean.1 h)
 
 -- likewise after the class files
-given-read : (Q : Input → Type 0) (output : Output) (names : Named) (files : List ℕ → Told) (leaves : LeafTable) (all : List Script) (jobs : List Job) →
-    Q untold →
+given-read : (Q : Input → Type 0) (output : Output) (names : Named) (files : List ℕ → Contents) (leaves : LeafTable) (all : List Script) (jobs : List Job) →
+    Q unseen →
     TextsMean names files leaves all → HasJobs leaves all names.classes files jobs →
     Q (plan_input output (record { leaves = leaves; scripts = all; jobs = jobs }) names.plan files) → Q (named_input output names files)
 given-read Q output names files leaves all jobs free mean has h =
@@ -48,69 +48,69 @@ given-read Q output names files leaves all jobs free mean has h =
     (subst (λ (js : List Job). Q (plan_input output (record { leaves = leaves; scripts = all; jobs = js }) names.plan files)) has.2 h))
 
 -- the scripts that were read after the manifest
-pub texts-mean : (names : Named) (files files' : List ℕ → Told) (leaves : LeafTable) (all : List Script) → ((n : List ℕ) → files' n ≡ files n) →
+pub texts-mean : (names : Named) (files files' : List ℕ → Contents) (leaves : LeafTable) (all : List Script) → ((n : List ℕ) → files' n ≡ files n) →
     HasMeaning leaves_limit manifest (files names.leaves) leaves → HasMeaning leaves_limit scripts (files' names.scripts) all →
     TextsMean names files leaves all
-texts-mean names files files' leaves all told one other = (one, subst (λ t. HasMeaning leaves_limit scripts t all) (told names.scripts) other)
+texts-mean names files files' leaves all contents one other = (one, subst (λ t. HasMeaning leaves_limit scripts t all) (contents names.scripts) other)
 
 -- the jobs that were made after that
-pub has-jobs : (names : List (List ℕ)) (files files' : List ℕ → Told) (leaves : LeafTable) (all : List Script) (jobs : List Job) →
+pub has-jobs : (names : List (List ℕ)) (files files' : List ℕ → Contents) (leaves : LeafTable) (all : List Script) (jobs : List Job) →
     ((n : List ℕ) → files' n ≡ files n) → HasJobs leaves all names files' jobs → HasJobs leaves all names files jobs
-has-jobs names files files' leaves all jobs told has =
-    let e : files' ≡ files = λ i n. told n i in subst (λ (f : List ℕ → Told). HasJobs leaves all names f jobs) e has
+has-jobs names files files' leaves all jobs contents has =
+    let e : files' ≡ files = λ i n. contents n i in subst (λ (f : List ℕ → Contents). HasJobs leaves all names f jobs) e has
 
 -- ---- where all were read
 
 -- a program that was read is what the inputs say
-pub program-read : (names : Named) (files files' : List ℕ → Told) (p : Program) → ((n : List ℕ) → files' n ≡ files n) →
+pub program-read : (names : Named) (files files' : List ℕ → Contents) (p : Program) → ((n : List ℕ) → files' n ≡ files n) →
     TextsMean names files p.leaves p.scripts → HasJobs p.leaves p.scripts names.classes files p.jobs →
     HasMeaning plan_limit (λ bytes. plan bytes p.leaves p.jobs) (files' names.plan) p.plan → IfAccepted (named_input p.output names files) (λ a. a ≡ program p)
-program-read names files files' p told mean has is =
+program-read names files files' p contents mean has is =
     let P : Input → Type 0 = λ i. IfAccepted i (λ a. a ≡ program p) in
     given-read P p.output names files p.leaves p.scripts p.jobs tt mean has
     (text-read P plan_limit names.plan plan_word (λ bytes. plan bytes p.leaves p.jobs) (files names.plan) p.plan _ tt
-    (subst (λ t. HasMeaning plan_limit (λ bytes. plan bytes p.leaves p.jobs) t p.plan) (told names.plan) is) refl)
+    (subst (λ t. HasMeaning plan_limit (λ bytes. plan bytes p.leaves p.jobs) t p.plan) (contents names.plan) is) refl)
 
 -- its jobs are those of call sites of classes
-pub jobs-are : (leaves : LeafTable) (all : List Script) (names : List (List ℕ)) (files : List ℕ → Told) (jobs : List Job) →
+pub jobs-are : (leaves : LeafTable) (all : List Script) (names : List (List ℕ)) (files : List ℕ → Contents) (jobs : List Job) →
     HasJobs leaves all names files jobs → AreJobs (record { leaves = leaves; scripts = all; jobs = jobs })
 jobs-are leaves all names files jobs has =
     subst (λ (js : List Job). AreJobs (record { leaves = leaves; scripts = all; jobs = js })) (sym has.2) (are_jobs leaves all has.0)
 
 -- ---- where a class file stops the reading
 
-pub classes-among : (names : Named) (files files' : List ℕ → Told) (before before' now : List ℕ → ℕ) (leaves : LeafTable) (all : List Script)
+pub classes-among : (names : Named) (files files' : List ℕ → Contents) (before before' now : List ℕ → ℕ) (leaves : LeafTable) (all : List Script)
     (stop : Stop) → ((n : List ℕ) → files' n ≡ files n) → AreSame before before' → TextsMean names files leaves all →
     IsStopAmong (ReachesClass most_sites names.classes files') before' now stop → IsStopAmong (ReachesInput names files) before now stop
-classes-among names files files' before before' now leaves all stop told same mean stops =
-    let e : files' ≡ files = λ i n. told n i in
+classes-among names files files' before before' now leaves all stop contents same mean stops =
+    let e : files' ≡ files = λ i n. contents n i in
     stops-later (ReachesInput names files) (ReachesClass most_sites names.classes files) before before' now stop
     (λ name there. inr (inr (inl (leaves, all, mean, there)))) same
-    (subst (λ (f : List ℕ → Told). IsStopAmong (ReachesClass most_sites names.classes f) before' now stop) e stops)
+    (subst (λ (f : List ℕ → Contents). IsStopAmong (ReachesClass most_sites names.classes f) before' now stop) e stops)
 
-pub classes-stop : (output : Output) (names : Named) (files files' : List ℕ → Told) (leaves : LeafTable) (all : List Script) (stop : Stop) →
+pub classes-stop : (output : Output) (names : Named) (files files' : List ℕ → Contents) (leaves : LeafTable) (all : List Script) (stop : Stop) →
     ((n : List ℕ) → files' n ≡ files n) → TextsMean names files leaves all → StopsClasses most_sites names.classes files' stop →
     Refuses (named_input output names files) stop
-classes-stop output names files files' leaves all stop told mean stops =
-    let e : files' ≡ files = λ i n. told n i in
-    texts-read (λ i. Refuses i stop) output names files leaves all (refuses-untold stop) mean
-    (subst (λ (f : List ℕ → Told). StopsClasses most_sites names.classes f stop) e stops _)
+classes-stop output names files files' leaves all stop contents mean stops =
+    let e : files' ≡ files = λ i n. contents n i in
+    texts-read (λ i. Refuses i stop) output names files leaves all (refuses-unseen stop) mean
+    (subst (λ (f : List ℕ → Contents). StopsClasses most_sites names.classes f stop) e stops _)
 
 -- ---- where the plan stops the reading
 
-pub plan-among : (names : Named) (files : List ℕ → Told) (before before' now : List ℕ → ℕ) (leaves : LeafTable) (all : List Script) (jobs : List Job)
+pub plan-among : (names : Named) (files : List ℕ → Contents) (before before' now : List ℕ → ℕ) (leaves : LeafTable) (all : List Script) (jobs : List Job)
     (stop : Stop) → AreSame before before' → TextsMean names files leaves all → HasJobs leaves all names.classes files jobs →
     IsStopOf names.plan before' now stop → IsStopAmong (ReachesInput names files) before now stop
 plan-among names files before before' now leaves all jobs stop same mean has stops =
     stops-later (ReachesInput names files) (ReachesInput names files) before before' now stop (λ name there. there) same
     (stops-at (ReachesInput names files) names.plan before' now stop (inr (inr (inr (leaves, all, has.0, refl, mean, has.1)))) stops)
 
-pub plan-stop : (output : Output) (names : Named) (files files' : List ℕ → Told) (before now : List ℕ → ℕ) (leaves : LeafTable) (all : List Script)
+pub plan-stop : (output : Output) (names : Named) (files files' : List ℕ → Contents) (before now : List ℕ → ℕ) (leaves : LeafTable) (all : List Script)
     (jobs : List Job) (stop : Stop) → ((n : List ℕ) → files' n ≡ files n) → TextsMean names files leaves all → HasJobs leaves all names.classes files jobs →
     IsStopOf names.plan before now stop → StopsText plan_limit plan_word (λ bytes. plan bytes leaves jobs) (files' names.plan) stop →
     Refuses (named_input output names files) stop
-plan-stop output names files files' before now leaves all jobs stop told mean has of stops =
+plan-stop output names files files' before now leaves all jobs stop contents mean has of stops =
     let Meaning : List ℕ → Result (List (List Call)) (LineFault PlanKind) = λ bytes. plan bytes leaves jobs in
-    given-read (λ i. Refuses i stop) output names files leaves all jobs (refuses-untold stop) mean has
+    given-read (λ i. Refuses i stop) output names files leaves all jobs (refuses-unseen stop) mean has
     (text-stopped plan_limit names.plan plan_word Meaning (files names.plan) _ before now stop of
-    (subst (λ t. StopsText plan_limit plan_word Meaning t stop) (told names.plan) stops))
+    (subst (λ t. StopsText plan_limit plan_word Meaning t stop) (contents names.plan) stops))

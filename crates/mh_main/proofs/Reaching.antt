@@ -1,7 +1,7 @@
 -- Stops at inputs that are reached after others.
 use Rattle.std.proofs.Common.{◌≡◌, sym, subst, inr, ℕ, ◌-◌, List, ◌∷◌, length, Result, Ok, Err, IfErr}
 use Rattle.std.specs.Result.{IsErrAnd}
-use Rattle.mh_outside.specs.Told.{Told}
+use Rattle.mh_outside.specs.Contents.{Contents}
 use Rattle.mh_outside.specs.Causes.{Rose, AreSame}
 use Rattle.mh_classfile.specs.Class.{Class}
 use Rattle.mh_classfile.specs.File.{class_or_fault}
@@ -9,7 +9,7 @@ use Rattle.mh_main.specs.declared.stop.Stop.{Stop}
 use Rattle.mh_main.specs.declared.stop.Stop.TheVariants.{NoMemory, ReadFault, TooLong, Fault, Place}
 use Rattle.mh_main.specs.Input.{HasMeaning, class_limit}
 use Rattle.mh_main.specs.Stops.{IsStopAmong, IsStopOf, ReachesClass, Refuses, StopsClasses}
-use Rattle.mh_main.proofs.ReadOn.{first-read, refuses-untold}
+use Rattle.mh_main.proofs.ReadOn.{first-read, refuses-unseen}
 
 -- a stop that is handed on
 pub handed : {T : Type 0} (r : Result T Stop) (stop : Stop) (P : Stop → Type 0) → IsErrAnd r (λ s. s ≡ stop) → P stop → IfErr r P
@@ -40,25 +40,25 @@ stops-later Reaches Reaches' before before' now (Place at place kind) there same
 -- ---- class files
 
 -- one of the others stops the reading
-pub others-among : {T : Type 0} (r : Result T Stop) (room room' : ℕ) (name : List ℕ) (names : List (List ℕ)) (files files' : List ℕ → Told)
+pub others-among : {T : Type 0} (r : Result T Stop) (room room' : ℕ) (name : List ℕ) (names : List (List ℕ)) (files files' : List ℕ → Contents)
     (before before' now : List ℕ → ℕ) (c : Class) → ((n : List ℕ) → files' n ≡ files n) → AreSame before before' →
     HasMeaning class_limit (class_or_fault room) (files name) c → room' ≡ room - length c.sites →
     IfErr r (λ stop. IsStopAmong (ReachesClass room' names files') before' now stop) →
     IfErr r (λ stop. IsStopAmong (ReachesClass room (name ∷ names) files) before now stop)
-others-among (Ok t) room room' name names files files' before before' now c told same is left h = tt
-others-among (Err stop) room room' name names files files' before before' now c told same is left h =
-    let e : files' ≡ files = λ i n. told n i in
+others-among (Ok t) room room' name names files files' before before' now c contents same is left h = tt
+others-among (Err stop) room room' name names files files' before before' now c contents same is left h =
+    let e : files' ≡ files = λ i n. contents n i in
     stops-later (ReachesClass room (name ∷ names) files) (ReachesClass room' names files') before before' now stop
-    (λ at reached. inr (c, is, subst (λ n. ReachesClass n names files at) left (subst (λ (f : List ℕ → Told). ReachesClass room' names f at) e reached)))
+    (λ at reached. inr (c, is, subst (λ n. ReachesClass n names files at) left (subst (λ (f : List ℕ → Contents). ReachesClass room' names f at) e reached)))
     same h
 
 -- and is what the class files say
-pub others-stop : {T : Type 0} (r : Result T Stop) (room room' : ℕ) (name : List ℕ) (names : List (List ℕ)) (files files' : List ℕ → Told) (c : Class) →
+pub others-stop : {T : Type 0} (r : Result T Stop) (room room' : ℕ) (name : List ℕ) (names : List (List ℕ)) (files files' : List ℕ → Contents) (c : Class) →
     ((n : List ℕ) → files' n ≡ files n) → HasMeaning class_limit (class_or_fault room) (files name) c → room' ≡ room - length c.sites →
     IfErr r (λ stop. StopsClasses room' names files' stop) → IfErr r (λ stop. StopsClasses room (name ∷ names) files stop)
-others-stop (Ok t) room room' name names files files' c told is left h = tt
-others-stop (Err stop) room room' name names files files' c told is left h =
-    let e : files' ≡ files = λ i n. told n i in
+others-stop (Ok t) room room' name names files files' c contents is left h = tt
+others-stop (Err stop) room room' name names files files' c contents is left h =
+    let e : files' ≡ files = λ i n. contents n i in
     let stops : StopsClasses (room - length c.sites) names files stop =
-    subst (λ n. StopsClasses n names files stop) left (subst (λ (f : List ℕ → Told). StopsClasses room' names f stop) e h) in
-    λ next. first-read (λ i. Refuses i stop) room name names files c next (refuses-untold stop) is (stops (λ classes. next (c ∷ classes)))
+    subst (λ n. StopsClasses n names files stop) left (subst (λ (f : List ℕ → Contents). StopsClasses room' names f stop) e h) in
+    λ next. first-read (λ i. Refuses i stop) room name names files c next (refuses-unseen stop) is (stops (λ classes. next (c ∷ classes)))

@@ -1,13 +1,13 @@
 -- Where neither an input of the command nor the sink failed, a stop is a refusal or want of memory.
 use Rattle.std.proofs.Common.{◌≡◌, ◌≢◌, ◌<◌, refl, sym, subst, inl, inr, ℕ, suc, ◌-◌, List, [], ◌∷◌, length, Option, Some, arith}
 use Rattle.std.specs.List.{Contains}
-use Rattle.mh_outside.specs.Told.{Told}
+use Rattle.mh_outside.specs.Contents.{Contents}
 use Rattle.mh_outside.specs.Causes.{IsStill, Rose}
 use Rattle.mh_main.specs.declared.stop.Stop.{Stop}
 use Rattle.mh_main.specs.declared.stop.Stop.TheVariants.{NoMemory, ReadFault, TooLong, Fault, Place}
 use Rattle.mh_words.specs.Words.{Command, run, sites, generate}
 use Rattle.mh_runtime.specs.Passes.{most_sites}
-use Rattle.mh_main.specs.Input.{AreAccepted, IfRefused, Input, IsMissing, accepted, command_input, input_of, missing, refused, untold, usage}
+use Rattle.mh_main.specs.Input.{AreAccepted, IfRefused, Input, IsMissing, accepted, command_input, input_of, missing, refused, unseen, usage}
 use Rattle.mh_main.specs.Status.{IsDoneOrWant, IsRefusedOrWant, IsUnreadOrWant, write_failed}
 use Rattle.mh_main.specs.Stops.{InputsStill, IsInput, IsReachedInput, ReachesClass, Refuses, IsStopAmong, stop_status}
 
@@ -16,7 +16,7 @@ pub never-both : (before now : ℕ) → IsStill before now → Rose before now �
 never-both before now still rose = absurd (omega arith)
 
 -- a class file that was reached is one of those named
-named-class : (room : ℕ) (names : List (List ℕ)) (files : List ℕ → Told) (name : List ℕ) → ReachesClass room names files name → Contains names name
+named-class : (room : ℕ) (names : List (List ℕ)) (files : List ℕ → Contents) (name : List ℕ) → ReachesClass room names files name → Contains names name
 named-class room [] files name h = absurd h
 named-class room (first ∷ names) files name (inl is) = let some : 0 < length (first ∷ names) = omega arith in (0, some, sym is)
 named-class room (first ∷ names) files name (inr more) =
@@ -26,7 +26,7 @@ named-class room (first ∷ names) files name (inr more) =
     (suc q.0, later, q.2)
 
 -- an input that was reached is one of the command's
-named-input : (command : Command) (files : List ℕ → Told) (name : List ℕ) → IsReachedInput command files name → IsInput command name
+named-input : (command : Command) (files : List ℕ → Contents) (name : List ℕ) → IsReachedInput command files name → IsInput command name
 named-input (sites names) files name h = named-class most_sites names files name h
 named-input (generate number) files name h = absurd h
 named-input (run names) files name (inl is) = inl is
@@ -35,11 +35,11 @@ named-input (run names) files name (inr (inr (inl at))) = inr (inr (inl (named-c
 named-input (run names) files name (inr (inr (inr at))) = inr (inr (inr at.3))
 
 -- no read of an input failed
-unfailed : (command : Command) (files : List ℕ → Told) (before now : List ℕ → ℕ) (at : List ℕ) →
+unfailed : (command : Command) (files : List ℕ → Contents) (before now : List ℕ → ℕ) (at : List ℕ) →
     InputsStill (Some command) before now → IsReachedInput command files at → Rose (before at) (now at) → ⊥
 unfailed command files before now at still reached rose = never-both (before at) (now at) (still at (named-input command files at reached)) rose
 
-refused-status : (command : Command) (files : List ℕ → Told) (before now : List ℕ → ℕ) (stop : Stop) →
+refused-status : (command : Command) (files : List ℕ → Contents) (before now : List ℕ → ℕ) (stop : Stop) →
     InputsStill (Some command) before now → IsStopAmong (IsReachedInput command files) before now stop → IsRefusedOrWant (stop_status stop)
 refused-status command files before now NoMemory still stops = inr refl
 refused-status command files before now (ReadFault at) still stops = absurd (unfailed command files before now at.now still stops.0 stops.1)
@@ -52,9 +52,9 @@ never-refused usage P so is = so
 never-refused (refused line) P so is = so
 never-refused (accepted a) P so is = is
 never-refused missing P so is = is
-never-refused untold P so is = so
+never-refused unseen P so is = so
 
-done-status : (command : Command) (files : List ℕ → Told) (before now : List ℕ → ℕ) (i : Input) (stop : Stop) →
+done-status : (command : Command) (files : List ℕ → Contents) (before now : List ℕ → ℕ) (i : Input) (stop : Stop) →
     InputsStill (Some command) before now → IsStopAmong (IsReachedInput command files) before now stop → Refuses i stop → AreAccepted i →
     IsDoneOrWant (stop_status stop)
 done-status command files before now i NoMemory still stops refuses taken = inr refl
@@ -68,7 +68,7 @@ spoken : (before now status due : ℕ) → IsStill before now → (status ≡ wr
 spoken before now status due still failed is = is (λ seven. never-both before now still (failed seven))
 
 pub stop-refused :
-    (o : Option Command) (command : Command) (files : List ℕ → Told) (before now : List ℕ → ℕ) (stop : Stop) (old new status : ℕ) →
+    (o : Option Command) (command : Command) (files : List ℕ → Contents) (before now : List ℕ → ℕ) (stop : Stop) (old new status : ℕ) →
     Some command ≡ o →
     IsStopAmong (IsReachedInput command files) before now stop →
     (status ≡ write_failed → Rose old new) →
@@ -81,7 +81,7 @@ stop-refused o command files before now stop old new status asked stops failed i
     (refused-status command files before now stop (subst (λ c. InputsStill c before now) (sym asked) still) stops)
 
 pub stop-done :
-    (o : Option Command) (command : Command) (files : List ℕ → Told) (before now : List ℕ → ℕ) (stop : Stop) (old new status : ℕ) →
+    (o : Option Command) (command : Command) (files : List ℕ → Contents) (before now : List ℕ → ℕ) (stop : Stop) (old new status : ℕ) →
     Some command ≡ o →
     IsStopAmong (IsReachedInput command files) before now stop →
     Refuses (command_input command files) stop →
@@ -96,14 +96,14 @@ stop-done o command files before now stop old new status asked stops refuses fai
     (done-status command files before now (input_of o files) stop (subst (λ c. InputsStill c before now) (sym asked) still) stops
     (subst (λ c. Refuses (input_of c files) stop) asked refuses) taken)
 
--- ---- inputs that are told not to be there
+-- ---- inputs that are absent
 
 refused-there : (i : Input) (P : List ℕ → Type 0) → IfRefused i P → IsMissing i → ⊥
 refused-there usage P is missing_is = is
 refused-there (refused line) P is missing_is = missing_is
 refused-there (accepted a) P is missing_is = is
 refused-there missing P is missing_is = is
-refused-there untold P is missing_is = missing_is
+refused-there unseen P is missing_is = missing_is
 
 missing-status : (i : Input) (stop : Stop) → Refuses i stop → IsMissing i → IsUnreadOrWant (stop_status stop)
 missing-status i NoMemory refuses is = inr refl
@@ -113,7 +113,7 @@ missing-status i (Fault at line kind) refuses is = absurd (refused-there i _ ref
 missing-status i (Place at place kind) refuses is = absurd (refused-there i _ refuses is)
 
 pub stop-missing :
-    (o : Option Command) (command : Command) (files : List ℕ → Told) (stop : Stop) (old new status : ℕ) →
+    (o : Option Command) (command : Command) (files : List ℕ → Contents) (stop : Stop) (old new status : ℕ) →
     Some command ≡ o →
     Refuses (command_input command files) stop →
     (status ≡ write_failed → Rose old new) →

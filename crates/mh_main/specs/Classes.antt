@@ -1,6 +1,6 @@
 -- What is made of class files that are read one after the other.
 use Rattle.std.specs.Prelude.{◌≡◌, ℕ, ◌+◌, List, ◌++◌, fold, length}
-use Rattle.mh_outside.specs.Told.{Told}
+use Rattle.mh_outside.specs.Contents.{Contents}
 use Rattle.mh_leaf.specs.LeafTable.{LeafTable}
 use Rattle.mh_classfile.specs.Class.{Class}
 use Rattle.mh_classfile.specs.File.{class_or_fault}
@@ -13,26 +13,26 @@ use Rattle.mh_main.specs.Input.{HasMeaning, class_limit}
 use Rattle.mh_main.specs.Stops.{AreClassesOf}
 
 -- if contracts see the file, it is a class file, whose sites were listed from one number to another
-abbrev pub ListsClass : ℕ → Told → ℕ → ℕ → List ℕ → List ℕ → Type 0
-ListsClass room told first next old new =
-    (c : Class) × HasMeaning class_limit (class_or_fault room) told c × (next ≡ first + length c.sites) × (new ≡ old ++ lines_from first c c.sites)
+abbrev pub ListsClass : ℕ → Contents → ℕ → ℕ → List ℕ → List ℕ → Type 0
+ListsClass room contents first next old new =
+    (c : Class) × HasMeaning class_limit (class_or_fault room) contents c × (next ≡ first + length c.sites) × (new ≡ old ++ lines_from first c c.sites)
 
 -- the files that contracts see are class files, whose sites were listed from a number on
-abbrev pub ListsClasses : ℕ → List (List ℕ) → (List ℕ → Told) → ℕ → List ℕ → List ℕ → Type 0
+abbrev pub ListsClasses : ℕ → List (List ℕ) → (List ℕ → Contents) → ℕ → List ℕ → List ℕ → Type 0
 ListsClasses room names files first old new =
     (classes : List Class) × AreClassesOf room names files classes × (new ≡ old ++ listing_from first classes)
 
 -- if contracts see the file, it is a class file, and the jobs of its sites stand after the earlier jobs
-abbrev pub MakesJobs : LeafTable → List Script → ℕ → Told → List Job → List Job → Type 0
-MakesJobs leaves scripts room told before all =
-    (c : Class) × HasMeaning class_limit (class_or_fault room) told c × (all ≡ with_class leaves scripts before c)
+abbrev pub MakesJobs : LeafTable → List Script → ℕ → Contents → List Job → List Job → Type 0
+MakesJobs leaves scripts room contents before all =
+    (c : Class) × HasMeaning class_limit (class_or_fault room) contents c × (all ≡ with_class leaves scripts before c)
 
 -- the files that contracts see are class files, and the jobs of their sites stand after the earlier jobs
-abbrev pub MakesAllJobs : LeafTable → List Script → ℕ → List (List ℕ) → (List ℕ → Told) → List Job → List Job → Type 0
+abbrev pub MakesAllJobs : LeafTable → List Script → ℕ → List (List ℕ) → (List ℕ → Contents) → List Job → List Job → Type 0
 MakesAllJobs leaves scripts room names files before all =
     (classes : List Class) × AreClassesOf room names files classes × (all ≡ fold (with_class leaves scripts) before classes)
 
 -- the jobs are those of the class files that contracts see
-abbrev pub HasJobs : LeafTable → List Script → List (List ℕ) → (List ℕ → Told) → List Job → Type 0
+abbrev pub HasJobs : LeafTable → List Script → List (List ℕ) → (List ℕ → Contents) → List Job → Type 0
 HasJobs leaves scripts names files jobs =
     (classes : List Class) × AreClassesOf most_sites names files classes × (jobs ≡ jobs_of leaves scripts classes)

@@ -2,7 +2,7 @@
 use Rattle.std.specs.Prelude.{◌≡◌, ◌⊎◌, ℕ, ◌<◌, List, [], codes, length, Option, None, Some}
 use Rattle.std.specs.Io.KnownBytes.{Appends}
 use Rattle.mh_outside.specs.Causes.{Rose, AreSame, AppendsPart}
-use Rattle.mh_outside.specs.Told.{Told}
+use Rattle.mh_outside.specs.Contents.{Contents}
 use Rattle.mh_classfile.specs.Class.{Class}
 use Rattle.mh_listing.specs.Listing.{listing}
 use Rattle.mh_handle.specs.declared.answer.Answer.{Answer}
@@ -69,7 +69,7 @@ IsOutputOf (program p) answer bytes = IsReportOf p answer bytes
 IsOutputOf (listed classes) answer bytes = IsListingOf classes answer bytes
 
 -- the report on the program, or the listing of the classes, that the words and the files give
-abbrev pub Reports : List (List ℕ) → (List ℕ → Told) → TopAnswer → List ℕ → Type 0
+abbrev pub Reports : List (List ℕ) → (List ℕ → Contents) → TopAnswer → List ℕ → Type 0
 Reports words files answer bytes = IfAccepted (input words files) (λ a. IsOutputOf a answer bytes)
 
 -- the line of a program whose threads can draw more numbers of forms than there are
@@ -91,7 +91,7 @@ AreAnswers (program p) answer = AreAnswersOf p answer.table answer.threads
 AreAnswers (listed classes) answer = answer.threads ≡ []
 
 -- the answers of the calls of the program that the words and the files give
-abbrev pub AnswersCalls : List (List ℕ) → (List ℕ → Told) → TopAnswer → Type 0
+abbrev pub AnswersCalls : List (List ℕ) → (List ℕ → Contents) → TopAnswer → Type 0
 AnswersCalls words files answer = IfAccepted (input words files) (λ a. AreAnswers a answer)
 
 -- the threads of the program can draw more numbers of forms than there are; a listing draws none
@@ -100,7 +100,7 @@ NeedsManyForms (program p) = most_forms < draws_needed (given_of p) p.plan
 NeedsManyForms (listed classes) = ⊥
 
 -- the line of a program that the words and the files give and whose threads can draw more numbers of forms than there are
-abbrev pub FillsForms : List (List ℕ) → (List ℕ → Told) → List ℕ → Type 0
+abbrev pub FillsForms : List (List ℕ) → (List ℕ → Contents) → List ℕ → Type 0
 FillsForms words files bytes = IfAccepted (input words files) NeedsManyForms × (bytes ≡ forms_line)
 
 -- the program can need more types of a bucket than it has slots; a listing needs none
@@ -109,11 +109,11 @@ NeedsManyTypes (program p) = OverfillBucket (all_types (given_of p) p.plan)
 NeedsManyTypes (listed classes) = ⊥
 
 -- the line of a program that the words and the files give and that can need more types of a bucket than it has slots
-abbrev pub FillsTypes : List (List ℕ) → (List ℕ → Told) → List ℕ → Type 0
+abbrev pub FillsTypes : List (List ℕ) → (List ℕ → Contents) → List ℕ → Type 0
 FillsTypes words files bytes = IfAccepted (input words files) NeedsManyTypes × (bytes ≡ types_line)
 
 -- the line of the first input that is refused, if no read failed
-abbrev pub RefusesInput : List (List ℕ) → (List ℕ → Told) → (List ℕ → ℕ) → (List ℕ → ℕ) → List ℕ → Type 0
+abbrev pub RefusesInput : List (List ℕ) → (List ℕ → Contents) → (List ℕ → ℕ) → (List ℕ → ℕ) → List ℕ → Type 0
 RefusesInput words files before now bytes = IfRefused (input words files) (λ line. line ≡ bytes) × AreSame before now
 
 -- the usage line, if the words are refused
@@ -121,7 +121,7 @@ abbrev pub RefusesWords : List (List ℕ) → List ℕ → Type 0
 RefusesWords words bytes = (command_of words ≡ None) × (bytes ≡ usage_line)
 
 -- the line for an input of the command that was reached and whose count of faults rose
-abbrev pub FailsToRead : Option Command → (List ℕ → Told) → (List ℕ → ℕ) → (List ℕ → ℕ) → List ℕ → Type 0
+abbrev pub FailsToRead : Option Command → (List ℕ → Contents) → (List ℕ → ℕ) → (List ℕ → ℕ) → List ℕ → Type 0
 FailsToRead None files before now bytes = ⊥
 FailsToRead (Some command) files before now bytes =
     (name : List ℕ) × IsReachedInput command files name × Rose (before name) (now name) × (bytes ≡ unread_line name)
@@ -135,7 +135,7 @@ abbrev pub WritesPart : (List ℕ → Type 0) → Option (List ℕ) → Option (
 WritesPart IsDue old new = (bytes : List ℕ) × IsDue bytes × AppendsPart old new bytes
 
 -- what is due at one of the statuses that write: no read failed, except if the text reports a failed read
-abbrev pub IsDue : List (List ℕ) → (List ℕ → Told) → (List ℕ → ℕ) → (List ℕ → ℕ) → TopAnswer → List ℕ → Type 0
+abbrev pub IsDue : List (List ℕ) → (List ℕ → Contents) → (List ℕ → ℕ) → (List ℕ → ℕ) → TopAnswer → List ℕ → Type 0
 IsDue words files before now answer bytes =
     (AreSame before now × Reports words files answer bytes)
     ⊎ (IsEmptyAnswer answer × ((AreSame before now × RefusesWords words bytes)

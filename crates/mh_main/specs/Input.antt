@@ -2,7 +2,7 @@
 use Rattle.std.specs.Prelude.{◌≡◌, ℕ, ◌-◌, List, [], ◌∷◌, ◌++◌, codes, if◌then◌else◌, nat_lt, ◌≤◌, length, Option, None, Some, Result, Ok, Err}
 use Rattle.std.specs.Fmt.{decimal}
 use Rattle.mh_base.specs.declared.lines.LineFault.{LineFault}
-use Rattle.mh_outside.specs.Told.{Told, nothing, absent, file}
+use Rattle.mh_outside.specs.Contents.{Contents, unknown, absent, file}
 use Rattle.mh_class_bytes.specs.Format.{Checked}
 use Rattle.mh_class_pool.specs.declared.fault.ClassKind.{ClassKind}
 use Rattle.mh_classfile.specs.Class.{Class}
@@ -31,14 +31,14 @@ pub data Accepted : Type 0 where
   listed : List Class → Accepted
 
 -- The meaning of words and files. The words are refused, a file is refused with a line, or all files are accepted.
--- `missing`: the first file that stops the reading does not exist. `untold`: contracts cannot see that file.
--- `untold` is needed because contracts see files in memory, and no clause can say what a real file has in it. There the clauses claim nothing.
+-- `missing`: the first file that stops the reading does not exist. `unseen`: contracts cannot see that file.
+-- `unseen` is needed because contracts see files in memory, and no clause can say what a real file has in it. There the clauses claim nothing.
 pub data Input : Type 0 where
   usage : Input
   refused : List ℕ → Input
   accepted : Accepted → Input
   missing : Input
-  untold : Input
+  unseen : Input
 
 -- the line for an input over its limit
 abbrev pub too_long_line : List ℕ → List ℕ
@@ -53,9 +53,9 @@ abbrev pub place_line : List ℕ → ℕ → List ℕ → List ℕ
 place_line name at word = codes "refused " ++ name ++ codes " at " ++ decimal at ++ codes " " ++ word ++ codes "\n"
 
 -- continues with a file's bytes, if there are at most `limit`
-abbrev pub within : List ℕ → ℕ → Told → (List ℕ → Input) → Input
+abbrev pub within : List ℕ → ℕ → Contents → (List ℕ → Input) → Input
 within name limit (file bytes) next = if nat_lt limit (length bytes) then refused (too_long_line name) else next bytes
-within name limit nothing next = untold
+within name limit unknown next = unseen
 within name limit absent next = missing
 
 -- continues with the meaning of a file, if it has no faulty line
@@ -81,20 +81,20 @@ class_meant name (Ok c) next = next c
 class_meant name (Err fault) next = refused (place_line name fault.at (class_word fault.kind))
 
 -- continues with the classes of files in order, if they have at most `room` call sites together
-abbrev pub classes_input : ℕ → List (List ℕ) → (List ℕ → Told) → (List Class → Input) → Input
+abbrev pub classes_input : ℕ → List (List ℕ) → (List ℕ → Contents) → (List Class → Input) → Input
 classes_input room [] files next = next []
 classes_input room (name ∷ names) files next =
     within name class_limit (files name) (λ bytes. class_meant name (class_or_fault room bytes) (λ c.
     classes_input (room - length c.sites) names files (λ classes. next (c ∷ classes))))
 
 -- the program that a plan completes, given the rest of it and what is written at the end
-abbrev pub plan_input : Output → Given → List ℕ → (List ℕ → Told) → Input
+abbrev pub plan_input : Output → Given → List ℕ → (List ℕ → Contents) → Input
 plan_input output given name files =
     within name plan_limit (files name) (λ bytes. meant name plan_word (plan bytes given.leaves given.jobs) (λ threads.
     accepted (program (record { leaves = given.leaves; scripts = given.scripts; jobs = given.jobs; plan = threads; output = output }))))
 
 -- the program of the files with these names, taken in the order manifest, scripts, class files, plan
-abbrev pub named_input : Output → Named → (List ℕ → Told) → Input
+abbrev pub named_input : Output → Named → (List ℕ → Contents) → Input
 named_input output names files =
     within names.leaves leaves_limit (files names.leaves) (λ leaves_bytes. meant names.leaves manifest_word (manifest leaves_bytes) (λ leaves.
     within names.scripts leaves_limit (files names.scripts) (λ scripts_bytes. meant names.scripts script_word (scripts scripts_bytes) (λ scripts.
@@ -106,7 +106,7 @@ abbrev pub to_list : List Class → Input
 to_list classes = accepted (listed classes)
 
 -- the classes to list of these files, with at most `room` call sites together
-abbrev pub listing_input : ℕ → List (List ℕ) → (List ℕ → Told) → Input
+abbrev pub listing_input : ℕ → List (List ℕ) → (List ℕ → Contents) → Input
 listing_input room names files = classes_input room names files to_list
 
 -- the names of the files that are made from a number
@@ -118,18 +118,18 @@ unfoldable pub generated_input : ℕ → Input
 generated_input number = named_input (Line number) generated_names (files_of number)
 
 -- the meaning of a command over files
-abbrev pub command_input : Command → (List ℕ → Told) → Input
+abbrev pub command_input : Command → (List ℕ → Contents) → Input
 command_input (run names) files = named_input Report names files
 command_input (sites names) files = listing_input most_sites names files
 command_input (generate number) files = generated_input number
 
 -- the same for words that may be refused
-abbrev pub input_of : Option Command → (List ℕ → Told) → Input
+abbrev pub input_of : Option Command → (List ℕ → Contents) → Input
 input_of None files = usage
 input_of (Some command) files = command_input command files
 
 -- the meaning of words over files
-abbrev pub input : List (List ℕ) → (List ℕ → Told) → Input
+abbrev pub input : List (List ℕ) → (List ℕ → Contents) → Input
 input words files = input_of (command_of words) files
 
 -- If contracts can see the files up to the first that stops the reading, no file stops it, and P holds for what is accepted.
@@ -138,7 +138,7 @@ IfAccepted usage P = ⊥
 IfAccepted (refused line) P = ⊥
 IfAccepted (accepted a) P = P a
 IfAccepted missing P = ⊥
-IfAccepted untold P = Unit {0}
+IfAccepted unseen P = Unit {0}
 
 -- If contracts can see the files up to the first that stops the reading, that file is refused, and P holds for its line.
 abbrev pub IfRefused : Input → (List ℕ → Type 0) → Type 0
@@ -146,7 +146,7 @@ IfRefused usage P = ⊥
 IfRefused (refused line) P = P line
 IfRefused (accepted a) P = ⊥
 IfRefused missing P = ⊥
-IfRefused untold P = Unit {0}
+IfRefused unseen P = Unit {0}
 
 -- a file is refused
 abbrev pub IsRefused : Input → Type 0
@@ -154,7 +154,7 @@ IsRefused usage = ⊥
 IsRefused (refused line) = Unit {0}
 IsRefused (accepted a) = ⊥
 IsRefused missing = ⊥
-IsRefused untold = ⊥
+IsRefused unseen = ⊥
 
 -- all files are accepted
 abbrev pub AreAccepted : Input → Type 0
@@ -162,7 +162,7 @@ AreAccepted usage = ⊥
 AreAccepted (refused line) = ⊥
 AreAccepted (accepted a) = Unit {0}
 AreAccepted missing = ⊥
-AreAccepted untold = ⊥
+AreAccepted unseen = ⊥
 
 -- contracts can see that the first file that stops the reading does not exist
 abbrev pub IsMissing : Input → Type 0
@@ -170,7 +170,7 @@ IsMissing usage = ⊥
 IsMissing (refused line) = ⊥
 IsMissing (accepted a) = ⊥
 IsMissing missing = Unit {0}
-IsMissing untold = ⊥
+IsMissing unseen = ⊥
 
 -- these are classes to list, and P holds for them
 abbrev pub AreListed : (List Class → Type 0) → Accepted → Type 0
@@ -191,7 +191,7 @@ abbrev pub FitsTables : Input → Type 0
 FitsTables i = IfAccepted i NeedsFew
 
 -- if contracts see the file, and it is within its limit, it has this meaning
-abbrev pub HasMeaning : {T K : Type 0} → ℕ → (List ℕ → Result T K) → Told → T → Type 0
+abbrev pub HasMeaning : {T K : Type 0} → ℕ → (List ℕ → Result T K) → Contents → T → Type 0
 HasMeaning limit meaning (file bytes) value = (meaning bytes ≡ Ok value) × (length bytes ≤ limit)
-HasMeaning limit meaning nothing value = Unit {0}
+HasMeaning limit meaning unknown value = Unit {0}
 HasMeaning limit meaning absent value = ⊥

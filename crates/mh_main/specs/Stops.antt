@@ -3,7 +3,7 @@ use Rattle.std.specs.Prelude.{◌≡◌, ◌⊎◌, ℕ, ◌-◌, List, [], ◌�
 use Rattle.std.specs.List.{Contains}
 use Rattle.mh_base.specs.declared.lines.LineFault.{LineFault}
 use Rattle.mh_outside.specs.Causes.{Rose, IsStill, AreSame}
-use Rattle.mh_outside.specs.Told.{Told, nothing, absent, file, MayBeLonger}
+use Rattle.mh_outside.specs.Contents.{Contents, unknown, absent, file, MayBeLonger}
 use Rattle.mh_leaf.specs.LeafTable.{LeafTable}
 use Rattle.mh_leaves.specs.Manifest.{manifest}
 use Rattle.mh_script.specs.declared.script.Script.{Script}
@@ -41,27 +41,27 @@ IsStopOf name before now (Fault at line kind) = (at.now ≡ name) × AreSame bef
 IsStopOf name before now (Place at place kind) = (at.now ≡ name) × AreSame before now
 
 -- this stops the reading of a file of at most so many bytes: it cannot be read, or it is longer
-abbrev pub StopsFile : ℕ → Told → Stop → Type 0
-StopsFile limit told NoMemory = Unit {0}
-StopsFile limit told (ReadFault at) = Unit {0}
-StopsFile limit told (TooLong at) = MayBeLonger told limit
-StopsFile limit told (Fault at line kind) = ⊥
-StopsFile limit told (Place at place kind) = ⊥
+abbrev pub StopsFile : ℕ → Contents → Stop → Type 0
+StopsFile limit contents NoMemory = Unit {0}
+StopsFile limit contents (ReadFault at) = Unit {0}
+StopsFile limit contents (TooLong at) = MayBeLonger contents limit
+StopsFile limit contents (Fault at line kind) = ⊥
+StopsFile limit contents (Place at place kind) = ⊥
 
 -- if contracts see the text, and it has at most so many bytes, it has the fault at this line, of the kind that has this word
-abbrev pub HasLineFault : {T K : Type 0} → ℕ → (K → List ℕ) → (List ℕ → Result T (LineFault K)) → Told → ℕ → List ℕ → Type 0
+abbrev pub HasLineFault : {T K : Type 0} → ℕ → (K → List ℕ) → (List ℕ → Result T (LineFault K)) → Contents → ℕ → List ℕ → Type 0
 HasLineFault {K = K} limit word meaning (file bytes) line kind =
     (length bytes ≤ limit) × ((fault : LineFault K) × (meaning bytes ≡ Err fault) × (line ≡ fault.line) × (kind ≡ word fault.kind))
-HasLineFault limit word meaning nothing line kind = Unit {0}
+HasLineFault limit word meaning unknown line kind = Unit {0}
 HasLineFault limit word meaning absent line kind = ⊥
 
 -- this stops the reading of a text: its file cannot be read or is too long, or it has a fault
-abbrev pub StopsText : {T K : Type 0} → ℕ → (K → List ℕ) → (List ℕ → Result T (LineFault K)) → Told → Stop → Type 0
-StopsText limit word meaning told NoMemory = Unit {0}
-StopsText limit word meaning told (ReadFault at) = Unit {0}
-StopsText limit word meaning told (TooLong at) = MayBeLonger told limit
-StopsText limit word meaning told (Fault at line kind) = HasLineFault limit word meaning told line kind.now
-StopsText limit word meaning told (Place at place kind) = ⊥
+abbrev pub StopsText : {T K : Type 0} → ℕ → (K → List ℕ) → (List ℕ → Result T (LineFault K)) → Contents → Stop → Type 0
+StopsText limit word meaning contents NoMemory = Unit {0}
+StopsText limit word meaning contents (ReadFault at) = Unit {0}
+StopsText limit word meaning contents (TooLong at) = MayBeLonger contents limit
+StopsText limit word meaning contents (Fault at line kind) = HasLineFault limit word meaning contents line kind.now
+StopsText limit word meaning contents (Place at place kind) = ⊥
 
 -- the bytes of a class file that may have so many call sites have the fault at this place, of the kind that has this word
 abbrev pub IsClassFault : ℕ → List ℕ → ℕ → List ℕ → Type 0
@@ -75,40 +75,40 @@ StopsBytes name room bytes (Place at place kind) = (at.now ≡ name) × IsClassF
 StopsBytes name room bytes _ = ⊥
 
 -- the same of a file that contracts see and that has at most as many bytes as a class file may have
-abbrev pub HasClassFault : ℕ → Told → ℕ → List ℕ → Type 0
+abbrev pub HasClassFault : ℕ → Contents → ℕ → List ℕ → Type 0
 HasClassFault room (file bytes) place kind = (length bytes ≤ class_limit) × IsClassFault room bytes place kind
-HasClassFault room nothing place kind = Unit {0}
+HasClassFault room unknown place kind = Unit {0}
 HasClassFault room absent place kind = ⊥
 
 -- this stops the reading of a class file that may have so many call sites: it cannot be read or is too long, or it has a fault
-abbrev pub StopsClass : ℕ → Told → Stop → Type 0
-StopsClass room told NoMemory = Unit {0}
-StopsClass room told (ReadFault at) = Unit {0}
-StopsClass room told (TooLong at) = MayBeLonger told class_limit
-StopsClass room told (Fault at line kind) = ⊥
-StopsClass room told (Place at place kind) = HasClassFault room told place kind.now
+abbrev pub StopsClass : ℕ → Contents → Stop → Type 0
+StopsClass room contents NoMemory = Unit {0}
+StopsClass room contents (ReadFault at) = Unit {0}
+StopsClass room contents (TooLong at) = MayBeLonger contents class_limit
+StopsClass room contents (Fault at line kind) = ⊥
+StopsClass room contents (Place at place kind) = HasClassFault room contents place kind.now
 
 -- the class file is one of those named, and each earlier one that contracts see was accepted
-abbrev pub ReachesClass : ℕ → List (List ℕ) → (List ℕ → Told) → List ℕ → Type 0
+abbrev pub ReachesClass : ℕ → List (List ℕ) → (List ℕ → Contents) → List ℕ → Type 0
 ReachesClass room [] files name = ⊥
 ReachesClass room (first ∷ names) files name =
     (name ≡ first)
     ⊎ ((c : Class) × HasMeaning class_limit (class_or_fault room) (files first) c × ReachesClass (room - length c.sites) names files name)
 
 -- the class files that contracts see are of these classes, which have at most so many call sites together
-abbrev pub AreClassesOf : ℕ → List (List ℕ) → (List ℕ → Told) → List Class → Type 0
+abbrev pub AreClassesOf : ℕ → List (List ℕ) → (List ℕ → Contents) → List Class → Type 0
 AreClassesOf room [] files classes = classes ≡ []
 AreClassesOf room (name ∷ names) files [] = ⊥
 AreClassesOf room (name ∷ names) files (c ∷ classes) =
     HasMeaning class_limit (class_or_fault room) (files name) c × AreClassesOf (room - length c.sites) names files classes
 
 -- the manifest and the scripts of a run were accepted, if contracts see them
-abbrev pub TextsMean : Named → (List ℕ → Told) → LeafTable → List Script → Type 0
+abbrev pub TextsMean : Named → (List ℕ → Contents) → LeafTable → List Script → Type 0
 TextsMean names files leaves all =
     HasMeaning leaves_limit manifest (files names.leaves) leaves × HasMeaning leaves_limit scripts (files names.scripts) all
 
 -- the input is one of a run's, and each earlier one that contracts see was accepted
-abbrev pub ReachesInput : Named → (List ℕ → Told) → List ℕ → Type 0
+abbrev pub ReachesInput : Named → (List ℕ → Contents) → List ℕ → Type 0
 ReachesInput names files name =
     (name ≡ names.leaves)
     ⊎ ((leaves : LeafTable) × (name ≡ names.scripts) × HasMeaning leaves_limit manifest (files names.leaves) leaves)
@@ -117,7 +117,7 @@ ReachesInput names files name =
     × AreClassesOf most_sites names.classes files classes)
 
 -- the input is one of the command's, and each earlier one that contracts see was accepted
-abbrev pub IsReachedInput : Command → (List ℕ → Told) → List ℕ → Type 0
+abbrev pub IsReachedInput : Command → (List ℕ → Contents) → List ℕ → Type 0
 IsReachedInput (run names) files name = ReachesInput names files name
 IsReachedInput (sites names) files name = ReachesClass most_sites names files name
 IsReachedInput (generate number) files name = ⊥
@@ -139,7 +139,7 @@ Refuses said (Fault at number kind) = IfRefused said (λ line. line ≡ fault_li
 Refuses said (Place at place kind) = IfRefused said (λ line. line ≡ place_line at.now place kind.now)
 
 -- whatever follows the class files, the stop is of what they say
-abbrev pub StopsClasses : ℕ → List (List ℕ) → (List ℕ → Told) → Stop → Type 0
+abbrev pub StopsClasses : ℕ → List (List ℕ) → (List ℕ → Contents) → Stop → Type 0
 StopsClasses room names files stop = (next : List Class → Input) → Refuses (classes_input room names files next) stop
 
 -- the status that a stop comes with

@@ -36,16 +36,16 @@ fn read_class<'a, I: Inputs>(
     jobs: Jobs,
 ) -> Result<Jobs, Stop<'a>>
     requires { length jobs ≤ most_sites }
-    ensures keeps { KeepsInputs (I.told inputs.old) (I.told inputs.new)
+    ensures keeps { KeepsInputs (I.contents inputs.old) (I.contents inputs.new)
         (I.faults inputs.old) (I.faults inputs.new) }
     ensures no_fault { OnOk result (AreSame (I.faults inputs.old) (I.faults inputs.new)) }
     ensures stop { IfErr result
         (λ stop. IsStopOf name.now (I.faults inputs.old) (I.faults inputs.new) stop) }
     ensures refuses { IfErr result
-        (λ stop. StopsClass (most_sites - length jobs) (I.told inputs.old name.now) stop) }
+        (λ stop. StopsClass (most_sites - length jobs) (I.contents inputs.old name.now) stop) }
     ensures ok { IfOk result
         (MakesJobs methods.now.leaves.now methods.now.scripts.now (most_sites - length jobs)
-        (I.told inputs.old name.now) jobs) }
+        (I.contents inputs.old name.now) jobs) }
     ensures few { IfOk result (λ all. length all ≤ most_sites) }
     ensures reads { ReadsOnce (class_limit + 1) 1 (I.reached inputs.old) (I.reached inputs.new)
         (I.starts inputs.old) (I.starts inputs.new) }
@@ -67,19 +67,19 @@ fn read_classes<'a, I: Inputs>(
     jobs: Jobs,
 ) -> Result<Jobs, Stop<'a>>
     requires { length jobs ≤ most_sites }
-    ensures keeps { KeepsInputs (I.told inputs.old) (I.told inputs.new)
+    ensures keeps { KeepsInputs (I.contents inputs.old) (I.contents inputs.new)
         (I.faults inputs.old) (I.faults inputs.new) }
     ensures no_fault { OnOk result (AreSame (I.faults inputs.old) (I.faults inputs.new)) }
     ensures stop { IfErr result
         (λ stop. IsStopAmong
-        (ReachesClass (most_sites - length jobs) (said names.now) (I.told inputs.old))
+        (ReachesClass (most_sites - length jobs) (said names.now) (I.contents inputs.old))
         (I.faults inputs.old) (I.faults inputs.new) stop) }
     ensures refuses { IfErr result
         (λ stop. StopsClasses (most_sites - length jobs) (said names.now)
-        (I.told inputs.old) stop) }
+        (I.contents inputs.old) stop) }
     ensures ok { IfOk result
         (MakesAllJobs methods.now.leaves.now methods.now.scripts.now (most_sites - length jobs)
-        (said names.now) (I.told inputs.old) jobs) }
+        (said names.now) (I.contents inputs.old) jobs) }
     ensures few { IfOk result (λ all. length all ≤ most_sites) }
     ensures reads { ReadsOnce (class_limit + 1) (length (said names.now))
         (I.reached inputs.old) (I.reached inputs.new)
@@ -101,16 +101,16 @@ pub fn read_jobs<'a, I: Inputs>(
     leaves: &Leaves,
     scripts: &Scripts,
 ) -> Result<Jobs, Stop<'a>>
-    ensures keeps { KeepsInputs (I.told inputs.old) (I.told inputs.new)
+    ensures keeps { KeepsInputs (I.contents inputs.old) (I.contents inputs.new)
         (I.faults inputs.old) (I.faults inputs.new) }
     ensures no_fault { OnOk result (AreSame (I.faults inputs.old) (I.faults inputs.new)) }
     ensures stop { IfErr result
-        (λ stop. IsStopAmong (ReachesClass most_sites (said names.now) (I.told inputs.old))
+        (λ stop. IsStopAmong (ReachesClass most_sites (said names.now) (I.contents inputs.old))
         (I.faults inputs.old) (I.faults inputs.new) stop) }
     ensures refuses { IfErr result
-        (λ stop. StopsClasses most_sites (said names.now) (I.told inputs.old) stop) }
+        (λ stop. StopsClasses most_sites (said names.now) (I.contents inputs.old) stop) }
     ensures ok { IfOk result
-        (HasJobs leaves.now scripts.now (said names.now) (I.told inputs.old)) }
+        (HasJobs leaves.now scripts.now (said names.now) (I.contents inputs.old)) }
     ensures few { IfOk result (λ jobs. length jobs ≤ most_sites) }
     ensures reads { ReadsOnce (class_limit + 1) (length (said names.now))
         (I.reached inputs.old) (I.reached inputs.new)

@@ -29,15 +29,15 @@ fn list_class<'a, I: Inputs>(
     text: &mut Vec<u8>,
 ) -> Result<u32, Stop<'a>>
     requires { first ≤ most_sites }
-    ensures keeps { KeepsInputs (I.told inputs.old) (I.told inputs.new)
+    ensures keeps { KeepsInputs (I.contents inputs.old) (I.contents inputs.new)
         (I.faults inputs.old) (I.faults inputs.new) }
     ensures no_fault { OnOk result (AreSame (I.faults inputs.old) (I.faults inputs.new)) }
     ensures stop { IfErr result
         (λ stop. IsStopOf name.now (I.faults inputs.old) (I.faults inputs.new) stop) }
     ensures refuses { IfErr result
-        (λ stop. StopsClass (most_sites - first) (I.told inputs.old name.now) stop) }
+        (λ stop. StopsClass (most_sites - first) (I.contents inputs.old name.now) stop) }
     ensures ok { IfOk result
-        (λ next. ListsClass (most_sites - first) (I.told inputs.old name.now) first next
+        (λ next. ListsClass (most_sites - first) (I.contents inputs.old name.now) first next
         text.old.items text.new.items) }
     ensures few { IfOk result (λ next. next ≤ most_sites) }
     ensures reads { ReadsOnce (class_limit + 1) 1 (I.reached inputs.old) (I.reached inputs.new)
@@ -58,17 +58,17 @@ fn list_classes<'a, I: Inputs>(
     text: &mut Vec<u8>,
 ) -> Result<(), Stop<'a>>
     requires { first ≤ most_sites }
-    ensures keeps { KeepsInputs (I.told inputs.old) (I.told inputs.new)
+    ensures keeps { KeepsInputs (I.contents inputs.old) (I.contents inputs.new)
         (I.faults inputs.old) (I.faults inputs.new) }
     ensures no_fault { OnOk result (AreSame (I.faults inputs.old) (I.faults inputs.new)) }
     ensures stop { IfErr result
         (λ stop. IsStopAmong
-        (ReachesClass (most_sites - first) (said names.now) (I.told inputs.old))
+        (ReachesClass (most_sites - first) (said names.now) (I.contents inputs.old))
         (I.faults inputs.old) (I.faults inputs.new) stop) }
     ensures refuses { IfErr result
-        (λ stop. StopsClasses (most_sites - first) (said names.now) (I.told inputs.old) stop) }
+        (λ stop. StopsClasses (most_sites - first) (said names.now) (I.contents inputs.old) stop) }
     ensures ok { OnOk result
-        (ListsClasses (most_sites - first) (said names.now) (I.told inputs.old) first
+        (ListsClasses (most_sites - first) (said names.now) (I.contents inputs.old) first
         text.old.items text.new.items) }
     ensures reads { ReadsOnce (class_limit + 1) (length (said names.now))
         (I.reached inputs.old) (I.reached inputs.new)
@@ -87,16 +87,16 @@ pub fn list_sites<'a, I: Inputs>(
     inputs: &mut I,
     names: &[&'a str],
 ) -> Result<Vec<u8>, Stop<'a>>
-    ensures keeps { KeepsInputs (I.told inputs.old) (I.told inputs.new)
+    ensures keeps { KeepsInputs (I.contents inputs.old) (I.contents inputs.new)
         (I.faults inputs.old) (I.faults inputs.new) }
     ensures no_fault { OnOk result (AreSame (I.faults inputs.old) (I.faults inputs.new)) }
     ensures stop { IfErr result
-        (λ stop. IsStopAmong (ReachesClass most_sites (said names.now) (I.told inputs.old))
+        (λ stop. IsStopAmong (ReachesClass most_sites (said names.now) (I.contents inputs.old))
         (I.faults inputs.old) (I.faults inputs.new) stop) }
     ensures refuses { IfErr result
-        (λ stop. Refuses (listing_input most_sites (said names.now) (I.told inputs.old)) stop) }
+        (λ stop. Refuses (listing_input most_sites (said names.now) (I.contents inputs.old)) stop) }
     ensures ok { IfOk result
-        (λ text. IfAccepted (listing_input most_sites (said names.now) (I.told inputs.old))
+        (λ text. IfAccepted (listing_input most_sites (said names.now) (I.contents inputs.old))
         (AreListed (λ classes. text.items ≡ listing classes))) }
     ensures reads { ReadsInputs (Some (sites (said names.now)))
         (I.reached inputs.old) (I.reached inputs.new)

@@ -2,7 +2,7 @@ ghost use Rattle.std.specs.Prelude.{◌≡◌, ◌≤◌, ◌+◌, List, ℕ, So
 ghost use Rattle.mh_outside.specs.Causes.{AreSame};
 ghost use Rattle.mh_outside.specs.Kept.{KeepsInputs};
 ghost use Rattle.mh_outside.specs.Reach.{ReadsOnce};
-ghost use Rattle.mh_outside.specs.Told.{IsWhole};
+ghost use Rattle.mh_outside.specs.Contents.{IsWhole};
 ghost use Rattle.mh_leaves.specs.Manifest.{manifest, kind_word as manifest_word};
 ghost use Rattle.mh_script.specs.Kinds.{kind_word as script_word};
 ghost use Rattle.mh_script.specs.Scripts.{scripts};
@@ -40,13 +40,13 @@ pub(crate) fn read_input<'a, I: Inputs>(
     name: &'a str,
     limit: usize,
 ) -> Result<Vec<u8>, Stop<'a>>
-    ensures keeps { KeepsInputs (I.told inputs.old) (I.told inputs.new)
+    ensures keeps { KeepsInputs (I.contents inputs.old) (I.contents inputs.new)
         (I.faults inputs.old) (I.faults inputs.new) }
     ensures no_fault { OnOk result (AreSame (I.faults inputs.old) (I.faults inputs.new)) }
     ensures stop { IfErr result
         (λ stop. IsStopOf name.now (I.faults inputs.old) (I.faults inputs.new) stop) }
-    ensures unread { IfErr result (λ stop. StopsFile limit (I.told inputs.old name.now) stop) }
-    ensures file { IfOk result (λ bytes. IsWhole (I.told inputs.old name.now) bytes.items) }
+    ensures unread { IfErr result (λ stop. StopsFile limit (I.contents inputs.old name.now) stop) }
+    ensures file { IfOk result (λ bytes. IsWhole (I.contents inputs.old name.now) bytes.items) }
     ensures within { IfOk result (λ bytes. length bytes.items ≤ limit) }
     ensures reads { ReadsOnce (limit + 1) 1 (I.reached inputs.old) (I.reached inputs.new)
         (I.starts inputs.old) (I.starts inputs.new) }
@@ -65,15 +65,15 @@ fn read_leaves<'a, I: Inputs>(
     inputs: &mut I,
     name: &'a str,
 ) -> Result<Leaves, Stop<'a>>
-    ensures keeps { KeepsInputs (I.told inputs.old) (I.told inputs.new)
+    ensures keeps { KeepsInputs (I.contents inputs.old) (I.contents inputs.new)
         (I.faults inputs.old) (I.faults inputs.new) }
     ensures no_fault { OnOk result (AreSame (I.faults inputs.old) (I.faults inputs.new)) }
     ensures stop { IfErr result
         (λ stop. IsStopOf name.now (I.faults inputs.old) (I.faults inputs.new) stop) }
     ensures refuses { IfErr result
-        (λ stop. StopsText leaves_limit manifest_word manifest (I.told inputs.old name.now) stop) }
+        (λ stop. StopsText leaves_limit manifest_word manifest (I.contents inputs.old name.now) stop) }
     ensures ok { IfOk result
-        (λ leaves. HasMeaning leaves_limit manifest (I.told inputs.old name.now) leaves) }
+        (λ leaves. HasMeaning leaves_limit manifest (I.contents inputs.old name.now) leaves) }
     ensures reads { ReadsOnce (leaves_limit + 1) 1 (I.reached inputs.old) (I.reached inputs.new)
         (I.starts inputs.old) (I.starts inputs.new) }
 {
@@ -91,15 +91,15 @@ fn read_scripts<'a, I: Inputs>(
     inputs: &mut I,
     name: &'a str,
 ) -> Result<Scripts, Stop<'a>>
-    ensures keeps { KeepsInputs (I.told inputs.old) (I.told inputs.new)
+    ensures keeps { KeepsInputs (I.contents inputs.old) (I.contents inputs.new)
         (I.faults inputs.old) (I.faults inputs.new) }
     ensures no_fault { OnOk result (AreSame (I.faults inputs.old) (I.faults inputs.new)) }
     ensures stop { IfErr result
         (λ stop. IsStopOf name.now (I.faults inputs.old) (I.faults inputs.new) stop) }
     ensures refuses { IfErr result
-        (λ stop. StopsText leaves_limit script_word scripts (I.told inputs.old name.now) stop) }
+        (λ stop. StopsText leaves_limit script_word scripts (I.contents inputs.old name.now) stop) }
     ensures ok { IfOk result
-        (λ all. HasMeaning leaves_limit scripts (I.told inputs.old name.now) all) }
+        (λ all. HasMeaning leaves_limit scripts (I.contents inputs.old name.now) all) }
     ensures reads { ReadsOnce (leaves_limit + 1) 1 (I.reached inputs.old) (I.reached inputs.new)
         (I.starts inputs.old) (I.starts inputs.new) }
 {
@@ -119,17 +119,17 @@ fn read_calls<'a, I: Inputs>(
     leaves: &Leaves,
     jobs: &Jobs,
 ) -> Result<Plan, Stop<'a>>
-    ensures keeps { KeepsInputs (I.told inputs.old) (I.told inputs.new)
+    ensures keeps { KeepsInputs (I.contents inputs.old) (I.contents inputs.new)
         (I.faults inputs.old) (I.faults inputs.new) }
     ensures no_fault { OnOk result (AreSame (I.faults inputs.old) (I.faults inputs.new)) }
     ensures stop { IfErr result
         (λ stop. IsStopOf name.now (I.faults inputs.old) (I.faults inputs.new) stop) }
     ensures refuses { IfErr result
         (λ stop. StopsText plan_limit plan_word (λ bytes. plan bytes leaves.now jobs.now)
-        (I.told inputs.old name.now) stop) }
+        (I.contents inputs.old name.now) stop) }
     ensures ok { IfOk result
         (λ calls. HasMeaning plan_limit (λ bytes. plan bytes leaves.now jobs.now)
-        (I.told inputs.old name.now) calls) }
+        (I.contents inputs.old name.now) calls) }
     ensures calls { IfOk result (AreCallsOf leaves.now jobs.now) }
     ensures limits { IfOk result IsWithinLimits }
     ensures reads { ReadsOnce (plan_limit + 1) 1 (I.reached inputs.old) (I.reached inputs.new)
@@ -151,16 +151,16 @@ pub fn read_program<'a, I: Inputs>(
     names: &Names<'a>,
     output: Output,
 ) -> Result<Program, Stop<'a>>
-    ensures keeps { KeepsInputs (I.told inputs.old) (I.told inputs.new)
+    ensures keeps { KeepsInputs (I.contents inputs.old) (I.contents inputs.new)
         (I.faults inputs.old) (I.faults inputs.new) }
     ensures no_fault { OnOk result (AreSame (I.faults inputs.old) (I.faults inputs.new)) }
     ensures stop { IfErr result
-        (λ stop. IsStopAmong (ReachesInput (held_names names.now) (I.told inputs.old))
+        (λ stop. IsStopAmong (ReachesInput (held_names names.now) (I.contents inputs.old))
         (I.faults inputs.old) (I.faults inputs.new) stop) }
     ensures refuses { IfErr result
-        (λ stop. Refuses (named_input output (held_names names.now) (I.told inputs.old)) stop) }
+        (λ stop. Refuses (named_input output (held_names names.now) (I.contents inputs.old)) stop) }
     ensures ok { IfOk result
-        (λ p. IfAccepted (named_input output (held_names names.now) (I.told inputs.old))
+        (λ p. IfAccepted (named_input output (held_names names.now) (I.contents inputs.old))
         (λ a. a ≡ program p)) }
     ensures runnable { IfOk result IsRunnable }
     ensures reads { ReadsInputs (Some (run (held_names names.now)))

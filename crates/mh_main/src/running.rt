@@ -200,7 +200,7 @@ fn answer_listing<S: Sink>(alloc: Global, sink: &mut S, text: &[u8]) -> TopAnswe
 
 /// The program: it reads what the words name, runs it, each thread beside the others, and writes what
 /// it gives. Each thread calls the gate before and after it records the linkage of a site; a gate may
-/// hold it there, and tells and changes nothing.
+/// hold it there, and changes nothing.
 pub fn top<'a, R: Threads + Wait + Sync, I: Inputs, S: Sink, G: Gate + Sync>(
     rt: &R,
     alloc: Global,
@@ -213,27 +213,27 @@ pub fn top<'a, R: Threads + Wait + Sync, I: Inputs, S: Sink, G: Gate + Sync>(
 
     // What was written, by the status: at `write_failed` a front part of what was due.
     ensures headline { result.status ≡ done
-        → Writes (Reports (said words.now) (I.told inputs.old) result)
+        → Writes (Reports (said words.now) (I.contents inputs.old) result)
         (S.taken sink.old) (S.taken sink.new) }
     ensures answers { result.status ≡ done
-        → AnswersCalls (said words.now) (I.told inputs.old) result }
+        → AnswersCalls (said words.now) (I.contents inputs.old) result }
     ensures refusal { result.status ≡ refused
-        → Writes (RefusesInput (said words.now) (I.told inputs.old)
+        → Writes (RefusesInput (said words.now) (I.contents inputs.old)
         (I.faults inputs.old) (I.faults inputs.new)) (S.taken sink.old) (S.taken sink.new) }
     ensures usage { result.status ≡ usage_wanted
         → Writes (RefusesWords (said words.now)) (S.taken sink.old) (S.taken sink.new) }
     ensures nothing { result.status ≡ no_memory → Keeps (S.taken sink.old) (S.taken sink.new) }
     ensures full { result.status ≡ forms_full
-        → Writes (FillsForms (said words.now) (I.told inputs.old))
+        → Writes (FillsForms (said words.now) (I.contents inputs.old))
         (S.taken sink.old) (S.taken sink.new) }
     ensures types { result.status ≡ types_full
-        → Writes (FillsTypes (said words.now) (I.told inputs.old))
+        → Writes (FillsTypes (said words.now) (I.contents inputs.old))
         (S.taken sink.old) (S.taken sink.new) }
     ensures unreadable { result.status ≡ unread
-        → Writes (FailsToRead (command_of (said words.now)) (I.told inputs.old)
+        → Writes (FailsToRead (command_of (said words.now)) (I.contents inputs.old)
         (I.faults inputs.old) (I.faults inputs.new)) (S.taken sink.old) (S.taken sink.new) }
     ensures broken { result.status ≡ write_failed
-        → WritesPart (IsDue (said words.now) (I.told inputs.old)
+        → WritesPart (IsDue (said words.now) (I.contents inputs.old)
         (I.faults inputs.old) (I.faults inputs.new) result) (S.taken sink.old) (S.taken sink.new) }
     ensures idle { result.status ≢ done → result.status ≢ write_failed → IsEmptyAnswer result }
     ensures listed { IsListing (command_of (said words.now)) → IsEmptyAnswer result }
@@ -242,7 +242,7 @@ pub fn top<'a, R: Threads + Wait + Sync, I: Inputs, S: Sink, G: Gate + Sync>(
     ensures fails { FailsWhere result.status (S.faults sink.old) (S.faults sink.new) }
 
     // A read that failed is never passed over, and never reported as want of memory.
-    ensures keeps { KeepsInputs (I.told inputs.old) (I.told inputs.new)
+    ensures keeps { KeepsInputs (I.contents inputs.old) (I.contents inputs.new)
         (I.faults inputs.old) (I.faults inputs.new) }
     ensures no_fault { result.status ≢ unread → result.status ≢ write_failed
         → AreSame (I.faults inputs.old) (I.faults inputs.new) }
@@ -252,11 +252,11 @@ pub fn top<'a, R: Threads + Wait + Sync, I: Inputs, S: Sink, G: Gate + Sync>(
     // its types.
     ensures usage_due { command_of (said words.now) ≡ None
         → IsStill (S.faults sink.old) (S.faults sink.new) → IsUsageOrWant result.status }
-    ensures refusal_wanted { IsRefused (input (said words.now) (I.told inputs.old))
+    ensures refusal_wanted { IsRefused (input (said words.now) (I.contents inputs.old))
         → InputsStill (command_of (said words.now)) (I.faults inputs.old) (I.faults inputs.new)
         → IsStill (S.faults sink.old) (S.faults sink.new) → IsRefusedOrWant result.status }
-    ensures complete { AreAccepted (input (said words.now) (I.told inputs.old))
-        → FitsTables (input (said words.now) (I.told inputs.old))
+    ensures complete { AreAccepted (input (said words.now) (I.contents inputs.old))
+        → FitsTables (input (said words.now) (I.contents inputs.old))
         → InputsStill (command_of (said words.now)) (I.faults inputs.old) (I.faults inputs.new)
         → IsStill (S.faults sink.old) (S.faults sink.new) → IsDoneOrWant result.status }
 
@@ -265,7 +265,7 @@ pub fn top<'a, R: Threads + Wait + Sync, I: Inputs, S: Sink, G: Gate + Sync>(
         → IsStill (S.faults sink.old) (S.faults sink.new) → IsDoneFullOrWant result.status }
 
     // An input that does not exist, as contracts see, cannot be read.
-    ensures unread_wanted { IsMissing (input (said words.now) (I.told inputs.old))
+    ensures unread_wanted { IsMissing (input (said words.now) (I.contents inputs.old))
         → IsStill (S.faults sink.old) (S.faults sink.new) → IsUnreadOrWant result.status }
 
     // How far files are read: each once, from its front, and one byte past its limit at most.

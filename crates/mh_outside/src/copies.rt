@@ -1,5 +1,5 @@
 ghost use Rattle.std.specs.Prelude.{◌≡◌, ◌≤◌, length};
-ghost use Rattle.mh_outside.specs.Told.{ReadsFrom};
+ghost use Rattle.mh_outside.specs.Contents.{ReadsFrom};
 
 /// Copies what lies from a place on, as far as there is room for it, and says how many bytes that
 /// were: how files in memory are read.

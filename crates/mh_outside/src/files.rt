@@ -1,6 +1,6 @@
 ghost use Rattle.std.specs.Prelude.{◌≡◌, ◌≤◌, length, IfOk, string_bytes};
 ghost use Rattle.std.specs.Option.{ForSome};
-ghost use Rattle.mh_outside.specs.Told.{HasRead, StandsAt};
+ghost use Rattle.mh_outside.specs.Contents.{HasRead, StandsAt};
 
 use crate::{Failed, Inputs, Opens};
 use std::alloc::Global;
@@ -16,7 +16,7 @@ struct Opened<F: Drop> {
 }
 
 /// Files that are opened by their names. One that is read from its front on is opened once, and read
-/// on where the last piece ended. How far they are read is not told.
+/// on where the last piece ended. Contracts do not see how far they are read.
 #[derive(Drop)]
 pub struct OpenedInputs<O: Opens + Drop> {
     opener: O,
@@ -24,7 +24,7 @@ pub struct OpenedInputs<O: Opens + Drop> {
     opened: Option<Opened<O::File>>,
     /// How many calls failed; the count of every name.
     pub faults: u64,
-    ghost stands: { ForSome opened (λ last. StandsAt (O.told opener (string_bytes last.name)) last.at
+    ghost stands: { ForSome opened (λ last. StandsAt (O.contents opener (string_bytes last.name)) last.at
         (O.File.remaining last.file)) },
 }
 
@@ -35,10 +35,10 @@ fn file_at<O: Opens>(
     name: &str,
     at: u64,
 ) -> io::Result<O::File>
-    requires { ForSome last (λ last. StandsAt (O.told opener.now (string_bytes last.name)) last.at
+    requires { ForSome last (λ last. StandsAt (O.contents opener.now (string_bytes last.name)) last.at
         (O.File.remaining last.file)) }
     ensures { IfOk result
-        (λ file. StandsAt (O.told opener.now name.now) at (O.File.remaining file)) }
+        (λ file. StandsAt (O.contents opener.now name.now) at (O.File.remaining file)) }
 {
     if let Some(last) = last
         && last.name.as_str() == name
@@ -66,7 +66,7 @@ impl<O: Opens + Drop> OpenedInputs<O> {
     // Keeps a file that stands at a place. Without memory for the name it is opened again for the
     // next piece.
     fn keep(&mut self, name: &str, at: u64, file: O::File)
-        requires { StandsAt (O.told self.old.opener name.now) at (O.File.remaining file) }
+        requires { StandsAt (O.contents self.old.opener name.now) at (O.File.remaining file) }
         ensures still { self.new.faults ≡ self.old.faults }
         ensures opener { self.new.opener ≡ self.old.opener }
     {
@@ -77,7 +77,7 @@ impl<O: Opens + Drop> OpenedInputs<O> {
 
     fn read_at(&mut self, name: &str, at: u64, buf: &mut [u8]) -> io::Result<usize>
         ensures count { IfOk result (λ n. n ≤ length buf.new) }
-        ensures bytes { IfOk result (λ n. HasRead (O.told self.old.opener name.now) at n buf.new) }
+        ensures bytes { IfOk result (λ n. HasRead (O.contents self.old.opener name.now) at n buf.new) }
         ensures still { self.new.faults ≡ self.old.faults }
         ensures opener { self.new.opener ≡ self.old.opener }
     {
@@ -92,7 +92,7 @@ impl<O: Opens + Drop> OpenedInputs<O> {
 }
 
 impl<O: Opens + Drop> Inputs for OpenedInputs<O> {
-    ghost told = { λ s. O.told s.opener };
+    ghost contents = { λ s. O.contents s.opener };
 
     ghost faults = { λ s _. s.faults };
 

@@ -2,7 +2,8 @@ use std::hint;
 use std::sync::atomic::{AtomicBool, Ordering};
 
 /// Where a thread may be held for a while, before and after it records the linkage of a site. A gate
-/// tells nothing and changes nothing: tests use one to bring about a given order of threads.
+/// changes nothing and its calls answer nothing. Tests use one to bring about a given order of
+/// threads.
 pub trait Gate {
     /// Called by a thread that is about to record the linkage of a site.
     fn before_record(&self, thread: u32, site: u32);
@@ -49,7 +50,7 @@ impl TestGate {
         self.gave_up.load(Ordering::SeqCst)
     }
 
-    // Holds the caller until it is told to go on.
+    // Holds the caller until the other one lets it go on.
     fn hold(&self, go_on: &AtomicBool) {
         for _ in 0..TURNS {
             if go_on.load(Ordering::SeqCst) {

@@ -1,6 +1,6 @@
 ghost use Rattle.std.specs.Prelude.{None};
 ghost use Rattle.std.specs.BTreeMap.{get_by_text};
-ghost use Rattle.mh_outside.specs.Told.{file_or_empty};
+ghost use Rattle.mh_outside.specs.Contents.{file_or_empty};
 
 use crate::copies::copy_from;
 use crate::{Failed, Inputs, Sink};
@@ -13,7 +13,7 @@ pub struct HonestInputs {
 }
 
 impl Inputs for HonestInputs {
-    ghost told = { λ s n. file_or_empty (get_by_text s.files n) };
+    ghost contents = { λ s n. file_or_empty (get_by_text s.files n) };
 
     ghost faults = { λ _ _. 0 };
 
@@ -29,8 +29,8 @@ impl Inputs for HonestInputs {
     }
 }
 
-/// A sink that never fails. It keeps nothing, so it tells nothing: keeping takes memory, and where
-/// there is none a write would have to fail.
+/// A sink that never fails. It keeps nothing, so contracts do not see what it took. To keep bytes
+/// takes memory, and without memory a write would have to fail.
 #[derive(Clone, Copy, Debug, Default)]
 pub struct HonestSink;
 

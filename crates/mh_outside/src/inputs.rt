@@ -1,5 +1,5 @@
 ghost use Rattle.std.specs.Prelude.{◌≡◌, ◌≤◌, ◌<◌, ◌+◌, List, ℕ, OnOk, OnErr, IfOk, length};
-ghost use Rattle.mh_outside.specs.Told.{Told, HasRead};
+ghost use Rattle.mh_outside.specs.Contents.{Contents, HasRead};
 ghost use Rattle.mh_outside.specs.Causes.{Rose, AreSame};
 ghost use Rattle.mh_outside.specs.Reach.{ReachesTo};
 
@@ -18,11 +18,11 @@ impl fmt::Display for Failed {
 
 impl Error for Failed {}
 
-/// Where files are read. What is told of a file never changes, and a count of faults never falls; a
-/// count stands at 2^64 - 1 once it has come there.
+/// Where files are read. What contracts see of a file never changes, and a count of faults never
+/// falls. A count stays at 2^64 - 1 once it has reached it.
 pub trait Inputs {
-    /// What is told of the file of a name.
-    ghost told: { Self → List ℕ → Told };
+    /// What contracts see of the file of a name.
+    ghost contents: { Self → List ℕ → Contents };
 
     /// How often the calls for a name have failed.
     ghost faults: { Self → List ℕ → ℕ };
@@ -38,7 +38,7 @@ pub trait Inputs {
     /// many. It is none only where the buffer is empty or the file ends at `at` or before. A name that
     /// cannot be opened is a fault.
     fn read(&mut self, name: &str, at: u64, buf: &mut [u8]) -> Result<usize, Failed>
-        ensures told { (n : List ℕ) → told self.new n ≡ told self.old n }
+        ensures contents { (n : List ℕ) → contents self.new n ≡ contents self.old n }
         ensures later { (n : List ℕ) → faults self.old n ≤ faults self.new n }
         ensures cause { OnErr result (Rose (faults self.old name.now) (faults self.new name.now)) }
         ensures no_fault { OnOk result (AreSame (faults self.old) (faults self.new)) }
@@ -46,5 +46,5 @@ pub trait Inputs {
         ensures starts { starts self.new ≤ starts self.old + 1 }
         ensures goes_on { 0 < at → starts self.new ≤ starts self.old }
         ensures count { IfOk result (λ n. n ≤ length buf.new) }
-        ensures bytes { IfOk result (λ n. HasRead (told self.old name.now) at n buf.new) };
+        ensures bytes { IfOk result (λ n. HasRead (contents self.old name.now) at n buf.new) };
 }

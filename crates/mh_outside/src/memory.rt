@@ -1,6 +1,6 @@
 ghost use Rattle.std.specs.Prelude.{◌≡◌, ◌≤◌, ◌<◌, ◌||◌, ◌+◌, ◌-◌, ◌^◌, ◌++◌, min, max, Some, IsTrue, IsErr, OnOk, OnErr, IfOk, is_err, is_none, length};
 ghost use Rattle.std.specs.BTreeMap.{get_by_text};
-ghost use Rattle.mh_outside.specs.Told.{HasRead, file_or_absent};
+ghost use Rattle.mh_outside.specs.Contents.{HasRead, file_or_absent};
 ghost use Rattle.mh_outside.specs.Causes.{Rose};
 ghost use Rattle.mh_outside.specs.Memory.{CountsCall, is_listed};
 
@@ -49,7 +49,7 @@ impl MemoryInputs {
 }
 
 impl Inputs for MemoryInputs {
-    ghost told = { λ s n. file_or_absent (get_by_text s.files n) };
+    ghost contents = { λ s n. file_or_absent (get_by_text s.files n) };
 
     ghost faults = { λ s _. s.faults };
 
@@ -68,7 +68,7 @@ impl Inputs for MemoryInputs {
             ≡ max self.old.reached (min (at + length buf.new) (2 ^ 64 - 1)) }
 
         // What each impl promises.
-        ensures told { self.new.files ≡ self.old.files }
+        ensures contents { self.new.files ≡ self.old.files }
         ensures later { self.old.faults ≤ self.new.faults }
         ensures cause { OnErr result (Rose self.old.faults self.new.faults) }
         ensures no_fault { OnOk result (self.new.faults ≡ self.old.faults) }

@@ -1,5 +1,5 @@
 ghost use Rattle.std.specs.Prelude.{◌≡◌, None, IfOk, IfSome};
-ghost use Rattle.mh_outside.specs.Told.{nothing};
+ghost use Rattle.mh_outside.specs.Contents.{unknown};
 
 use crate::{OpenedInputs, Opens, WriterSink};
 use std::alloc::Global;
@@ -7,7 +7,7 @@ use std::io::{Printer, Seek, SeekFrom};
 use std::rt::Files;
 use std::{fs, io};
 
-/// The files of the system. Of what they hold nothing is told: that is the trusted edge.
+/// The files of the system. Contracts do not see what they hold: this is the trusted edge.
 #[derive(Drop)]
 pub struct RealFiles<'r, R> {
     rt: &'r R,
@@ -28,7 +28,7 @@ fn moved<F: Seek + Drop>(mut file: F, at: u64) -> io::Result<F>
 impl<'r, R: Files> Opens for RealFiles<'r, R> {
     type File = R::File;
 
-    ghost told = { λ _ _. nothing };
+    ghost contents = { λ _ _. unknown };
 
     fn open_at(&self, name: &str, at: u64) -> io::Result<R::File> {
         moved(fs::open(self.rt, name)?, at)
@@ -38,7 +38,7 @@ impl<'r, R: Files> Opens for RealFiles<'r, R> {
 /// Files of the system as the inputs of a run.
 pub type RealInputs<'r, R> = OpenedInputs<RealFiles<'r, R>>;
 
-/// Standard output as the sink of a run. Of what it took nothing is told.
+/// Standard output as the sink of a run. Contracts do not see what it took.
 pub type RealSink<'r, R> = WriterSink<Printer<'r, R>>;
 
 /// The files that the runtime gives.

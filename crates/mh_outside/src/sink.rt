@@ -6,7 +6,7 @@ use crate::Failed;
 
 /// Where text goes.
 pub trait Sink {
-    /// The bytes taken so far, where the sink tells them.
+    /// The bytes taken so far, if contracts see them.
     ghost taken: { Self → Option (List ℕ) };
 
     /// How often a write has failed.

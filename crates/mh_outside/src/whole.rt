@@ -1,6 +1,6 @@
 ghost use Rattle.std.specs.Prelude.{◌≡◌, ◌≤◌, ◌<◌, ◌+◌, ◌-◌, List, ℕ, OnOk, OnErr, IfOk, IsErrOf, length};
 ghost use Rattle.std.specs.Io.KnownBytes.{Appends};
-ghost use Rattle.mh_outside.specs.Told.{IsFront, IsWhole, MayBeLonger, KeepsFront, EndsAt};
+ghost use Rattle.mh_outside.specs.Contents.{IsFront, IsWhole, MayBeLonger, KeepsFront, EndsAt};
 ghost use Rattle.mh_outside.specs.Causes.{Rose, AreSame, AppendsPart};
 ghost use Rattle.mh_outside.specs.Kept.{KeepsInputs};
 ghost use Rattle.mh_outside.specs.Reach.{ReachesTo, ReadsOnce};
@@ -52,14 +52,14 @@ fn read_piece<I: Inputs>(
     room: usize,
 ) -> Result<usize, ReadWhole>
     requires { 0 < room }
-    ensures keeps { KeepsInputs (I.told inputs.old) (I.told inputs.new)
+    ensures keeps { KeepsInputs (I.contents inputs.old) (I.contents inputs.new)
         (I.faults inputs.old) (I.faults inputs.new) }
     ensures no_fault { OnOk result (AreSame (I.faults inputs.old) (I.faults inputs.new)) }
     ensures longer { IfOk result (λ n. length bytes.new.items ≡ length bytes.old.items + n) }
     ensures front { OnOk result
-        (KeepsFront (I.told inputs.old name.now) bytes.old.items bytes.new.items) }
+        (KeepsFront (I.contents inputs.old name.now) bytes.old.items bytes.new.items) }
     ensures end { IfOk result (λ n. n ≡ 0
-        → EndsAt (I.told inputs.old name.now) bytes.old.items bytes.new.items) }
+        → EndsAt (I.contents inputs.old name.now) bytes.old.items bytes.new.items) }
     ensures fault { IsErrOf result ReadWhole.ReadFault
         → Rose (I.faults inputs.old name.now) (I.faults inputs.new name.now) }
     ensures memory { IsErrOf result ReadWhole.NoMemory
@@ -90,17 +90,17 @@ pub fn read_whole<I: Inputs>(
     name: &str,
     limit: usize,
 ) -> Result<Vec<u8>, ReadWhole>
-    ensures keeps { KeepsInputs (I.told inputs.old) (I.told inputs.new)
+    ensures keeps { KeepsInputs (I.contents inputs.old) (I.contents inputs.new)
         (I.faults inputs.old) (I.faults inputs.new) }
 
-    ensures file { IfOk result (λ v. IsWhole (I.told inputs.old name.now) v.items) }
+    ensures file { IfOk result (λ v. IsWhole (I.contents inputs.old name.now) v.items) }
     ensures within { IfOk result (λ v. length v.items ≤ limit) }
     ensures no_fault { OnOk result (AreSame (I.faults inputs.old) (I.faults inputs.new)) }
 
     ensures fault { IsErrOf result ReadWhole.ReadFault
         → Rose (I.faults inputs.old name.now) (I.faults inputs.new name.now) }
 
-    // A read that failed is never told as want of memory.
+    // A read that failed is never answered as want of memory.
     ensures memory { IsErrOf result ReadWhole.NoMemory
         → AreSame (I.faults inputs.old) (I.faults inputs.new) }
 
@@ -109,7 +109,7 @@ pub fn read_whole<I: Inputs>(
 
     // Where a file is within the limit, `file` excludes that it is longer; so TooLong is exact.
     ensures too_long { IsErrOf result ReadWhole.TooLong
-        → MayBeLonger (I.told inputs.old name.now) limit }
+        → MayBeLonger (I.contents inputs.old name.now) limit }
     ensures too_long_still { IsErrOf result ReadWhole.TooLong
         → AreSame (I.faults inputs.old) (I.faults inputs.new) }
 {

@@ -3,7 +3,7 @@ ghost use Rattle.std.specs.Prelude.{◌≡◌};
 use crate::{Failed, Sink};
 use std::io::Write;
 
-/// A writer as a sink: what it holds is told where the writer tells it.
+/// A writer as a sink. Contracts see what it holds if they see what the writer holds.
 #[derive(Drop)]
 pub struct WriterSink<W> {
     writer: W,

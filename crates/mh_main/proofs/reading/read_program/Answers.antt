@@ -10,42 +10,42 @@ use Rattle.mh_main.proofs.reading.read_program.Goals as goal
 pub returns-in_err-jobs-clause-stop : goal.returns-in_err-jobs-clause-stop
 returns-in_err-jobs-clause-stop g c =
     let names = held_names c.args.names.now in
-    let files = g.I.Inputs.told c.args.inputs.now in
+    let files = g.I.Inputs.contents c.args.inputs.now in
     let faults = g.I.Inputs.faults c.args.inputs.now in
     let now = g.I.Inputs.faults c.read_jobs.new.inputs in
     let one = c.in_ok-leaves.ensures in
     let two = c.in_ok-scripts.ensures in
-    let mean = texts-mean names files (g.I.Inputs.told c.read_leaves.new.inputs) c.in_ok-leaves.leaves c.in_ok-scripts.scripts one.keeps.told one.ok two.ok in
+    let mean = texts-mean names files (g.I.Inputs.contents c.read_leaves.new.inputs) c.in_ok-leaves.leaves c.in_ok-scripts.scripts one.keeps.contents one.ok two.ok in
     handed c.from_residual-in_err-jobs.result c.in_err-jobs.field-0.0 (IsStopAmong (ReachesInput names files) faults now)
     c.from_residual-in_err-jobs.ensures.1
-    (classes-among names files (g.I.Inputs.told c.read_scripts.new.inputs) faults (g.I.Inputs.faults c.read_scripts.new.inputs) now
+    (classes-among names files (g.I.Inputs.contents c.read_scripts.new.inputs) faults (g.I.Inputs.faults c.read_scripts.new.inputs) now
     c.in_ok-leaves.leaves c.in_ok-scripts.scripts c.in_err-jobs.field-0.0
-    (λ n. two.keeps.told n ∙ one.keeps.told n) (λ n. two.no_fault n ∙ one.no_fault n) mean (rw c.deref.ensures.value at c.in_err-jobs.ensures.stop))
+    (λ n. two.keeps.contents n ∙ one.keeps.contents n) (λ n. two.no_fault n ∙ one.no_fault n) mean (rw c.deref.ensures.value at c.in_err-jobs.ensures.stop))
 
 pub returns-in_err-jobs-clause-refuses : goal.returns-in_err-jobs-clause-refuses
 returns-in_err-jobs-clause-refuses g c =
     let names = held_names c.args.names.now in
-    let files = g.I.Inputs.told c.args.inputs.now in
+    let files = g.I.Inputs.contents c.args.inputs.now in
     let one = c.in_ok-leaves.ensures in
     let two = c.in_ok-scripts.ensures in
-    let mean = texts-mean names files (g.I.Inputs.told c.read_leaves.new.inputs) c.in_ok-leaves.leaves c.in_ok-scripts.scripts one.keeps.told one.ok two.ok in
+    let mean = texts-mean names files (g.I.Inputs.contents c.read_leaves.new.inputs) c.in_ok-leaves.leaves c.in_ok-scripts.scripts one.keeps.contents one.ok two.ok in
     handed c.from_residual-in_err-jobs.result c.in_err-jobs.field-0.0 (λ stop. Refuses (named_input c.args.output names files) stop)
     c.from_residual-in_err-jobs.ensures.1
-    (classes-stop c.args.output names files (g.I.Inputs.told c.read_scripts.new.inputs) c.in_ok-leaves.leaves c.in_ok-scripts.scripts c.in_err-jobs.field-0.0
-    (λ n. two.keeps.told n ∙ one.keeps.told n) mean (rw c.deref.ensures.value at c.in_err-jobs.ensures.refuses))
+    (classes-stop c.args.output names files (g.I.Inputs.contents c.read_scripts.new.inputs) c.in_ok-leaves.leaves c.in_ok-scripts.scripts c.in_err-jobs.field-0.0
+    (λ n. two.keeps.contents n ∙ one.keeps.contents n) mean (rw c.deref.ensures.value at c.in_err-jobs.ensures.refuses))
 
 pub returns-in_err-plan-clause-stop : goal.returns-in_err-plan-clause-stop
 returns-in_err-plan-clause-stop g c =
     let names = held_names c.args.names.now in
-    let files = g.I.Inputs.told c.args.inputs.now in
+    let files = g.I.Inputs.contents c.args.inputs.now in
     let faults = g.I.Inputs.faults c.args.inputs.now in
     let now = g.I.Inputs.faults c.read_calls.new.inputs in
     let one = c.in_ok-leaves.ensures in
     let two = c.in_ok-scripts.ensures in
     let three = c.in_ok-jobs.ensures in
-    let mean = texts-mean names files (g.I.Inputs.told c.read_leaves.new.inputs) c.in_ok-leaves.leaves c.in_ok-scripts.scripts one.keeps.told one.ok two.ok in
-    let has = has-jobs (said c.args.names.now.classes.items) files (g.I.Inputs.told c.read_scripts.new.inputs) c.in_ok-leaves.leaves c.in_ok-scripts.scripts
-    c.in_ok-jobs.jobs (λ n. two.keeps.told n ∙ one.keeps.told n) (rw c.deref.ensures.value at three.ok) in
+    let mean = texts-mean names files (g.I.Inputs.contents c.read_leaves.new.inputs) c.in_ok-leaves.leaves c.in_ok-scripts.scripts one.keeps.contents one.ok two.ok in
+    let has = has-jobs (said c.args.names.now.classes.items) files (g.I.Inputs.contents c.read_scripts.new.inputs) c.in_ok-leaves.leaves c.in_ok-scripts.scripts
+    c.in_ok-jobs.jobs (λ n. two.keeps.contents n ∙ one.keeps.contents n) (rw c.deref.ensures.value at three.ok) in
     handed c.from_residual-in_err-plan.result c.in_err-plan.field-0.0 (IsStopAmong (ReachesInput names files) faults now)
     c.from_residual-in_err-plan.ensures.1
     (plan-among names files faults (g.I.Inputs.faults c.read_jobs.new.inputs) now c.in_ok-leaves.leaves c.in_ok-scripts.scripts c.in_ok-jobs.jobs
@@ -54,39 +54,39 @@ returns-in_err-plan-clause-stop g c =
 pub returns-in_err-plan-clause-refuses : goal.returns-in_err-plan-clause-refuses
 returns-in_err-plan-clause-refuses g c =
     let names = held_names c.args.names.now in
-    let files = g.I.Inputs.told c.args.inputs.now in
+    let files = g.I.Inputs.contents c.args.inputs.now in
     let one = c.in_ok-leaves.ensures in
     let two = c.in_ok-scripts.ensures in
     let three = c.in_ok-jobs.ensures in
-    let mean = texts-mean names files (g.I.Inputs.told c.read_leaves.new.inputs) c.in_ok-leaves.leaves c.in_ok-scripts.scripts one.keeps.told one.ok two.ok in
-    let has = has-jobs (said c.args.names.now.classes.items) files (g.I.Inputs.told c.read_scripts.new.inputs) c.in_ok-leaves.leaves c.in_ok-scripts.scripts
-    c.in_ok-jobs.jobs (λ n. two.keeps.told n ∙ one.keeps.told n) (rw c.deref.ensures.value at three.ok) in
+    let mean = texts-mean names files (g.I.Inputs.contents c.read_leaves.new.inputs) c.in_ok-leaves.leaves c.in_ok-scripts.scripts one.keeps.contents one.ok two.ok in
+    let has = has-jobs (said c.args.names.now.classes.items) files (g.I.Inputs.contents c.read_scripts.new.inputs) c.in_ok-leaves.leaves c.in_ok-scripts.scripts
+    c.in_ok-jobs.jobs (λ n. two.keeps.contents n ∙ one.keeps.contents n) (rw c.deref.ensures.value at three.ok) in
     handed c.from_residual-in_err-plan.result c.in_err-plan.field-0.0 (λ stop. Refuses (named_input c.args.output names files) stop)
     c.from_residual-in_err-plan.ensures.1
-    (plan-stop c.args.output names files (g.I.Inputs.told c.read_jobs.new.inputs) (g.I.Inputs.faults c.read_jobs.new.inputs)
+    (plan-stop c.args.output names files (g.I.Inputs.contents c.read_jobs.new.inputs) (g.I.Inputs.faults c.read_jobs.new.inputs)
     (g.I.Inputs.faults c.read_calls.new.inputs)
     c.in_ok-leaves.leaves c.in_ok-scripts.scripts c.in_ok-jobs.jobs c.in_err-plan.field-0.0
-    (λ n. three.keeps.told n ∙ two.keeps.told n ∙ one.keeps.told n) mean has c.in_err-plan.ensures.stop c.in_err-plan.ensures.refuses)
+    (λ n. three.keeps.contents n ∙ two.keeps.contents n ∙ one.keeps.contents n) mean has c.in_err-plan.ensures.stop c.in_err-plan.ensures.refuses)
 
 pub returns-clause-ok : goal.returns-clause-ok
 returns-clause-ok g c =
     let names = held_names c.args.names.now in
-    let files = g.I.Inputs.told c.args.inputs.now in
+    let files = g.I.Inputs.contents c.args.inputs.now in
     let one = c.in_ok-leaves.ensures in
     let two = c.in_ok-scripts.ensures in
     let three = c.in_ok-jobs.ensures in
-    let mean = texts-mean names files (g.I.Inputs.told c.read_leaves.new.inputs) c.in_ok-leaves.leaves c.in_ok-scripts.scripts one.keeps.told one.ok two.ok in
-    let has = has-jobs (said c.args.names.now.classes.items) files (g.I.Inputs.told c.read_scripts.new.inputs) c.in_ok-leaves.leaves c.in_ok-scripts.scripts
-    c.in_ok-jobs.jobs (λ n. two.keeps.told n ∙ one.keeps.told n) (rw c.deref.ensures.value at three.ok) in
-    program-read names files (g.I.Inputs.told c.read_jobs.new.inputs)
+    let mean = texts-mean names files (g.I.Inputs.contents c.read_leaves.new.inputs) c.in_ok-leaves.leaves c.in_ok-scripts.scripts one.keeps.contents one.ok two.ok in
+    let has = has-jobs (said c.args.names.now.classes.items) files (g.I.Inputs.contents c.read_scripts.new.inputs) c.in_ok-leaves.leaves c.in_ok-scripts.scripts
+    c.in_ok-jobs.jobs (λ n. two.keeps.contents n ∙ one.keeps.contents n) (rw c.deref.ensures.value at three.ok) in
+    program-read names files (g.I.Inputs.contents c.read_jobs.new.inputs)
     (record { leaves = c.in_ok-leaves.leaves; scripts = c.in_ok-scripts.scripts; jobs = c.in_ok-jobs.jobs; plan = c.in_ok-plan.plan; output = c.args.output })
-    (λ n. three.keeps.told n ∙ two.keeps.told n ∙ one.keeps.told n) mean has c.in_ok-plan.ensures.ok
+    (λ n. three.keeps.contents n ∙ two.keeps.contents n ∙ one.keeps.contents n) mean has c.in_ok-plan.ensures.ok
 
 pub returns-clause-runnable : goal.returns-clause-runnable
 returns-clause-runnable g c = record {
   calls = c.in_ok-plan.ensures.calls;
   limits = c.in_ok-plan.ensures.limits;
-  jobs = jobs-are c.in_ok-leaves.leaves c.in_ok-scripts.scripts (said c.args.names.now.classes.items) (g.I.Inputs.told c.read_scripts.new.inputs)
+  jobs = jobs-are c.in_ok-leaves.leaves c.in_ok-scripts.scripts (said c.args.names.now.classes.items) (g.I.Inputs.contents c.read_scripts.new.inputs)
       c.in_ok-jobs.jobs (rw c.deref.ensures.value at c.in_ok-jobs.ensures.ok);
   few_sites = c.in_ok-jobs.ensures.few;
 }

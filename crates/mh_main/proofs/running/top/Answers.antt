@@ -15,7 +15,7 @@ use Rattle.mh_main.proofs.running.top.Goals as goal
 
 -- where a program was run, and where the reading of a run or of class files stopped
 run-end : (g : given.Over) (c : goal.After-drop-names g) → RunEnds
-    (said c.args.words.now) (g.I.Inputs.told c.args.inputs.now) (g.I.Inputs.faults c.args.inputs.now) (g.I.Inputs.faults c.read_program.new.inputs)
+    (said c.args.words.now) (g.I.Inputs.contents c.args.inputs.now) (g.I.Inputs.faults c.args.inputs.now) (g.I.Inputs.faults c.read_program.new.inputs)
     (g.S.Sink.taken c.args.sink.now) (g.S.Sink.taken c.run_program.new.sink)
     (g.S.Sink.faults c.args.sink.now) (g.S.Sink.faults c.run_program.new.sink) c.run_program.result
 run-end g c =
@@ -25,7 +25,7 @@ run-end g c =
     c.run_program.ensures.types c.run_program.ensures.broken c.run_program.ensures.status c.run_program.ensures.fails.failed
 
 run-stop : (g : given.Over) (c : goal.After-drop-names-in-Run g) → StopEnds
-    (said c.args.words.now) (g.I.Inputs.told c.args.inputs.now) (g.I.Inputs.faults c.args.inputs.now) (g.I.Inputs.faults c.read_program.new.inputs)
+    (said c.args.words.now) (g.I.Inputs.contents c.args.inputs.now) (g.I.Inputs.faults c.args.inputs.now) (g.I.Inputs.faults c.read_program.new.inputs)
     (g.S.Sink.taken c.args.sink.now) (g.S.Sink.taken c.answer_stop.new.sink)
     (g.S.Sink.faults c.args.sink.now) (g.S.Sink.faults c.answer_stop.new.sink) c.answer_stop.result
 run-stop g c =
@@ -35,7 +35,7 @@ run-stop g c =
     c.answer_stop.ensures.broken c.answer_stop.ensures.spoken c.answer_stop.ensures.fails.failed
 
 sites-stop : (g : given.Over) (c : goal.After-drop-names-in-Sites g) → StopEnds
-    (said c.args.words.now) (g.I.Inputs.told c.args.inputs.now) (g.I.Inputs.faults c.args.inputs.now) (g.I.Inputs.faults c.list_sites.new.inputs)
+    (said c.args.words.now) (g.I.Inputs.contents c.args.inputs.now) (g.I.Inputs.faults c.args.inputs.now) (g.I.Inputs.faults c.list_sites.new.inputs)
     (g.S.Sink.taken c.args.sink.now) (g.S.Sink.taken c.answer_stop-in-Err-list_sites.new.sink)
     (g.S.Sink.faults c.args.sink.now) (g.S.Sink.faults c.answer_stop-in-Err-list_sites.new.sink) c.answer_stop-in-Err-list_sites.result
 sites-stop g c =
@@ -109,7 +109,7 @@ pub returns-in-Ok-list_sites-clause-headline : goal.returns-in-Ok-list_sites-cla
 returns-in-Ok-list_sites-clause-headline g c = λ done.
     let spoken : c.answer_listing.result.status ≢ write_failed = λ bad. omega (arith, done, bad) in (
       c.in-Ok-list_sites.text.items,
-      listed-of (said c.args.words.now) (g.I.Inputs.told c.args.inputs.now) (said c.in-Sites.names.items)
+      listed-of (said c.args.words.now) (g.I.Inputs.contents c.args.inputs.now) (said c.in-Sites.names.items)
           (λ (classes : List Class). c.in-Ok-list_sites.text.items ≡ listing classes)
           (λ a. IsOutputOf a c.answer_listing.result c.in-Ok-list_sites.text.items) (λ classes same. (c.answer_listing.ensures.idle, same))
           (sites-asked c.in-Ok.command c.in-Some.command c.in-Sites.names _ c.in-Ok.ensures.command c.in-Some.is c.in-Sites.is)
@@ -119,7 +119,7 @@ returns-in-Ok-list_sites-clause-headline g c = λ done.
 
 pub returns-in-Ok-list_sites-clause-answers : goal.returns-in-Ok-list_sites-clause-answers
 returns-in-Ok-list_sites-clause-answers g c = λ done.
-    listed-of (said c.args.words.now) (g.I.Inputs.told c.args.inputs.now) (said c.in-Sites.names.items) (λ cs. c.in-Ok-list_sites.text.items ≡ listing cs)
+    listed-of (said c.args.words.now) (g.I.Inputs.contents c.args.inputs.now) (said c.in-Sites.names.items) (λ cs. c.in-Ok-list_sites.text.items ≡ listing cs)
     (λ a. AreAnswers a c.answer_listing.result) (λ classes same. c.answer_listing.ensures.idle.2)
     (sites-asked c.in-Ok.command c.in-Some.command c.in-Sites.names (command_of (said c.args.words.now)) c.in-Ok.ensures.command c.in-Some.is c.in-Sites.is)
     (rw c.deref.ensures.value at c.in-Ok-list_sites.ensures.ok)
@@ -127,7 +127,7 @@ returns-in-Ok-list_sites-clause-answers g c = λ done.
 pub returns-in-Ok-list_sites-clause-broken : goal.returns-in-Ok-list_sites-clause-broken
 returns-in-Ok-list_sites-clause-broken g c = λ failed. (
   c.in-Ok-list_sites.text.items,
-  due-of-listing (said c.args.words.now) (g.I.Inputs.told c.args.inputs.now) (g.I.Inputs.faults c.args.inputs.now)
+  due-of-listing (said c.args.words.now) (g.I.Inputs.contents c.args.inputs.now) (g.I.Inputs.faults c.args.inputs.now)
       (g.I.Inputs.faults c.list_sites.new.inputs) c.answer_listing.result (said c.in-Sites.names.items) c.in-Ok-list_sites.text.items
       (sites-asked c.in-Ok.command c.in-Some.command c.in-Sites.names (command_of (said c.args.words.now)) c.in-Ok.ensures.command c.in-Some.is c.in-Sites.is)
       (rw c.deref.ensures.value at c.in-Ok-list_sites.ensures.ok) c.in-Ok-list_sites.ensures.no_fault c.answer_listing.ensures.idle,
@@ -136,14 +136,14 @@ returns-in-Ok-list_sites-clause-broken g c = λ failed. (
 
 pub returns-in-Ok-list_sites-clause-refusal_wanted : goal.returns-in-Ok-list_sites-clause-refusal_wanted
 returns-in-Ok-list_sites-clause-refusal_wanted g c = λ wanted still quiet.
-    absurd (taken-unrefused (command_of (said c.args.words.now)) (sites (said c.in-Sites.names.items)) (g.I.Inputs.told c.args.inputs.now)
+    absurd (taken-unrefused (command_of (said c.args.words.now)) (sites (said c.in-Sites.names.items)) (g.I.Inputs.contents c.args.inputs.now)
     (AreListed (λ (classes : List Class). c.in-Ok-list_sites.text.items ≡ listing classes))
     (sites-asked c.in-Ok.command c.in-Some.command c.in-Sites.names (command_of (said c.args.words.now)) c.in-Ok.ensures.command c.in-Some.is c.in-Sites.is)
     (rw c.deref.ensures.value at c.in-Ok-list_sites.ensures.ok) wanted)
 
 pub returns-in-Ok-list_sites-clause-unread_wanted : goal.returns-in-Ok-list_sites-clause-unread_wanted
 returns-in-Ok-list_sites-clause-unread_wanted g c = λ missing quiet.
-    absurd (taken-there (command_of (said c.args.words.now)) (sites (said c.in-Sites.names.items)) (g.I.Inputs.told c.args.inputs.now)
+    absurd (taken-there (command_of (said c.args.words.now)) (sites (said c.in-Sites.names.items)) (g.I.Inputs.contents c.args.inputs.now)
     (AreListed (λ (classes : List Class). c.in-Ok-list_sites.text.items ≡ listing classes))
     (sites-asked c.in-Ok.command c.in-Some.command c.in-Sites.names (command_of (said c.args.words.now)) c.in-Ok.ensures.command c.in-Some.is c.in-Sites.is)
     (rw c.deref.ensures.value at c.in-Ok-list_sites.ensures.ok) missing)
