@@ -66,7 +66,7 @@ fn all_learnt<'t, R: Wait>(
     Ok(known)
 }
 
-/// 1 where the last cell was learnt, and 0 where not.
+/// 1 if the last cell was learnt, and 0 if not.
 fn last(known: &Known<Number>) -> u64 {
     let key = CELLS - 1;
     if (key as usize) < known.len() && known.seen(key).is_some() {

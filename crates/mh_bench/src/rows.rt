@@ -31,9 +31,9 @@ pub(crate) enum Row {
     RunThreeNames,
     /// An edit that the pass has seen.
     EditSeen,
-    /// A copy of a handle with a value bound, where the pass has seen the form.
+    /// A copy of a handle with a value bound; the pass has seen the form.
     BindSeen,
-    /// A handle of 254 parameters, of which the last 60 came by a drop each, on a table of its own.
+    /// A handle of 254 parameters, on a table of its own. A drop each made the last 60.
     Drops60,
     /// The same, all calls in one machine.
     RunThreeNamesKept,
@@ -183,7 +183,7 @@ fn run_each<'t>(
     Ok(calls)
 }
 
-/// How many characters a call returned: 0 where it did not return a text.
+/// How many characters a call returned: 0 if it did not return a text.
 fn characters_of(outcome: &Outcome) -> u64 {
     match outcome {
         Outcome::Return(Some(Value::Text(text))) => text.len() as u64,

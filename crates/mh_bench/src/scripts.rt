@@ -53,7 +53,7 @@ fn file_of(alloc: Global, owner: &str, count: u32) -> Result<String, NoMemory>
     Ok(file)
 }
 
-/// How many scripts were read: 0 where the file has a fault.
+/// How many scripts were read: 0 if the file has a fault.
 fn count_of(alloc: Global, file: &[u8]) -> Result<u64, NoMemory>
     ensures { IfOk result (λ count. count ≡ script_count file.now) }
 {

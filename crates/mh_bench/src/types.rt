@@ -108,7 +108,7 @@ fn fill<R: Wait>(
     Ok(())
 }
 
-/// The return type of a type, which tells its bucket, and how many turns it is asked for.
+/// The return type of a type, which decides its bucket, and how many turns it is asked for.
 #[derive(Clone, Copy)]
 struct Asked {
     ret: Option<Ty>,
@@ -136,7 +136,7 @@ fn turn_each<R: Wait>(
     Ok(sum)
 }
 
-/// A bucket whose types are held, one of which is asked for so many times.
+/// A bucket whose types are held. One of them is asked for so many times.
 fn live<R: Wait>(
     rt: &R,
     alloc: Global,
@@ -151,7 +151,7 @@ fn live<R: Wait>(
     turn_each(rt, alloc, table, seat, asked)
 }
 
-/// A bucket whose types nobody holds, one of which is asked for so many times.
+/// A bucket whose types nobody holds. One of them is asked for so many times.
 fn dead<R: Wait>(
     rt: &R,
     alloc: Global,
@@ -282,7 +282,7 @@ fn in_turn<R: Wait>(
     Ok(sum.wrapping_add(turn_each(rt, alloc, table, seat, d)?))
 }
 
-/// Four threads, each of which asks for a type of a bucket of its own.
+/// Four threads. Each asks for a type of a bucket of its own.
 fn beside<R: Threads + Wait + Sync>(
     rt: &R,
     alloc: Global,

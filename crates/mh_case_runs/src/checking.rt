@@ -26,7 +26,7 @@ fn say_line<S: Sink>(sink: &mut S, word: &[u8], text: &[u8]) -> Result<(), GaveU
     say(sink, &[end.as_bytes()])
 }
 
-/// Says where a text differs from what is wanted.
+/// Writes at which line a text differs from what is wanted.
 fn say_difference<S: Sink>(
     alloc: Global,
     sink: &mut S,

@@ -1,4 +1,4 @@
-//! Runs of cases in memory: which give what they must, and where the others differ.
+//! Runs of cases in memory: which give what they must, and at which line the others differ.
 #![tactic(auto)]
 
 mod checking;

@@ -14,7 +14,7 @@ const MOST_ARGUMENTS: usize = 251;
 /// How many indexes of the constant pool the call sites take at most.
 const MOST_INDEXES: usize = 65_000;
 
-/// A text as a class file has it; nothing where it is too long or has a character that is not ASCII.
+/// A text as a class file has it; nothing if it is too long or has a character that is not ASCII.
 fn text_of(alloc: Global, text: &str) -> Result<Option<Str>, NoMemory>
     ensures { IfOk result (λ made. IfSome made IsShortAscii) }
 {
@@ -99,7 +99,7 @@ fn sites_of(alloc: Global, sites: &[CaseSite]) -> Result<Option<MadeSites>, NoMe
     Ok(Some(made))
 }
 
-/// The class that is made for these call sites; nothing where there is no such class.
+/// The class that is made for these call sites; nothing if there is no such class.
 pub(crate) fn class_of(alloc: Global, sites: &[CaseSite]) -> Result<Option<Vec<u8>>, NoMemory> {
     match sites_of(alloc, sites)? {
         Some(sites) => Ok(Some(make_class(alloc, &sites)?)),

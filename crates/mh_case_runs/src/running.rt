@@ -8,8 +8,8 @@ use std::collections::BTreeMap;
 use std::sync::Wait;
 use std::thread::Threads;
 
-/// A case that was run: what it must give and what it gave, or nothing where one of its classes
-/// cannot be made.
+/// A case that was run: what it must give and what it gave, or nothing if one of its classes cannot
+/// be made.
 #[derive(Drop)]
 pub(crate) struct Ran {
     pub name: String,
@@ -23,7 +23,7 @@ pub(crate) struct Gave {
     pub text: Vec<u8>,
 }
 
-/// The bytes of a file; nothing where it is a class that cannot be made.
+/// The bytes of a file; nothing if it is a class that cannot be made.
 fn bytes_of(alloc: Global, contents: Contents) -> Result<Option<Vec<u8>>, NoMemory> {
     match contents {
         Contents::Bytes(bytes) => Ok(Some(bytes)),
@@ -31,7 +31,7 @@ fn bytes_of(alloc: Global, contents: Contents) -> Result<Option<Vec<u8>>, NoMemo
     }
 }
 
-/// The files by their names; nothing where one is a class that cannot be made.
+/// The files by their names; nothing if one is a class that cannot be made.
 fn files_of(
     alloc: Global,
     listed: Vec<CaseFile>,

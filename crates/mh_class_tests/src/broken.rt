@@ -44,7 +44,7 @@ struct Row {
     answer: Answer,
 }
 
-/// Made files: what is at a place of them, and the first fault where it is another.
+/// Made files: what is at a place of them, and the first fault if something else is there.
 static MADE_ROWS: [Row; 44] = [
     Row {
         name: "no change",

@@ -113,8 +113,8 @@ fn answer_text(alloc: Global, answer: &Answer, classes: &Classes) -> Result<Vec<
     Ok(text)
 }
 
-/// How a call of a linked site ends. Arguments that do not have the types that the site takes are
-/// told as want of memory.
+/// How a call of a linked site ends. If arguments do not have the types that the site takes, the
+/// answer is want of memory.
 fn call_text<J: Run>(
     alloc: Global,
     linkage: &Linkage<'_, J>,

@@ -55,7 +55,7 @@ fn is_handle(handle: &HandleRef<'_>, kind: u8, owner: &[u8], name: &[u8], len: u
         && handle.descriptor.bytes().len() == len
 }
 
-/// An index of the pool, the kind of the constant there, and its number or text where it has one.
+/// An index of the pool, the kind of the constant there, and its number or text, if any.
 type Entry = (u16, &'static str, i64, &'static [u8]);
 
 /// Constants of [`made`].
@@ -82,7 +82,7 @@ static ALL_TAGS_CONSTANTS: [Entry; 12] = [
     (32, "none", 0, b""),
 ];
 
-/// The kind of a constant, and its number or text where it has one.
+/// The kind of a constant, and its number or text, if any.
 fn parts<'b>(constant: &Constant<'b>) -> (&'static str, i64, &'b [u8]) {
     match constant {
         Constant::Integer(number) => ("integer", i64::from(*number), b""),
@@ -293,7 +293,7 @@ fn opcodes_of_no_instruction(rt: HostRuntime) -> Result<(), Fail> {
     Ok(())
 }
 
-/// Whether a switch with these operands is whole at `pc`, where its padding depends on its place.
+/// Whether a switch with these operands is whole at `pc`. Its padding depends on its place.
 fn is_whole_switch(
     alloc: Global,
     opcode: u8,

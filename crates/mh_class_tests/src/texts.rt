@@ -36,7 +36,7 @@ fn is_lone_at(alloc: Global, bytes: &[u8], at: usize, shown: &[char]) -> Result<
     Ok(is_lone && chars.as_slice() == shown)
 }
 
-/// Bytes that are no text, and the place where that shows.
+/// Bytes that are no text, and the place that shows it.
 static NO_TEXTS: [(&[u8], usize); 16] = [
     (&[0], 0),
     (&[b'a', 0, b'b'], 1),
@@ -98,7 +98,7 @@ fn characters_of_texts(rt: HostRuntime) {
     }
 }
 
-/// Below U+10000, and but for U+0000, the spelling of a character is its UTF-8.
+/// Below U+10000, except for U+0000, the spelling of a character is its UTF-8.
 #[test]
 fn characters_spelled_as_in_utf8(rt: HostRuntime) {
     for step in 0..400_u32 {
@@ -111,7 +111,7 @@ fn characters_spelled_as_in_utf8(rt: HostRuntime) {
     }
 }
 
-/// Texts, where they have a half of a pair without a partner, and what is shown of them.
+/// Texts, the place of a half of a pair without a partner, if any, and what is shown of them.
 static HALVES: [(&[u8], usize, &[char]); 4] = [
     (&[0xED, 0xA0, 0x80], 0, &['\u{FFFD}']),
     (&[b'a', 0xED, 0xB8, 0x80], 1, &['a', '\u{FFFD}']),

@@ -71,7 +71,7 @@ fn number(handle: &Handle<'_>) -> u64 {
     handle.form().number()
 }
 
-/// The number of a handle's form, found in two threads, to one of which it is sent.
+/// The number of a handle's form, found in two threads. The handle is sent to one of them.
 fn sent<R: Threads>(rt: &R, handle: Handle<'_>) -> (u64, u64) {
     let form = handle.form();
     thread::join(rt, move || number(&handle), move || form.number())

@@ -4,7 +4,7 @@ use mh_form::{Basic, FormBody};
 use std::alloc::Global;
 use std::test::Fail;
 
-/// The body of the form that a key makes of nothing, where the key fits.
+/// The body of the form that a key makes of nothing, if the key fits.
 fn rooted(alloc: Global, key: &Key) -> Result<Option<FormBody>, NoMemory> {
     let nothing = FormBody::nothing(alloc);
     if !key_fits(&nothing, key) {

@@ -111,7 +111,7 @@ fn edit_each<'t, R: Wait>(
 pub(crate) struct Lane<'t> {
     pass: FormPass<'t>,
     seed: u64,
-    /// Nothing before the thread has run, and where it had no memory.
+    /// Nothing before the thread has run, and nothing if it had no memory.
     edited: Option<Seq<Edited>>,
 }
 

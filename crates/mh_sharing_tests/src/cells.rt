@@ -23,7 +23,7 @@ fn put<R: Wait>(rt: &R, alloc: Global, known: &mut Known<Entry<Single>>, key: u3
     }
 }
 
-/// Who put the entry that was learnt of this key; 0 where none was learnt.
+/// Who put the entry that was learnt of this key; 0 if none was learnt.
 fn seen(known: &Known<Entry<Single>>, key: u32) -> u32
     requires { key < length known.now.cells }
 {
@@ -33,7 +33,7 @@ fn seen(known: &Known<Entry<Single>>, key: u32) -> u32
     }
 }
 
-/// Who put the entry of this key, if it was learnt or its cell shows it; 0 where none is found.
+/// Who put the entry of this key, if it was learnt or its cell shows it; 0 if none is found.
 fn found(known: &mut Known<Entry<Single>>, key: u32) -> u32
     requires { key < length known.old.cells }
     ensures { known.new.cells ≡ known.old.cells }

@@ -3,8 +3,8 @@ use mh_tickets::Tickets;
 use std::alloc::Global;
 use std::test::Fail;
 
-/// The numbers of three draws, of which a seat that was split off draws the second, and how many
-/// were drawn.
+/// The numbers of three draws, and how many were drawn. A seat that was split off makes the second
+/// draw.
 fn drawn_in_turn(alloc: Global) -> Result<([u64; 3], u64), NoMemory> {
     let (tickets, mut seat) = Tickets::new(alloc)?;
     let mut other = tickets.split(&mut seat, 1);

@@ -80,7 +80,7 @@ fn add_file(
     }
 }
 
-/// The status of a run over these files, of which the reads of these numbers fail.
+/// The status of a run over these files. The reads of these numbers fail.
 fn run<'a, R: Threads + Wait + Sync, S: Sink>(
     rt: &R,
     alloc: Global,

@@ -157,7 +157,7 @@ const FAILED_BY_2: &str = "\
 struct Race {
     name: &'static str,
     lines: &'static str,
-    /// What is written where the attempt of thread 1 is the first, and where it is the second.
+    /// What is written if the attempt of thread 1 is the first, and if it is the second.
     texts: [&'static str; 2],
 }
 
@@ -279,7 +279,7 @@ fn is_in_order(answer: &TopAnswer, sites: u8) -> bool {
         && are_linked(attempts, table)
 }
 
-/// Runs of which each call site is called.
+/// Runs that call each of their call sites.
 static ALL_CALLED: [Input<'static>; 4] = [
     Input {
         sites: 4,

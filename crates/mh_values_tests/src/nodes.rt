@@ -186,7 +186,7 @@ fn checked_two(
     }
 }
 
-/// The type of a guard, each part of which has this weight.
+/// The type of a guard whose parts each have this weight.
 fn checked_guard(
     alloc: Global,
     classes: &Classes,
@@ -201,7 +201,7 @@ fn checked_guard(
     check_guard(alloc, &c, weight, &t, weight, &e, weight, classes)
 }
 
-/// The type of a node, each part of which has this weight, or its refusal.
+/// The type of a node whose parts each have this weight, or its refusal.
 pub(crate) fn checked(
     alloc: Global,
     leaves: &Leaves,

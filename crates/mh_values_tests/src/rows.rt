@@ -19,7 +19,7 @@ const LONGS: &str =
 const LONGS_AND_ONE: &str =
     "(JJJJJJJJJJJJJJJJJJJJJJJJJJJJJJJJJJJJJJJJJJJJJJJJJJJJJJJJJJJJJJJJJJJJJJJJJJJJJJJJJJJJJJJJJJJJJJJJJJJJJJJJJJJJJJJJJJJJJJJJJJJJJJJZ)V";
 
-/// What a check tells of a node.
+/// What a check answers for a node.
 #[derive(Clone, Copy)]
 enum Want {
     /// Its type, as a descriptor.
@@ -65,7 +65,7 @@ fn is_type(alloc: Global, ty: &MethodTy, want: Want, classes: &Classes) -> Resul
     Ok(is_same_method_type(ty, &wanted))
 }
 
-/// A node, the weight of each of its parts, and what is told of it.
+/// A node, the weight of each of its parts, and what a check answers for it.
 type Row = (Node, u32, Want);
 
 /// Nodes without parts.
@@ -303,7 +303,7 @@ static MORE_PARTS: [Row; 47] = [
     ),
 ];
 
-/// Whether a check tells what is wanted of a node.
+/// Whether a check of a node answers what is wanted.
 fn is_told(alloc: Global, leaves: &Leaves, (node, weight, want): Row) -> Result<bool, NoMemory> {
     match checked(alloc, leaves, node, weight) {
         Ok(ty) => is_type(alloc, &ty, want, leaves.classes()),
@@ -312,7 +312,7 @@ fn is_told(alloc: Global, leaves: &Leaves, (node, weight, want): Row) -> Result<
     }
 }
 
-/// The first of these nodes of which a check tells another thing.
+/// The first of these nodes for which a check answers something else.
 fn first_wrong(
     alloc: Global,
     leaves: &Leaves,
