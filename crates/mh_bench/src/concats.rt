@@ -67,8 +67,8 @@ fn recipe_of(alloc: Global, count: usize) -> Result<Str, NoMemory> {
     Frozen::of(alloc, characters)
 }
 
-/// The pieces that are the parameters of a type. If no concatenation has the type, the answer is want
-/// of memory.
+/// The pieces that are the parameters of a type. If no concatenation has the type, the answer is
+/// want of memory.
 fn pieces_of(alloc: Global, ty: &MethodTy, classes: &Classes) -> Result<Pieces, NoMemory>
     ensures { IfOk result (λ pieces. concat_row classes.now ty.now pieces ≡ Ok ty.now) }
 {

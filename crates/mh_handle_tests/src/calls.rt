@@ -87,8 +87,8 @@ fn call_generic<'t, R: Wait>(
     Ok(invoke_generic(w, rt, handle, &call, args, 0)?)
 }
 
-/// What a call answers. If arguments do not have the types of the handle's parameters, the answer is
-/// want of memory.
+/// What a call answers. If arguments do not have the types of the handle's parameters, the answer
+/// is want of memory.
 pub(crate) fn call<'t, R: Wait>(
     w: &mut Work<'_, 't>,
     rt: &R,
