@@ -31,7 +31,8 @@ class-file-read Q room name bytes c next is few h = rw (small class_limit bytes 
 
 -- what holds if the inputs are not seen, and if they go on with what a text says, holds of all
 pub text-read :
-    {T K : Type 0} (Q : Input → Type 0) (limit : ℕ) (name : List ℕ) (word : K → List ℕ) (meaning : List ℕ → Result T (LineFault K)) (contents : Contents) (value : T)
+    {T K : Type 0} (Q : Input → Type 0) (limit : ℕ) (name : List ℕ) (word : K → List ℕ) (meaning : List ℕ → Result T (LineFault K))
+    (contents : Contents) (value : T)
     (next : T → Input) → Q unseen → HasMeaning limit meaning contents value → Q (next value) →
     Q (within name limit contents (λ bytes. meant name word (meaning bytes) next))
 text-read Q limit name word meaning unknown value next free is h = free

@@ -33,7 +33,8 @@ IsFront-piece contents got buf rest new at n e le new_is read front =
     rw (new_is, take-append-le n buf rest le) (IsFront-then contents got buf n le front (rw e at read))
 
 -- the front is all, where a read gave nothing
-pub IsWhole-from_front : (contents : Contents) (got buf new : List ℕ) (at n : ℕ) → at ≡ length got → 0 < length buf → new ≡ got → HasRead contents at n buf → n ≡ 0 →
+pub IsWhole-from_front : (contents : Contents) (got buf new : List ℕ) (at n : ℕ) → at ≡ length got → 0 < length buf → new ≡ got →
+    HasRead contents at n buf → n ≡ 0 →
     IsFront contents got → IsWhole contents new
 IsWhole-from_front unknown got buf new at n e room same read none front = tt
 IsWhole-from_front absent got buf new at n e room same read none front = read

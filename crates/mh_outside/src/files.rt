@@ -35,8 +35,8 @@ fn file_at<O: Opens>(
     name: &str,
     at: u64,
 ) -> io::Result<O::File>
-    requires { ForSome last (λ last. StandsAt (O.contents opener.now (string_bytes last.name)) last.at
-        (O.File.remaining last.file)) }
+    requires { ForSome last (λ last. StandsAt (O.contents opener.now (string_bytes last.name))
+        last.at (O.File.remaining last.file)) }
     ensures { IfOk result
         (λ file. StandsAt (O.contents opener.now name.now) at (O.File.remaining file)) }
 {
@@ -77,7 +77,8 @@ impl<O: Opens + Drop> OpenedInputs<O> {
 
     fn read_at(&mut self, name: &str, at: u64, buf: &mut [u8]) -> io::Result<usize>
         ensures count { IfOk result (λ n. n ≤ length buf.new) }
-        ensures bytes { IfOk result (λ n. HasRead (O.contents self.old.opener name.now) at n buf.new) }
+        ensures bytes { IfOk result
+            (λ n. HasRead (O.contents self.old.opener name.now) at n buf.new) }
         ensures still { self.new.faults ≡ self.old.faults }
         ensures opener { self.new.opener ≡ self.old.opener }
     {

@@ -15,7 +15,8 @@ returns-in_err-jobs-clause-stop g c =
     let now = g.I.Inputs.faults c.read_jobs.new.inputs in
     let one = c.in_ok-leaves.ensures in
     let two = c.in_ok-scripts.ensures in
-    let mean = texts-mean names files (g.I.Inputs.contents c.read_leaves.new.inputs) c.in_ok-leaves.leaves c.in_ok-scripts.scripts one.keeps.contents one.ok two.ok in
+    let mean = texts-mean names files (g.I.Inputs.contents c.read_leaves.new.inputs) c.in_ok-leaves.leaves c.in_ok-scripts.scripts
+    one.keeps.contents one.ok two.ok in
     handed c.from_residual-in_err-jobs.result c.in_err-jobs.field-0.0 (IsStopAmong (ReachesInput names files) faults now)
     c.from_residual-in_err-jobs.ensures.1
     (classes-among names files (g.I.Inputs.contents c.read_scripts.new.inputs) faults (g.I.Inputs.faults c.read_scripts.new.inputs) now
@@ -28,10 +29,12 @@ returns-in_err-jobs-clause-refuses g c =
     let files = g.I.Inputs.contents c.args.inputs.now in
     let one = c.in_ok-leaves.ensures in
     let two = c.in_ok-scripts.ensures in
-    let mean = texts-mean names files (g.I.Inputs.contents c.read_leaves.new.inputs) c.in_ok-leaves.leaves c.in_ok-scripts.scripts one.keeps.contents one.ok two.ok in
+    let mean = texts-mean names files (g.I.Inputs.contents c.read_leaves.new.inputs) c.in_ok-leaves.leaves c.in_ok-scripts.scripts
+    one.keeps.contents one.ok two.ok in
     handed c.from_residual-in_err-jobs.result c.in_err-jobs.field-0.0 (λ stop. Refuses (named_input c.args.output names files) stop)
     c.from_residual-in_err-jobs.ensures.1
-    (classes-stop c.args.output names files (g.I.Inputs.contents c.read_scripts.new.inputs) c.in_ok-leaves.leaves c.in_ok-scripts.scripts c.in_err-jobs.field-0.0
+    (classes-stop c.args.output names files (g.I.Inputs.contents c.read_scripts.new.inputs) c.in_ok-leaves.leaves c.in_ok-scripts.scripts
+    c.in_err-jobs.field-0.0
     (λ n. two.keeps.contents n ∙ one.keeps.contents n) mean (rw c.deref.ensures.value at c.in_err-jobs.ensures.refuses))
 
 pub returns-in_err-plan-clause-stop : goal.returns-in_err-plan-clause-stop
@@ -43,7 +46,8 @@ returns-in_err-plan-clause-stop g c =
     let one = c.in_ok-leaves.ensures in
     let two = c.in_ok-scripts.ensures in
     let three = c.in_ok-jobs.ensures in
-    let mean = texts-mean names files (g.I.Inputs.contents c.read_leaves.new.inputs) c.in_ok-leaves.leaves c.in_ok-scripts.scripts one.keeps.contents one.ok two.ok in
+    let mean = texts-mean names files (g.I.Inputs.contents c.read_leaves.new.inputs) c.in_ok-leaves.leaves c.in_ok-scripts.scripts
+    one.keeps.contents one.ok two.ok in
     let has = has-jobs (said c.args.names.now.classes.items) files (g.I.Inputs.contents c.read_scripts.new.inputs) c.in_ok-leaves.leaves c.in_ok-scripts.scripts
     c.in_ok-jobs.jobs (λ n. two.keeps.contents n ∙ one.keeps.contents n) (rw c.deref.ensures.value at three.ok) in
     handed c.from_residual-in_err-plan.result c.in_err-plan.field-0.0 (IsStopAmong (ReachesInput names files) faults now)
@@ -58,7 +62,8 @@ returns-in_err-plan-clause-refuses g c =
     let one = c.in_ok-leaves.ensures in
     let two = c.in_ok-scripts.ensures in
     let three = c.in_ok-jobs.ensures in
-    let mean = texts-mean names files (g.I.Inputs.contents c.read_leaves.new.inputs) c.in_ok-leaves.leaves c.in_ok-scripts.scripts one.keeps.contents one.ok two.ok in
+    let mean = texts-mean names files (g.I.Inputs.contents c.read_leaves.new.inputs) c.in_ok-leaves.leaves c.in_ok-scripts.scripts
+    one.keeps.contents one.ok two.ok in
     let has = has-jobs (said c.args.names.now.classes.items) files (g.I.Inputs.contents c.read_scripts.new.inputs) c.in_ok-leaves.leaves c.in_ok-scripts.scripts
     c.in_ok-jobs.jobs (λ n. two.keeps.contents n ∙ one.keeps.contents n) (rw c.deref.ensures.value at three.ok) in
     handed c.from_residual-in_err-plan.result c.in_err-plan.field-0.0 (λ stop. Refuses (named_input c.args.output names files) stop)
@@ -75,7 +80,8 @@ returns-clause-ok g c =
     let one = c.in_ok-leaves.ensures in
     let two = c.in_ok-scripts.ensures in
     let three = c.in_ok-jobs.ensures in
-    let mean = texts-mean names files (g.I.Inputs.contents c.read_leaves.new.inputs) c.in_ok-leaves.leaves c.in_ok-scripts.scripts one.keeps.contents one.ok two.ok in
+    let mean = texts-mean names files (g.I.Inputs.contents c.read_leaves.new.inputs) c.in_ok-leaves.leaves c.in_ok-scripts.scripts
+    one.keeps.contents one.ok two.ok in
     let has = has-jobs (said c.args.names.now.classes.items) files (g.I.Inputs.contents c.read_scripts.new.inputs) c.in_ok-leaves.leaves c.in_ok-scripts.scripts
     c.in_ok-jobs.jobs (λ n. two.keeps.contents n ∙ one.keeps.contents n) (rw c.deref.ensures.value at three.ok) in
     program-read names files (g.I.Inputs.contents c.read_jobs.new.inputs)
