@@ -33,7 +33,7 @@ generated_accepted number =
     let class = class-made number in
     let jobs = jobs_of leaves all (class.0 ∷ []) in
     let threads = plan-made number leaves jobs (jobs-made leaves all class.0 number class.2) in
-    let p : Program = record { leaves = leaves; scripts = all; jobs = jobs; plan = threads.0; output = Line number } in
+    let p : Program = record { leaves = leaves; scripts = all; jobs = jobs; plan = threads.0; workers = 0; output = Line number } in
     let Q : Input → Type 0 = λ i. i ≡ accepted (program p) in (
       p,
       file-read Q leaves_limit (codes "leaves") manifest_word manifest generated_manifest leaves _ manifest_made.1 manifest_short

@@ -22,6 +22,7 @@ fn names(alloc: Global) -> Result<Names<'static>, NoMemory>
         scripts: SCRIPTS,
         plan: PLAN,
         classes,
+        workers: 0,
     })
 }
 

@@ -10,6 +10,7 @@ ghost use Rattle.mh_plan.specs.Limits.{IsWithinLimits};
 ghost use Rattle.mh_plan.specs.Calls.{AreCallsOf};
 ghost use Rattle.mh_plan.specs.Plan.{plan, kind_word as plan_word};
 ghost use Rattle.mh_words.specs.Words.{held_names, run};
+ghost use Rattle.mh_runtime.specs.Workers.{most_workers};
 ghost use Rattle.mh_main.specs.Runnable.{IsRunnable};
 ghost use Rattle.mh_main.specs.Input.{HasMeaning, IfAccepted, named_input, program, leaves_limit, plan_limit};
 ghost use Rattle.mh_main.specs.Reading.{ReadsInputs};
@@ -151,6 +152,7 @@ pub fn read_program<'a, I: Inputs>(
     names: &Names<'a>,
     output: Output,
 ) -> Result<Program, Stop<'a>>
+    requires { names.now.workers ≤ most_workers }
     ensures keeps { KeepsInputs (I.told inputs.old) (I.told inputs.new)
         (I.faults inputs.old) (I.faults inputs.new) }
     ensures no_fault { OnOk result (AreSame (I.faults inputs.old) (I.faults inputs.new)) }
@@ -176,6 +178,7 @@ pub fn read_program<'a, I: Inputs>(
         scripts,
         jobs,
         plan,
+        workers: names.workers,
         output,
     })
 }

@@ -52,7 +52,7 @@ module _ {J : Type 0} (base : Pass J) where
   types_with room = record { table = base.types.table; holds = base.types.holds; room = room; asked = base.types.asked; full = base.types.full }
 
   -- one pass more was split off
-  left-more : (n thread : ℕ) (old new other : Pass J) → IsLeft n base old → SplitsPass thread old new other → IsLeft (n + 1) base new
+  pub left-more : (n thread : ℕ) (old new other : Pass J) → IsLeft n base old → SplitsPass thread old new other → IsLeft (n + 1) base new
   left-more n thread old new other left splits = record {
     links = splits.links_left ∙ (ap (λ (p : LinkPass). with_seat (serials.with_less_room split_room p.seat) p) left.links
         ∙ ap links_with (one-less base.links.seat.room n));

@@ -43,7 +43,7 @@ use Rattle.mh_runtime.proofs.ThreadSteps.{attempts-early}
 -- ---- passes that were split off
 
 -- no attempt was made, and no site is named
-run-split : (base : LinkPass) (thread : ℕ) → IsThreadRun [] (split_pass thread base)
+pub run-split : (base : LinkPass) (thread : ℕ) → IsThreadRun [] (split_pass thread base)
 run-split base thread = record {
   numbered = refl;
   rising = λ i j d below within. absurd (omega (arith, within));
@@ -53,11 +53,11 @@ run-split base thread = record {
   in_order = refl;
 }
 
-within-split : (base : PassView) → DrawsWithin split_room (form_joins.split_pass base)
+pub within-split : (base : PassView) → DrawsWithin split_room (form_joins.split_pass base)
 within-split base = record { few = omega arith; room = refl }
 
 -- what the base has asked for was asked for
-asked-split : (given : Given) (before : List (List Key)) (base : PassView) → HasAsked before base →
+pub asked-split : (given : Given) (before : List (List Key)) (base : PassView) → HasAsked before base →
     HasAsked (run_edits given [] before) (form_joins.split_pass base)
 asked-split given before base has = record { once = has.once; same = has.same }
 
@@ -122,7 +122,7 @@ module _ (given : Given) (calls : List Call) (answers : List Answer) where
   ends-by base links forms (Some NoMemory) ended linked reported runs = tt
 
 -- where the calls have stopped for want of a slot
-no-slot : (given : Given) (a b : List Attempt) (more : List MethodTy) (old new : SeatView) (stop : Option WorkError) →
+pub no-slot : (given : Given) (a b : List Attempt) (more : List MethodTy) (old new : SeatView) (stop : Option WorkError) →
     RunsOnTypes given a b more old new (ending stop) → EndsWithoutSlot stop new
 no-slot given a b more old new None runs = tt
 no-slot given a b more old new (Some NoMemory) runs = tt

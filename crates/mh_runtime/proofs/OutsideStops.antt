@@ -1,14 +1,29 @@
 -- What is reported of want of memory outside the threads of a run.
-use Rattle.std.proofs.Common.{◌≡◌, sym, subst, ℕ, List, Result, Ok, Err, inl}
+use Rattle.std.proofs.Common.{◌≡◌, sym, subst, ℕ, zero, suc, List, Result, Ok, Err, inl}
 use Rattle.std.specs.Prelude.{IfErr, IsErrAnd}
 use Rattle.mh_plan.specs.declared.call.Call.{Call}
+use Rattle.mh_jobs.specs.Given.{Given}
+use Rattle.mh_runtime.specs.declared.joining.Joined.{Joined}
+use Rattle.mh_runtime.specs.declared.pass.Pass.{Pass}
 use Rattle.mh_runtime.specs.declared.stops.Stop.{Stop}
 use Rattle.mh_runtime.specs.Asking.{IfFull, IfTypesFull}
-use Rattle.mh_runtime.specs.Stops.{IsStopOf, error_of, outside}
+use Rattle.mh_runtime.specs.Report.{StopsJoined}
+use Rattle.mh_runtime.specs.Runs.{IsStopOn}
+use Rattle.mh_runtime.specs.Stops.{IsStopBy, error_of, outside}
 
-pub outside_reported : {A : Type 0} (threads : List (List Call)) (r : Result A Stop) → IsErrAnd r (λ x. x ≡ outside) → IfErr r (IsStopOf threads)
-outside_reported threads (Ok a) is = tt
-outside_reported threads (Err stop) is = inl is
+pub outside_joined : {A J : Type 0} (joined : Joined J) (r : Result A Stop) → IsErrAnd r (λ x. x ≡ outside) → IfErr r (StopsJoined joined)
+outside_joined joined (Ok a) is = tt
+outside_joined joined (Err stop) is = inl is
+
+pub outside_on : {A J : Type 0} (given : Given) (base : Pass J) (plan : List (List Call)) (r : Result A Stop) → IsErrAnd r (λ x. x ≡ outside) →
+    IfErr r (IsStopOn given base plan)
+outside_on given base plan (Ok a) is = tt
+outside_on given base plan (Err stop) is = inl is
+
+pub outside_by : {A : Type 0} (workers : ℕ) (threads : List (List Call)) (r : Result A Stop) → IsErrAnd r (λ x. x ≡ outside) → IfErr r (IsStopBy workers threads)
+outside_by workers threads (Ok a) is = tt
+outside_by zero threads (Err stop) is = inl is
+outside_by (suc more) threads (Err stop) is = inl (inl is)
 
 pub outside_full : {A : Type 0} (P : Type 0) (r : Result A Stop) → IsErrAnd r (λ x. x ≡ outside) → IfFull (error_of r) P
 outside_full P (Ok a) is = tt

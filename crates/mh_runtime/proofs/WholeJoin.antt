@@ -43,7 +43,7 @@ use Rattle.mh_runtime.proofs.RunTypes.{asked-needed}
 use Rattle.mh_runtime.proofs.ThreadSteps.{serials-self}
 
 -- nothing is each number once
-none-once : EachOnce []
+pub none-once : EachOnce []
 none-once x = cases x
   where
     cases : (x : ℕ) → times x [] ≡ once_up_to 0 x
@@ -54,7 +54,7 @@ none-once x = cases x
         none true = lt-leb (suc x) 0 (omega arith)
         none false = refl
 
-none-asked : (table : TableView) (room : ℕ) → HasAsked [] (forms_at table (forms.new_seat table room))
+pub none-asked : (table : TableView) (room : ℕ) → HasAsked [] (forms_at table (forms.new_seat table room))
 unfolding IsDistinct
 none-asked table room = record { once = tt; same = λ recipe. refl }
 

@@ -1,5 +1,5 @@
 -- What the calls of a thread gave, up to the one that stopped it; and which stop a run reports of its threads.
-use Rattle.std.specs.Prelude.{◌≡◌, ◌≢◌, ℕ, suc, ◌+◌, ◌<◌, ◌⊎◌, List, [], ◌∷◌, length, take, Option, None, Some, Result, Ok, Err, slice_get}
+use Rattle.std.specs.Prelude.{◌≡◌, ◌≢◌, ℕ, zero, suc, ◌+◌, ◌<◌, ◌⊎◌, List, [], ◌∷◌, length, take, Option, None, Some, Result, Ok, Err, slice_get}
 use Rattle.std.specs.Result.{result_err}
 use Rattle.mh_handle.specs.declared.answer.Answer.{Answer}
 use Rattle.mh_attempt.specs.declared.error.WorkError.{WorkError}
@@ -101,6 +101,25 @@ IsReported ends stop =
 -- the stop is that for want of memory outside the threads, or the reported one of these threads, by how each of them ended
 abbrev pub IsStopOf : List (List Call) → Stop → Type 0
 IsStopOf threads stop = (stop ≡ outside) ⊎ ((ends : List (Option WorkError)) × (length ends ≡ length threads) × IsReported ends stop)
+
+-- ---- with workers
+
+-- the stop of a worker, of that which its number among the workers says
+abbrev pub raised : ℕ → Stop → Stop
+raised threads stop = record { thread = threads + stop.thread; error = stop.error }
+
+-- of workers that ended so, and that have the numbers after those of the threads, the stop is the reported one
+pub record IsStopOfWorkers (threads workers : ℕ) (stop : Stop) : Type 0 where
+  pub ends : List (Option WorkError)
+  pub count : length ends ≡ workers
+  pub own : Stop
+  pub reported : IsReported ends own
+  pub stop_is : stop ≡ raised threads own
+
+-- the same of a run with so many workers
+abbrev pub IsStopBy : ℕ → List (List Call) → Stop → Type 0
+IsStopBy zero threads stop = IsStopOf threads stop
+IsStopBy (suc more) threads stop = IsStopOf threads stop ⊎ IsStopOfWorkers (length threads) (suc more) stop
 
 -- the result of a run, with the error alone of a stop
 abbrev pub error_of : {A : Type 0} → Result A Stop → Result A WorkError

@@ -15,6 +15,7 @@ pub(crate) struct Given<'a> {
     pub(crate) scripts: Option<&'a str>,
     pub(crate) plan: Option<&'a str>,
     pub(crate) number: Option<&'a str>,
+    pub(crate) prelink: Option<&'a str>,
     pub(crate) classes: Vec<&'a str>,
 }
 
@@ -30,6 +31,7 @@ impl<'a> Given<'a> {
             scripts: matches.get_str("scripts"),
             plan: matches.get_str("plan"),
             number: matches.get_str("number"),
+            prelink: matches.get_str("prelink"),
             classes: Vec::from_slice(alloc, classes)?,
         })
     }
@@ -62,6 +64,7 @@ fn command_line<'a>(alloc: Global) -> Result<Command<'a>, AllocError>
         .arg(option(alloc, "scripts"))?
         .arg(option(alloc, "plan"))?
         .arg(option(alloc, "number"))?
+        .arg(option(alloc, "prelink"))?
         .arg(classes(alloc))
 }
 
