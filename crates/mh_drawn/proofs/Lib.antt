@@ -1,0 +1,3 @@
+mod Links
+mod SaidWords
+mod Unread

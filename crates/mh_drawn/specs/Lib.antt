@@ -1,0 +1,4 @@
+pub mod Answer
+pub mod Linked
+pub mod Reading
+pub mod Words

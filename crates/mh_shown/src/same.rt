@@ -1,0 +1,27 @@
+ghost use Rattle.std.specs.Prelude.{◌≡◌, IfOk, IsTrue};
+ghost use mathlib.Core.Logic.{◌↔◌};
+ghost use Rattle.mh_shown.specs.KeyText.{HasBytes, key_text};
+
+use crate::key::push_key;
+use mh_base::NoMemory;
+use mh_edit::Key;
+use std::alloc::Global;
+
+/// Shows, for proofs, that two keys have two texts, if their numbers are of 8 bits, as those of all
+/// keys are. It does nothing when it runs.
+#[tactic(auto, using(crate::proofs::KeyTexts::key_texts_differ))]
+pub fn shows_keys(one: &Key, other: &Key)
+    ensures { HasBytes one.now → HasBytes other.now → key_text one.now ≡ key_text other.now
+        → one.now ≡ other.now }
+{
+    let _one = one;
+    let _other = other;
+}
+
+fn text_of(alloc: Global, key: &Key) -> Result<Vec<u8>, NoMemory>
+    ensures { IfOk result (λ text. text.items ≡ key_text key.now) }
+{
+    let mut text = Vec::new(alloc);
+    push_key(&mut text, key)?;
+    Ok(text)
+}
