@@ -5,6 +5,7 @@ use Rattle.mh_values.specs.declared.value.Exc.{Exc}
 use Rattle.mh_values.specs.declared.calls.LeafCall.{LeafCall}
 use Rattle.mh_values.specs.declared.value.Value.TheVariants as value
 use Rattle.mh_values.specs.Computation.{Ran, Gave, Threw, and_then, found, guarded, is_caught}
+use Rattle.mh_convert.specs.declared.conv.Rules.TheVariants as rules
 use Rattle.mh_leaf.specs.LeafTable.{LeafTable}
 use Rattle.mh_form.specs.declared.body.FormBody.{FormBody}
 use Rattle.mh_form.specs.declared.name.Name.{Name}
@@ -160,8 +161,10 @@ abbrev mutual
   sense table (field.Leaf l) = IsLeaf (called table l)
   sense table (Part' p body shape fields) = IsPart (run_body body.now (senses_of table fields))
   sense table (field.Class c) = IsClass (is_caught table.classes c)
-  sense table (field.Conv c) = IsConv (converted table.classes c)
-  sense table (field.Ret c) = IsRet (ret_converted table.classes c)
+  sense table (field.Conv c) = IsConv (converted rules.AsType table.classes c)
+  sense table (field.Ret c) = IsRet (ret_converted rules.AsType table.classes c)
+  sense table (field.Explicit c) = IsConv (converted rules.Explicit table.classes c)
+  sense table (field.ExplicitRet c) = IsRet (ret_converted rules.Explicit table.classes c)
   sense table (field.Comp c) = IsComp (made_array table.classes c)
   sense table (field.Joined pieces) = IsJoined (joined_slots table.classes pieces)
 

@@ -14,6 +14,7 @@ use Rattle.mh_values.specs.Primitives.{is_one}
 use Rattle.mh_convert.specs.declared.conv.Conv.{Conv}
 use Rattle.mh_convert.specs.declared.conv.RetConv.{RetConv}
 use Rattle.mh_convert.specs.declared.conv.RetConv.TheVariants as ret
+use Rattle.mh_convert.specs.declared.conv.Rules.{Rules}
 use Rattle.mh_convert.specs.Conversion.{can, conv, default_of}
 use Rattle.mh_leaf.specs.LeafTable.{LeafTable}
 use Rattle.mh_leaf.specs.Outcome.{leaf_mean, ran_of}
@@ -54,18 +55,18 @@ abbrev pub slot_or_throw : Result Value Exc → Ran Slot
 slot_or_throw (Ok v) = Gave (erased v) []
 slot_or_throw (Err e) = Threw e []
 
--- an allowed conversion of a slot that is the erasure of a value of the type that it converts from
-abbrev pub converted : List Class → Conv → Slot → Ran Slot
-converted classes c s =
-    if can classes c.from c.to then found (typed classes c.from s) (λ v. slot_or_throw (conv classes c.from c.to v)) else Stuck
+-- a conversion, allowed by the rules, of a slot that is the erasure of a value of the type that it converts from
+abbrev pub converted : Rules → List Class → Conv → Slot → Ran Slot
+converted by classes c s =
+    if can by classes c.from c.to then found (typed classes c.from s) (λ v. slot_or_throw (conv by classes c.from c.to v)) else Stuck
 
--- a return conversion of a result
-abbrev pub ret_converted : List Class → RetConv → Option Slot → Ran (Option Slot)
-ret_converted classes ret.Keep r = Gave r []
-ret_converted classes ret.Discard r = Gave None []
-ret_converted classes (ret.Default t) r = Gave (Some (erased (default_of t))) []
-ret_converted classes (ret.Value c) (Some s) = mapped Some (converted classes c s)
-ret_converted classes (ret.Value c) None = Stuck
+-- a return conversion of a result by the rules
+abbrev pub ret_converted : Rules → List Class → RetConv → Option Slot → Ran (Option Slot)
+ret_converted by classes ret.Keep r = Gave r []
+ret_converted by classes ret.Discard r = Gave None []
+ret_converted by classes (ret.Default t) r = Gave (Some (erased (default_of t))) []
+ret_converted by classes (ret.Value c) (Some s) = mapped Some (converted by classes c s)
+ret_converted by classes (ret.Value c) None = Stuck
 
 -- the array of these slots, each the erasure of an item
 abbrev pub made_array : List Class → Comp → List Slot → Ran Slot

@@ -19,6 +19,8 @@ pub fn copy_field<'t>(alloc: Global, field: &Field<'t>) -> Result<Field<'t>, NoM
         Field::Class(class) => Ok(Field::Class(*class)),
         Field::Conv(conv) => Ok(Field::Conv(*conv)),
         Field::Ret(conv) => Ok(Field::Ret(*conv)),
+        Field::Explicit(conv) => Ok(Field::Explicit(*conv)),
+        Field::ExplicitRet(conv) => Ok(Field::ExplicitRet(*conv)),
         Field::Comp(comp) => Ok(Field::Comp(*comp)),
         Field::Joined(pieces) => Ok(Field::Joined(pieces.copy(alloc)?)),
     }

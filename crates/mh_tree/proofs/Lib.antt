@@ -1,5 +1,6 @@
 pub mod Calls
 pub mod Concatenated
+pub mod Converted
 pub mod Host
 mod Lengths
 pub mod LimitedLists
@@ -27,4 +28,5 @@ pub mod Uses
 mod WorkedAdapters
 mod WorkedBranches
 mod WorkedConcatenations
+mod WorkedConversions
 mod WorkedWeights

@@ -3,12 +3,13 @@ use Rattle.std.proofs.Common.{◌≡◌, refl, ◌-◌, [], length, Ok, Err}
 use Rattle.mh_values.specs.declared.types.MethodTy.{MethodTy}
 use Rattle.mh_values.specs.Computation.{Threw, spliced, is_caught}
 use Rattle.mh_values.specs.Same.{is_same_method_type}
+use Rattle.mh_convert.specs.declared.conv.Rules.TheVariants as rules
 use Rattle.mh_leaf.specs.LeafTable.{LeafTable}
 use Rattle.mh_leaf.specs.Limits.{IsRunWithinLimits}
 use Rattle.mh_leaf.proofs.Limits.{leaf_mean-limits}
 use Rattle.mh_tree.specs.Tree.{Tree, weight}
 use Rattle.mh_tree.specs.Tree as tree
-use Rattle.mh_tree.specs.Rows.{TypeOrRefusal, component_of, mismatch, bind_row, drop_row, permute_row, filter_row, filterret_row, fold_row, collect_row, spread_row, gather_row, astype_row, guard_row, catch_row}
+use Rattle.mh_tree.specs.Rows.{TypeOrRefusal, component_of, mismatch, bind_row, drop_row, permute_row, filter_row, filterret_row, fold_row, collect_row, spread_row, gather_row, astype_row, explicit_row, guard_row, catch_row}
 use Rattle.mh_tree.specs.Typing.{with_type, type_of, arity}
 use Rattle.mh_tree.specs.Limited.{KeepsLimits}
 use Rattle.mh_tree.specs.Meaning.{Done, mean, picked, exact_at, exact, unless_refused, generic_at, generic}
@@ -16,7 +17,7 @@ use Rattle.mh_tree.proofs.RowParts.{with_type-parts, gather_row-few}
 use Rattle.mh_tree.proofs.Concatenated.{concat-keeps}
 use Rattle.mh_tree.proofs.LimitedLists.{splice-limits, picked-limits}
 use Rattle.mh_tree.proofs.LimitedRuns.{known-limits, chosen}
-use Rattle.mh_tree.proofs.LimitedNodes.{constant-keeps, identity-keeps, throw-keeps, bind-keeps, then-keeps, filterret-keeps, spread-keeps, gather-keeps, astype-keeps, guard-keeps, catch-keeps}
+use Rattle.mh_tree.proofs.LimitedNodes.{constant-keeps, identity-keeps, throw-keeps, bind-keeps, then-keeps, filterret-keeps, spread-keeps, gather-keeps, convert-keeps, guard-keeps, catch-keeps}
 
 -- on arguments within their limits it gives a result within its limits, and calls leaves on such arguments
 pub mean-limits : (table : LeafTable) (t : Tree) (u : MethodTy) → type_of table t ≡ Ok u → KeepsLimits (mean table t)
@@ -61,7 +62,10 @@ mean-limits table (tree.Gather t array count) u typed =
     gather-keeps (mean table t) (component_of array) (arity table t - 1) count few (mean-limits table t q.0 q.1)
 mean-limits table (tree.AsType t asked) u typed =
     let q = with_type-parts (type_of table t) (λ ty. astype_row table.classes ty (weight t) asked) u typed in
-    astype-keeps table.classes (mean table t) (type_of table t) asked (mean-limits table t q.0 q.1)
+    convert-keeps rules.AsType table.classes (mean table t) (type_of table t) asked (mean-limits table t q.0 q.1)
+mean-limits table (tree.Explicit t asked) u typed =
+    let q = with_type-parts (type_of table t) (λ ty. explicit_row table.classes ty (weight t) asked) u typed in
+    convert-keeps rules.Explicit table.classes (mean table t) (type_of table t) asked (mean-limits table t q.0 q.1)
 mean-limits table (tree.Guard c t e) u typed =
     let p = with_type-parts (type_of table c)
     (λ test. with_type (type_of table t) (λ ty. with_type (type_of table e) (λ other. guard_row test (weight c) ty (weight t) other (weight e)))) u typed in

@@ -19,12 +19,13 @@ use Rattle.mh_values.specs.Same.{are_same_types, is_same_return, begins_with_typ
 use Rattle.mh_values.specs.Slots.{slots_of_all}
 use Rattle.mh_values.specs.ValueLimits.{most_items}
 use Rattle.mh_values.proofs.SameTypes.{method_type}
+use Rattle.mh_convert.specs.declared.conv.Rules.{Rules}
 use Rattle.mh_convert.specs.Conversion.{fit, ret_conversion_of}
 use Rattle.mh_leaf.specs.Outcome.{boolean_type}
 use Rattle.mh_pieces.specs.declared.piece.Piece.{Piece}
 use Rattle.mh_pieces.specs.Joined.{arg_types}
 use Rattle.mh_pieces.specs.Recipe.{most_concat_slots, returns_text}
-use Rattle.mh_tree.specs.Rows.{TypeOrRefusal, illegal, provided_fit, limited, taking, component_of, takes_array, ends_with, can_all, can_be_used_as, mismatch, takes_exception, handles, can_be_joined, constant_row, identity_row, throw_row, concat_row, spread_row, gather_row, astype_row, guard_row, catch_row}
+use Rattle.mh_tree.specs.Rows.{TypeOrRefusal, illegal, provided_fit, limited, taking, component_of, takes_array, ends_with, can_all, can_be_used_as, mismatch, takes_exception, handles, can_be_joined, constant_row, identity_row, throw_row, concat_row, spread_row, gather_row, word_of, convert_row, guard_row, catch_row}
 pub use Rattle.mh_tree.proofs.Provided.{with_type-parts, provided-parts, provided_some-parts, provided_fit-parts, limited-is}
 pub use Rattle.mh_tree.proofs.RowPartsAdapters.{
   bind_row-parts,
@@ -110,12 +111,12 @@ gather_row-few classes t weight array count u h =
     let s : nat_le count most_items ≡ true = (and_parts (some && takes q.0) few r.0).1 in
     grind (arith, nat_tests)
 
-pub astype_row-parts : (classes : List Class) (t : MethodTy) (weight : ℕ) (asked u : MethodTy) → astype_row classes t weight asked ≡ Ok u →
-    (can_all classes asked.params t.params ≡ true) × (is_some (ret_conversion_of classes t.ret asked.ret) ≡ true) × (u ≡ asked)
-astype_row-parts classes t weight asked u h =
-    let q = provided-parts (can_be_used_as classes t asked) (mismatch classes t asked) (limited (codes "astype") (1 + weight) asked) u h in
-    let r = and_parts (can_all classes asked.params t.params) (is_some (ret_conversion_of classes t.ret asked.ret)) q.0 in
-    (r.0, r.1, limited-is (codes "astype") (1 + weight) asked u q.1)
+pub convert_row-parts : (by : Rules) (classes : List Class) (t : MethodTy) (weight : ℕ) (asked u : MethodTy) → convert_row by classes t weight asked ≡ Ok u →
+    (can_all by classes asked.params t.params ≡ true) × (is_some (ret_conversion_of by classes t.ret asked.ret) ≡ true) × (u ≡ asked)
+convert_row-parts by classes t weight asked u h =
+    let q = provided-parts (can_be_used_as by classes t asked) (mismatch classes t asked) (limited (word_of by) (1 + weight) asked) u h in
+    let r = and_parts (can_all by classes asked.params t.params) (is_some (ret_conversion_of by classes t.ret asked.ret)) q.0 in
+    (r.0, r.1, limited-is (word_of by) (1 + weight) asked u q.1)
 
 pub guard_row-parts : (c : MethodTy) (c_weight : ℕ) (t : MethodTy) (weight : ℕ) (e : MethodTy) (e_weight : ℕ) (u : MethodTy) →
     guard_row c c_weight t weight e e_weight ≡ Ok u → (is_same_method_type e t ≡ true) × (is_same_return c.ret (Some boolean_type) ≡ true)

@@ -13,6 +13,7 @@ use Rattle.mh_values.specs.Class.{is_subclass, throwable_class}
 use Rattle.mh_values.specs.Computation.{Threw, found, and_then, guarded, spliced, is_caught}
 use Rattle.mh_values.specs.HasType.{HaveTypes}
 use Rattle.mh_values.specs.Returns.{Returns}
+use Rattle.mh_convert.specs.declared.conv.Rules.TheVariants as rules
 use Rattle.mh_convert.specs.Conversion.{fit}
 use Rattle.mh_leaf.specs.declared.leaf.Leaf.{Leaf}
 use Rattle.mh_leaf.specs.LeafTable.{LeafTable}
@@ -21,7 +22,7 @@ use Rattle.mh_leaf.specs.WellTyped.{IsWellTyped}
 use Rattle.mh_leaf.proofs.Outcomes.{leaf-returns}
 use Rattle.mh_tree.specs.Tree.{Tree, weight}
 use Rattle.mh_tree.specs.Tree as tree
-use Rattle.mh_tree.specs.Rows.{component_of, leaf_row, bind_row, drop_row, permute_row, filter_row, filterret_row, fold_row, collect_row, spread_row, gather_row, astype_row, guard_row, catch_row}
+use Rattle.mh_tree.specs.Rows.{component_of, leaf_row, bind_row, drop_row, permute_row, filter_row, filterret_row, fold_row, collect_row, spread_row, gather_row, astype_row, explicit_row, guard_row, catch_row}
 use Rattle.mh_tree.specs.Typing.{with_type, type_of, arity_of}
 use Rattle.mh_tree.specs.Meaning.{mean, known, fitted, or_throw, part_of, conv_all, conv_result, decided}
 use Rattle.mh_tree.specs.Sound.{IsSound}
@@ -31,7 +32,7 @@ use Rattle.mh_tree.proofs.SoundRoots.{constant-sound, identity-sound, throw-soun
 use Rattle.mh_tree.proofs.SoundAdapters.{bind-sound, drop-sound, permute-sound, filter-sound, filterret-sound, fold-sound, collect-sound}
 use Rattle.mh_tree.proofs.SoundSpread.{spread-sound}
 use Rattle.mh_tree.proofs.SoundGather.{gather-sound}
-use Rattle.mh_tree.proofs.SoundConversions.{astype-sound}
+use Rattle.mh_tree.proofs.SoundConversions.{convert-sound}
 use Rattle.mh_tree.proofs.SoundBranches.{guard-sound, catch-sound}
 
 leaf-sound : (table : LeafTable) → IsWellTyped table → (l : LeafId) (o : Option Leaf) (u : MethodTy) → slice_get table.leaves l.0 ≡ o → leaf_row o ≡ Ok u →
@@ -95,9 +96,14 @@ mean-sound table are (tree.Gather t array count) u typed =
     (gather-sound table.classes are.classes (mean table t) q.0 (weight t) array count u (mean-sound table are t q.0 q.1) q.2)
 mean-sound table are (tree.AsType t asked) u typed =
     let q = with_type-parts (type_of table t) (λ ty. astype_row table.classes ty (weight t) asked) u typed in
-    subst (λ o. IsSound table.classes (λ args n. known o (λ ty. or_throw (conv_all table.classes asked.params ty.params args)
-    (λ converted. and_then (mean table t converted n) n (λ r k. conv_result table.classes ty.ret asked.ret r)))) u) (sym q.1)
-    (astype-sound table.classes are.classes (mean table t) q.0 (weight t) asked u (mean-sound table are t q.0 q.1) q.2)
+    subst (λ o. IsSound table.classes (λ args n. known o (λ ty. or_throw (conv_all rules.AsType table.classes asked.params ty.params args)
+    (λ converted. and_then (mean table t converted n) n (λ r k. conv_result rules.AsType table.classes ty.ret asked.ret r)))) u) (sym q.1)
+    (convert-sound rules.AsType table.classes are.classes (mean table t) q.0 (weight t) asked u (mean-sound table are t q.0 q.1) q.2)
+mean-sound table are (tree.Explicit t asked) u typed =
+    let q = with_type-parts (type_of table t) (λ ty. explicit_row table.classes ty (weight t) asked) u typed in
+    subst (λ o. IsSound table.classes (λ args n. known o (λ ty. or_throw (conv_all rules.Explicit table.classes asked.params ty.params args)
+    (λ converted. and_then (mean table t converted n) n (λ r k. conv_result rules.Explicit table.classes ty.ret asked.ret r)))) u) (sym q.1)
+    (convert-sound rules.Explicit table.classes are.classes (mean table t) q.0 (weight t) asked u (mean-sound table are t q.0 q.1) q.2)
 mean-sound table are (tree.Guard c t e) u typed =
     let p = with_type-parts (type_of table c)
     (λ test. with_type (type_of table t) (λ ty. with_type (type_of table e) (λ other. guard_row test (weight c) ty (weight t) other (weight e)))) u typed in

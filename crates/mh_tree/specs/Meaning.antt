@@ -12,6 +12,8 @@ use Rattle.mh_values.specs.Class.{class_cast_class, null_pointer_class}
 use Rattle.mh_values.specs.Computation.{Ran, Gave, Threw, Stuck, and_then, guarded, found, spliced, is_caught}
 use Rattle.mh_values.specs.Exception.{bare}
 use Rattle.mh_values.specs.Same.{is_same_method_type}
+use Rattle.mh_convert.specs.declared.conv.Rules.{Rules}
+use Rattle.mh_convert.specs.declared.conv.Rules.TheVariants as rules
 use Rattle.mh_convert.specs.Conversion.{conv, fit, ret_conversion_of, ret_conv}
 use Rattle.mh_leaf.specs.LeafTable.{LeafTable}
 use Rattle.mh_leaf.specs.Outcome.{leaf_mean, ran_of}
@@ -69,14 +71,14 @@ abbrev pub then_others : Result Value Exc → Result (List Value) Exc → Result
 then_others (Ok v) others = value_and_more v others
 then_others (Err e) others = Err e
 
--- arguments converted from left to right
-abbrev pub conv_all : List Class → List Ty → List Ty → List Value → Result (List Value) Exc
-conv_all classes (s ∷ ss) (t ∷ ts) (v ∷ vs) = then_others (conv classes s t v) (conv_all classes ss ts vs)
-conv_all classes _ _ _ = Ok []
+-- arguments converted by the rules from left to right
+abbrev pub conv_all : Rules → List Class → List Ty → List Ty → List Value → Result (List Value) Exc
+conv_all by classes (s ∷ ss) (t ∷ ts) (v ∷ vs) = then_others (conv by classes s t v) (conv_all by classes ss ts vs)
+conv_all by classes _ _ _ = Ok []
 
--- a result converted to what is asked for
-abbrev pub conv_result : List Class → Option Ty → Option Ty → Option Value → Done
-conv_result classes s t r = found (ret_conversion_of classes s t) (λ c. or_throw (ret_conv classes c r) (λ v. Gave v []))
+-- a result converted by the rules to what is asked for
+abbrev pub conv_result : Rules → List Class → Option Ty → Option Ty → Option Value → Done
+conv_result by classes s t r = found (ret_conversion_of by classes s t) (λ c. or_throw (ret_conv by classes c r) (λ v. Gave v []))
 
 -- the first call if the test gave true, the second if it gave false
 abbrev pub decided : Option Value → Done → Done → Done
@@ -113,8 +115,12 @@ mean table (tree.Gather target array count) args n =
     mean table target (spliced (arity table target - 1) count (v ∷ []) args) n))
 mean table (tree.AsType target asked) args n =
     known (type_of table target) (λ ty.
-    or_throw (conv_all table.classes asked.params ty.params args) (λ converted.
-    and_then (mean table target converted n) n (λ r k. conv_result table.classes ty.ret asked.ret r)))
+    or_throw (conv_all rules.AsType table.classes asked.params ty.params args) (λ converted.
+    and_then (mean table target converted n) n (λ r k. conv_result rules.AsType table.classes ty.ret asked.ret r)))
+mean table (tree.Explicit target asked) args n =
+    known (type_of table target) (λ ty.
+    or_throw (conv_all rules.Explicit table.classes asked.params ty.params args) (λ converted.
+    and_then (mean table target converted n) n (λ r k. conv_result rules.Explicit table.classes ty.ret asked.ret r)))
 mean table (tree.Guard test target fallback) args n =
     and_then (mean table test (take (arity table test) args) n) n (λ r k. decided r (mean table target args k) (mean table fallback args k))
 mean table (tree.Catch target class handler) args n =

@@ -19,6 +19,8 @@ use Rattle.mh_values.specs.Same.{is_same_type, is_same_return, are_same_types, b
 use Rattle.mh_values.specs.Slots.{slots_of_all}
 use Rattle.mh_values.specs.TypeText.{method_type_text}
 use Rattle.mh_values.specs.ValueLimits.{most_items}
+use Rattle.mh_convert.specs.declared.conv.Rules.{Rules}
+use Rattle.mh_convert.specs.declared.conv.Rules.TheVariants as rules
 use Rattle.mh_convert.specs.Conversion.{can, fit, ret_conversion_of}
 use Rattle.mh_leaf.specs.declared.leaf.Leaf.{Leaf}
 use Rattle.mh_leaf.specs.Outcome.{boolean_type}
@@ -171,25 +173,38 @@ gather_row classes target target_weight array count =
     (illegal (codes "gather"))
     (limited (codes "gather") (1 + target_weight) (taking (spliced (length target.params - 1) 1 (replicate count (item_type component)) target.params) target)))
 
--- each of these types can be converted to the type at the same place of the other list
-abbrev pub can_all : List Class → List Ty → List Ty → Bool
-can_all classes [] [] = true
-can_all classes (s ∷ ss) (t ∷ ts) = can classes s t && can_all classes ss ts
-can_all classes _ _ = false
+-- each of these types can be converted by the rules to the type at the same place of the other list
+abbrev pub can_all : Rules → List Class → List Ty → List Ty → Bool
+can_all by classes [] [] = true
+can_all by classes (s ∷ ss) (t ∷ ts) = can by classes s t && can_all by classes ss ts
+can_all by classes _ _ = false
 
--- a method type can be converted to another: each argument that is asked for to a parameter, and the result to the one asked for
-abbrev pub can_be_used_as : List Class → MethodTy → MethodTy → Bool
-can_be_used_as classes own asked = can_all classes asked.params own.params && is_some (ret_conversion_of classes own.ret asked.ret)
+-- a method type can be converted by the rules to another: each argument that is asked for to a parameter, and the result to the one asked for
+abbrev pub can_be_used_as : Rules → List Class → MethodTy → MethodTy → Bool
+can_be_used_as by classes own asked = can_all by classes asked.params own.params && is_some (ret_conversion_of by classes own.ret asked.ret)
 
 -- the exception of two types that do not agree
 abbrev pub mismatch : List Class → MethodTy → MethodTy → Exc
 mismatch classes own asked =
     saying wrong_method_type_class (codes "have " ++ method_type_text classes own ++ codes " want " ++ method_type_text classes asked)
 
--- AsType has the type that is asked for, if the part's type can be converted to it
+-- the word of a conversion by the rules
+abbrev pub word_of : Rules → List ℕ
+word_of rules.AsType = codes "astype"
+word_of rules.Explicit = codes "explicit"
+
+-- what is converted by the rules has the type that is asked for, if the part's type can be converted to it
+abbrev pub convert_row : Rules → List Class → MethodTy → ℕ → MethodTy → TypeOrRefusal
+convert_row by classes target target_weight asked =
+    provided (can_be_used_as by classes target asked) (mismatch classes target asked) (limited (word_of by) (1 + target_weight) asked)
+
+-- AsType converts by its own rules
 abbrev pub astype_row : List Class → MethodTy → ℕ → MethodTy → TypeOrRefusal
-astype_row classes target target_weight asked =
-    provided (can_be_used_as classes target asked) (mismatch classes target asked) (limited (codes "astype") (1 + target_weight) asked)
+astype_row classes target target_weight asked = convert_row rules.AsType classes target target_weight asked
+
+-- Explicit converts by those of explicit conversions
+abbrev pub explicit_row : List Class → MethodTy → ℕ → MethodTy → TypeOrRefusal
+explicit_row classes target target_weight asked = convert_row rules.Explicit classes target target_weight asked
 
 -- Guard has the type of both branches; the test gives a boolean, and takes the first parameters of that type
 abbrev pub guard_row : MethodTy → ℕ → MethodTy → ℕ → MethodTy → ℕ → TypeOrRefusal

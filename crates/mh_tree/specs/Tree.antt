@@ -5,6 +5,8 @@ use Rattle.mh_values.specs.declared.types.Ty.{Ty}
 use Rattle.mh_values.specs.declared.types.MethodTy.{MethodTy}
 use Rattle.mh_values.specs.declared.value.LeafId.{LeafId}
 use Rattle.mh_values.specs.declared.value.Value.{Value}
+use Rattle.mh_convert.specs.declared.conv.Rules.{Rules}
+use Rattle.mh_convert.specs.declared.conv.Rules.TheVariants as rules
 use Rattle.mh_pieces.specs.declared.piece.Piece.{Piece}
 
 -- A leaf, a concatenation, or a combinator with the trees of its parts. A type that is an `Option` is `None` if it is void.
@@ -24,6 +26,7 @@ pub data Tree : Type 0 where
   Spread : (target : Tree) (array : Option Ty) (count : ℕ) → Tree
   Gather : (target : Tree) (array : Option Ty) (count : ℕ) → Tree
   AsType : (target : Tree) (ty : MethodTy) → Tree
+  Explicit : (target : Tree) (ty : MethodTy) → Tree
   Guard : (test target fallback : Tree) → Tree
   Catch : (target : Tree) (class : ClassId) (handler : Tree) → Tree
 
@@ -39,6 +42,12 @@ weight (Collect target place filter) = 1 + weight target + weight filter
 weight (Spread target array count) = 1 + weight target
 weight (Gather target array count) = 1 + weight target
 weight (AsType target ty) = 1 + weight target
+weight (Explicit target ty) = 1 + weight target
 weight (Guard test target fallback) = 1 + weight test + weight target + weight fallback
 weight (Catch target class handler) = 1 + weight target + weight handler
 weight _ = 1
+
+-- a tree converted to a type by the rules
+abbrev pub converted : Rules → Tree → MethodTy → Tree
+converted rules.AsType target ty = AsType target ty
+converted rules.Explicit target ty = Explicit target ty

@@ -4,7 +4,7 @@ use Rattle.mh_values.specs.declared.types.MethodTy.{MethodTy}
 use Rattle.mh_leaf.specs.LeafTable.{LeafTable}
 use Rattle.mh_tree.specs.Tree.{Tree, weight}
 use Rattle.mh_tree.specs.Tree as tree
-use Rattle.mh_tree.specs.Rows.{TypeOrRefusal, leaf_row, constant_row, identity_row, throw_row, concat_row, bind_row, drop_row, permute_row, filter_row, filterret_row, fold_row, collect_row, spread_row, gather_row, astype_row, guard_row, catch_row}
+use Rattle.mh_tree.specs.Rows.{TypeOrRefusal, leaf_row, constant_row, identity_row, throw_row, concat_row, bind_row, drop_row, permute_row, filter_row, filterret_row, fold_row, collect_row, spread_row, gather_row, astype_row, explicit_row, guard_row, catch_row}
 
 -- continues with the type of a part, or is refused with the part's exception
 abbrev pub with_type : TypeOrRefusal → (MethodTy → TypeOrRefusal) → TypeOrRefusal
@@ -32,6 +32,7 @@ type_of table (tree.Collect target place filter) =
 type_of table (tree.Spread target array count) = with_type (type_of table target) (λ ty. spread_row ty (weight target) array count)
 type_of table (tree.Gather target array count) = with_type (type_of table target) (λ ty. gather_row table.classes ty (weight target) array count)
 type_of table (tree.AsType target asked) = with_type (type_of table target) (λ ty. astype_row table.classes ty (weight target) asked)
+type_of table (tree.Explicit target asked) = with_type (type_of table target) (λ ty. explicit_row table.classes ty (weight target) asked)
 type_of table (tree.Guard test target fallback) =
     with_type (type_of table test) (λ test_ty. with_type (type_of table target) (λ ty. with_type (type_of table fallback) (λ fallback_ty.
     guard_row test_ty (weight test) ty (weight target) fallback_ty (weight fallback))))
@@ -66,6 +67,7 @@ sides table (tree.Collect target place filter) = sides table target ++ held_befo
 sides table (tree.Spread target array count) = sides table target
 sides table (tree.Gather target array count) = sides table target
 sides table (tree.AsType target asked) = sides table target
+sides table (tree.Explicit target asked) = sides table target
 sides table (tree.Guard test target fallback) =
     held_before (type_of table test) (sides table test) ++ held_before (type_of table target) (sides table target)
     ++ held_before (type_of table fallback) (sides table fallback)

@@ -18,7 +18,7 @@ pub use adapters::{
 };
 pub use arrays::{check_gather, check_spread};
 pub use branches::{check_catch, check_guard};
-pub use conversions::check_astype;
+pub use conversions::{check_astype, check_convert, check_explicit};
 pub use error::CheckError;
 pub use inserting::{Adapter, check_adapter};
 pub use joints::{Joint, Typed, check_joint};
