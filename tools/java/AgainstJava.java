@@ -112,6 +112,8 @@ enum Own {
     SPREAD,
     /** An array type that an identity handle does not take is refused by gather. */
     COLLECTOR,
+    /** An explicit conversion of types that cannot meet is refused. */
+    EXPLICIT,
     /** Types that mh lacks are refused. */
     TYPES,
     /** Static arguments, names of sites and kinds of bootstrap methods that mh lacks are refused. */
@@ -618,6 +620,7 @@ final class Attempt {
             case "throw" -> throwing(type(first), resolution.classNamed(second));
             case "filterret" -> filterReturn(handle(first), handle(second));
             case "astype" -> asType(handle(first), methodType(second));
+            case "explicit" -> explicit(handle(first), methodType(second));
             default -> throw new IllegalStateException(words.toString());
         };
     }
@@ -791,6 +794,19 @@ final class Attempt {
         MethodHandle converted = run.converted(tree.handle(), type);
         orderMatters |= Conversions.orderMatters(tree.type(), type);
         return made("astype", isInOrder ? Conversions.inOrder(tree.handle(), type) : converted, tree.weight() + 1);
+    }
+
+    private Tree explicit(Tree tree, MethodType type) throws Throwable {
+        if (tree.type().equals(type)) {
+            return tree;
+        }
+        MethodHandle converted = MethodHandles.explicitCastArguments(tree.handle(), type);
+        if (run.isOwn && !Conversions.canMeet(tree.type(), type)) {
+            throw run.own(Own.EXPLICIT, run.exceptions.wrongType(tree.type(), type));
+        }
+        orderMatters |= Conversions.orderMatters(tree.type(), type);
+        MethodHandle made = isInOrder ? Conversions.explicitlyInOrder(tree.handle(), type) : converted;
+        return made("explicit", made, tree.weight() + 1);
     }
 
     private Tree spread(Tree tree, Class<?> array, int count) throws Throwable {
@@ -1064,6 +1080,37 @@ final class Conversions {
             converted = converted.asType(converted.type().changeParameterType(i, asked.parameterType(i)));
         }
         return converted.asType(asked);
+    }
+
+    /** The same with one explicitCastArguments for each parameter. */
+    static MethodHandle explicitlyInOrder(MethodHandle handle, MethodType asked) {
+        MethodHandle converted = handle;
+        for (int i = asked.parameterCount() - 1; i >= 0; i--) {
+            MethodType next = converted.type().changeParameterType(i, asked.parameterType(i));
+            converted = MethodHandles.explicitCastArguments(converted, next);
+        }
+        return MethodHandles.explicitCastArguments(converted, asked);
+    }
+
+    /** Whether each explicit conversion of a handle of the type to the asked one can give something else than an exception. */
+    static boolean canMeet(MethodType type, MethodType asked) {
+        for (int i = 0; i < type.parameterCount(); i++) {
+            if (!canMeet(asked.parameterType(i), type.parameterType(i))) {
+                return false;
+            }
+        }
+        return type.returnType() == void.class || asked.returnType() == void.class
+                || canMeet(type.returnType(), asked.returnType());
+    }
+
+    /** Whether values of both types can meet: a boxed number may be one of the class. */
+    private static boolean canMeet(Class<?> from, Class<?> to) {
+        if (from.isPrimitive() == to.isPrimitive()) {
+            return true;
+        }
+        return from.isPrimitive()
+                ? to.isAssignableFrom(MethodType.methodType(from).wrap().returnType())
+                : Primitive.isWrappedBelow(from);
     }
 }
 
@@ -1693,6 +1740,13 @@ enum Primitive {
     /** Whether values of a class are boxed ones of a primitive type. */
     static boolean wraps(Class<?> type) {
         return Arrays.stream(values()).anyMatch(primitive -> primitive.wrapper.equals(Classes.internal(type)));
+    }
+
+    /** Whether boxed values of a primitive type that mh has are of a class. */
+    static boolean isWrappedBelow(Class<?> type) {
+        return Arrays.stream(values())
+                .filter(primitive -> primitive != FLOAT && primitive != DOUBLE)
+                .anyMatch(primitive -> type.isAssignableFrom(MethodType.methodType(primitive.type).wrap().returnType()));
     }
 
     String unboxing() {

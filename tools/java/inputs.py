@@ -261,6 +261,14 @@ class World:
             params = given.params
         return Type(params, self.target_of(given.ret))
 
+    def asked_explicitly(self, given):
+        """A type to which a handle of the given type may be converted explicitly, mostly: any primitive type becomes any other."""
+        asked = self.asked(given)
+        return Type(tuple(self.other_primitive(it) for it in asked.params), self.other_primitive(asked.ret))
+
+    def other_primitive(self, type):
+        return self.rng.choice("ZBCSIJ") if is_primitive(type) and self.chance(0.6) else type
+
     # Literals.
 
     def text(self):
@@ -533,6 +541,10 @@ class Script:
         new = self.world.asked(type)
         self.let(f"astype {h} {self.method_type(new)}", new)
 
+    def explicit(self, h, type):
+        new = self.world.asked_explicitly(type)
+        self.let(f"explicit {h} {self.method_type(new)}", new)
+
     def guard(self, h, type):
         test = self.handle(Type(type.params[:self.rng.randint(0, len(type.params))], "Z"))
         self.let(f"guard {test} {h} {self.handle(type)}", type)
@@ -587,7 +599,7 @@ class Script:
             f"constant {some} {value}", f"identity {some}", f"throw {some} {name}", f"bind {h} {p} {value}",
             f"drop {h} {p} {world.any_type()}", f"permute {h} {type} {rng.choice(['-', '0', '1,0', '0,0', '0,1,2'])}",
             f"filter {h} {p} {f}", f"filterret {h} {f}", f"fold {h} {p} {f}", f"collect {h} {p} {f}",
-            f"spread {h} {some} {p}", f"gather {h} {some} {p}", f"astype {h} {type}", f"guard {h} {f} {g}",
+            f"spread {h} {some} {p}", f"gather {h} {some} {p}", f"astype {h} {type}", f"explicit {h} {type}", f"guard {h} {f} {g}",
             f"catch {h} {name} {f}", f"bind a0 {p} {value}", "RAISE", "FAILMOD",
         ])
         if words == "FAILMOD":
@@ -607,7 +619,7 @@ class Script:
 
     def write(self):
         lines = [self.bind, self.drop, self.permute, self.filter, self.filterret, self.fold, self.collect, self.spread, self.gather,
-                 self.astype, self.guard, self.catch, self.throw, self.identity, self.constant_line]
+                 self.astype, self.explicit, self.guard, self.catch, self.throw, self.identity, self.constant_line]
         for _ in range(self.rng.randint(1, 25 if self.chance(0.05) else 9)):
             self.line(lines)
             if self.chance(0.05):

@@ -25,7 +25,7 @@ are-operands leaves seat (node.Two h by k) m itself is held =
 are-operands leaves seat (node.Guard f h k) m itself is held =
     (record { stands = (is.0, is.3); held = held.0 }, record { stands = (is.1, is.4); held = held.1 }, record { stands = (is.2, is.5); held = held.2 })
 are-operands leaves seat (node.Spread h array count) m itself is held = record { stands = (is.0, is.1); held = held }
-are-operands leaves seat (node.AsType h asked) m itself is held = record { stands = (is.0, is.1); held = held }
+are-operands leaves seat (node.Use h by asked) m itself is held = record { stands = (is.0, is.1); held = held }
 
 -- where the node is known
 pub made-for : (old new : Work) (r : Result Handle HandleError) (n known : Node) (m : OrThrown Tree) (itself : Tree → List Tree) → n ≡ known →

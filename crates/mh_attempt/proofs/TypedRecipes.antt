@@ -54,6 +54,7 @@ recipe-key leaves (tree.Collect t place f) typed = more-key (recipe leaves t) _ 
 recipe-key leaves (tree.Spread t array count) typed = more-key (recipe leaves t) _ (recipe-key leaves t (part-typed (type_of leaves t) _ typed))
 recipe-key leaves (tree.Gather t array count) typed = more-key (recipe leaves t) _ (recipe-key leaves t (part-typed (type_of leaves t) _ typed))
 recipe-key leaves (tree.AsType t asked) typed = more-key (recipe leaves t) _ (recipe-key leaves t (part-typed (type_of leaves t) _ typed))
+recipe-key leaves (tree.Explicit t asked) typed = more-key (recipe leaves t) _ (recipe-key leaves t (part-typed (type_of leaves t) _ typed))
 recipe-key leaves (tree.Guard c t e) typed =
     let test = with_type-parts (type_of leaves c) _ typed.0 typed.1 in
     let own = with_type-parts (type_of leaves t) _ typed.0 test.2 in

@@ -74,7 +74,7 @@ IsAsked leaves (node.Guard f h k) m itself =
     (c : Tree) × (t : Tree) × (e : Tree) × StandsFor leaves f c × StandsFor leaves h t × StandsFor leaves k e × IsAlone m itself (tree.Guard c t e)
 IsAsked leaves (node.Spread h array count) m itself =
     (t : Tree) × StandsFor leaves h t × (m ≡ spread_of leaves t array count) × (itself ≡ spread_asked leaves t)
-IsAsked leaves (node.AsType h asked) m itself = (t : Tree) × StandsFor leaves h t × (m ≡ use_of leaves t asked) × (itself ≡ use_asked leaves t)
+IsAsked leaves (node.Use h by asked) m itself = (t : Tree) × StandsFor leaves h t × (m ≡ use_of by leaves t asked) × (itself ≡ use_asked leaves t)
 
 -- The answer is the node that is asked for, or the exception of an operand. If memory runs out, it says nothing.
 abbrev pub TellsNode : LeafTable → Result Node CheckError → OrThrown Tree → (Tree → List Tree) → Type 0
@@ -90,7 +90,7 @@ parts_of (node.One h by) = h ∷ []
 parts_of (node.Two h by k) = h ∷ k ∷ []
 parts_of (node.Guard f h k) = f ∷ h ∷ k ∷ []
 parts_of (node.Spread h array count) = h ∷ []
-parts_of (node.AsType h asked) = h ∷ []
+parts_of (node.Use h by asked) = h ∷ []
 parts_of _ = []
 
 -- the seat holds their types
@@ -99,7 +99,7 @@ AreHeldIn seat (node.One h by) = IsHeldIn seat h
 AreHeldIn seat (node.Two h by k) = IsHeldIn seat h × IsHeldIn seat k
 AreHeldIn seat (node.Guard f h k) = IsHeldIn seat f × IsHeldIn seat h × IsHeldIn seat k
 AreHeldIn seat (node.Spread h array count) = IsHeldIn seat h
-AreHeldIn seat (node.AsType h asked) = IsHeldIn seat h
+AreHeldIn seat (node.Use h by asked) = IsHeldIn seat h
 AreHeldIn seat _ = Unit {0}
 
 -- ---- where registers stand for frames
@@ -147,5 +147,5 @@ AreOperands leaves seat (node.One h by) = IsOperand leaves seat h
 AreOperands leaves seat (node.Two h by k) = IsOperand leaves seat h × IsOperand leaves seat k
 AreOperands leaves seat (node.Guard f h k) = IsOperand leaves seat f × IsOperand leaves seat h × IsOperand leaves seat k
 AreOperands leaves seat (node.Spread h array count) = IsOperand leaves seat h
-AreOperands leaves seat (node.AsType h asked) = IsOperand leaves seat h
+AreOperands leaves seat (node.Use h by asked) = IsOperand leaves seat h
 AreOperands leaves seat _ = Unit {0}

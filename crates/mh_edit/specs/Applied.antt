@@ -9,17 +9,13 @@ use Rattle.mh_form.specs.declared.basic.Shape.{Shape}
 use Rattle.mh_form.specs.declared.body.FormBody.{FormBody}
 use Rattle.mh_form.specs.declared.name.Name.{Name}
 use Rattle.mh_form.specs.declared.name.Name.TheVariants as name
+use Rattle.mh_form.specs.Slots.{given}
 use Rattle.mh_edit.specs.declared.key.Key.{Key}
 use Rattle.mh_edit.specs.declared.key.Key.TheVariants as key
 use Rattle.mh_edit.specs.declared.key.RetEntry.{RetEntry}
 use Rattle.mh_edit.specs.declared.key.RetEntry.TheVariants as entry
 use Rattle.mh_edit.specs.Fit.{taken_by}
 use Rattle.mh_edit.specs.Rename.{reframed, edited, ending_with}
-
--- what stands for the result of a part: nothing if the part is void
-abbrev pub given : {A : Type 0} → BasicRet → A → List A
-given basic_ret.V a = []
-given (basic_ret.Is b) a = a ∷ []
 
 -- the place of a result: none if it is void
 abbrev pub out_of : BasicRet → ℕ → Option ℕ

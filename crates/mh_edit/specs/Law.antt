@@ -9,6 +9,8 @@ use Rattle.mh_values.specs.declared.value.Value.TheVariants as value
 use Rattle.mh_values.specs.Computation.{Ran, Gave, Stuck, Refines, and_then, found, mapped, guarded, spliced, is_caught}
 use Rattle.mh_convert.specs.declared.conv.Conv.{Conv}
 use Rattle.mh_convert.specs.declared.conv.RetConv.{RetConv}
+use Rattle.mh_convert.specs.declared.conv.Rules.{Rules}
+use Rattle.mh_convert.specs.declared.conv.Rules.TheVariants as rules
 use Rattle.mh_leaf.specs.LeafTable.{LeafTable}
 use Rattle.mh_pieces.specs.declared.piece.Piece.{Piece}
 use Rattle.mh_form.specs.declared.basic.Basic.{Basic}
@@ -20,13 +22,13 @@ use Rattle.mh_form.specs.declared.slot.Slot.TheVariants as slot
 use Rattle.mh_form.specs.declared.field.Bound.{Bound}
 use Rattle.mh_form.specs.declared.field.Field.{Field}
 use Rattle.mh_form.specs.declared.field.Field.TheVariants as field
-use Rattle.mh_form.specs.Slots.{called, converted, filled, holds_one, joined_slots, made_array, none_as_zero, raised_slot, ret_converted, spread_slots}
+use Rattle.mh_form.specs.Slots.{called, converted, filled, given, holds_one, joined_slots, made_array, none_as_zero, raised_slot, ret_converted, spread_slots}
 use Rattle.mh_form.specs.Run.{picked, run_on, run_bound}
 use Rattle.mh_edit.specs.declared.key.Key.{Key}
 use Rattle.mh_edit.specs.declared.key.Key.TheVariants as key
 use Rattle.mh_edit.specs.declared.key.RetEntry.{RetEntry}
 use Rattle.mh_edit.specs.declared.key.RetEntry.TheVariants as entry
-use Rattle.mh_edit.specs.Applied.{conv_count, given}
+use Rattle.mh_edit.specs.Applied.{conv_count}
 use Rattle.mh_edit.specs.Fit.{taken_by}
 
 -- a result, adapted to a basic return type: nothing if that is void, otherwise a slot
@@ -51,15 +53,25 @@ converting_slots (Some b ∷ entries) (conv ∷ convs) (x ∷ xs) n next =
     and_then (conv x) n (λ y k. converting_slots entries convs xs k (λ ys m. next (y ∷ ys) m))
 converting_slots _ _ _ n next = Stuck
 
--- the fields of a return conversion: one if there is an entry
-abbrev pub ret_fields : RetEntry → RetConv → List Field
-ret_fields entry.Keep c = []
-ret_fields (entry.New ret) c = field.Ret c ∷ []
+-- the field of a conversion by the rules
+abbrev pub conv_field : Rules → Conv → Field
+conv_field rules.AsType c = field.Conv c
+conv_field rules.Explicit c = field.Explicit c
 
--- a result, converted if there is an entry
-abbrev pub ret_entry_on : LeafTable → RetEntry → RetConv → Option Slot → Ran (Option Slot)
-ret_entry_on table entry.Keep c r = Gave r []
-ret_entry_on table (entry.New ret) c r = returned ret (ret_converted table.classes c r)
+-- the field of a return conversion by the rules
+abbrev pub ret_field : Rules → RetConv → Field
+ret_field rules.AsType c = field.Ret c
+ret_field rules.Explicit c = field.ExplicitRet c
+
+-- the fields of a return conversion by the rules: one if there is an entry
+abbrev pub ret_fields : Rules → RetEntry → RetConv → List Field
+ret_fields by entry.Keep c = []
+ret_fields by (entry.New ret) c = ret_field by c ∷ []
+
+-- a result, converted by the rules if there is an entry
+abbrev pub ret_entry_on : Rules → LeafTable → RetEntry → RetConv → Option Slot → Ran (Option Slot)
+ret_entry_on by table entry.Keep c r = Gave r []
+ret_entry_on by table (entry.New ret) c r = returned ret (ret_converted by table.classes c r)
 
 -- the new body calls the leaf in its field on all arguments
 abbrev pub LeafRootLaw : List Basic → BasicRet → FormBody → Type 0
@@ -171,17 +183,17 @@ FilterReturnLaw ret old new =
     (λ r k. returned ret (run_bound table part.value (slots_of_result r) k)))
     (run_on table new (fields ++ field.Part part ∷ []) args n)
 
--- the new body converts the arguments that have an entry, runs the old body, and converts its result
+-- the new body converts the arguments that have an entry, runs the old body, and converts its result, by the rules that its fields name
 abbrev pub ConvertLaw : List (Option Basic) → RetEntry → FormBody → FormBody → Type 0
 ConvertLaw entries ret old new =
-    (table : LeafTable) (fields : List Field) (convs : List Conv) (c : RetConv) (args : List Slot) (n : ℕ) →
+    (by : Rules) (table : LeafTable) (fields : List Field) (convs : List Conv) (c : RetConv) (args : List Slot) (n : ℕ) →
     length fields ≡ old.fields →
     length convs ≡ conv_count entries →
     length args ≡ length old.params →
     Refines
-    (converting_slots entries (map (converted table.classes) convs) args n
-    (λ xs k. and_then (run_on table old fields xs k) k (λ r m. ret_entry_on table ret c r)))
-    (run_on table new (fields ++ (map (λ d. field.Conv d) convs ++ ret_fields ret c)) args n)
+    (converting_slots entries (map (converted by table.classes) convs) args n
+    (λ xs k. and_then (run_on table old fields xs k) k (λ r m. ret_entry_on by table ret c r)))
+    (run_on table new (fields ++ (map (conv_field by) convs ++ ret_fields by ret c)) args n)
 
 -- the new body checks that the array at a position has `count` items, and runs the old body with these items in the array's place
 abbrev pub SpreadLaw : ℕ → ℕ → FormBody → FormBody → Type 0

@@ -1,7 +1,8 @@
 ghost use Rattle.std.specs.Prelude.{◌≡◌, ◌+◌, ◌-◌, ◌<◌, ◌≤◌, ◌∷◌, [], IfOk, IsTrue, length, replicate};
 ghost use Rattle.std.specs.List.{range_with_len};
 ghost use Rattle.mh_form.specs.declared.name.Name.TheVariants.{CheckArray, MakeArray};
-ghost use Rattle.mh_edit.specs.Applied.{adding, applied, binding, collecting, converting, elem_names, filtering, folding, gathering, given, permuting, places_of, returning, spreading};
+ghost use Rattle.mh_form.specs.Slots.{given};
+ghost use Rattle.mh_edit.specs.Applied.{adding, applied, binding, collecting, converting, elem_names, filtering, folding, gathering, permuting, places_of, returning, spreading};
 ghost use Rattle.mh_edit.specs.Fit.{fits, taken_by};
 ghost use Rattle.mh_edit.specs.Law.{Law};
 

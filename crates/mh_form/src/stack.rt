@@ -1,4 +1,5 @@
-ghost use Rattle.std.specs.Prelude.{◌≡◌, ◌≢◌, ◌++◌, ◌∷◌, ◌≤◌, List, [], IfOk, OnOk, None, Some, length, slice_get, take, map};
+ghost use Rattle.std.specs.Prelude.{◌≡◌, ◌≢◌, ◌++◌, ◌∷◌, ◌≤◌, ◌<◌, ◌^◌, List, [], pos, IfOk, OnOk};
+ghost use Rattle.std.specs.Prelude.{None, Some, length, option_to_list, slice_get, take, map};
 ghost use Rattle.std.specs.Option.{option_map};
 ghost use Rattle.std.specs.declared.alloc.Global.{Global};
 ghost use Rattle.mh_values.specs.declared.value.Value.{Value};
@@ -306,10 +307,10 @@ impl Stack {
         Ok(count)
     }
 
-    // Puts copies of the slots of the run under way after all slots, as many as are left of them.
-    fn push_all(&mut self, count: usize) -> Result<(), NoMemory>
-        requires { count ≡ length self.old.frame }
-        ensures { OnOk result (self.new ≡ with_slots self.old self.old.frame) }
+    // Puts copies of the first slots of the run under way after all slots.
+    fn push_first(&mut self, count: usize) -> Result<(), NoMemory>
+        requires { count ≤ length self.old.frame }
+        ensures { OnOk result (self.new ≡ with_slots self.old (take count self.old.frame)) }
     {
         let alloc = self.alloc();
         for place in 0..count {
@@ -328,9 +329,83 @@ impl Stack {
         ensures count { IfOk result (λ count. count ≡ length self.old.frame) }
     {
         let count = self.count();
-        self.push_all(count)?;
+        self.push_first(count)?;
         self.begin(count);
         Ok(count)
+    }
+
+    /// Begins a run on copies of the first slots of the run under way, as many as are kept, while
+    /// that waits. Answers how many slots it has.
+    pub(crate) fn enter_first(&mut self, kept: u32) -> Result<usize, NoMemory>
+        ensures frame { OnOk result (self.new.frame ≡ take kept self.old.frame) }
+        ensures below { OnOk result (self.new.below ≡ self.old.below ++ self.old.frame) }
+        ensures calls { OnOk result (self.new.calls ≡ self.old.calls) }
+        ensures count { IfOk result (λ count. count ≡ length self.old.frame) }
+    {
+        let count = self.count();
+        self.push_first(count.min(kept as usize))?;
+        self.begin(count);
+        Ok(count)
+    }
+
+    /// Begins a run on a slot, if there is one, an int, and copies of the first slots of the run
+    /// under way, as many as are kept, while that waits. Answers how many slots it has.
+    pub(crate) fn enter_turn(
+        &mut self,
+        given: Option<Slot>,
+        number: u32,
+        kept: u32,
+    ) -> Result<usize, NoMemory>
+        requires { number < 2 ^ 31 }
+        ensures frame { OnOk result (self.new.frame
+            ≡ option_to_list given ++ slot.I (pos number) ∷ take kept self.old.frame) }
+        ensures below { OnOk result (self.new.below ≡ self.old.below ++ self.old.frame) }
+        ensures calls { OnOk result (self.new.calls ≡ self.old.calls) }
+        ensures count { IfOk result (λ count. count ≡ length self.old.frame) }
+    {
+        let count = self.count();
+        if let Some(given) = given {
+            self.push(given)?;
+        }
+        self.push(Slot::I(number as i32))?;
+        self.push_first(count.min(kept as usize))?;
+        self.begin(count);
+        Ok(count)
+    }
+
+    /// Takes the last slot of the run under way out of it.
+    pub(crate) fn take_last(&mut self) -> Slot
+        requires { self.old.frame ≢ [] }
+        ensures given { self.old.frame ≡ self.new.frame ++ result ∷ [] }
+        ensures below { self.new.below ≡ self.old.below }
+        ensures calls { self.new.calls ≡ self.old.calls }
+    {
+        match self.slots.pop() {
+            Some(slot) => slot,
+            None => unreachable!(),
+        }
+    }
+
+    /// The run under way gives way to one on a slot, on another if there is one, and on the first
+    /// of its own slots, as many as are kept.
+    pub(crate) fn end_with(
+        &mut self,
+        first: Slot,
+        second: Option<Slot>,
+        kept: u32,
+    ) -> Result<(), NoMemory>
+        ensures frame { OnOk result (self.new.frame
+            ≡ first ∷ (option_to_list second ++ take kept self.old.frame)) }
+        ensures below { OnOk result (self.new.below ≡ self.old.below) }
+        ensures calls { OnOk result (self.new.calls ≡ self.old.calls) }
+    {
+        let kept = self.base + kept as usize;
+        self.slots.truncate(kept);
+        if let Some(second) = second {
+            self.slots.insert(self.base, second)?;
+        }
+        self.slots.insert(self.base, first)?;
+        Ok(())
     }
 
     // Takes the slot at a place out of the run under way, in which int 0 stands then.

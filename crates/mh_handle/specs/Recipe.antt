@@ -72,6 +72,7 @@ recipe table (tree.Spread target array count) =
 recipe table (tree.Gather target array count) =
     recipe table target ++ at_some (component_of array) (λ component. key.Gather count (basic_of (item_type component)))
 recipe table (tree.AsType target asked) = recipe table target ++ at_type (type_of table target) (convert_keys table.classes asked)
+recipe table (tree.Explicit target asked) = recipe table target ++ at_type (type_of table target) (convert_keys table.classes asked)
 recipe table (tree.Guard test target fallback) =
     at_type (type_of table target) (λ ty. at_type (type_of table test) (λ test_ty. key.GuardRoot (shape_of ty) (length test_ty.params) ∷ []))
 recipe table (tree.Catch target class handler) =

@@ -2,24 +2,26 @@
 use Rattle.std.specs.Prelude.{ℕ, nat_le, ◌&&◌, length, codes, Option, is_some, Ok}
 use Rattle.mh_values.specs.declared.types.Ty.{Ty}
 use Rattle.mh_values.specs.declared.types.MethodTy.{MethodTy}
+use Rattle.mh_convert.specs.declared.conv.Rules.{Rules}
+use Rattle.mh_convert.specs.declared.conv.Rules.TheVariants as rules
 use Rattle.mh_leaf.specs.LeafTable.{LeafTable}
 use Rattle.mh_leaves.specs.declared.naming.How.TheVariants.{Any}
 use Rattle.mh_tree.specs.Tree.{Tree}
 use Rattle.mh_tree.specs.Tree as tree
 use Rattle.mh_tree.specs.Rows.{component_of, illegal}
 use Rattle.mh_tree.specs.Typing.{type_of}
-use Rattle.mh_tree.specs.Use.{used_as, items_used_as}
+use Rattle.mh_tree.specs.Use.{used_by, items_used_as}
 use Rattle.mh_script.specs.declared.script.Operation.{Operation}
 use Rattle.mh_script.specs.declared.script.Operation.TheVariants as operation
 use Rattle.mh_link.specs.Operands.{Frame, handle_in, value_in, type_in, method_type_in}
 use Rattle.mh_jobs.specs.Names.{class_of, types_of_text, leaf_named}
 use Rattle.mh_jobs.specs.Thrown.{OrThrown, ◌>>=◌, ◌>>◌, require, plainly}
 
--- a tree converted to a type
-abbrev pub use_of : LeafTable → Tree → MethodTy → OrThrown Tree
-use_of leaves t asked = do
+-- a tree converted to a type by the rules
+abbrev pub use_of : Rules → LeafTable → Tree → MethodTy → OrThrown Tree
+use_of by leaves t asked = do
   own ← type_of leaves t
-  Ok (used_as own asked t)
+  Ok (used_by by own asked t)
 
 -- a spread of a tree, which is first converted to the type that takes the array's items
 abbrev pub spread_of : LeafTable → Tree → Option Ty → ℕ → OrThrown Tree
@@ -83,7 +85,11 @@ asked_by leaves frame (operation.Gather h ty count) = do
 asked_by leaves frame (operation.AsType h ty) = do
   target ← handle_in frame h
   asked ← method_type_in leaves.classes frame ty
-  use_of leaves target asked
+  use_of rules.AsType leaves target asked
+asked_by leaves frame (operation.Explicit h ty) = do
+  target ← handle_in frame h
+  asked ← method_type_in leaves.classes frame ty
+  use_of rules.Explicit leaves target asked
 asked_by leaves frame (operation.Guard c h e) = do
   test ← handle_in frame c
   target ← handle_in frame h

@@ -100,6 +100,10 @@ an_as_type : said (codes "let x astype a0 type") ≡ assigns (operation.AsType f
 unfolding digits
 an_as_type = refl
 
+an_explicit_conversion : said (codes "let x explicit a0 type") ≡ assigns (operation.Explicit first (of_method_type.Register register.SiteType))
+unfolding digits
+an_explicit_conversion = refl
+
 a_guard : said (codes "let x guard y a0 a1") ≡ assigns (operation.Guard (register.Assigned (codes "y")) first second)
 unfolding digits
 a_guard = refl

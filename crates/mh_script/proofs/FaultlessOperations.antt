@@ -85,6 +85,7 @@ two-said classes steps two.Constant a b h = ok-then (value_operand classes b) _ 
 two-said classes steps two.Throw a b h = refl
 two-said classes steps two.FilterReturn a b h = refl
 two-said classes steps two.AsType a b h = refl
+two-said classes steps two.Explicit a b h = refl
 
 -- where a number stands second, and where it stands third
 numbered-said : (a b c : List ℕ) (k : ScriptKind) → fault_unless (is_some (small_of b)) k ≡ None → is_ok (numbered a b c) ≡ true

@@ -21,6 +21,7 @@ two_word two.Constant = codes "constant"
 two_word two.Throw = codes "throw"
 two_word two.FilterReturn = codes "filterret"
 two_word two.AsType = codes "astype"
+two_word two.Explicit = codes "explicit"
 
 abbrev pub three_word : Three → List ℕ
 three_word three.Bind = codes "bind"
@@ -54,7 +55,8 @@ one_form-word word form h = first_or one_word word one.Leaf form _ (first_or one
 pub two_form-word : (word : List ℕ) (form : Two) → two_form word ≡ Some form → word ≡ two_word form
 two_form-word word form h =
     first_or two_word word two.Constant form _ (first_or two_word word two.Throw form _
-    (first_or two_word word two.FilterReturn form _ (first_or two_word word two.AsType form _ (no_form two_word word form)))) h
+    (first_or two_word word two.FilterReturn form _ (first_or two_word word two.AsType form _
+    (first_or two_word word two.Explicit form _ (no_form two_word word form))))) h
 
 argument_form-word : (word : List ℕ) (form : Three) → argument_form word ≡ Some form → word ≡ three_word form
 argument_form-word word form h =

@@ -36,6 +36,10 @@ two-again classes two.AsType a b op said h =
     as_read classes (codes "astype") (a ∷ b ∷ []) op refl said
     (made_tokens classes (operation.AsType (register_of a) (method_type_operand b)) op (codes "astype" ∷ a ∷ b ∷ []) h
     (ap₂ (λ s t. codes "astype" ∷ s ∷ t ∷ []) (register-text a) (method_type_operand-text b)))
+two-again classes two.Explicit a b op said h =
+    as_read classes (codes "explicit") (a ∷ b ∷ []) op refl said
+    (made_tokens classes (operation.Explicit (register_of a) (method_type_operand b)) op (codes "explicit" ∷ a ∷ b ∷ []) h
+    (ap₂ (λ s t. codes "explicit" ∷ s ∷ t ∷ []) (register-text a) (method_type_operand-text b)))
 
 -- the tokens of an operation with three operands of which none is a value
 three-tokens : (classes : List Class) (form : Three) (a b c : List ℕ) (op : Operation) → (form ≡ three.Bind → ⊥) →

@@ -25,7 +25,8 @@ two_form word =
     if bytes_eq word (codes "constant") then Some two.Constant
     else (if bytes_eq word (codes "throw") then Some two.Throw
     else (if bytes_eq word (codes "filterret") then Some two.FilterReturn
-    else (if bytes_eq word (codes "astype") then Some two.AsType else None)))
+    else (if bytes_eq word (codes "astype") then Some two.AsType
+    else (if bytes_eq word (codes "explicit") then Some two.Explicit else None))))
 
 -- the operations with three operands that change single arguments
 abbrev pub argument_form : List ℕ → Option Three
@@ -56,12 +57,13 @@ abbrev pub one_place : One → Place
 one_place one.Leaf = place.Reference
 one_place one.Identity = place.Type
 
--- `constant T V`, `throw T C`, `filterret H F`, `astype H M`
+-- `constant T V`, `throw T C`, `filterret H F`, `astype H M`, `explicit H M`
 abbrev pub two_places : Two → Place × Place
 two_places two.Constant = (place.Type, place.Value)
 two_places two.Throw = (place.Type, place.Class)
 two_places two.FilterReturn = (place.Handle, place.Handle)
 two_places two.AsType = (place.Handle, place.MethodType)
+two_places two.Explicit = (place.Handle, place.MethodType)
 
 -- `bind H P V`, `drop H P TYPES`, `permute H M ORDER`, `filter H P F`, `fold H P F`, `collect H P F`, `spread H T N`, `gather H T N`,
 -- `guard F H H`, `catch H C F`

@@ -93,6 +93,7 @@ two_operation classes two.Constant first second = said_then (value_operand class
 two_operation classes two.Throw first second = Ok (operation.Throw (type_operand first) second)
 two_operation classes two.FilterReturn first second = Ok (operation.FilterReturn (register_of first) (register_of second))
 two_operation classes two.AsType first second = Ok (operation.AsType (register_of first) (method_type_operand second))
+two_operation classes two.Explicit first second = Ok (operation.Explicit (register_of first) (method_type_operand second))
 
 -- an operation with three operands
 abbrev pub three_operation : List Class → Three → List ℕ → List ℕ → List ℕ → Result Operation ScriptKind

@@ -38,6 +38,7 @@ pub(crate) enum Two {
     Throw,
     FilterReturn,
     AsType,
+    Explicit,
 }
 
 /// The operations with three operands.
@@ -80,6 +81,8 @@ pub(crate) fn two_form(word: &[u8]) -> Option<Two>
         Some(Two::FilterReturn)
     } else if word == b"astype".as_slice() {
         Some(Two::AsType)
+    } else if word == b"explicit".as_slice() {
+        Some(Two::Explicit)
     } else {
         None
     }
@@ -154,7 +157,7 @@ impl Two {
             Two::Constant => (Place::Type, Place::Value),
             Two::Throw => (Place::Type, Place::Class),
             Two::FilterReturn => (Place::Handle, Place::Handle),
-            Two::AsType => (Place::Handle, Place::MethodType),
+            Two::AsType | Two::Explicit => (Place::Handle, Place::MethodType),
         }
     }
 }

@@ -199,6 +199,11 @@ fn two_operation(
             let ty = method_type_operand(alloc, second)?;
             Ok(Operation::AsType(target, ty))
         }
+        Two::Explicit => {
+            let target = register_of(alloc, first)?;
+            let ty = method_type_operand(alloc, second)?;
+            Ok(Operation::Explicit(target, ty))
+        }
     }
 }
 

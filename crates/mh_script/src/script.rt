@@ -42,6 +42,8 @@ pub enum Operation {
     Gather(Register, TypeOperand, u8),
     /// `astype H M`
     AsType(Register, MethodTypeOperand),
+    /// `explicit H M`
+    Explicit(Register, MethodTypeOperand),
     /// `guard F H H`: the test, the target and the fallback.
     Guard(Register, Register, Register),
     /// `catch H C F`: the target, the class of the exceptions and their handler.

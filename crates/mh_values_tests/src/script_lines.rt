@@ -20,6 +20,7 @@ fn operation_word(operation: &Operation) -> &'static str {
         Operation::Spread(_, _, _) => "spread",
         Operation::Gather(_, _, _) => "gather",
         Operation::AsType(_, _) => "astype",
+        Operation::Explicit(_, _) => "explicit",
         Operation::Guard(_, _, _) => "guard",
         Operation::Catch(_, _, _) => "catch",
     }
@@ -35,7 +36,7 @@ fn step_word(step: &Step) -> &'static str {
 }
 
 /// Lines, and the word of what each is read to.
-static LINES: [(&str, &str); 18] = [
+static LINES: [(&str, &str); 19] = [
     ("let x leaf a.f:()V", "leaf"),
     ("let x constant I I:5", "constant"),
     ("let x identity I", "identity"),
@@ -50,6 +51,7 @@ static LINES: [(&str, &str); 18] = [
     ("let x spread a0 [I 1", "spread"),
     ("let x gather a0 [I 1", "gather"),
     ("let x astype a0 type", "astype"),
+    ("let x explicit a0 type", "explicit"),
     ("let x guard a0 a1 a2", "guard"),
     ("let x catch a0 a a1", "catch"),
     ("let x serial", "serial"),

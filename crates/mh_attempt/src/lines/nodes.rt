@@ -15,6 +15,7 @@ use crate::handle::HandleOperand;
 use crate::names::{class_of, leaf_named, types_of_text};
 use crate::registers::Registers;
 use mh_base::{Seq, Shared};
+use mh_convert::Rules;
 use mh_leaves::Leaves;
 use mh_script::{Operation, Register};
 use mh_tree::{CheckError, Joint};
@@ -36,7 +37,7 @@ pub(crate) enum OfTwo {
     Catch(ClassId),
 }
 
-/// A combinator with its operands, by the number of its handles. `Spread` and `AsType` are
+/// A combinator with its operands, by the number of its handles. `Spread` and `Use` are
 /// cases of their own because they may ask for other forms than that of their node.
 #[derive(Drop)]
 pub(crate) enum Node<'a, 't> {
@@ -49,7 +50,8 @@ pub(crate) enum Node<'a, 't> {
     /// The test, the target and the fallback.
     Guard(HandleOperand<'a, 't>, HandleOperand<'a, 't>, HandleOperand<'a, 't>),
     Spread(HandleOperand<'a, 't>, Option<Ty>, u8),
-    AsType(HandleOperand<'a, 't>, Shared<MethodTy>),
+    /// A conversion by the rules to a type.
+    Use(HandleOperand<'a, 't>, Rules, Shared<MethodTy>),
 }
 
 /// A target, and the types of dropped arguments at a position.
@@ -174,7 +176,13 @@ pub(crate) fn operands<'a, 't>(
         }
         Operation::AsType(target, asked) => {
             let target = registers.handle(target)?;
-            Ok(Node::AsType(target, registers.method_type(classes, asked)?))
+            let asked = registers.method_type(classes, asked)?;
+            Ok(Node::Use(target, Rules::AsType, asked))
+        }
+        Operation::Explicit(target, asked) => {
+            let target = registers.handle(target)?;
+            let asked = registers.method_type(classes, asked)?;
+            Ok(Node::Use(target, Rules::Explicit, asked))
         }
         Operation::Guard(test, target, fallback) => guarded(registers, test, target, fallback),
         Operation::Catch(target, class, part) => caught(leaves, registers, target, class, part),

@@ -42,7 +42,7 @@ pub(crate) fn made<'t, R: Wait>(
         Node::Two(target, by, part) => made_of_two(w, rt, &target, by, &part),
         Node::Guard(test, target, fallback) => guarded(w, rt, &test, &target, &fallback),
         Node::Spread(target, array, count) => spread_out(w, rt, &target, array, count),
-        Node::AsType(target, asked) => used(w, rt, &target, asked.get()),
+        Node::Use(target, rules, asked) => used(w, rt, &target, rules, asked.get()),
     }
 }
 

@@ -76,13 +76,13 @@ returns-in-Spread g c m itself asked =
     made-for w new r c.args.node _ m itself c.in-Spread.is (λ is. for-asked _ m _ itself _ w new r is.2 is.3
     (c.spread_out.ensures is.0 is.1)) asked
 
-pub returns-in-AsType : goal.returns-in-AsType
-returns-in-AsType g c m itself asked =
+pub returns-in-Use : goal.returns-in-Use
+returns-in-Use g c m itself asked =
     let w = c.args.w.now in
     let new = c.used.new.w in
     let r = c.used.result in
-    made-for w new r c.args.node _ m itself c.in-AsType.is (λ is. for-asked _ m _ itself _ w new r
-    (is.2 ∙ ap (use_of w.leaves.now is.0) (sym c.get.ensures)) is.3 (c.used.ensures is.0 is.1)) asked
+    made-for w new r c.args.node _ m itself c.in-Use.is (λ is. for-asked _ m _ itself _ w new r
+    (is.2 ∙ ap (use_of c.in-Use.rules w.leaves.now is.0) (sym c.get.ensures)) is.3 (c.used.ensures is.0 is.1)) asked
 
 pub leaf-requires-clause-leaf : goal.leaf-requires-clause-leaf
 leaf-requires-clause-leaf g c = subst (AreOperands c.args.w.now.leaves.now c.args.w.now.seat.now) c.in-Leaf.is c.requires.operands
@@ -109,4 +109,4 @@ pub spread_out-requires-clause-target : goal.spread_out-requires-clause-target
 spread_out-requires-clause-target g c = subst (AreOperands c.args.w.now.leaves.now c.args.w.now.seat.now) c.in-Spread.is c.requires.operands
 
 pub used-requires-clause-target : goal.used-requires-clause-target
-used-requires-clause-target g c = subst (AreOperands c.args.w.now.leaves.now c.args.w.now.seat.now) c.in-AsType.is c.requires.operands
+used-requires-clause-target g c = subst (AreOperands c.args.w.now.leaves.now c.args.w.now.seat.now) c.in-Use.is c.requires.operands

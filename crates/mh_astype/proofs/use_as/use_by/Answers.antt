@@ -8,13 +8,13 @@ use Rattle.mh_astype.proofs.Asking.{asked-stands, differs, found-row, row-of-oth
 use Rattle.mh_astype.proofs.Calling.{types-are}
 use Rattle.mh_astype.proofs.Trading.{trades-kept, trades-used}
 use Rattle.mh_astype.proofs.Using.{makes-refused}
-use Rattle.mh_astype.specs.Use.{used_types}
-use Rattle.mh_astype.proofs.use_as.as_type.Goals as goal
+use Rattle.mh_astype.specs.Use.{used_types_by}
+use Rattle.mh_astype.proofs.use_as.use_by.Goals as goal
 
 pub returns-then-is_same_method_type-clause-makes : goal.returns-then-is_same_method_type-clause-makes
 returns-then-is_same_method_type-clause-makes g c t st =
     inl (
-      same-recipe c.args.w.now.leaves.now c.args.ty.now c.args.target t st
+      same-recipe c.args.rules c.args.w.now.leaves.now c.args.ty.now c.args.target t st
           (types-are c.is_same_method_type.result c.ty.result.now c.args.target.ty c.args.ty.now c.if-is_same_method_type.true c.is_same_method_type.ensures
           c.ty.ensures.ty),
       unchanged-still c.args.w.now,
@@ -22,7 +22,7 @@ returns-then-is_same_method_type-clause-makes g c t st =
 
 pub returns-then-is_same_method_type-clause-used : goal.returns-then-is_same_method_type-clause-used
 returns-then-is_same_method_type-clause-used g c =
-    use-same c.args.w.now.leaves.now.classes c.args.ty.now c.args.target
+    use-same c.args.rules c.args.w.now.leaves.now.classes c.args.ty.now c.args.target
     (types-are c.is_same_method_type.result c.ty.result.now c.args.target.ty c.args.ty.now c.if-is_same_method_type.true c.is_same_method_type.ensures
     c.ty.ensures.ty)
 
@@ -34,7 +34,7 @@ returns-in-Err-clause-obeys g c =
     in
     check-obeys c.args.w.now c.refused.new.w c.in-Err.error c.refused.result c.refused.ensures.error _
     (subst (λ row. TellsRow (Err c.in-Err.error) row)
-    (row-of-other c.args.w.now.leaves.now.classes c.args.target.ty c.args.target.weight c.args.ty.now other) c.in-Err.ensures.tells)
+    (row-of-other c.args.rules c.args.w.now.leaves.now.classes c.args.target.ty c.args.target.weight c.args.ty.now other) c.in-Err.ensures.tells)
 
 pub returns-in-Err-clause-makes : goal.returns-in-Err-clause-makes
 returns-in-Err-clause-makes g c t st =
@@ -42,13 +42,13 @@ returns-in-Err-clause-makes g c t st =
     differs c.is_same_method_type.result c.ty.result.now c.args.target.ty c.args.ty.now c.if-is_same_method_type.false c.is_same_method_type.ensures
     c.ty.ensures.ty
     in
-    trees-make c.args.w.now.leaves.now c.args.ty.now c.args.target t st c.args.w.now c.refused.new.w c.refused.result other
+    trees-make c.args.rules c.args.w.now.leaves.now c.args.ty.now c.args.target t st c.args.w.now c.refused.new.w c.refused.result other
     (makes-refused c.args.target.form.recipe _ c.args.w.now c.refused.new.w c.in-Err.error c.refused.result c.refused.ensures.error
     c.refused.ensures.unchanged)
 
 pub used-requires-clause-row : goal.used-requires-clause-row
 used-requires-clause-row g c =
-    found-row c.args.w.now.leaves.now.classes c.args.target.ty c.args.target.weight c.args.ty.now c.in-Ok.asked c.in-Ok.ensures.tells
+    found-row c.args.rules c.args.w.now.leaves.now.classes c.args.target.ty c.args.target.weight c.args.ty.now c.in-Ok.asked c.in-Ok.ensures.tells
 
 pub returns-in-Ok-clause-obeys : goal.returns-in-Ok-clause-obeys
 returns-in-Ok-clause-obeys g c =
@@ -56,8 +56,8 @@ returns-in-Ok-clause-obeys g c =
     differs c.is_same_method_type.result c.ty.result.now c.args.target.ty c.args.ty.now c.if-is_same_method_type.false c.is_same_method_type.ensures
     c.ty.ensures.ty
     in
-    used-obeys _ c.args.w.now.leaves.now.classes c.in-Ok.asked c.args.target c.used.result
-    (sym (row-of-other c.args.w.now.leaves.now.classes c.args.target.ty c.args.target.weight c.args.ty.now other) ∙ c.in-Ok.ensures.tells)
+    used-obeys c.args.rules _ c.args.w.now.leaves.now.classes c.in-Ok.asked c.args.target c.used.result
+    (sym (row-of-other c.args.rules c.args.w.now.leaves.now.classes c.args.target.ty c.args.target.weight c.args.ty.now other) ∙ c.in-Ok.ensures.tells)
     c.used.ensures.accepted c.used.ensures.used
 
 pub returns-in-Ok-clause-makes : goal.returns-in-Ok-clause-makes
@@ -66,7 +66,7 @@ returns-in-Ok-clause-makes g c t st =
     differs c.is_same_method_type.result c.ty.result.now c.args.target.ty c.args.ty.now c.if-is_same_method_type.false c.is_same_method_type.ensures
     c.ty.ensures.ty
     in
-    used-makes c.args.w.now.leaves.now c.args.ty.now c.args.target t st c.in-Ok.asked c.args.w.now c.used.new.w c.used.result other c.in-Ok.ensures.tells
+    used-makes c.args.rules c.args.w.now.leaves.now c.args.ty.now c.args.target t st c.in-Ok.asked c.args.w.now c.used.new.w c.used.result other c.in-Ok.ensures.tells
     c.used.ensures.makes
 
 pub returns-in-Ok-clause-stands : goal.returns-in-Ok-clause-stands
@@ -75,7 +75,7 @@ returns-in-Ok-clause-stands g c t st =
     differs c.is_same_method_type.result c.ty.result.now c.args.target.ty c.args.ty.now c.if-is_same_method_type.false c.is_same_method_type.ensures
     c.ty.ensures.ty
     in
-    asked-stands c.args.w.now.leaves.now c.args.ty.now c.in-Ok.asked c.args.target t c.used.result c.in-Ok.ensures.are other c.in-Ok.ensures.tells st
+    asked-stands c.args.rules c.args.w.now.leaves.now c.args.ty.now c.in-Ok.asked c.args.target t c.used.result c.in-Ok.ensures.are other c.in-Ok.ensures.tells st
     c.used.ensures.used
 
 pub returns-in-Ok-clause-used : goal.returns-in-Ok-clause-used
@@ -84,16 +84,16 @@ returns-in-Ok-clause-used g c =
     differs c.is_same_method_type.result c.ty.result.now c.args.target.ty c.args.ty.now c.if-is_same_method_type.false c.is_same_method_type.ensures
     c.ty.ensures.ty
     in
-    use-other c.args.w.now.leaves.now.classes c.args.target.ty c.args.ty.now c.in-Ok.asked c.args.target c.used.result other c.in-Ok.ensures.tells
+    use-other c.args.rules c.args.w.now.leaves.now.classes c.args.target.ty c.args.ty.now c.in-Ok.asked c.args.target c.used.result other c.in-Ok.ensures.tells
     c.used.ensures.used
 
 pub returns-then-is_same_method_type-clause-types : goal.returns-then-is_same_method_type-clause-types
 returns-then-is_same_method_type-clause-types g c =
-    trades-kept (used_types c.args.w.now.leaves.now.classes c.args.target.ty c.args.target.weight c.args.ty.now) c.args.target c.args.w.now c.requires.held
+    trades-kept (used_types_by c.args.rules c.args.w.now.leaves.now.classes c.args.target.ty c.args.target.weight c.args.ty.now) c.args.target c.args.w.now c.requires.held
 
 pub returns-in-Err-clause-types : goal.returns-in-Err-clause-types
 returns-in-Err-clause-types g c =
-    trades-checked (used_types c.args.w.now.leaves.now.classes c.args.target.ty c.args.target.weight c.args.ty.now) c.args.target.held c.args.w.now
+    trades-checked (used_types_by c.args.rules c.args.w.now.leaves.now.classes c.args.target.ty c.args.target.weight c.args.ty.now) c.args.target.held c.args.w.now
     c.refused.new.w c.in-Err.error c.refused.result c.refused.ensures.error c.refused.ensures.types
 
 pub returns-in-Ok-clause-types : goal.returns-in-Ok-clause-types
@@ -102,5 +102,5 @@ returns-in-Ok-clause-types g c =
     differs c.is_same_method_type.result c.ty.result.now c.args.target.ty c.args.ty.now c.if-is_same_method_type.false c.is_same_method_type.ensures
     c.ty.ensures.ty
     in
-    trades-used c.args.w.now.leaves.now.classes c.args.target.ty c.args.target.weight c.args.ty.now c.in-Ok.asked c.args.target.held c.args.w.now c.used.new.w
+    trades-used c.args.rules c.args.w.now.leaves.now.classes c.args.target.ty c.args.target.weight c.args.ty.now c.in-Ok.asked c.args.target.held c.args.w.now c.used.new.w
     c.used.result other c.in-Ok.ensures.tells c.used.ensures.types

@@ -1,5 +1,5 @@
 use Rattle.std.proofs.Common.{◌≡◌, ◌++◌, take}
-use Rattle.mh_form.proofs.stack.Stack.push_all.Given as goal
+use Rattle.mh_form.proofs.stack.Stack.push_first.Given as goal
 
 -- the slots of the run, and the copies so far after them
 abbrev pub invariant-loop-place : goal.invariant-loop-place

@@ -1,0 +1,6 @@
+//! Handles of further combinators.
+#![tactic(auto)]
+
+mod conversions;
+
+pub use conversions::explicit;
