@@ -26,6 +26,7 @@ fn slot_length(ty: Ty, slot: &Slot, classes: &Classes) -> usize
 {
     match (ty, slot) {
         (Ty::Prim(primitive), _) => text_length(&Value::Prim(number_in(primitive, slot)), classes),
+        (_, Slot::L(Value::Text(text))) => text.len(),
         (_, Slot::L(value)) => text_length(value, classes),
         _ => unreachable!(),
     }
@@ -42,6 +43,7 @@ fn push_slot(chars: &mut Vec<char>, ty: Ty, slot: &Slot, classes: &Classes) -> R
         (Ty::Prim(primitive), _) => {
             push_text(chars, &Value::Prim(number_in(primitive, slot)), classes)
         }
+        (_, Slot::L(Value::Text(text))) => push_chars(chars, text.as_slice()),
         (_, Slot::L(value)) => push_text(chars, value, classes),
         _ => unreachable!(),
     }

@@ -92,6 +92,7 @@ fn array_length(component: Comp, classes: &Classes) -> usize
 }
 
 /// The number of characters of a value's text (`String.valueOf`), as far as 64 bits count them.
+#[inline]
 pub fn text_length(value: &Value, classes: &Classes) -> usize
     ensures { result ≡ min (length (text_of classes.now value.now)) (2 ^ 64 - 1) }
 {

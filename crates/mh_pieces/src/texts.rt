@@ -25,6 +25,7 @@ fn push_ascii(chars: &mut Vec<char>, text: &[u8]) -> Result<(), NoMemory>
 }
 
 /// Writes characters at the end of others. If no memory is left, some of them may have been written.
+#[inline]
 pub fn push_chars(chars: &mut Vec<char>, text: &[char]) -> Result<(), NoMemory>
     ensures { OnOk result (chars.new.items ≡ chars.old.items ++ text.now) }
 {
@@ -179,6 +180,7 @@ fn push_array(chars: &mut Vec<char>, component: Comp, classes: &Classes) -> Resu
 
 /// Writes the text of a value at the end of other characters, as `String.valueOf` makes it. If no
 /// memory is left, a part of it may have been written.
+#[inline]
 pub fn push_text(chars: &mut Vec<char>, value: &Value, classes: &Classes) -> Result<(), NoMemory>
     ensures { OnOk result (chars.new.items ≡ chars.old.items ++ text_of classes.now value.now) }
 {
