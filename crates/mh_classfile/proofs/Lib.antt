@@ -3,6 +3,7 @@ pub mod Examples
 pub mod FileLaw
 pub mod FoundSites
 pub mod NamedBootstraps
+pub mod Numbers
 pub mod SitesLoop
 pub mod Spans
 mod Spelled

@@ -63,7 +63,7 @@ call-arguments leaves scripts class first d call h = cases (slice_get class.boot
         ap (λ (c : ConstBootstrap). c.arguments) (sym (ok_is _ call name.2))
 
 -- so a job names its own constants
-job-names : (leaves : LeafTable) (scripts : List Script) (class : class_file.Class) (first number : ℕ) (d : DynamicView) →
+pub job-names : (leaves : LeafTable) (scripts : List Script) (class : class_file.Class) (first number : ℕ) (d : DynamicView) →
     NamesItsOwn (const_job leaves scripts class first number d)
 job-names leaves scripts class first number d call is =
     subst (λ (a : StaticArguments). Name (names_of class first (constants_at class d.bootstrap)) a.parts)
