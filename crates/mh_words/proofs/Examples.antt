@@ -1,5 +1,5 @@
 -- What words of the command line ask for, by computation.
-use Rattle.std.specs.Prelude.{◌≡◌, refl, List, [], ◌∷◌, ◌++◌, codes, map, replicate, Option, None, Some}
+use Rattle.std.specs.Prelude.{◌≡◌, refl, ℕ, List, [], ◌∷◌, ◌++◌, codes, map, replicate, Option, None, Some}
 use Rattle.mh_base.specs.Lines.{tokens_of}
 use Rattle.clap.specs.Words.{Text}
 use Rattle.clap.proofs.OnLiterals.{clap_on_literals}
@@ -12,7 +12,12 @@ asked_for line = command_of (tokens_of line)
 
 -- the run of three inputs and these class files
 abbrev a_run : List Text → Option Command
-a_run classes = Some (run (record { leaves = codes "l"; scripts = codes "s"; plan = codes "p"; classes = classes }))
+a_run classes = Some (run (record { leaves = codes "l"; scripts = codes "s"; plan = codes "p"; classes = classes; workers = 0 }))
+
+-- the same with workers
+abbrev a_prelinked_run : ℕ → List Text → Option Command
+a_prelinked_run workers classes =
+    Some (run (record { leaves = codes "l"; scripts = codes "s"; plan = codes "p"; classes = classes; workers = workers }))
 
 -- ---- words that are accepted
 
@@ -43,10 +48,19 @@ zeros_in_front : asked_for (codes "--number=000042 --mode gen") ≡ Some (genera
 unfolding found clap_on_literals
 zeros_in_front = refl
 
+workers :
+    asked_for (codes "--mode run --leaves l --scripts s --plan p --prelink 16 A.class") ≡ a_prelinked_run 16 (codes "A.class" ∷ [])
+unfolding found clap_on_literals
+workers = refl
+
+a_zero_in_front_of_workers : asked_for (codes "--prelink=01 --mode run --leaves l --scripts s --plan p") ≡ a_prelinked_run 1 []
+unfolding found clap_on_literals
+a_zero_in_front_of_workers = refl
+
 -- a value that follows `=` is taken whole, whatever it is
 names_of_any_bytes : (leaves scripts plan : Text)
     → command_of (codes "--mode=run" ∷ (codes "--leaves=" ++ leaves) ∷ (codes "--scripts=" ++ scripts) ∷ (codes "--plan=" ++ plan) ∷ [])
-    ≡ Some (run (record { leaves = leaves; scripts = scripts; plan = plan; classes = [] }))
+    ≡ Some (run (record { leaves = leaves; scripts = scripts; plan = plan; classes = []; workers = 0 }))
 unfolding found clap_on_literals
 names_of_any_bytes leaves scripts plan = refl
 
@@ -89,6 +103,18 @@ no_number :
     ≡ replicate 7 None
 unfolding found clap_on_literals
 no_number = refl
+
+-- one to sixteen workers, in one or two digits, for a run alone
+no_number_of_workers :
+    map (λ said. asked_for (codes "--mode run --leaves l --scripts s --plan p " ++ said))
+    (codes "--prelink 0" ∷ codes "--prelink 00" ∷ codes "--prelink 17" ∷ codes "--prelink 016" ∷ codes "--prelink -1" ∷ codes "--prelink +1" ∷
+    codes "--prelink x" ∷ codes "--prelink=" ∷ codes "--prelink 1 --prelink 1" ∷ []) ≡ replicate 9 None
+unfolding found clap_on_literals
+no_number_of_workers = refl
+
+workers_of_another_mode : map asked_for (codes "--mode sites --prelink 1" ∷ codes "--mode gen --number 1 --prelink 1" ∷ []) ≡ replicate 2 None
+unfolding found clap_on_literals
+workers_of_another_mode = refl
 
 -- a value in a word of its own does not begin with a dash, unless it is one
 a_dash_in_front : map asked_for (codes "--mode run --leaves -l --scripts s --plan p" ∷ codes "--mode sites -A.class" ∷ []) ≡ replicate 2 None

@@ -21,7 +21,7 @@ class_rule = record (new_rule (codes "class")) { action = Some Append }
 
 -- the options by their names
 abbrev pub option_names : List Text
-option_names = codes "mode" ∷ codes "leaves" ∷ codes "scripts" ∷ codes "plan" ∷ codes "number" ∷ []
+option_names = codes "mode" ∷ codes "leaves" ∷ codes "scripts" ∷ codes "plan" ∷ codes "number" ∷ codes "prelink" ∷ []
 
 -- the command line as `clap` is told of it: options and names of class files; the program's name is not among the words
 abbrev pub app : App
@@ -41,6 +41,7 @@ pub record GivenOptions : Type 0 where
   pub scripts : Option Text
   pub plan : Option Text
   pub number : Option Text
+  pub prelink : Option Text
   pub classes : List Text
 
 -- what the words give, by what `clap` found
@@ -51,6 +52,7 @@ given_by rows = record {
   scripts = first_of (codes "scripts") rows;
   plan = first_of (codes "plan") rows;
   number = first_of (codes "number") rows;
+  prelink = first_of (codes "prelink") rows;
   classes = unwrap_or (all_of (codes "class") rows) [];
 }
 
@@ -66,5 +68,6 @@ values given = record {
   scripts = text given.scripts;
   plan = text given.plan;
   number = text given.number;
+  prelink = text given.prelink;
   classes = said given.classes.items;
 }

@@ -1,5 +1,5 @@
 -- What the words of the command line ask for.
-use Rattle.std.specs.Prelude.{ℕ, ◌^◌, ◌<◌, ◌≤◌, List, [], codes, nat_le, length, if◌then◌else◌, Option, None, Some, option_map, option_and_then}
+use Rattle.std.specs.Prelude.{ℕ, ◌^◌, ◌<◌, ◌≤◌, ◌&&◌, List, [], codes, nat_le, length, if◌then◌else◌, Option, None, Some, option_map, option_and_then}
 use Rattle.std.specs.Str.{bytes_eq}
 use Rattle.clap.specs.Words.{Text}
 use Rattle.mh_words.specs.Number.{most_digits, number_of}
@@ -14,6 +14,8 @@ pub record Named : Type 0 where
   pub scripts : Text
   pub plan : Text
   pub classes : List Text
+  -- how many workers link all call sites before the calls; none where it is 0
+  pub workers : ℕ
 
 -- a run of named inputs, the listing of the call sites of named class files, or a run of the input that is made from a number
 pub data Command : Type 0 where
@@ -25,33 +27,49 @@ pub data Command : Type 0 where
 abbrev pub most_class_files : ℕ
 most_class_files = 64
 
+-- how many workers there may be, and how many digits their number may have
+abbrev pub most_workers : ℕ
+most_workers = 16
+
+abbrev pub workers_digits : ℕ
+workers_digits = 2
+
+-- a number of workers, if there may be so many
+abbrev pub workers_within : ℕ → Option ℕ
+workers_within workers = if nat_le 1 workers && nat_le workers most_workers then Some workers else None
+
+-- how many workers are asked for: none where nothing is said of them
+abbrev pub workers_of : Option Text → Option ℕ
+workers_of None = Some 0
+workers_of (Some text) = option_and_then workers_within (number_of workers_digits text)
+
 -- a run has its three inputs and no number
-abbrev pub run_with : Option Text → Option Text → Option Text → Option Text → List Text → Option Command
-run_with (Some leaves) (Some scripts) (Some plan) None classes =
-    Some (run (record { leaves = leaves; scripts = scripts; plan = plan; classes = classes }))
-run_with _ _ _ _ classes = None
+abbrev pub run_with : Option Text → Option Text → Option Text → Option Text → Option Text → List Text → Option Command
+run_with (Some leaves) (Some scripts) (Some plan) None prelink classes =
+    option_map (λ workers. run (record { leaves = leaves; scripts = scripts; plan = plan; classes = classes; workers = workers })) (workers_of prelink)
+run_with _ _ _ _ prelink classes = None
 
 -- the run that is asked for
 abbrev pub run_of : GivenOptions → Option Command
-run_of given = run_with given.leaves given.scripts given.plan given.number given.classes
+run_of given = run_with given.leaves given.scripts given.plan given.number given.prelink given.classes
 
 -- a listing has no option beside the mode
-abbrev pub sites_with : Option Text → Option Text → Option Text → Option Text → List Text → Option Command
-sites_with None None None None classes = Some (sites classes)
-sites_with _ _ _ _ classes = None
+abbrev pub sites_with : Option Text → Option Text → Option Text → Option Text → Option Text → List Text → Option Command
+sites_with None None None None None classes = Some (sites classes)
+sites_with _ _ _ _ _ classes = None
 
 -- the listing that is asked for
 abbrev pub sites_of : GivenOptions → Option Command
-sites_of given = sites_with given.leaves given.scripts given.plan given.number given.classes
+sites_of given = sites_with given.leaves given.scripts given.plan given.number given.prelink given.classes
 
 -- a generated run has a number alone, and no class files
-abbrev pub generated_with : Option Text → Option Text → Option Text → Option Text → List Text → Option Command
-generated_with None None None (Some number) [] = option_map (λ n. generate n) (number_of number)
-generated_with _ _ _ _ classes = None
+abbrev pub generated_with : Option Text → Option Text → Option Text → Option Text → Option Text → List Text → Option Command
+generated_with None None None (Some number) None [] = option_map (λ n. generate n) (number_of most_digits number)
+generated_with _ _ _ _ _ classes = None
 
 -- the generated run that is asked for
 abbrev pub generated_of : GivenOptions → Option Command
-generated_of given = generated_with given.leaves given.scripts given.plan given.number given.classes
+generated_of given = generated_with given.leaves given.scripts given.plan given.number given.prelink given.classes
 
 -- the command of a mode
 abbrev pub of_mode : Text → GivenOptions → Option Command
@@ -69,9 +87,9 @@ asked given =
 abbrev pub command_of : List Text → Option Command
 command_of words = option_and_then (λ rows. asked (given_by rows)) (found words)
 
--- at most so many class files, or a number of at most so many digits
+-- at most so many class files and so many workers, or a number of at most so many digits
 abbrev pub IsCommandWithinLimits : Command → Type 0
-IsCommandWithinLimits (run names) = length names.classes ≤ most_class_files
+IsCommandWithinLimits (run names) = (length names.classes ≤ most_class_files) × (names.workers ≤ most_workers)
 IsCommandWithinLimits (sites names) = length names ≤ most_class_files
 IsCommandWithinLimits (generate number) = number < 10 ^ most_digits
 
@@ -82,6 +100,7 @@ held_names names = record {
   scripts = names.scripts.now;
   plan = names.plan.now;
   classes = said names.classes.items;
+  workers = names.workers;
 }
 
 -- the command that a value of the program holds

@@ -1,10 +1,7 @@
-ghost use Rattle.std.specs.Prelude.{◌≡◌};
+ghost use Rattle.std.specs.Prelude.{◌≡◌, ◌≤◌};
 ghost use Rattle.std.specs.Char.{is_ascii_digit};
 ghost use Rattle.std.specs.List.{list_all};
-ghost use Rattle.mh_words.specs.Number.{is_written, number_of};
-
-/// How many digits a number may have.
-const MOST_DIGITS: usize = 6;
+ghost use Rattle.mh_words.specs.Number.{is_written, most_digits, number_of};
 
 fn are_digits(text: &[u8]) -> bool
     ensures { result ≡ list_all is_ascii_digit text.now }
@@ -12,19 +9,20 @@ fn are_digits(text: &[u8]) -> bool
     text.iter().all(|byte| byte.is_ascii_digit())
 }
 
-// Whether a text writes a number: one to six decimal digits, and nothing else.
-fn is_written(text: &[u8]) -> bool
-    ensures { result ≡ is_written text.now }
+// Whether a text writes a number: one or more decimal digits, up to so many, and nothing else.
+fn is_written(most: usize, text: &[u8]) -> bool
+    ensures { result ≡ is_written most text.now }
 {
-    !text.is_empty() && text.len() <= MOST_DIGITS && are_digits(text)
+    !text.is_empty() && text.len() <= most && are_digits(text)
 }
 
-/// The number that a text of one to six decimal digits writes. Zeros may stand in front, a sign may
-/// not.
-pub(crate) fn read_number(text: &str) -> Option<u32>
-    ensures { result ≡ number_of text.now }
+/// The number that a text of one or more decimal digits writes, up to so many, which are six at
+/// most. Zeros may stand in front, a sign may not.
+pub(crate) fn read_number(most: usize, text: &str) -> Option<u32>
+    requires { most ≤ most_digits }
+    ensures { result ≡ number_of most text.now }
 {
-    if is_written(text.as_bytes()) {
+    if is_written(most, text.as_bytes()) {
         text.parse::<u32>().ok()
     } else {
         None

@@ -1,6 +1,7 @@
 ghost use Rattle.std.specs.Prelude.{◌≡◌, IfOk, false, option_map};
 ghost use Rattle.clap.specs.Words.{app_of, found_of, rows_of, rule_of};
-ghost use Rattle.mh_words.specs.Options.{app, class_rule, found, given_by, option_rule, said, values};
+ghost use Rattle.mh_words.specs.Options.{app, class_rule, found, given_by, option_rule, said};
+ghost use Rattle.mh_words.specs.Options.{values};
 
 use clap::error::ErrorKind;
 use clap::{Arg, ArgAction, ArgMatches, Command};
@@ -15,6 +16,7 @@ pub(crate) struct Given<'a> {
     pub(crate) scripts: Option<&'a str>,
     pub(crate) plan: Option<&'a str>,
     pub(crate) number: Option<&'a str>,
+    pub(crate) prelink: Option<&'a str>,
     pub(crate) classes: Vec<&'a str>,
 }
 
@@ -30,6 +32,7 @@ impl<'a> Given<'a> {
             scripts: matches.get_str("scripts"),
             plan: matches.get_str("plan"),
             number: matches.get_str("number"),
+            prelink: matches.get_str("prelink"),
             classes: Vec::from_slice(alloc, classes)?,
         })
     }
@@ -62,6 +65,7 @@ fn command_line<'a>(alloc: Global) -> Result<Command<'a>, AllocError>
         .arg(option(alloc, "scripts"))?
         .arg(option(alloc, "plan"))?
         .arg(option(alloc, "number"))?
+        .arg(option(alloc, "prelink"))?
         .arg(classes(alloc))
 }
 

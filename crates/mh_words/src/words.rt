@@ -1,6 +1,8 @@
 ghost use Rattle.std.specs.Prelude.{◌≡◌, IfOk, IfSome};
-ghost use Rattle.mh_words.specs.Options.{said, values};
-ghost use Rattle.mh_words.specs.Words.{IsCommandWithinLimits, asked, command_of, commanded, generated_of, of_mode, run_of, sites_of};
+ghost use Rattle.mh_words.specs.Options.{said, text, values};
+ghost use Rattle.mh_words.specs.Words.{IsCommandWithinLimits, asked, command_of, commanded};
+ghost use Rattle.mh_words.specs.Words.{generated_of, of_mode, run_of, sites_of, workers_of};
+ghost use Rattle.mh_words.specs.Words.{workers_within};
 
 use crate::number::read_number;
 use crate::options::{Given, parse};
@@ -10,6 +12,36 @@ use std::alloc::Global;
 
 /// How many class files may be named.
 const MOST_CLASSES: usize = 64;
+
+/// How many digits the number of an input may have.
+const NUMBER_DIGITS: usize = 6;
+
+/// How many digits the number of workers may have.
+const WORKERS_DIGITS: usize = 2;
+
+/// How many workers there may be.
+const MOST_WORKERS: u32 = 16;
+
+// A number of workers, if there may be so many.
+fn within(workers: u32) -> Option<u32>
+    ensures { result ≡ workers_within workers }
+{
+    if 1 <= workers && workers <= MOST_WORKERS {
+        Some(workers)
+    } else {
+        None
+    }
+}
+
+// How many workers are asked for: none where nothing is said of them.
+fn workers(prelink: Option<&str>) -> Option<u32>
+    ensures { result ≡ workers_of (text prelink.entry) }
+{
+    match prelink {
+        Some(text) => within(read_number(WORKERS_DIGITS, text)?),
+        None => Some(0),
+    }
+}
 
 // A run has its three inputs, and no number.
 fn run_command<'a>(given: Given<'a>) -> Option<Command<'a>>
@@ -21,6 +53,7 @@ fn run_command<'a>(given: Given<'a>) -> Option<Command<'a>>
             scripts,
             plan,
             classes: given.classes,
+            workers: workers(given.prelink)?,
         })),
         _ => None,
     }
@@ -30,8 +63,14 @@ fn run_command<'a>(given: Given<'a>) -> Option<Command<'a>>
 fn sites_command<'a>(given: Given<'a>) -> Option<Command<'a>>
     ensures { commanded result ≡ sites_of (values given.entry) }
 {
-    match (given.leaves, given.scripts, given.plan, given.number) {
-        (None, None, None, None) => Some(Command::Sites(given.classes)),
+    match (
+        given.leaves,
+        given.scripts,
+        given.plan,
+        given.number,
+        given.prelink,
+    ) {
+        (None, None, None, None, None) => Some(Command::Sites(given.classes)),
         _ => None,
     }
 }
@@ -40,9 +79,15 @@ fn sites_command<'a>(given: Given<'a>) -> Option<Command<'a>>
 fn generate_command<'a>(given: &Given<'a>) -> Option<Command<'a>>
     ensures { commanded result ≡ generated_of (values given.now) }
 {
-    match (given.leaves, given.scripts, given.plan, given.number) {
-        (None, None, None, Some(number)) if given.classes.is_empty() => {
-            Some(Command::Generate(read_number(number)?))
+    match (
+        given.leaves,
+        given.scripts,
+        given.plan,
+        given.number,
+        given.prelink,
+    ) {
+        (None, None, None, Some(number), None) if given.classes.is_empty() => {
+            Some(Command::Generate(read_number(NUMBER_DIGITS, number)?))
         }
         _ => None,
     }

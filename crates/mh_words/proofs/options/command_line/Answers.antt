@@ -10,4 +10,5 @@ returns c =
     let scripts = added _ _ _ _ _ c.in_ok-arg-3.ensures c.option-3.ensures.local c.option-3.ensures.rule leaves in
     let plan = added _ _ _ _ _ c.in_ok-arg-4.ensures c.option-4.ensures.local c.option-4.ensures.rule scripts in
     let number = added _ _ _ _ _ c.in_ok-arg-5.ensures c.option-5.ensures.local c.option-5.ensures.rule plan in
-    IfOk-weaker c.arg-6.result _ _ (λ command step. added _ command _ _ _ step c.classes.ensures.local c.classes.ensures.rule number) c.arg-6.ensures
+    let prelink = added _ _ _ _ _ c.in_ok-arg-6.ensures c.option-6.ensures.local c.option-6.ensures.rule number in
+    IfOk-weaker c.arg-7.result _ _ (λ command step. added _ command _ _ _ step c.classes.ensures.local c.classes.ensures.rule prelink) c.arg-7.ensures

@@ -15,7 +15,8 @@ returns c =
     let scripts : text c.get_str-3.result ≡ first_of (codes "scripts") rows = c.get_str-3.ensures ∙ first_value-rows found (codes "scripts") in
     let plan : text c.get_str-4.result ≡ first_of (codes "plan") rows = c.get_str-4.ensures ∙ first_value-rows found (codes "plan") in
     let number : text c.get_str-5.result ≡ first_of (codes "number") rows = c.get_str-5.ensures ∙ first_value-rows found (codes "number") in
+    let prelink : text c.get_str-6.result ≡ first_of (codes "prelink") rows = c.get_str-6.ensures ∙ first_value-rows found (codes "prelink") in
     let names = c.get_strs.ensures ∙ raw_values-rows found (codes "class") in
     let classes : said c.in_ok-from_slice.field-0.items ≡ unwrap_or (all_of (codes "class") rows) [] =
     ap said c.in_ok-from_slice.ensures.items ∙ names_or_none _ _ _ _ refl c.unwrap_or-classes.ensures names in
-    rw (mode, leaves, scripts, plan, number, classes) refl
+    rw (mode, leaves, scripts, plan, number, prelink, classes) refl
