@@ -14,6 +14,7 @@ use Rattle.mh_plan.specs.Naming.{naming_of, pairs_named}
 use Rattle.mh_plan.proofs.Host.{add_leaf, adds, given_with, int}
 use Rattle.mh_report.specs.declared.attempt.Attempt.{Attempt}
 use Rattle.mh_report.specs.Forms.{forms, forms_needed}
+use Rattle.mh_report.specs.Prelinked.{draws_by}
 use Rattle.mh_report.specs.Recorded.{types}
 use Rattle.mh_report.specs.Results.{result_of}
 use Rattle.mh_report.proofs.Host.{adding_later, adding_ten}
@@ -104,6 +105,18 @@ a_form_is_needed_where_an_attempt_may_link :
     ≡ 1
 unfolding chars_from units_from unit_len sound_from shown
 a_form_is_needed_where_an_attempt_may_link = refl
+
+-- with workers all sites are linked, whichever the calls name, and each worker may draw a number
+workers_link_sites_that_no_call_names :
+    draws_by evens 2 []
+    ≡ 2
+unfolding chars_from units_from unit_len sound_from shown
+workers_link_sites_that_no_call_names = refl
+
+no_form_is_needed_without_workers_and_calls :
+    draws_by evens 0 []
+    ≡ 0
+no_form_is_needed_without_workers_and_calls = refl
 
 -- ---- types
 

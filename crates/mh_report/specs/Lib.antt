@@ -1,4 +1,5 @@
 pub mod Forms
+pub mod Prelinked
 pub mod Recorded
 pub mod Results
 pub mod Text
