@@ -33,7 +33,7 @@ count-same xs ys to from =
       count-within ys xs from,
     )
 
-flat-among : {X : Type 0} (f : X → List (List Key)) (xs ys : List X) → ((x : X) → Contains xs x → Contains ys x) → AreAmong (flat_map f xs) (flat_map f ys)
+pub flat-among : {X : Type 0} (f : X → List (List Key)) (xs ys : List X) → ((x : X) → Contains xs x → Contains ys x) → AreAmong (flat_map f xs) (flat_map f ys)
 flat-among f xs ys within q there =
     let found = of-flat (same_recipe q) f xs there in in-flat (same_recipe q) f ys found.0 (within found.0 found.1) found.2
 

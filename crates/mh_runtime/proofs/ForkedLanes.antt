@@ -1,7 +1,8 @@
 -- A lane more is forked off, or joined.
-use Rattle.std.proofs.Common.{◌≡◌, sym, ◌∙◌, ap, ap₂, subst, ℕ, ◌+◌, ◌-◌, ◌*◌, ◌<◌, ◌≤◌, List, [], ◌∷◌, ◌++◌, length, length-append, take, Some, Result, Ok, Err, IfOk, OnOk, arith}
+use Rattle.std.proofs.Common.{◌≡◌, sym, ◌∙◌, ap, ap₂, subst, ℕ, ◌+◌, ◌-◌, ◌*◌, ◌<◌, ◌≤◌, List, [], ◌∷◌, ◌++◌, length, length-append, take, Some, Result, Ok}
+use Rattle.std.proofs.Common.{Err, IfOk, OnOk, arith}
 use Rattle.std.specs.Prelude.{All, slice_get, slice_index_or}
-use Rattle.std.proofs.lemmas.List.{length-take-le, map_push, take_all, take_more}
+use Rattle.std.proofs.lemmas.List.{length-map, length-take-le, map_push, take_all, take_more}
 use Rattle.std.proofs.lemmas.List.Elements.{All-contains}
 use Rattle.std.proofs.lemmas.Option.{get_or_from_slice_get, slice_get-get_or, slice_get_within}
 use Rattle.mh_base.proofs.Slices.{slice_get-within}
@@ -18,12 +19,15 @@ use Rattle.mh_runtime.specs.declared.joining.Joined.{Joined}
 use Rattle.mh_runtime.specs.declared.lane.Lane.{Lane}
 use Rattle.mh_runtime.specs.declared.linker.Linker.{Linker}
 use Rattle.mh_runtime.specs.declared.pass.Pass.{Pass}
-use Rattle.mh_runtime.specs.Joining.{JoinsLane, AreForked, AreFresh, AreJoinedTo, IsFreshFor, IsLeft, calls_of}
+use Rattle.mh_runtime.specs.Bases.{base_of}
+use Rattle.mh_runtime.specs.Joining.{JoinsLane, AreForked, AreFresh, AreJoinedTo, IsFreshFor, IsLeft, calls_of, ends_of}
 use Rattle.mh_runtime.specs.Lanes.{HasRun, IsReadyLane}
 use Rattle.mh_runtime.specs.Linkers.{CanSplit, IsOf, SplitsPass}
 use Rattle.mh_runtime.specs.Passes.{LinkPass, split_pass, split_room, with_seat}
+use Rattle.mh_runtime.specs.RunStops.{HasMade, HaveMade}
+use Rattle.mh_runtime.specs.Stops.{end_in}
 use Rattle.mh_runtime.proofs.JoiningSteps.{joined-push}
-use Rattle.mh_runtime.proofs.MoreThreads.{few-each, fresh-push}
+use Rattle.mh_runtime.proofs.MoreThreads.{few-each, fresh-push, made-push}
 use Rattle.mh_runtime.proofs.Places.{place-Contains}
 
 -- the first items of a list, and the next one
@@ -52,7 +56,7 @@ module _ {J : Type 0} (base : Pass J) where
   types_with room = record { table = base.types.table; holds = base.types.holds; room = room; asked = base.types.asked; full = base.types.full }
 
   -- one pass more was split off
-  left-more : (n thread : ℕ) (old new other : Pass J) → IsLeft n base old → SplitsPass thread old new other → IsLeft (n + 1) base new
+  pub left-more : (n thread : ℕ) (old new other : Pass J) → IsLeft n base old → SplitsPass thread old new other → IsLeft (n + 1) base new
   left-more n thread old new other left splits = record {
     links = splits.links_left ∙ (ap (λ (p : LinkPass). with_seat (serials.with_less_room split_room p.seat) p) left.links
         ∙ ap links_with (one-less base.links.seat.room n));
@@ -167,28 +171,47 @@ module _ {J : Type 0} (given : Given) (base : Pass J) (threads : List (List Call
         subst (λ (cs : List Call). HasRun given base (length after) cs lane) (sym (ap (λ b. b.now) same))
         (subst (λ n. HasRun given base n forked.calls.now lane) (next-fresh calls at).thread_is ran)
 
+    -- so it has made their calls
+    next-made : (calls : List Call) → slice_get threads (length after) ≡ Some calls → lane.calls ≡ forked.calls →
+        HasMade given (base_of base) forked.pass.links.thread forked.calls.now (end_in lane.ran) →
+        HasMade given (base_of base) (length (calls_of after)) lane.calls.now (end_in lane.ran)
+    next-made calls at same made =
+        subst (λ (cs : List Call). HasMade given (base_of base) (length (calls_of after)) cs (end_in lane.ran)) (sym (ap (λ b. b.now) same))
+        (subst (λ n. HasMade given (base_of base) n forked.calls.now (end_in lane.ran))
+        ((next-fresh calls at).thread_is ∙ sym (length-map after (λ (l : Lane J). l.calls.now))) made)
+
+    all-made : HasMade given (base_of base) (length (calls_of after)) lane.calls.now (end_in lane.ran) →
+        HaveMade given (base_of base) (calls_of (after ++ lane ∷ [])) (ends_of (after ++ lane ∷ []))
+    all-made made =
+        subst (λ ends. HaveMade given (base_of base) (calls_of (after ++ lane ∷ [])) ends) (sym (map_push (λ (l : Lane J). end_in l.ran) after lane))
+        (subst (λ calls. HaveMade given (base_of base) calls (ends_of after ++ end_in lane.ran ∷ [])) (sym (map_push (λ (l : Lane J). l.calls.now) after lane))
+        (made-push given (base_of base) (calls_of after) (ends_of after) lane.calls.now (end_in lane.ran) joined.made made))
+
     -- one lane more was joined
     joined-next : (calls : List Call) → slice_get threads (length after) ≡ Some calls → lane.calls ≡ forked.calls →
-        HasRun given base forked.pass.links.thread forked.calls.now lane → JoinsLane old lane new →
+        HasRun given base forked.pass.links.thread forked.calls.now lane →
+        HasMade given (base_of base) forked.pass.links.thread forked.calls.now (end_in lane.ran) → JoinsLane old lane new →
         AreJoinedTo given base threads before (after ++ lane ∷ []) new
-    joined-next calls at same ran adds =
+    joined-next calls at same ran made adds =
         let more : length (after ++ lane ∷ []) ≡ length after + 1 = length-append after (lane ∷ []) in
         record {
           fresh = joined.fresh;
           calls = map_push (λ (l : Lane J). l.calls.now) after lane
               ∙ (ap₂ (λ cs c. cs ++ c ∷ []) joined.calls (ap (λ b. b.now) same ∙ (next-fresh calls at).calls_are)
               ∙ sym (ap (λ n. take n threads) more ∙ take-next threads (length after) calls at));
+          made = all-made (next-made calls at same made);
           so_far = joined-push given base (length threads) after lane old new joined.so_far (next-ran calls at same ran) adds;
         }
 
     -- what a lane's joining tells
     pub joined-reported : {A E : Type 0} (P : Type 0) (r : Result A E) → P →
-        (lane.calls ≡ forked.calls) × HasRun given base forked.pass.links.thread forked.calls.now lane →
+        (lane.calls ≡ forked.calls) × HasRun given base forked.pass.links.thread forked.calls.now lane
+        × HasMade given (base_of base) forked.pass.links.thread forked.calls.now (end_in lane.ran) →
         OnOk r (JoinsLane old lane new) → OnOk r (P × AreJoinedTo given base threads before (after ++ lane ∷ []) new)
     joined-reported P (Err e) kept ran adds = tt
     joined-reported P (Ok a) kept ran adds =
         let calls = slice_get-within threads (length after) (omega (arith, within, joined.fresh.count)) in
-        (kept, joined-next calls.0 calls.1 ran.0 ran.1 adds)
+        (kept, joined-next calls.0 calls.1 ran.0 ran.1 ran.2 adds)
 
 -- the calls of all lanes are those of the threads
 pub all-calls : {J : Type 0} (given : Given) (base : Pass J) (threads : List (List Call)) (before after : List (Lane J)) (joined : Joined J) →

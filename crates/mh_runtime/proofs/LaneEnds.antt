@@ -26,9 +26,11 @@ use Rattle.mh_runtime.specs.declared.stops.ThreadRun.{ThreadRun}
 use Rattle.mh_runtime.specs.Asking.{HasAskedOn, HasRunOn, HasRunOut, RunsOn, RunsOnTypes, WasAsked, run_edits, run_types}
 use Rattle.mh_runtime.specs.Attempts.{AreLinked, AttemptsMore, IsThreadRun}
 use Rattle.mh_runtime.specs.Lanes.{AreUnlearnt, HasAnswered, IsReadyLane, EndsAs, EndsBy, EndsWithoutSlot, HasRun, passes_of}
-use Rattle.mh_runtime.specs.Linkers.{HasRoom, IsOf, RunsThread}
+use Rattle.mh_runtime.specs.Bases.{Base, base_of, pass_of}
+use Rattle.mh_runtime.specs.Linkers.{GoesOnCalling, HasRoom, IsOf, RunsThread}
 use Rattle.mh_runtime.specs.Linking.{HoldsInstead}
 use Rattle.mh_runtime.specs.Passes.{AttemptsUnlearnt, HasSerials, LinkPass, split_pass, split_room}
+use Rattle.mh_runtime.specs.RunStops.{HasMade}
 use Rattle.mh_runtime.specs.Stops.{EndAt, answered, begun, end_in, ending}
 use Rattle.mh_values.specs.declared.types.MethodTy.{MethodTy}
 use Rattle.mh_intern.specs.Held.{times_type}
@@ -43,7 +45,7 @@ use Rattle.mh_runtime.proofs.ThreadSteps.{attempts-early}
 -- ---- passes that were split off
 
 -- no attempt was made, and no site is named
-run-split : (base : LinkPass) (thread : ℕ) → IsThreadRun [] (split_pass thread base)
+pub run-split : (base : LinkPass) (thread : ℕ) → IsThreadRun [] (split_pass thread base)
 run-split base thread = record {
   numbered = refl;
   rising = λ i j d below within. absurd (omega (arith, within));
@@ -53,11 +55,11 @@ run-split base thread = record {
   in_order = refl;
 }
 
-within-split : (base : PassView) → DrawsWithin split_room (form_joins.split_pass base)
+pub within-split : (base : PassView) → DrawsWithin split_room (form_joins.split_pass base)
 within-split base = record { few = omega arith; room = refl }
 
 -- what the base has asked for was asked for
-asked-split : (given : Given) (before : List (List Key)) (base : PassView) → HasAsked before base →
+pub asked-split : (given : Given) (before : List (List Key)) (base : PassView) → HasAsked before base →
     HasAsked (run_edits given [] before) (form_joins.split_pass base)
 asked-split given before base has = record { once = has.once; same = has.same }
 
@@ -122,12 +124,37 @@ module _ (given : Given) (calls : List Call) (answers : List Answer) where
   ends-by base links forms (Some NoMemory) ended linked reported runs = tt
 
 -- where the calls have stopped for want of a slot
-no-slot : (given : Given) (a b : List Attempt) (more : List MethodTy) (old new : SeatView) (stop : Option WorkError) →
+pub no-slot : (given : Given) (a b : List Attempt) (more : List MethodTy) (old new : SeatView) (stop : Option WorkError) →
     RunsOnTypes given a b more old new (ending stop) → EndsWithoutSlot stop new
 no-slot given a b more old new None runs = tt
 no-slot given a b more old new (Some NoMemory) runs = tt
 no-slot given a b more old new (Some (FormsFull drawn)) runs = tt
 no-slot given a b more old new (Some (TypesFull bucket)) runs = runs.1
+
+-- ---- whichever data names the run
+
+pub goes-any : {J : Type 0} (calls : ℕ) (old new : Pass J) → GoesOnCalling calls old new →
+    GoesOnCalling {J = Unit {0}} calls (pass_of (base_of old)) (pass_of (base_of new))
+goes-any calls old new goes =
+    record { links = goes.links; table = goes.table; learnt = goes.learnt; room = goes.room; seat = goes.seat; holds = goes.holds }
+
+-- what `run_thread` promises
+abbrev Runs : Given → List Call → Base → Base → ThreadRun → Type 0
+Runs given calls old new run = RunsThread {J = Unit {0}} given calls (pass_of old) (pass_of new) run
+
+runs-any : {J : Type 0} (given : Given) (calls : List Call) (old new : Pass J) (run : ThreadRun) → RunsThread given calls old new run →
+    Runs given calls (base_of old) (base_of new) run
+runs-any given calls old new run made = record {
+  goes_on = goes-any (length calls) old new made.goes_on;
+  ended = made.ended;
+  answers = made.answers;
+  linked = made.linked;
+  attempts = made.attempts;
+  unlearnt = made.unlearnt;
+  types = made.types;
+  runs = made.runs;
+  asked = made.asked;
+}
 
 -- ---- a lane
 
@@ -148,6 +175,23 @@ module _ {J : Type 0} (given : Given) (base : Pass J) (before after : Lane J) (c
     forms = ap (λ (p : PassView). p.table) can.forms_are ∙ is.forms;
     types = ap (λ (s : SeatView). s.table) can.types_are ∙ is.types;
   }
+
+  -- it has made its calls with a pass that was split off the base
+  pub has-made : (run : ThreadRun) → RunsThread given before.calls.now before.pass after.pass run →
+      HasMade given (base_of base) before.pass.links.thread before.calls.now run.stop
+  has-made run made =
+      let calls : List Call = before.calls.now in
+      let links : LinkPass = split_pass before.pass.links.thread base.links in
+      let left : Base = base_of after.pass in
+      record {
+        left = left;
+        run = run;
+        runs = subst (λ (s : SeatView). Runs given calls (record { links = links; forms = form_joins.split_pass base.forms; types = s }) left run) can.types_are
+            (subst (λ (f : PassView). Runs given calls (record { links = links; forms = f; types = before.pass.types }) left run) can.forms_are
+            (subst (λ (l : LinkPass). Runs given calls (record { links = l; forms = before.pass.forms; types = before.pass.types }) left run) can.links
+            (runs-any given calls before.pass after.pass run made)));
+        end_is = refl;
+      }
 
   -- it has run
   pub has-run : (run : ThreadRun) → after.ran ≡ Some run → RunsThread given before.calls.now before.pass after.pass run →

@@ -27,7 +27,7 @@ not-none None none some = cc some
 not-none (Some n) none some = cc none
 
 -- attempts of sites that the base has learnt, and of none that it has learnt, are none
-none-made : (base : LinkPass) (sites : List ℕ) (attempts : List Attempt) → AreLinked base.linked sites → All (λ a. Contains sites a.site) attempts →
+pub none-made : (base : LinkPass) (sites : List ℕ) (attempts : List Attempt) → AreLinked base.linked sites → All (λ a. Contains sites a.site) attempts →
     AreUnlearnt base attempts → attempts ≡ []
 none-made base sites [] linked reached unlearnt = refl
 none-made base sites (a ∷ attempts) linked reached unlearnt =
@@ -47,7 +47,7 @@ module _ {J : Type 0} (given : Given) (base : Pass J) (thread : ℕ) (calls : Li
 
 -- ---- all lanes
 
-flat-none : {X Y : Type 0} (f : X → List Y) (xs : List X) → ((i : ℕ) (x : X) → slice_get xs i ≡ Some x → f x ≡ []) → flat_map f xs ≡ []
+pub flat-none : {X Y : Type 0} (f : X → List Y) (xs : List X) → ((i : ℕ) (x : X) → slice_get xs i ≡ Some x → f x ≡ []) → flat_map f xs ≡ []
 flat-none f [] each = refl
 flat-none f (x ∷ xs) each = ap₂ (λ ys zs. ys ++ zs) (each 0 x refl) (flat-none f xs (λ i. each (suc i)))
 

@@ -57,3 +57,10 @@ pub mod WorkPasses
 pub mod ReportedStops
 pub mod OutsideStops
 pub mod LowestStops
+pub mod WorkerSteps
+pub mod WorkersJoined
+pub mod WorkerStops
+pub mod TakenSites
+pub mod WorkersNeeded
+pub mod WorkersLedger
+pub mod BaseRuns

@@ -1,16 +1,19 @@
 -- Threads with what they have used, or lanes for them, and one more.
-use Rattle.std.proofs.Common.{◌≡◌, sym, ◌∙◌, ap, subst, ℕ, zero, suc, ◌+◌, ◌≤◌, List, [], ◌∷◌, ◌++◌, length, length-append, Some, ⊎_elim, arith}
+use Rattle.std.proofs.Common.{◌≡◌, sym, ◌∙◌, ap, subst, ℕ, zero, suc, ◌+◌, ◌≤◌, List, [], ◌∷◌, ◌++◌, length, length-append, Option, Some, ⊎_elim, arith}
 use Rattle.std.specs.Prelude.{slice_get}
 use Rattle.std.proofs.lemmas.Option.{slice_get_within}
 use Rattle.mh_base.proofs.Slices.{slice_get-push}
 use Rattle.mh_edit.specs.declared.key.Key.{Key}
 use Rattle.mh_jobs.specs.Given.{Given}
+use Rattle.mh_attempt.specs.declared.error.WorkError.{WorkError}
 use Rattle.mh_plan.specs.declared.call.Call.{Call}
 use Rattle.mh_plan.specs.Limits.{calls_in}
 use Rattle.mh_runtime.specs.declared.lane.Lane.{Lane}
 use Rattle.mh_runtime.specs.declared.pass.Pass.{Pass}
+use Rattle.mh_runtime.specs.Bases.{Base}
 use Rattle.mh_runtime.specs.Joined.{AreDone, AreUsed, HasDrawnFew, HaveDrawnFew, IsDoneBy, IsUsedBy, ThreadPasses}
 use Rattle.mh_runtime.specs.Joining.{AreFresh, IsFreshFor}
+use Rattle.mh_runtime.specs.RunStops.{HasMade, HaveMade}
 
 -- ---- pairs
 
@@ -54,6 +57,13 @@ pub drawn-push : (given : Given) (before : List (List Key)) (threads : List (Lis
     HaveDrawnFew given before (threads ++ calls ∷ []) (all ++ p ∷ [])
 drawn-push given before threads all calls p same drawn one =
     each-push (λ thread calls p. HasDrawnFew given before calls p) threads all calls p same drawn one
+
+pub made-push : (given : Given) (base : Base) (threads : List (List Call)) (ends : List (Option WorkError)) (calls : List Call) (end : Option WorkError) →
+    HaveMade given base threads ends → HasMade given base (length threads) calls end → HaveMade given base (threads ++ calls ∷ []) (ends ++ end ∷ [])
+made-push given base threads ends calls end made one = record {
+  count = one-longer threads ends calls end made.count;
+  each = each-push (λ thread calls end. HasMade given base thread calls end) threads ends calls end made.count made.each one;
+}
 
 -- ---- lanes
 

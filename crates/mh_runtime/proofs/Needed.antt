@@ -1,5 +1,6 @@
 -- How many numbers of forms the threads of a run can draw.
-use Rattle.std.proofs.Common.{◌≡◌, refl, sym, ◌∙◌, ap, subst, ℕ, zero, suc, ◌+◌, ◌-◌, ◌*◌, ◌<◌, ◌≤◌, Bool, true, ◌||◌, List, [], ◌∷◌, ◌++◌, length, get_or, ⊎_elim, Some, arith}
+use Rattle.std.proofs.Common.{◌≡◌, refl, sym, ◌∙◌, ap, subst, ℕ, zero, suc, ◌+◌, ◌-◌, ◌*◌, ◌<◌, ◌≤◌, Bool, true, ◌||◌, List, [], ◌∷◌, ◌++◌, length, get_or}
+use Rattle.std.proofs.Common.{⊎_elim, Some, arith}
 use Rattle.std.specs.Prelude.{Contains, slice_get, sum_by}
 use Rattle.std.specs.List.{flat_map, list_any, range_with_len}
 use Rattle.std.proofs.lemmas.Bool.{or_cases, or_left, or_right}
@@ -50,7 +51,7 @@ module _ {X R : Type 0} (p : R → Bool) (f : X → List R) where
       let found = of-flat xs rest in (found.0, (suc found.1.0, omega (arith, found.1.1), found.1.2), found.2))
       (or_cases (list_any p (f y)) (list_any p (flat_map f xs)) (sym (list_any-append p (f y) (flat_map f xs)) ∙ there))
 
-in-range : (n serial : ℕ) → 1 ≤ serial → serial ≤ n → Contains (range_with_len 1 n) serial
+pub in-range : (n serial : ℕ) → 1 ≤ serial → serial ≤ n → Contains (range_with_len 1 n) serial
 in-range n serial some few =
     let same : 1 + (serial - 1) ≡ serial = omega (arith, some) in (
       serial - 1,

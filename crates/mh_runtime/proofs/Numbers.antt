@@ -33,11 +33,11 @@ pub flat-same : {X Y : Type 0} (f g : X → List Y) (xs : List X) → ((i : ℕ)
 flat-same f g [] each = refl
 flat-same f g (x ∷ xs) each = ap₂ (λ ys zs. ys ++ zs) (each 0 x refl) (flat-same f g xs (λ i. each (suc i)))
 
-map-flat : {X Y Z : Type 0} (h : Y → Z) (f : X → List Y) (xs : List X) → map h (flat_map f xs) ≡ flat_map (λ x. map h (f x)) xs
+pub map-flat : {X Y Z : Type 0} (h : Y → Z) (f : X → List Y) (xs : List X) → map h (flat_map f xs) ≡ flat_map (λ x. map h (f x)) xs
 map-flat h f [] = refl
 map-flat h f (x ∷ xs) = map-append h (f x) (flat_map f xs) ∙ ap (λ zs. map h (f x) ++ zs) (map-flat h f xs)
 
-contains-map : {X Y : Type 0} (f : X → Y) (xs : List X) (x : X) → Contains xs x → Contains (map f xs) (f x)
+pub contains-map : {X Y : Type 0} (f : X → Y) (xs : List X) (x : X) → Contains xs x → Contains (map f xs) (f x)
 contains-map f xs x h = (h.0, omega (arith, h.1, length-map xs f), get_or-map f xs h.0 x (f x) h.1 ∙ ap f h.2)
 
 -- ---- numbers that each stand once

@@ -2,13 +2,29 @@
 use Rattle.std.proofs.Common.{◌≡◌, sym, subst, ℕ, List, Result, Ok, Err, inl}
 use Rattle.std.specs.Prelude.{IfErr, IsErrAnd}
 use Rattle.mh_plan.specs.declared.call.Call.{Call}
+use Rattle.mh_jobs.specs.Given.{Given}
+use Rattle.mh_runtime.specs.declared.joining.Joined.{Joined}
+use Rattle.mh_runtime.specs.declared.pass.Pass.{Pass}
 use Rattle.mh_runtime.specs.declared.stops.Stop.{Stop}
 use Rattle.mh_runtime.specs.Asking.{IfFull, IfTypesFull}
-use Rattle.mh_runtime.specs.Stops.{IsStopOf, error_of, outside}
+use Rattle.mh_runtime.specs.Report.{StopsJoined}
+use Rattle.mh_runtime.specs.Runs.{IsStopOn}
+use Rattle.mh_runtime.specs.RunStops.{IsStopBy}
+use Rattle.mh_runtime.specs.Stops.{error_of, outside}
 
-pub outside_reported : {A : Type 0} (threads : List (List Call)) (r : Result A Stop) → IsErrAnd r (λ x. x ≡ outside) → IfErr r (IsStopOf threads)
-outside_reported threads (Ok a) is = tt
-outside_reported threads (Err stop) is = inl is
+pub outside_joined : {A J : Type 0} (joined : Joined J) (r : Result A Stop) → IsErrAnd r (λ x. x ≡ outside) → IfErr r (StopsJoined joined)
+outside_joined joined (Ok a) is = tt
+outside_joined joined (Err stop) is = inl is
+
+pub outside_on : {A J : Type 0} (given : Given) (base : Pass J) (plan : List (List Call)) (r : Result A Stop) → IsErrAnd r (λ x. x ≡ outside) →
+    IfErr r (IsStopOn given base plan)
+outside_on given base plan (Ok a) is = tt
+outside_on given base plan (Err stop) is = inl is
+
+pub outside_by : {A : Type 0} (given : Given) (workers : ℕ) (plan : List (List Call)) (r : Result A Stop) → IsErrAnd r (λ x. x ≡ outside) →
+    IfErr r (IsStopBy given workers plan)
+outside_by given workers plan (Ok a) is = tt
+outside_by given workers plan (Err stop) is = inl is
 
 pub outside_full : {A : Type 0} (P : Type 0) (r : Result A Stop) → IsErrAnd r (λ x. x ≡ outside) → IfFull (error_of r) P
 outside_full P (Ok a) is = tt
@@ -17,3 +33,6 @@ outside_full {A = A} P (Err stop) is = subst (λ (s : Stop). IfFull {A = A} (err
 pub outside_types : {A : Type 0} (P : ℕ → Type 0) (r : Result A Stop) → IsErrAnd r (λ x. x ≡ outside) → IfTypesFull (error_of r) P
 outside_types P (Ok a) is = tt
 outside_types {A = A} P (Err stop) is = subst (λ (s : Stop). IfTypesFull {A = A} (error_of (Err s)) P) (sym is) tt
+
+-- what a run reports
+pub ruleset outside_steps = (outside_by, outside_full, outside_types)

@@ -88,3 +88,21 @@ instead-joined given before mine theirs all base seat other new holds more is jo
     let h = holds t in
     let m = more t in
     omega (arith, n, a, h, m, count_append p other.holds seat.holds, count_append q (types_held given mine) (types_held given theirs))
+
+-- the same of a seat that held just what is recorded
+pub just-joined : (given : Given) (mine theirs all : List Attempt) (seat other new : SeatView) → HoldsJust given mine seat → HoldsJust given theirs other →
+    all ≡ mine ++ theirs → new ≡ joined_seats seat other → HoldsJust given all new
+just-joined given mine theirs all seat other new holds more is joined t =
+    let p : Entry → Bool = λ e. is_same_method_type e.ty t in
+    let q : MethodTy → Bool = λ u. is_same_method_type u t in
+    let n : on_type t new.holds ≡ on_type t (other.holds ++ seat.holds) = ap (λ (s : SeatView). on_type t s.holds) joined in
+    let a : times_type t (types_held given all) ≡ times_type t (types_held given mine ++ types_held given theirs) =
+    ap (times_type t) (ap (types_held given) is ∙ flat_map-append (λ (x : Attempt). held_by given.leaves (linked_at given x.site x.serial)) mine theirs) in
+    let h = holds t in
+    let m = more t in
+    omega (arith, n, a, h, m, count_append p other.holds seat.holds, count_append q (types_held given mine) (types_held given theirs))
+
+-- and of one over a seat that held just what was recorded
+pub just-instead : (given : Given) (before after : List Attempt) (old new : SeatView) → HoldsJust given before old → HoldsInstead given before after old new →
+    HoldsJust given after new
+just-instead given before after old new holds more t = let h = holds t in let m = more t in omega (arith, h, m)

@@ -9,7 +9,7 @@ use Rattle.mh_runtime.specs.Stops.{stop_after, stop_at, stop_of, stops_after, re
 -- ---- which stop
 
 -- one thread more has ended
-stops-push : (thread : ℕ) (reported : Option Stop) (ends : List (Option WorkError)) (end : Option WorkError) →
+pub stops-push : (thread : ℕ) (reported : Option Stop) (ends : List (Option WorkError)) (end : Option WorkError) →
     stops_after thread reported (ends ++ end ∷ []) ≡ stop_after (stops_after thread reported ends) (stop_at (thread + length ends) end)
 stops-push thread reported [] end =
     let same : thread ≡ thread + 0 = omega arith in ap (λ n. stop_after reported (stop_at n end)) same

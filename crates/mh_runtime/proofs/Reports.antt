@@ -1,9 +1,7 @@
 -- The report of a run, from what its parts tell.
-use Rattle.std.proofs.Common.{◌≡◌, refl, sym, ◌∙◌, ap, subst, ℕ, ◌<◌, List, length, map, None, Some, Err, inr}
-use Rattle.std.specs.Prelude.{All, Contains}
-use Rattle.std.proofs.lemmas.List.{length-map}
+use Rattle.std.proofs.Common.{◌≡◌, refl, sym, ◌∙◌, ap, subst, ℕ, zero, ◌<◌, List, length, map, None, Some, Err}
+use Rattle.std.specs.Prelude.{Contains}
 use Rattle.std.proofs.lemmas.List.Elements.{All-contains}
-use Rattle.std.specs.List.Sorted.{IsNonDecreasingBy, IsPermutation}
 use Rattle.mh_intern.specs.Views.{SeatView}
 use Rattle.mh_handle.specs.Form.{most_forms}
 use Rattle.mh_jobs.specs.Given.{Given}
@@ -23,14 +21,15 @@ use Rattle.mh_runtime.specs.declared.pass.Pass.{Pass}
 use Rattle.mh_runtime.specs.declared.running.Linked.{Linked}
 use Rattle.mh_runtime.specs.declared.stops.Stop.{Stop}
 use Rattle.mh_runtime.specs.Asking.{IfFull, IfTypesFull}
-use Rattle.mh_runtime.specs.Attempts.{AreRecorded}
+use Rattle.mh_runtime.specs.Bases.{base_of}
 use Rattle.mh_runtime.specs.Joined.{AreDone, AreUsed, edits_of}
 use Rattle.mh_runtime.specs.Joining.{AreAllJoined, AreJoinedSoFar, IsJoinedRun, IsUnused, calls_of, ends_of}
 use Rattle.mh_runtime.specs.Keys.{plan_keys}
 use Rattle.mh_runtime.specs.Lanes.{passes_of}
-use Rattle.mh_runtime.specs.Passes.{IsRecorded}
-use Rattle.mh_runtime.specs.Report.{IsLinkedRun}
-use Rattle.mh_runtime.specs.Stops.{IsStopOf, end_in, error_of}
+use Rattle.mh_runtime.specs.Passes.{IsRecorded, LinkPass}
+use Rattle.mh_runtime.specs.Report.{IsLinkedRun, TellsRun}
+use Rattle.mh_runtime.specs.RunStops.{HaveMade, IsStopOfThreads}
+use Rattle.mh_runtime.specs.Stops.{error_of}
 use Rattle.mh_runtime.proofs.Counted.{forms-asked}
 use Rattle.mh_runtime.proofs.ForkedLanes.{all-calls}
 use Rattle.mh_runtime.proofs.HeldTypes.{held-types}
@@ -40,17 +39,6 @@ use Rattle.mh_runtime.proofs.RecordedSites.{serials-recorded}
 use Rattle.mh_runtime.proofs.RunLedger.{run-ledger}
 use Rattle.mh_runtime.proofs.ThreadSteps.{serials-self}
 use Rattle.mh_runtime.proofs.WholeJoin.{joined-all, joined-full, joined-no-slot, joined-stop, types-just, types-whole}
-
--- what the parts of a report tell of the joined passes
-pub record TellsRun {J : Type 0} (given : Given) (joined : Joined J) (run : Linked) : Type 0 where
-  pub threads : run.threads ≡ joined.threads
-  pub table : run.table ≡ recorded given joined.pass.links.linked
-  pub entries : length joined.pass.links.linked ≡ length given.jobs
-  pub own : AreRecorded joined.pass.links joined.pass.links.linked
-  pub linked_are : All (IsRecorded joined.pass.links.linked joined.pass.links.attempts) joined.pass.links.recorded
-  pub forms_are : run.forms ≡ length joined.pass.forms.asked
-  pub same : IsPermutation joined.pass.links.attempts run.attempts
-  pub rising : IsNonDecreasingBy (λ (a : Attempt). a.serial) run.attempts
 
 module _ {J : Type 0} (given : Given) (linker : Linker J) (base : Pass J) (unused : IsUnused given linker base) (plan : List (List Call)) (joined : Joined J)
     (all : AreAllJoined given base plan joined) where
@@ -65,12 +53,14 @@ module _ {J : Type 0} (given : Given) (linker : Linker J) (base : Pass J) (unuse
 
   module _ (stop : Stop) (some : joined.stop ≡ Some stop) where
     -- the stop is that which is reported of the threads of the plan
-    pub stop-run : IsStopOf plan stop
-    stop-run = inr (
-      ends_of lanes,
-      length-map lanes (λ (l : Lane J). end_in l.ran) ∙ all.3,
-      reported-lowest (ends_of lanes) stop (joined-stop given linker base unused lanes joined so_far stop some),
-    )
+    pub stop-run : IsStopOfThreads given zero plan stop
+    stop-run = record {
+      base = base_of base;
+      base_is = record { attempts = ap (λ (p : LinkPass). p.attempts) unused.links; linked = ap (λ (p : LinkPass). p.linked) unused.links };
+      ends = ends_of lanes;
+      made = subst (λ threads. HaveMade given (base_of base) threads (ends_of lanes)) calls_are all.2.made;
+      reported = reported-lowest (ends_of lanes) stop (joined-stop given linker base unused lanes joined so_far stop some);
+    }
 
     -- a thread had no form left
     pub full-run : (A : Type 0) → IfFull (error_of {A = A} (Err stop)) (most_forms < draws_needed given plan)
@@ -110,7 +100,7 @@ module _ {J : Type 0} (given : Given) (linker : Linker J) (base : Pass J) (unuse
     linked : (a : Attempt) → Contains joined.pass.links.recorded a → serial_at joined.pass.links.linked a.site ≡ Some a.serial
     linked a there = (All-contains (IsRecorded joined.pass.links.linked joined.pass.links.attempts) joined.pass.links.recorded a tells.linked_are there).1
 
-    pub report-of : IsLinkedRun given plan linker.types.now run joined.pass.types
+    pub report-of : IsLinkedRun given zero plan linker.types.now run joined.pass.types
     report-of = record {
       ledger = run-ledger given plan (map passes_of lanes) joined.pass.links run.attempts run.table used
           (subst (λ threads. AreDone threads (map passes_of lanes)) calls_are whole.done) whole.links tells.table tells.entries tells.own tells.same

@@ -27,7 +27,7 @@ use Rattle.mh_runtime.proofs.Places.{place-Contains}
 use Rattle.mh_runtime.proofs.TypeLists.{any-turned, counted-any, is_one}
 
 -- where one number is 0 only with another one, it is more where the other one is
-more-with : (m n : ℕ) → (m ≡ 0 → n ≡ 0) → 0 < n → 0 < m
+pub more-with : (m n : ℕ) → (m ≡ 0 → n ≡ 0) → 0 < n → 0 < m
 more-with zero n only some = let none = only (omega arith) in absurd (omega (arith, none, some))
 more-with (suc m) n only some = omega arith
 

@@ -18,14 +18,14 @@ use Rattle.mh_runtime.proofs.Rising.{contains-cases, contains-later}
 -- ---- how often a number stands in a list
 
 -- 1 for a number that is the other one
-abbrev is_it : ℕ → ℕ → ℕ
+abbrev pub is_it : ℕ → ℕ → ℕ
 is_it y x = cond (y == x) 1 0
 
-times-cons : (x y : ℕ) (ys : List ℕ) → times x (y ∷ ys) ≡ is_it y x + times x ys
+pub times-cons : (x y : ℕ) (ys : List ℕ) → times x (y ∷ ys) ≡ is_it y x + times x ys
 times-cons x y ys = sum_by-cons (λ z. is_it z x) y ys
 
 -- a number that stands in a list is one of its numbers
-times-contains : (x : ℕ) (ys : List ℕ) → 0 < times x ys → Contains ys x
+pub times-contains : (x : ℕ) (ys : List ℕ) → 0 < times x ys → Contains ys x
 times-contains x [] some = absurd (omega (arith, some))
 times-contains x (y ∷ ys) some = ⊎_elim
     (λ (same : y ≡ x). (0, omega arith, same))

@@ -1,5 +1,6 @@
 -- All lanes are joined to their base.
-use Rattle.std.proofs.Common.{◌≡◌, refl, sym, ◌∙◌, ap, ap₂, subst, ℕ, zero, suc, Bool, true, false, ◌&&◌, cond, ◌+◌, ◌-◌, ◌*◌, List, [], ◌++◌, append-nil, length, map, take, None, Some, ◌<◌, arith}
+use Rattle.std.proofs.Common.{◌≡◌, refl, sym, ◌∙◌, ap, ap₂, subst, ℕ, zero, suc, Bool, true, false, ◌&&◌, cond, ◌+◌, ◌-◌, ◌*◌, List, [], ◌++◌, append-nil}
+use Rattle.std.proofs.Common.{length, map, take, None, Some, ◌<◌, arith}
 use Rattle.std.proofs.lemmas.List.{take_all}
 use lib.Dec.{leb}
 use Rattle.std.proofs.lemmas.Bool.{lt-leb}
@@ -30,7 +31,8 @@ use Rattle.mh_runtime.specs.declared.stops.Stop.{Stop}
 use Rattle.mh_runtime.specs.Asking.{WasAsked}
 use Rattle.mh_runtime.specs.Bases.{base_of}
 use Rattle.mh_runtime.specs.Joined.{AreFormsJoined, AreJoined, ThreadPasses}
-use Rattle.mh_runtime.specs.Joining.{AreForked, AreFresh, AreJoinedSoFar, AreJoinedTo, EndsSoFar, HasRoomFor, IfDrawsKnown, IfForms, IsJoinedRun, IsLeft, IsUnused, KnowsDraws, StopsFor, calls_of, ends_of, lanes_types}
+use Rattle.mh_runtime.specs.Joining.{AreForked, AreFresh, AreJoinedSoFar, AreJoinedTo, EndsSoFar, HasRoomFor, IfDrawsKnown, IfForms, IsJoinedRun, IsLeft}
+use Rattle.mh_runtime.specs.Joining.{IsUnused, KnowsDraws, StopsFor, calls_of, ends_of, lanes_types}
 use Rattle.mh_runtime.specs.Lanes.{AreUnlearnt, passes_of}
 use Rattle.mh_runtime.specs.Linking.{HoldsInstead, HoldsJust, types_held}
 use Rattle.mh_runtime.specs.Passes.{HasSerials, LinkPass, split_room}
@@ -43,7 +45,7 @@ use Rattle.mh_runtime.proofs.RunTypes.{asked-needed}
 use Rattle.mh_runtime.proofs.ThreadSteps.{serials-self}
 
 -- nothing is each number once
-none-once : EachOnce []
+pub none-once : EachOnce []
 none-once x = cases x
   where
     cases : (x : ℕ) → times x [] ≡ once_up_to 0 x
@@ -54,7 +56,7 @@ none-once x = cases x
         none true = lt-leb (suc x) 0 (omega arith)
         none false = refl
 
-none-asked : (table : TableView) (room : ℕ) → HasAsked [] (forms_at table (forms.new_seat table room))
+pub none-asked : (table : TableView) (room : ℕ) → HasAsked [] (forms_at table (forms.new_seat table room))
 unfolding IsDistinct
 none-asked table room = record { once = tt; same = λ recipe. refl }
 
@@ -123,6 +125,7 @@ module _ {J : Type 0} (given : Given) (base : Pass J) where
     fresh = subst (λ ts. AreFresh given base ts lanes)
         (ap (λ n. take n threads) same ∙ take_all (length threads) threads (omega arith)) forked.lanes_are;
     calls = refl;
+    made = record { count = refl; each = λ thread calls end is there. absurd cc };
     so_far = none-so_far (length threads) joined (subst (λ n. IsLeft n base joined.pass) same forked.pass) forked.room forked.nothing.0 forked.nothing.1;
   }
 

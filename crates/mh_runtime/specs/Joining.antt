@@ -35,6 +35,7 @@ use Rattle.mh_runtime.specs.Lanes.{AreUnlearnt, IsReadyLane, passes_of}
 use Rattle.mh_runtime.specs.Linkers.{JoinsPass}
 use Rattle.mh_runtime.specs.Linking.{HoldsInstead}
 use Rattle.mh_runtime.specs.Passes.{HasSerials, pass_at, split_room, with_seat}
+use Rattle.mh_runtime.specs.RunStops.{HaveMade}
 use Rattle.mh_runtime.specs.Stops.{answers_in, end_in, stop_after, stop_at, stop_of}
 
 -- ---- before the run
@@ -171,6 +172,7 @@ pub record AreJoinedTo {J : Type 0} (given : Given) (base : Pass J) (threads : L
     : Type 0 where
   pub fresh : AreFresh given base threads before
   pub calls : calls_of after ≡ take (length after) threads
+  pub made : HaveMade given (base_of base) (calls_of after) (ends_of after)
   pub so_far : AreJoinedSoFar given base (length threads) after joined
 
 -- the lanes of all threads were joined to the base

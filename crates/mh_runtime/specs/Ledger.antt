@@ -1,9 +1,9 @@
 -- By which attempt each site of a run is linked.
-use Rattle.std.specs.Prelude.{◌≡◌, ◌≢◌, ℕ, ◌==◌, ◌↔◌, List, [], Option, Some, IsSome, length, map, filter, slice_get, Contains, AllPairs}
+use Rattle.std.specs.Prelude.{◌≡◌, ◌≢◌, ℕ, ◌+◌, ◌<◌, ◌≤◌, ◌==◌, ◌↔◌, List, [], Option, Some, IsSome, length, map, filter, slice_get, All, Contains, AllPairs}
 use Rattle.std.specs.List.{range_with_len, list_any}
 use Rattle.mh_plan.specs.Naming.{Naming, first_places}
 use Rattle.mh_report.specs.declared.attempt.Attempt.{Attempt}
-use Rattle.mh_report.specs.Results.{Serials}
+use Rattle.mh_report.specs.Results.{Serials, serial_at}
 
 -- some thread's calls name the site
 abbrev pub IsNamed : Naming → ℕ → Type 0
@@ -33,3 +33,24 @@ pub record Ledger (naming : Naming) (sites : ℕ) (table : Serials) (attempts : 
   -- each thread attempts sites in the order in which its calls first name them
   pub in_order : (thread : ℕ) (sites : List ℕ) → slice_get naming thread ≡ Some sites
       → attempted_by thread attempts ≡ filter (λ k. list_any (λ s. s == k) (attempted_by thread attempts)) (first_places [] sites)
+
+-- ---- with workers
+
+-- the workers of a run have the numbers after those of its threads
+abbrev pub IsOfWorker : ℕ → ℕ → ℕ → Type 0
+IsOfWorker threads workers number = (threads ≤ number) × (number < threads + workers)
+
+-- the same over all attempts of a run whose sites were all linked by workers before its calls, whichever sites these name
+pub record PrelinkedLedger (threads workers sites : ℕ) (table : Serials) (attempts : List Attempt) : Type 0 where
+  -- there is one entry for each site, and the serials are 1 to the number of attempts, in order
+  pub entries : length table ≡ sites
+  pub serials : map (λ a. a.serial) attempts ≡ range_with_len 1 (length attempts)
+  -- each site has a serial
+  pub linked : (site : ℕ) → site < sites → IsSome (serial_at table site)
+  -- the attempt of that serial is one of that site
+  pub own : (site serial : ℕ) → slice_get table site ≡ Some (Some serial)
+      → (a : Attempt) × Contains attempts a × (a.serial ≡ serial) × (a.site ≡ site)
+  -- each site is attempted, no site twice, and each attempt is one of a site and made by a worker
+  pub covered : (site : ℕ) → site < sites → (a : Attempt) × Contains attempts a × (a.site ≡ site)
+  pub once : AllPairs (λ a b. a.site ≢ b.site) attempts
+  pub by_workers : All (λ a. (a.site < sites) × IsOfWorker threads workers a.thread) attempts

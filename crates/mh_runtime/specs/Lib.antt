@@ -10,5 +10,9 @@ pub mod Ledger
 pub mod Linkers
 pub mod Linking
 pub mod Passes
+pub mod Prelinked
 pub mod Report
+pub mod RunStops
+pub mod Runs
 pub mod Stops
+pub mod Workers

@@ -98,10 +98,6 @@ IsReported ends stop =
     ⊎ ((stop.error ≡ NoMemory) × (slice_get ends stop.thread ≡ Some (Some NoMemory)) × HadMemory ends stop.thread
     × ((low : ℕ) × (drawn : ℕ) × IsFirst ends low (FormsFull drawn)))
 
--- the stop is that for want of memory outside the threads, or the reported one of these threads, by how each of them ended
-abbrev pub IsStopOf : List (List Call) → Stop → Type 0
-IsStopOf threads stop = (stop ≡ outside) ⊎ ((ends : List (Option WorkError)) × (length ends ≡ length threads) × IsReported ends stop)
-
 -- the result of a run, with the error alone of a stop
 abbrev pub error_of : {A : Type 0} → Result A Stop → Result A WorkError
 error_of (Ok a) = Ok a

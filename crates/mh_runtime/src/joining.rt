@@ -38,8 +38,8 @@ fn lane<'s, 't, J: Run, B: Based, G>(
     })
 }
 
-/// What the threads of a run leave together: a pass that has what all theirs have, the answers of each
-/// thread, and the stop to report.
+/// What the threads of a run leave together: a pass that has what all theirs have, the answers of
+/// each thread, and the stop to report.
 #[derive(Drop)]
 pub(crate) struct Joined<'s, 't, J: Run> {
     pub(crate) pass: Pass<'s, 't, J>,
@@ -99,6 +99,8 @@ impl<'s, 't, J: Run + Send + Sync, B: Based + Sync, G: Gate + Sync> ForkJoin
     ghost use Rattle.mh_runtime.specs.Lanes.{IsReadyLane, HasRun};
     ghost use Rattle.mh_runtime.specs.Linkers.{IsOf};
     ghost use Rattle.mh_runtime.specs.Joining.{AreForked, AreJoinedTo};
+    ghost use Rattle.mh_runtime.specs.RunStops.{HasMade};
+    ghost use Rattle.mh_runtime.specs.Stops.{end_in};
 
     type Lane = Lane<'s, 't, J>;
 
@@ -113,7 +115,8 @@ impl<'s, 't, J: Run + Send + Sync, B: Based + Sync, G: Gate + Sync> ForkJoin
         × IsReadyLane J.given (pass_of B.base) lane };
 
     ghost done = { λ c old new. (new.calls ≡ old.calls)
-        × HasRun J.given (pass_of B.base) old.pass.links.thread old.calls.now new };
+        × HasRun J.given (pass_of B.base) old.pass.links.thread old.calls.now new
+        × HasMade J.given B.base old.pass.links.thread old.calls.now (end_in new.ran) };
 
     ghost joined = { λ c before after state. IsOf J.given c.linker.now (pass_of B.base)
         × AreJoinedTo J.given (pass_of B.base) c.plan.now before after state };

@@ -2,6 +2,8 @@ ghost use Rattle.std.specs.Prelude.{◌≡◌};
 ghost use Rattle.mh_runtime.specs.Bases.{pass_of};
 ghost use Rattle.mh_runtime.specs.Lanes.{IsReadyLane, HasRun};
 ghost use Rattle.mh_runtime.specs.Linkers.{IsOf};
+ghost use Rattle.mh_runtime.specs.RunStops.{HasMade};
+ghost use Rattle.mh_runtime.specs.Stops.{end_in};
 
 use crate::base::Based;
 use crate::pass::Pass;
@@ -29,6 +31,8 @@ impl<'s, 't, J: Run, B: Based, G: Gate> PlanRun<'s, 't, J, B, G> {
         ensures calls { lane.new.calls ≡ lane.old.calls }
         ensures ran { HasRun J.given (pass_of B.base) lane.old.pass.links.thread
             lane.old.calls.now lane.new }
+        ensures made { HasMade J.given B.base lane.old.pass.links.thread lane.old.calls.now
+            (end_in lane.new.ran) }
     {
         let ran = self
             .linker

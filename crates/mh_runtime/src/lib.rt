@@ -1,6 +1,7 @@
-//! Threads that link call sites and call them: each call is by a handle, over one table of forms, and
-//! each call site is linked once, by whichever thread records first. A thread has a [`Pass`] of its
-//! own, and shares the [`Linker`]. A whole plan is run by [`run_all`].
+//! Threads that link call sites and call them: each call is by a handle, over one table of forms,
+//! and each call site is linked once, by whichever thread records first. A thread has a [`Pass`] of
+//! its own, and shares the [`Linker`]. A whole plan is run by [`run_all`], after workers have
+//! linked all call sites, if that is asked for.
 #![tactic(auto)]
 
 mod base;
@@ -14,6 +15,7 @@ mod linker;
 mod ordering;
 mod pass;
 mod plan_run;
+mod prelinking;
 mod recording;
 mod running;
 mod site_linker;

@@ -1,6 +1,6 @@
 use Rattle.std.proofs.Common.{refl, Some}
 use Rattle.mh_runtime.specs.Bases.{pass_of}
-use Rattle.mh_runtime.proofs.LaneEnds.{has-run, lane-of, lane-room}
+use Rattle.mh_runtime.proofs.LaneEnds.{has-made, has-run, lane-of, lane-room}
 use Rattle.mh_runtime.proofs.plan_run.PlanRun.run_lane.Goals as goal
 
 pub run_thread-ran-requires-clause-pass : goal.run_thread-ran-requires-clause-pass
@@ -16,3 +16,9 @@ returns-clause-ran g c =
     has-run g.J.Run.given (pass_of g.B.Based.base) c.args.lane.now
     (record { pass = c.run_thread-ran.new.pass; calls = c.args.lane.now.calls; ran = Some c.run_thread-ran.result })
     c.requires.lane c.run_thread-ran.result refl c.run_thread-ran.ensures.runs
+
+pub returns-clause-made : goal.returns-clause-made
+returns-clause-made g c =
+    has-made g.J.Run.given (pass_of g.B.Based.base) c.args.lane.now
+    (record { pass = c.run_thread-ran.new.pass; calls = c.args.lane.now.calls; ran = Some c.run_thread-ran.result })
+    c.requires.lane c.run_thread-ran.result c.run_thread-ran.ensures.runs
