@@ -15,7 +15,8 @@ use Rattle.mh_main.specs.declared.program.Program.{Program}
 use Rattle.mh_main.specs.declared.stop.Stop.{Stop}
 use Rattle.mh_main.specs.declared.stop.Stop.TheVariants.{NoMemory, ReadFault, TooLong, Fault, Place}
 use Rattle.mh_runtime.specs.Passes.{most_sites}
-use Rattle.mh_main.specs.Input.{IfAccepted, IfRefused, Input, accepted, fault_line, generated_input, generated_names, leaves_limit, named_input, place_line, plan_limit, program, too_long_line}
+use Rattle.mh_main.specs.Input.{IfAccepted, IfRefused, Input, accepted, fault_line, generated_input, generated_names, leaves_limit, named_input, place_line}
+use Rattle.mh_main.specs.Input.{plan_limit, program, too_long_line}
 use Rattle.mh_main.specs.Stops.{IsStopAmong, Refuses}
 use Rattle.mh_main.proofs.GeneratedClass.{class-made, class-short}
 use Rattle.mh_main.proofs.GeneratedFolds.{plan-made}
@@ -33,7 +34,7 @@ generated_accepted number =
     let class = class-made number in
     let jobs = jobs_of leaves all (class.0 ∷ []) in
     let threads = plan-made number leaves jobs (jobs-made leaves all class.0 number class.2) in
-    let p : Program = record { leaves = leaves; scripts = all; jobs = jobs; plan = threads.0; output = Line number } in
+    let p : Program = record { leaves = leaves; scripts = all; jobs = jobs; plan = threads.0; workers = 0; output = Line number } in
     let Q : Input → Type 0 = λ i. i ≡ accepted (program p) in (
       p,
       file-read Q leaves_limit (codes "leaves") manifest_word manifest generated_manifest leaves _ manifest_made.1 manifest_short

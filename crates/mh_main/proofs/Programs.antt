@@ -1,5 +1,5 @@
 -- The inputs of a run, read one after the other.
-use Rattle.std.proofs.Common.{◌≡◌, refl, sym, subst, inl, inr, ℕ, List, Result}
+use Rattle.std.proofs.Common.{◌≡◌, refl, sym, ap, subst, inl, inr, ℕ, List, Result}
 use Rattle.mh_base.specs.declared.lines.LineFault.{LineFault}
 use Rattle.mh_outside.specs.Causes.{AreSame}
 use Rattle.mh_outside.specs.Contents.{Contents}
@@ -30,7 +30,7 @@ use Rattle.mh_main.proofs.Reaching.{stops-at, stops-later}
 texts-read : (Q : Input → Type 0) (output : Output) (names : Named) (files : List ℕ → Contents) (leaves : LeafTable) (all : List Script) → Q unseen →
     TextsMean names files leaves all →
     Q (classes_input most_sites names.classes files (λ classes.
-    plan_input output (record { leaves = leaves; scripts = all; jobs = jobs_of leaves all classes }) names.plan files)) →
+    plan_input output names.workers (record { leaves = leaves; scripts = all; jobs = jobs_of leaves all classes }) names.plan files)) →
     Q (named_input output names files)
 texts-read Q output names files leaves all free mean h =
     text-read Q leaves_limit names.leaves manifest_word manifest (files names.leaves) leaves _ free mean.0
@@ -40,12 +40,12 @@ texts-read Q output names files leaves all free mean h =
 given-read : (Q : Input → Type 0) (output : Output) (names : Named) (files : List ℕ → Contents) (leaves : LeafTable) (all : List Script) (jobs : List Job) →
     Q unseen →
     TextsMean names files leaves all → HasJobs leaves all names.classes files jobs →
-    Q (plan_input output (record { leaves = leaves; scripts = all; jobs = jobs }) names.plan files) → Q (named_input output names files)
+    Q (plan_input output names.workers (record { leaves = leaves; scripts = all; jobs = jobs }) names.plan files) → Q (named_input output names files)
 given-read Q output names files leaves all jobs free mean has h =
     texts-read Q output names files leaves all free mean
     (classes-read Q most_sites names.classes files has.0
-    (λ classes. plan_input output (record { leaves = leaves; scripts = all; jobs = jobs_of leaves all classes }) names.plan files) free has.1
-    (subst (λ (js : List Job). Q (plan_input output (record { leaves = leaves; scripts = all; jobs = js }) names.plan files)) has.2 h))
+    (λ classes. plan_input output names.workers (record { leaves = leaves; scripts = all; jobs = jobs_of leaves all classes }) names.plan files) free has.1
+    (subst (λ (js : List Job). Q (plan_input output names.workers (record { leaves = leaves; scripts = all; jobs = js }) names.plan files)) has.2 h))
 
 -- the scripts that were read after the manifest
 pub texts-mean : (names : Named) (files files' : List ℕ → Contents) (leaves : LeafTable) (all : List Script) → ((n : List ℕ) → files' n ≡ files n) →
@@ -62,14 +62,15 @@ has-jobs names files files' leaves all jobs contents has =
 -- ---- where all were read
 
 -- a program that was read is what the inputs say
-pub program-read : (names : Named) (files files' : List ℕ → Contents) (p : Program) → ((n : List ℕ) → files' n ≡ files n) →
+pub program-read : (names : Named) (files files' : List ℕ → Contents) (p : Program) → names.workers ≡ p.workers → ((n : List ℕ) → files' n ≡ files n) →
     TextsMean names files p.leaves p.scripts → HasJobs p.leaves p.scripts names.classes files p.jobs →
     HasMeaning plan_limit (λ bytes. plan bytes p.leaves p.jobs) (files' names.plan) p.plan → IfAccepted (named_input p.output names files) (λ a. a ≡ program p)
-program-read names files files' p contents mean has is =
+program-read names files files' p same contents mean has is =
     let P : Input → Type 0 = λ i. IfAccepted i (λ a. a ≡ program p) in
     given-read P p.output names files p.leaves p.scripts p.jobs tt mean has
     (text-read P plan_limit names.plan plan_word (λ bytes. plan bytes p.leaves p.jobs) (files names.plan) p.plan _ tt
-    (subst (λ t. HasMeaning plan_limit (λ bytes. plan bytes p.leaves p.jobs) t p.plan) (contents names.plan) is) refl)
+    (subst (λ t. HasMeaning plan_limit (λ bytes. plan bytes p.leaves p.jobs) t p.plan) (contents names.plan) is)
+    (ap (λ n. program (record { leaves = p.leaves; scripts = p.scripts; jobs = p.jobs; plan = p.plan; workers = n; output = p.output })) same))
 
 -- its jobs are those of call sites of classes
 pub jobs-are : (leaves : LeafTable) (all : List Script) (names : List (List ℕ)) (files : List ℕ → Contents) (jobs : List Job) →

@@ -2,13 +2,14 @@
 use Rattle.std.proofs.Common.{◌≡◌, ◌<◌, sym, subst, inl, inr, ⊎_elim, List, ℕ, Option, Some, arith}
 use Rattle.mh_outside.specs.Contents.{Contents}
 use Rattle.mh_handle.specs.Form.{most_forms}
-use Rattle.mh_report.specs.Forms.{draws_needed}
-use Rattle.mh_report.specs.Types.{OverfillBucket, all_types}
+use Rattle.mh_report.specs.Prelinked.{draws_by, types_by}
+use Rattle.mh_report.specs.Types.{OverfillBucket}
 use Rattle.mh_main.specs.declared.program.Program.{Program}
 use Rattle.mh_words.specs.Words.{Command}
 use Rattle.mh_main.specs.Program.{given_of}
 use Rattle.mh_main.specs.Status.{IsDoneFullOrWant, IsDoneOrWant, forms_full, types_full}
-use Rattle.mh_main.specs.Input.{Accepted, AreAccepted, FitsTables, IfAccepted, Input, IsMissing, IsRefused, NeedsFew, ProgramFits, accepted, command_input, input_of, missing, program, refused, unseen, usage}
+use Rattle.mh_main.specs.Input.{Accepted, AreAccepted, FitsTables, IfAccepted, Input, IsMissing, IsRefused, NeedsFew, ProgramFits, accepted, command_input}
+use Rattle.mh_main.specs.Input.{input_of, missing, program, refused, unseen, usage}
 
 not-refused : (i : Input) (P : Accepted → Type 0) → IfAccepted i P → IsRefused i → ⊥
 not-refused usage P holds is = is
@@ -46,8 +47,8 @@ fits-few unseen p is so fits = absurd so
 -- a program that fits into the tables is run to its end, or memory is wanting
 pub run-done : (o : Option Command) (command : Command) (files : List ℕ → Contents) (p : Program) (status : ℕ) → Some command ≡ o →
     IfAccepted (command_input command files) (λ a. a ≡ program p) → AreAccepted (input_of o files) → FitsTables (input_of o files) → IsDoneFullOrWant status →
-    (status ≡ forms_full → most_forms < draws_needed (given_of p) p.plan) → (status ≡ types_full → OverfillBucket (all_types (given_of p) p.plan)) →
-    IsDoneOrWant status
+    (status ≡ forms_full → most_forms < draws_by (given_of p) p.workers p.plan) →
+    (status ≡ types_full → OverfillBucket (types_by (given_of p) p.workers p.plan)) → IsDoneOrWant status
 run-done o command files p status asked is so fits (inl done) full overfull = done
 run-done o command files p status asked is so fits (inr many) full overfull =
     let fit : ProgramFits p =

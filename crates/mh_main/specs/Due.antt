@@ -7,12 +7,11 @@ use Rattle.mh_classfile.specs.Class.{Class}
 use Rattle.mh_listing.specs.Listing.{listing}
 use Rattle.mh_handle.specs.declared.answer.Answer.{Answer}
 use Rattle.mh_handle.specs.Form.{most_forms}
-use Rattle.mh_plan.specs.Naming.{naming_of}
-use Rattle.mh_report.specs.Forms.{draws_needed}
+use Rattle.mh_report.specs.Prelinked.{draws_by, types_by}
 use Rattle.mh_report.specs.Results.{Serials, results_of, results_said, keys_said}
-use Rattle.mh_report.specs.Types.{OverfillBucket, all_types}
+use Rattle.mh_report.specs.Types.{OverfillBucket}
 use Rattle.mh_runtime.specs.Keys.{plan_keys}
-use Rattle.mh_runtime.specs.Ledger.{Ledger}
+use Rattle.mh_runtime.specs.Report.{LedgerBy}
 use Rattle.mh_main.specs.declared.answer.TopAnswer.{TopAnswer}
 use Rattle.mh_main.specs.declared.program.Program.{Program}
 use Rattle.mh_words.specs.Words.{Command, command_of, sites, generate}
@@ -22,7 +21,7 @@ use Rattle.mh_main.specs.Stops.{IsReachedInput, unread_line}
 
 -- the line for refused words
 abbrev pub usage_line : List ℕ
-usage_line = codes "usage: mh --mode run --leaves F --scripts F --plan F [CLASS]... or --mode sites [CLASS]... or --mode gen --number N\n"
+usage_line = codes "usage: mh --mode run --leaves F --scripts F --plan F [--prelink N] [CLASS]... or --mode sites [CLASS]... or --mode gen --number N\n"
 
 -- the line for a program whose threads can draw more numbers of forms than there are
 abbrev pub forms_line : List ℕ
@@ -55,7 +54,7 @@ AreAnswersOf p table threads =
 -- the table, and the bytes are the text of all
 abbrev pub IsReportOf : Program → TopAnswer → List ℕ → Type 0
 IsReportOf p answer bytes =
-    Ledger (naming_of p.plan) (length p.jobs) answer.table answer.attempts
+    LedgerBy p.workers p.plan (length p.jobs) answer.table answer.attempts
     × AreAnswersOf p answer.table answer.threads
     × (bytes ≡ text p answer.table answer.attempts)
 
@@ -74,11 +73,11 @@ Reports words files answer bytes = IfAccepted (input words files) (λ a. IsOutpu
 
 -- the line of a program whose threads can draw more numbers of forms than there are
 abbrev pub IsFullOf : Program → List ℕ → Type 0
-IsFullOf p bytes = (most_forms < draws_needed (given_of p) p.plan) × (bytes ≡ forms_line)
+IsFullOf p bytes = (most_forms < draws_by (given_of p) p.workers p.plan) × (bytes ≡ forms_line)
 
 -- the line of a program that can need more types of a bucket than it has slots
 abbrev pub IsOverfullOf : Program → List ℕ → Type 0
-IsOverfullOf p bytes = OverfillBucket (all_types (given_of p) p.plan) × (bytes ≡ types_line)
+IsOverfullOf p bytes = OverfillBucket (types_by (given_of p) p.workers p.plan) × (bytes ≡ types_line)
 
 -- what is due of a program: its report, or that its threads can draw too many numbers of forms, or that it can need too many types of a bucket, and then
 -- nothing is answered
@@ -96,7 +95,7 @@ AnswersCalls words files answer = IfAccepted (input words files) (λ a. AreAnswe
 
 -- the threads of the program can draw more numbers of forms than there are; a listing draws none
 abbrev pub NeedsManyForms : Accepted → Type 0
-NeedsManyForms (program p) = most_forms < draws_needed (given_of p) p.plan
+NeedsManyForms (program p) = most_forms < draws_by (given_of p) p.workers p.plan
 NeedsManyForms (listed classes) = ⊥
 
 -- the line of a program that the words and the files give and whose threads can draw more numbers of forms than there are
@@ -105,7 +104,7 @@ FillsForms words files bytes = IfAccepted (input words files) NeedsManyForms × 
 
 -- the program can need more types of a bucket than it has slots; a listing needs none
 abbrev pub NeedsManyTypes : Accepted → Type 0
-NeedsManyTypes (program p) = OverfillBucket (all_types (given_of p) p.plan)
+NeedsManyTypes (program p) = OverfillBucket (types_by (given_of p) p.workers p.plan)
 NeedsManyTypes (listed classes) = ⊥
 
 -- the line of a program that the words and the files give and that can need more types of a bucket than it has slots

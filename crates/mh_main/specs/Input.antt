@@ -14,8 +14,8 @@ use Rattle.mh_script.specs.Scripts.{scripts}
 use Rattle.mh_jobs.specs.Given.{Given}
 use Rattle.mh_jobs.specs.Jobs.{jobs_of}
 use Rattle.mh_plan.specs.Plan.{plan, kind_word as plan_word}
-use Rattle.mh_report.specs.Forms.{draws_needed}
-use Rattle.mh_report.specs.Types.{FitBuckets, all_types}
+use Rattle.mh_report.specs.Prelinked.{draws_by, types_by}
+use Rattle.mh_report.specs.Types.{FitBuckets}
 use Rattle.mh_generated.specs.Files.{files_of}
 use Rattle.mh_runtime.specs.Passes.{most_sites}
 use Rattle.mh_main.specs.declared.program.Output.{Output}
@@ -87,11 +87,18 @@ classes_input room (name ∷ names) files next =
     within name class_limit (files name) (λ bytes. class_meant name (class_or_fault room bytes) (λ c.
     classes_input (room - length c.sites) names files (λ classes. next (c ∷ classes))))
 
--- the program that a plan completes, given the rest of it and what is written at the end
-abbrev pub plan_input : Output → Given → List ℕ → (List ℕ → Contents) → Input
-plan_input output given name files =
+-- the program that a plan completes, given the rest of it, how many workers link its sites beforehand, and what is written at the end
+abbrev pub plan_input : Output → ℕ → Given → List ℕ → (List ℕ → Contents) → Input
+plan_input output workers given name files =
     within name plan_limit (files name) (λ bytes. meant name plan_word (plan bytes given.leaves given.jobs) (λ threads.
-    accepted (program (record { leaves = given.leaves; scripts = given.scripts; jobs = given.jobs; plan = threads; output = output }))))
+    accepted (program (record {
+      leaves = given.leaves;
+      scripts = given.scripts;
+      jobs = given.jobs;
+      plan = threads;
+      workers = workers;
+      output = output;
+    }))))
 
 -- the program of the files with these names, taken in the order manifest, scripts, class files, plan
 abbrev pub named_input : Output → Named → (List ℕ → Contents) → Input
@@ -99,7 +106,7 @@ named_input output names files =
     within names.leaves leaves_limit (files names.leaves) (λ leaves_bytes. meant names.leaves manifest_word (manifest leaves_bytes) (λ leaves.
     within names.scripts leaves_limit (files names.scripts) (λ scripts_bytes. meant names.scripts script_word (scripts scripts_bytes) (λ scripts.
     classes_input most_sites names.classes files (λ classes.
-    plan_input output (record { leaves = leaves; scripts = scripts; jobs = jobs_of leaves scripts classes }) names.plan files)))))
+    plan_input output names.workers (record { leaves = leaves; scripts = scripts; jobs = jobs_of leaves scripts classes }) names.plan files)))))
 
 -- these classes are accepted as ones to list
 abbrev pub to_list : List Class → Input
@@ -111,7 +118,7 @@ listing_input room names files = classes_input room names files to_list
 
 -- the names of the files that are made from a number
 abbrev pub generated_names : Named
-generated_names = record { leaves = codes "leaves"; scripts = codes "scripts"; plan = codes "plan"; classes = codes "class" ∷ [] }
+generated_names = record { leaves = codes "leaves"; scripts = codes "scripts"; plan = codes "plan"; classes = codes "class" ∷ []; workers = 0 }
 
 -- the program of the files that are made from a number; one line is written at its end
 unfoldable pub generated_input : ℕ → Input
@@ -179,7 +186,7 @@ AreListed P (listed classes) = P classes
 
 -- there are numbers for all forms that the threads of a program can draw, and slots for all types that it can need
 abbrev pub ProgramFits : Program → Type 0
-ProgramFits p = (draws_needed (given_of p) p.plan ≤ most_forms) × FitBuckets (all_types (given_of p) p.plan)
+ProgramFits p = (draws_by (given_of p) p.workers p.plan ≤ most_forms) × FitBuckets (types_by (given_of p) p.workers p.plan)
 
 -- the same of what is accepted; a listing needs none
 abbrev pub NeedsFew : Accepted → Type 0

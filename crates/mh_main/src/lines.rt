@@ -7,7 +7,7 @@ use mh_outside::{Failed, Sink, write_whole};
 
 /// The line for refused words.
 pub const USAGE: &str =
-    "usage: mh --mode run --leaves F --scripts F --plan F [CLASS]... or --mode sites [CLASS]... or --mode gen --number N\n";
+    "usage: mh --mode run --leaves F --scripts F --plan F [--prelink N] [CLASS]... or --mode sites [CLASS]... or --mode gen --number N\n";
 
 /// The line for a program whose calls need more forms than there are.
 pub const FORMS: &str = "forms full\n";

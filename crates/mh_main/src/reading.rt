@@ -10,10 +10,13 @@ ghost use Rattle.mh_plan.specs.Limits.{IsWithinLimits};
 ghost use Rattle.mh_plan.specs.Calls.{AreCallsOf};
 ghost use Rattle.mh_plan.specs.Plan.{plan, kind_word as plan_word};
 ghost use Rattle.mh_words.specs.Words.{held_names, run};
+ghost use Rattle.mh_runtime.specs.Workers.{most_workers};
 ghost use Rattle.mh_main.specs.Runnable.{IsRunnable};
-ghost use Rattle.mh_main.specs.Input.{HasMeaning, IfAccepted, named_input, program, leaves_limit, plan_limit};
+ghost use Rattle.mh_main.specs.Input.{HasMeaning, IfAccepted, named_input, program, leaves_limit};
+ghost use Rattle.mh_main.specs.Input.{plan_limit};
 ghost use Rattle.mh_main.specs.Reading.{ReadsInputs};
-ghost use Rattle.mh_main.specs.Stops.{IsStopAmong, IsStopOf, ReachesInput, Refuses, StopsFile, StopsText};
+ghost use Rattle.mh_main.specs.Stops.{IsStopAmong, IsStopOf, ReachesInput, Refuses, StopsFile};
+ghost use Rattle.mh_main.specs.Stops.{StopsText};
 
 use crate::jobs::read_jobs;
 use crate::stop::Stop;
@@ -71,7 +74,8 @@ fn read_leaves<'a, I: Inputs>(
     ensures stop { IfErr result
         (λ stop. IsStopOf name.now (I.faults inputs.old) (I.faults inputs.new) stop) }
     ensures refuses { IfErr result
-        (λ stop. StopsText leaves_limit manifest_word manifest (I.contents inputs.old name.now) stop) }
+        (λ stop. StopsText leaves_limit manifest_word manifest
+        (I.contents inputs.old name.now) stop) }
     ensures ok { IfOk result
         (λ leaves. HasMeaning leaves_limit manifest (I.contents inputs.old name.now) leaves) }
     ensures reads { ReadsOnce (leaves_limit + 1) 1 (I.reached inputs.old) (I.reached inputs.new)
@@ -151,6 +155,7 @@ pub fn read_program<'a, I: Inputs>(
     names: &Names<'a>,
     output: Output,
 ) -> Result<Program, Stop<'a>>
+    requires { names.now.workers ≤ most_workers }
     ensures keeps { KeepsInputs (I.contents inputs.old) (I.contents inputs.new)
         (I.faults inputs.old) (I.faults inputs.new) }
     ensures no_fault { OnOk result (AreSame (I.faults inputs.old) (I.faults inputs.new)) }
@@ -176,6 +181,7 @@ pub fn read_program<'a, I: Inputs>(
         scripts,
         jobs,
         plan,
+        workers: names.workers,
         output,
     })
 }

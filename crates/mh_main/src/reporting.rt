@@ -1,14 +1,14 @@
 ghost use Rattle.std.specs.Prelude.{◌≡◌, ◌<◌, IfOk, length, option_map};
 ghost use Rattle.mh_handle.specs.Form.{most_forms};
 ghost use Rattle.mh_plan.specs.Limits.{IsWithinLimits, calls_in};
-ghost use Rattle.mh_plan.specs.Naming.{naming_of};
-ghost use Rattle.mh_report.specs.Forms.{forms, draws_needed};
+ghost use Rattle.mh_report.specs.Forms.{forms};
+ghost use Rattle.mh_report.specs.Prelinked.{draws_by, types_by};
 ghost use Rattle.mh_report.specs.Recorded.{recorded, serials_of, types};
 ghost use Rattle.mh_report.specs.Results.{results_said};
 ghost use Rattle.mh_report.specs.Text.{report_text};
-ghost use Rattle.mh_report.specs.Types.{Overfill, all_types};
+ghost use Rattle.mh_report.specs.Types.{Overfill};
 ghost use Rattle.mh_runtime.specs.Asking.{IfFull, IfTypesFull};
-ghost use Rattle.mh_runtime.specs.Ledger.{Ledger};
+ghost use Rattle.mh_runtime.specs.Report.{LedgerBy};
 ghost use Rattle.mh_main.specs.Program.{given_of, text, written};
 ghost use Rattle.mh_main.specs.Runnable.{IsRunnable};
 ghost use Rattle.mh_main.specs.Status.{done};
@@ -67,7 +67,7 @@ fn run<R: Threads + Wait + Sync, G: Gate + Sync>(
     gate: &G,
 ) -> Result<RunReport, WorkError>
     requires { IsRunnable program.now }
-    ensures ledger { IfOk result (λ run. Ledger (naming_of program.now.plan)
+    ensures ledger { IfOk result (λ run. LedgerBy program.now.workers program.now.plan
         (length program.now.jobs) (serials_of run.table) run.attempts) }
     ensures answers { IfOk result
         (λ run. AreAnswersOf program.now (serials_of run.table) run.threads) }
@@ -77,17 +77,17 @@ fn run<R: Threads + Wait + Sync, G: Gate + Sync>(
         (λ run. run.forms ≡ forms (given_of program.now) program.now.plan run.attempts) }
     ensures types { IfOk result
         (λ run. run.types ≡ types (given_of program.now) (serials_of run.table)) }
-    ensures full { IfFull result
-        (most_forms < draws_needed (given_of program.now) program.now.plan) }
-    ensures no_slot { IfTypesFull result
-        (λ bucket. Overfill bucket (all_types (given_of program.now) program.now.plan)) }
+    ensures full { IfFull result (most_forms
+        < draws_by (given_of program.now) program.now.workers program.now.plan) }
+    ensures no_slot { IfTypesFull result (λ bucket. Overfill bucket
+        (types_by (given_of program.now) program.now.workers program.now.plan)) }
 {
     let input = RunInput {
         leaves: &program.leaves,
         scripts: &program.scripts,
         jobs: &program.jobs,
     };
-    match run_all(rt, alloc, &input, &program.plan, gate) {
+    match run_all(rt, alloc, &input, &program.plan, program.workers, gate) {
         Ok(run) => Ok(run),
         Err(stop) => Err(stop.error),
     }
@@ -164,15 +164,15 @@ pub fn run_and_report<R: Threads + Wait + Sync, G: Gate + Sync>(
     gate: &G,
 ) -> Result<(TopAnswer, Vec<u8>), WorkError>
     requires { IsRunnable program.now }
-    ensures ledger { IfOk result (λ r. Ledger (naming_of program.now.plan)
+    ensures ledger { IfOk result (λ r. LedgerBy program.now.workers program.now.plan
         (length program.now.jobs) r.0.table r.0.attempts) }
     ensures answers { IfOk result (λ r. AreAnswersOf program.now r.0.table r.0.threads) }
     ensures text { IfOk result (λ r. r.1.items ≡ text program.now r.0.table r.0.attempts) }
     ensures status { IfOk result (λ r. r.0.status ≡ done) }
-    ensures full { IfFull result
-        (most_forms < draws_needed (given_of program.now) program.now.plan) }
-    ensures no_slot { IfTypesFull result
-        (λ bucket. Overfill bucket (all_types (given_of program.now) program.now.plan)) }
+    ensures full { IfFull result (most_forms
+        < draws_by (given_of program.now) program.now.workers program.now.plan) }
+    ensures no_slot { IfTypesFull result (λ bucket. Overfill bucket
+        (types_by (given_of program.now) program.now.workers program.now.plan)) }
 {
     let run = run(rt, alloc, program, gate)?;
     let text = text_of(alloc, program, &run)?;

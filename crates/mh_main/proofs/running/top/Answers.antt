@@ -7,7 +7,7 @@ use Rattle.mh_main.specs.Due.{AreAnswers, IsOutputOf}
 use Rattle.mh_main.specs.Input.{AreListed}
 use Rattle.mh_main.specs.Status.{write_failed}
 use Rattle.mh_main.proofs.Answered.{RunEnds, StopEnds, run-ends, stop-ends}
-use Rattle.mh_main.proofs.Asked.{run-asked, sites-asked}
+use Rattle.mh_main.proofs.Asked.{run-asked, run-few, sites-asked}
 use Rattle.mh_main.proofs.Endings.{due-of-listing, listed-of}
 use Rattle.mh_main.proofs.Taken.{taken-there, taken-unrefused}
 use Rattle.mh_main.proofs.running.top.Given as given
@@ -44,6 +44,9 @@ sites-stop g c =
     (rw c.deref.ensures.value at c.in-Err-list_sites.ensures.stop) (rw c.deref.ensures.value at c.in-Err-list_sites.ensures.refuses)
     c.answer_stop-in-Err-list_sites.ensures.idle c.answer_stop-in-Err-list_sites.ensures.status c.answer_stop-in-Err-list_sites.ensures.written
     c.answer_stop-in-Err-list_sites.ensures.broken c.answer_stop-in-Err-list_sites.ensures.spoken c.answer_stop-in-Err-list_sites.ensures.fails.failed
+
+pub read_program-requires : goal.read_program-requires
+read_program-requires g c = run-few c.in-Ok.command c.in-Some.command c.in-Run.names c.in-Ok.ensures.within c.in-Some.is c.in-Run.is
 
 pub returns-in-Ok-read_program-clause-headline : goal.returns-in-Ok-read_program-clause-headline
 returns-in-Ok-read_program-clause-headline g c = (run-end g c).headline
