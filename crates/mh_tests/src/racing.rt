@@ -101,10 +101,11 @@ fn files(alloc: Global, input: &Input<'_>) -> Result<BTreeMap<String, Vec<u8>>, 
     Ok(files)
 }
 
-/// What a run gives, and what it writes.
-fn run<R: Threads + Wait + Sync, G: Gate + Sync>(
+/// What a run of these words gives, and what it writes.
+fn run_words<R: Threads + Wait + Sync, G: Gate + Sync>(
     rt: &R,
     alloc: Global,
+    words: &[&str],
     input: &Input<'_>,
     gate: &G,
 ) -> Result<(TopAnswer, Vec<u8>), Fail> {
@@ -115,8 +116,34 @@ fn run<R: Threads + Wait + Sync, G: Gate + Sync>(
         calls: 0,
         faults: 0,
     };
-    let answer = top(rt, alloc, &WORDS, &mut inputs, &mut sink, gate);
+    let answer = top(rt, alloc, words, &mut inputs, &mut sink, gate);
     Ok((answer, sink.bytes))
+}
+
+/// What a run without workers gives, and what it writes.
+fn run<R: Threads + Wait + Sync, G: Gate + Sync>(
+    rt: &R,
+    alloc: Global,
+    input: &Input<'_>,
+    gate: &G,
+) -> Result<(TopAnswer, Vec<u8>), Fail> {
+    run_words(rt, alloc, &WORDS, input, gate)
+}
+
+/// The words of a run with workers, of which the last one says how many.
+fn words_with(workers: &str) -> [&str; 10] {
+    [
+        "--mode",
+        "run",
+        "--leaves",
+        "leaves.txt",
+        "--scripts",
+        "scripts.txt",
+        "--plan",
+        "plan.txt",
+        "made.class",
+        workers,
+    ]
 }
 
 /// What races of threads 0 and 1 for one call site write, by what thread 1 records.
@@ -188,7 +215,8 @@ fn attempt(thread: u32, serial: u64) -> Attempt {
     }
 }
 
-/// Whether a run has two attempts, of these threads in this order, and has recorded that of the serial.
+/// Whether a run has two attempts, of these threads in this order, and has recorded that of the
+/// serial.
 fn has_attempts(answer: &TopAnswer, first: u32, second: u32, recorded: u64) -> bool {
     answer.attempts.as_slice() == [attempt(first, 1), attempt(second, 2)].as_slice()
         && answer.table.as_slice() == [Some(recorded)].as_slice()
@@ -338,5 +366,71 @@ fn all_of_64_threads_get_one_linkage(rt: HostRuntime) -> Result<(), Fail> {
     };
     let (answer, bytes) = run(&rt, alloc, &input, &OpenGate)?;
     assert!(rt; is_in_order(&answer, input.sites) && are_alike(&bytes, MOST_THREADS));
+    Ok(())
+}
+
+/// Whether one of so many workers made an attempt, which have the numbers after those of the
+/// threads.
+fn is_by_worker(attempt: &Attempt, threads: u32, workers: u32) -> bool {
+    match attempt.thread.checked_sub(threads) {
+        Some(number) => number < workers,
+        None => false,
+    }
+}
+
+/// Whether a run is done of whose sites each was attempted once, by a worker.
+fn is_shared_out(answer: &TopAnswer, sites: u8, threads: u32, workers: u32) -> bool {
+    let attempts = answer.attempts.as_slice();
+    is_in_order(answer, sites)
+        && attempts.len() == usize::from(sites)
+        && attempts.iter().all(|it| is_by_worker(it, threads, workers))
+}
+
+/// Whether a thread makes one of two attempts, and another thread the other one.
+fn is_by_each(attempts: &[Attempt], first: u32, second: u32) -> bool {
+    match attempts {
+        [a, b] => {
+            a.thread == first && b.thread == second || a.thread == second && b.thread == first
+        }
+        _ => false,
+    }
+}
+
+#[test]
+fn two_workers_link_a_site_each(rt: HostRuntime) -> Result<(), Fail> {
+    let gate = TestGate::default();
+    let input = Input {
+        sites: 2,
+        lines: "",
+        plan: "",
+    };
+    let words = words_with("--prelink=2");
+    let (answer, bytes) = run_words(&rt, rt.alloc(), &words, &input, &gate)?;
+    assert!(rt; is_shared_out(&answer, input.sites, 0, 2) && !gate.gave_up());
+    assert!(rt; is_by_each(answer.attempts.as_slice(), 0, 1));
+    assert!(rt; bytes.ends_with(b"attempts 2 forms 1 types 1\n"));
+    Ok(())
+}
+
+#[test]
+fn threads_attempt_no_site_that_workers_have_linked(rt: HostRuntime) -> Result<(), Fail> {
+    let words = words_with("--prelink=3");
+    for input in &ALL_CALLED {
+        let (answer, _) = run_words(&rt, rt.alloc(), &words, input, &OpenGate)?;
+        assert!(rt; is_shared_out(&answer, input.sites, 2, 3), "{}", input.plan);
+    }
+    Ok(())
+}
+
+#[test]
+fn sixteen_workers_link_each_of_200_sites_once(rt: HostRuntime) -> Result<(), Fail> {
+    let input = Input {
+        sites: 200,
+        lines: "failmod 3 1\n",
+        plan: "thread\nindy 7\n",
+    };
+    let words = words_with("--prelink=16");
+    let (answer, _) = run_words(&rt, rt.alloc(), &words, &input, &OpenGate)?;
+    assert!(rt; is_shared_out(&answer, input.sites, 1, 16));
     Ok(())
 }
