@@ -1,0 +1,68 @@
+-- How many constants are not known, under any rank.
+use Rattle.std.proofs.Common.{◌≡◌, refl, ap, ℕ, zero, suc, ◌<◌, ◌≤◌, Bool, true, false, ◌&&◌, if◌then◌else◌, [], ◌∷◌, Option, Some, None, Ok, Err, arith}
+use Rattle.std.specs.Prelude.{OnOk, Result, is_none, nat_lt, unwrap_or}
+use denote.Ref.{Bor}
+use Rattle.mh_base.specs.declared.memory.NoMemory.{NoMemory}
+use Rattle.std.proofs.lemmas.Bool.{lt-ltb}
+use Rattle.std.proofs.lemmas.List.Sums.{sum_by-cons}
+use Rattle.mh_link.specs.Named.{Constants}
+use Rattle.mh_link.specs.Depth.{depth, most_depth, rank}
+use Rattle.mh_link.proofs.Depths.{depth-small}
+use Rattle.mh_condy.specs.Nodes.{Nodes, unknown, unresolved}
+use Rattle.mh_condy.specs.Passes.{PassView}
+use Rattle.mh_condy.specs.Recorded.{ConstView}
+use Rattle.mh_condy.specs.Trails.{GoesBeside, trail_of}
+
+abbrev counted : Bool → ℕ
+counted b = if b then 1 else 0
+
+and-left : (a b : Bool) → counted (a && b) ≤ counted a
+and-left false b = omega arith
+and-left true false = omega arith
+and-left true true = omega arith
+
+and-true : (a b : Bool) → b ≡ true → counted (a && b) ≡ counted a
+and-true false b e = refl
+and-true true b e = ap counted e
+
+-- those under a rank are some of all
+pub unknown-within : (ranks : ℕ → ℕ) (r : ℕ) (known : Nodes) → unknown ranks r known ≤ unresolved known
+unknown-within ranks r [] = omega arith
+unknown-within ranks r (o ∷ known) =
+    let all = sum_by-cons (λ (o : Option ConstView). if is_none o then 1 else 0) o known in
+    let here = and-left (is_none o) (nat_lt (ranks zero) r) in
+    let rest = unknown-within (λ c. ranks (suc c)) r known in
+    omega arith
+
+-- those under a rank that is above all ranks are all
+pub unknown-all : (ranks : ℕ → ℕ) (r : ℕ) (known : Nodes) → ((c : ℕ) → ranks c < r) → unknown ranks r known ≡ unresolved known
+unknown-all ranks r [] high = refl
+unknown-all ranks r (o ∷ known) high =
+    let all = sum_by-cons (λ (o : Option ConstView). if is_none o then 1 else 0) o known in
+    let here = and-true (is_none o) (nat_lt (ranks zero) r) (lt-ltb (ranks zero) r (high zero)) in
+    let rest = unknown-all (λ c. ranks (suc c)) r known (λ c. high (suc c)) in
+    omega arith
+
+-- no constant stands deeper than 64
+rank-small : (run : Constants) (c : ℕ) → rank run c < 65
+unfolding most_depth
+rank-small run c = cases (depth run c) refl
+  where
+    cases : (o : Option ℕ) → depth run c ≡ o → unwrap_or o 0 < 65
+    cases None is = omega arith
+    cases (Some k) is = let s = depth-small run 64 c k is in omega arith
+
+-- as many serials are left at least as there are constants that are not known
+pub room-left : (run : Constants) (c : ℕ) (old new : PassView) → GoesBeside run (c ∷ []) (trail_of old) (trail_of new) →
+    unresolved old.known ≤ old.seat.room → unresolved new.known ≤ new.seat.room
+room-left run c old new goes room =
+    let drawn = goes.room 65 (λ d h. rank-small run d) in
+    let before = unknown-all (rank run) 65 old.known (rank-small run) in
+    let after = unknown-all (rank run) 65 new.known (rank-small run) in
+    omega arith
+
+pub room-left-ok : (run : Constants) (c : ℕ) (old new : PassView) (result : Result (Bor ConstView) NoMemory) →
+    OnOk result (GoesBeside run (c ∷ []) (trail_of old) (trail_of new)) → unresolved old.known ≤ old.seat.room →
+    OnOk result (unresolved new.known ≤ new.seat.room)
+room-left-ok run c old new (Ok node) goes room = room-left run c old new goes room
+room-left-ok run c old new (Err e) goes room = tt

@@ -1,0 +1,11 @@
+use Rattle.std.proofs.Common.{◌∙◌, ap, ◌++◌}
+use Rattle.mh_condy.proofs.Passes.{pass-joins}
+use Rattle.mh_condy.proofs.pass.ConstPass.join.Goals as goal
+
+pub invariant_of-self-2 : goal.invariant_of-self-2
+invariant_of-self-2 g c =
+    pass-joins g.J.ConstRun.run c.self.inside.known.values c.join-2.new.self.values c.self.inside.attempts.items c.self.inside.recorded.items
+    c.join-2.ensures.mine c.self.invariant c.other.inside.known.values c.other.inside.attempts.items c.other.inside.recorded.items c.append.new.self.items
+    c.append-2.new.self.items c.join-2.ensures.theirs c.other.invariant
+    (c.in_ok-append.ensures.items ∙ ap (λ made. made ++ c.other.inside.attempts.items) c.reserve.ensures.items)
+    (c.in_ok-append-2.ensures.items ∙ ap (λ made. made ++ c.other.inside.recorded.items) c.reserve-2.ensures.items)

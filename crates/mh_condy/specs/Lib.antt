@@ -1,0 +1,12 @@
+pub mod Recorded
+pub mod Nodes
+pub mod Passes
+pub mod Trails
+pub mod Known
+pub mod Runs
+pub mod Resolving
+pub mod Told
+pub mod Lines
+pub mod Frames
+pub mod Given
+pub mod Depths
