@@ -12,7 +12,7 @@ ghost use Rattle.mh_runtime.specs.Input.{given_by};
 ghost use Rattle.mh_runtime.specs.Linkers.{HasRoom, IsOf};
 ghost use Rattle.mh_runtime.specs.Passes.{most_sites};
 
-use mh_base::NoMemory;
+use mh_base::{NoMemory, Seq};
 use mh_classfile::read;
 use mh_form::Machine;
 use mh_jobs::{Jobs, Run, push_jobs};
@@ -23,9 +23,7 @@ use mh_report::push_answer;
 use mh_runtime::{Linker, MOST_SITES, Pass, RunInput, Seats, Tables};
 use mh_script::read_scripts;
 use mh_texts::read_literal;
-use mh_values::Items;
 use std::alloc::Global;
-use std::marker::Brand;
 use std::process::ExitCode;
 use std::sync::Wait;
 use std::thread::{Threads, join_mut};
@@ -41,6 +39,9 @@ impl From<NoMemory> for Stopped {
     }
 }
 
+/// What is read or written, unless the program stops.
+type Bytes = Result<Vec<u8>, Stopped>;
+
 // Calls site 0 with two values, and gives the line of the answer. The site is linked now, unless a
 // thread has linked it before.
 fn call<'s, 't, J: Run, R: Wait>(
@@ -49,12 +50,12 @@ fn call<'s, 't, J: Run, R: Wait>(
     linker: &'s Linker<'t, J>,
     pass: &mut Pass<'s, 't, J>,
     words: [&[u8]; 2],
-) -> Result<Vec<u8>, Stopped>
+) -> Bytes
     requires pass { IsOf J.given linker.now pass.old }
     requires room { HasRoom 1 pass.old }
 {
     let classes = linker.leaves.classes();
-    let mut items = Items::new(alloc);
+    let mut items = Seq::new(alloc);
     for word in words {
         items.push(read_literal(alloc, word, classes).or(Err(Stopped))?)?;
     }
@@ -75,7 +76,7 @@ fn call_from_both<'s, 't, J: Run + Send + Sync, R: Threads + Wait + Sync>(
     alloc: Global,
     linker: &'s Linker<'t, J>,
     seats: Seats,
-) -> Result<Vec<u8>, Stopped>
+) -> Bytes
     requires leaves { linker.now.leaves.now ≡ J.given.leaves }
     requires types { seats.types ≡ types_seat.new_seat linker.now.types.now limit }
     requires forms { seats.forms ≡ forms_seat.new_seat linker.now.forms.now limit }
@@ -98,7 +99,7 @@ fn link_and_call<'a, J: Run + Send + Sync, R: Threads + Wait + Sync>(
     rt: &R,
     alloc: Global,
     input: &'a RunInput<'a>,
-) -> Result<Vec<u8>, Stopped>
+) -> Bytes
     requires named { given_by input.now ≡ J.given }
     requires jobs { AreJobs J.given }
     requires few { length J.given.jobs ≤ most_sites }
@@ -109,16 +110,12 @@ fn link_and_call<'a, J: Run + Send + Sync, R: Threads + Wait + Sync>(
 }
 
 /// The bytes of a file, at most 1,048,576.
-fn file<I: Inputs>(alloc: Global, inputs: &mut I, name: &str) -> Result<Vec<u8>, Stopped> {
+fn file<I: Inputs>(alloc: Global, inputs: &mut I, name: &str) -> Bytes {
     read_whole(alloc, inputs, name, 1 << 20).or(Err(Stopped))
 }
 
 /// A line for each thread's call.
-fn lines<R: Threads + Wait + Sync, I: Inputs>(
-    rt: &R,
-    alloc: Global,
-    inputs: &mut I,
-) -> Result<Vec<u8>, Stopped> {
+fn lines<R: Threads + Wait + Sync, I: Inputs>(rt: &R, alloc: Global, inputs: &mut I) -> Bytes {
     let leaves = read_manifest(alloc, &file(alloc, inputs, "leaves.txt")?).or(Err(Stopped))?;
     let scripts = read_scripts(alloc, &file(alloc, inputs, "scripts.txt")?).or(Err(Stopped))?;
     let bytes = file(alloc, inputs, "Prices.class")?;
@@ -133,7 +130,7 @@ fn lines<R: Threads + Wait + Sync, I: Inputs>(
         scripts: &scripts,
         jobs: &jobs,
     };
-    link_and_call::<Brand, R>(rt, alloc, &input)
+    link_and_call::<std::marker::Brand, R>(rt, alloc, &input)
 }
 
 fn main(rt: HostRuntime) -> ExitCode {
