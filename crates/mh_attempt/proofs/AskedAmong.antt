@@ -77,6 +77,9 @@ module _ (leaves : LeafTable) where
   itself-among frame (operation.AsType h ty) n =
       part-among (handle_in frame h) (λ t. use_asked leaves t n) n
       (λ t. among-among (recipes_of leaves (use_asked leaves t n)) (recipe leaves n ∷ []) (recipes_of leaves (nodes_of n)) (use-among t n) (own-among n))
+  itself-among frame (operation.Explicit h ty) n =
+      part-among (handle_in frame h) (λ t. use_asked leaves t n) n
+      (λ t. among-among (recipes_of leaves (use_asked leaves t n)) (recipe leaves n ∷ []) (recipes_of leaves (nodes_of n)) (use-among t n) (own-among n))
   itself-among frame op n = own-among n
 
   step-among : (s : Step) (frame : Frame) → AreTreesAmong (step_asked leaves s frame) (nodes_of_step leaves s frame)

@@ -22,6 +22,7 @@ pub mod KnownLines
 pub mod KnownNodes
 pub mod KnownSteps
 pub mod LineNodes
+pub mod Once
 pub mod OperandTypes
 pub mod UseTypes
 pub mod LineTypes
@@ -54,5 +55,6 @@ pub mod SiteEdits
 pub mod SiteTypes
 pub mod SpreadNodes
 pub mod Telling
+pub mod SwitchNodes
 pub mod TypedRecipes
 pub mod UsedNodes

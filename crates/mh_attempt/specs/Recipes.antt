@@ -38,6 +38,7 @@ spread_asked leaves t s = s ∷ []
 abbrev pub asked_itself : LeafTable → Frame → Operation → Tree → List Tree
 asked_itself leaves frame (operation.Spread h ty count) s = unless_thrown (handle_in frame h) (λ t. spread_asked leaves t s)
 asked_itself leaves frame (operation.AsType h ty) u = unless_thrown (handle_in frame h) (λ t. use_asked leaves t u)
+asked_itself leaves frame (operation.Explicit h ty) u = unless_thrown (handle_in frame h) (λ t. use_asked leaves t u)
 asked_itself leaves frame op t = t ∷ []
 
 -- the nodes whose forms an operation asks for, with its uses of leaves first: none if it throws

@@ -23,6 +23,7 @@ mod WorkedBranchCalls
 mod WorkedCalls
 mod WorkedConcatenations
 mod WorkedConstants
+mod WorkedEndings
 mod WorkedEnds
 mod WorkedLines
 mod WorkedNodes

@@ -41,9 +41,16 @@ handles_of (operation.Collect h place f) = h ∷ f ∷ []
 handles_of (operation.Spread h ty count) = h ∷ []
 handles_of (operation.Gather h ty count) = h ∷ []
 handles_of (operation.AsType h ty) = h ∷ []
+handles_of (operation.Explicit h ty) = h ∷ []
 handles_of (operation.Guard c h e) = c ∷ h ∷ e ∷ []
 handles_of (operation.Catch h class f) = h ∷ f ∷ []
-handles_of _ = []
+handles_of (operation.TryFinally h f) = h ∷ f ∷ []
+handles_of (operation.Switch f cases) = f ∷ cases
+handles_of (operation.Counted n i b) = n ∷ i ∷ b ∷ []
+handles_of (operation.Leaf method) = []
+handles_of (operation.Constant ty v) = []
+handles_of (operation.Identity ty) = []
+handles_of (operation.Throw ret class) = []
 
 -- the node of a static argument that is a leaf
 abbrev pub leaf_among : Option Argument → List Tree

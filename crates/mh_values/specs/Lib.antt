@@ -5,6 +5,7 @@ pub mod ClassNumbers
 pub mod Classes
 pub mod Computation
 pub mod Descriptor
+pub mod Ending
 pub mod Exception
 pub mod Grammar
 pub mod HasType

@@ -6,3 +6,8 @@ use Rattle.mh_attempt.proofs.lines.combining.of_two.Goals as goal
 pub returns-in-Catch-clause-stands : goal.returns-in-Catch-clause-stands
 returns-in-Catch-clause-stands g c t p stands others =
     subst (λ by. IfOk c.catch_of.result (λ h. StandsIn c.args.w.now h (two_tree by t p))) (sym c.in-Catch.is) (c.catch_of.ensures.stands t p stands others)
+
+pub returns-in-TryFinally-clause-stands : goal.returns-in-TryFinally-clause-stands
+returns-in-TryFinally-clause-stands g c t p stands others =
+    subst (λ by. IfOk c.tryfinally_of.result (λ h. StandsIn c.args.w.now h (two_tree by t p))) (sym c.in-TryFinally.is)
+    (c.tryfinally_of.ensures.stands t p stands others)
