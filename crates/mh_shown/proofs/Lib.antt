@@ -1,0 +1,3 @@
+pub mod Cuts
+pub mod Letters
+pub mod KeyTexts
