@@ -112,6 +112,12 @@ enum Own {
     SPREAD,
     /** An array type that an identity handle does not take is refused by gather. */
     COLLECTOR,
+    /** An explicit conversion of types that cannot meet is refused. */
+    EXPLICIT,
+    /** A cleanup that does not take any Throwable first, or not the result after it, is refused by IllegalArgumentException. */
+    CLEANUP,
+    /** A loop of more than 64 turns throws. */
+    TURNS,
     /** Types that mh lacks are refused. */
     TYPES,
     /** Static arguments, names of sites and kinds of bootstrap methods that mh lacks are refused. */
@@ -550,6 +556,9 @@ record Tree(MethodHandle handle, int weight) {
 /** One run of a script, line by line. */
 final class Attempt {
     private static final int MOST_NODES = 256;
+    private static final int MOST_TURNS = 64;
+    /** The node of a loop counts for the turns that it may have. */
+    private static final int LOOP_NODES = 126;
     private static final Pattern REGISTER = Pattern.compile("[a-z][a-z0-9_]{0,15}");
     private static final Pattern ARGUMENT = Pattern.compile("a(0|[1-9][0-9]*)");
 
@@ -604,6 +613,9 @@ final class Attempt {
         if (words.get(0).equals("serial")) {
             return serial;
         }
+        if (words.get(0).equals("switch")) {
+            return switching(handles(words.subList(1, words.size())));
+        }
         return words.size() < 4 ? ofTwo(words) : ofThree(words);
     }
 
@@ -618,6 +630,8 @@ final class Attempt {
             case "throw" -> throwing(type(first), resolution.classNamed(second));
             case "filterret" -> filterReturn(handle(first), handle(second));
             case "astype" -> asType(handle(first), methodType(second));
+            case "explicit" -> explicit(handle(first), methodType(second));
+            case "tryfinally" -> cleanedUp(handle(first), handle(second));
             default -> throw new IllegalStateException(words.toString());
         };
     }
@@ -638,6 +652,7 @@ final class Attempt {
             case "gather" -> gather(handle(first), type(second), number(third));
             case "guard" -> guard(handle(first), handle(second), handle(third));
             case "catch" -> catching(handle(first), resolution.classNamed(second), handle(third));
+            case "counted" -> counted(handle(first), handle(second), handle(third));
             default -> throw new IllegalStateException(words.toString());
         };
     }
@@ -665,6 +680,14 @@ final class Attempt {
     private Tree handle(String register) throws Throwable {
         Object content = content(register);
         return sorted(Tree.class, content instanceof MethodHandle handle ? new Tree(handle, 1) : content);
+    }
+
+    private List<Tree> handles(List<String> registers) throws Throwable {
+        List<Tree> trees = new ArrayList<>();
+        for (String register : registers) {
+            trees.add(handle(register));
+        }
+        return trees;
     }
 
     private Object value(String token) throws Throwable {
@@ -784,6 +807,48 @@ final class Attempt {
         }
     }
 
+    private Tree cleanedUp(Tree target, Tree cleanup) throws Throwable {
+        MethodHandle handle;
+        try {
+            handle = MethodHandles.tryFinally(target.handle(), cleanup.handle());
+        } catch (IndexOutOfBoundsException thrown) {
+            throw run.isOwn ? noCleanup() : thrown;
+        }
+        if (run.isOwn && cleanup.type().parameterType(0) != Throwable.class) {
+            throw noCleanup();
+        }
+        return made("tryfinally", handle, 1 + target.weight() + cleanup.weight());
+    }
+
+    private Throwable noCleanup() throws Throwable {
+        return run.own(Own.CLEANUP, run.exceptions.make(IllegalArgumentException.class, "tryfinally"));
+    }
+
+    /** A switch of the first handle, which is the fallback, and the others. */
+    private Tree switching(List<Tree> trees) throws Throwable {
+        MethodHandle[] cases = trees.stream().skip(1).map(Tree::handle).toArray(MethodHandle[]::new);
+        MethodHandle handle = MethodHandles.tableSwitch(trees.get(0).handle(), cases);
+        return made("switch", handle, 1 + trees.stream().mapToInt(Tree::weight).sum());
+    }
+
+    private Tree counted(Tree iterations, Tree init, Tree body) throws Throwable {
+        MethodHandle turns = iterations.handle();
+        if (run.isOwn && turns.type().returnType() == int.class) {
+            MethodType type = MethodType.methodType(int.class, int.class);
+            turns = MethodHandles.filterReturnValue(turns, MethodHandles.lookup().bind(this, "bounded", type));
+        }
+        MethodHandle handle = MethodHandles.countedLoop(turns, init.handle(), body.handle());
+        return made("counted", handle, LOOP_NODES + iterations.weight() + init.weight() + body.weight());
+    }
+
+    /** The turns of a loop, unless there are too many. */
+    private int bounded(int turns) throws Throwable {
+        if (turns > MOST_TURNS) {
+            throw run.own(Own.TURNS, run.exceptions.make(InternalError.class, "loop"));
+        }
+        return turns;
+    }
+
     private Tree asType(Tree tree, MethodType type) throws Throwable {
         if (tree.type().equals(type)) {
             return tree;
@@ -791,6 +856,19 @@ final class Attempt {
         MethodHandle converted = run.converted(tree.handle(), type);
         orderMatters |= Conversions.orderMatters(tree.type(), type);
         return made("astype", isInOrder ? Conversions.inOrder(tree.handle(), type) : converted, tree.weight() + 1);
+    }
+
+    private Tree explicit(Tree tree, MethodType type) throws Throwable {
+        if (tree.type().equals(type)) {
+            return tree;
+        }
+        MethodHandle converted = MethodHandles.explicitCastArguments(tree.handle(), type);
+        if (run.isOwn && !Conversions.canMeet(tree.type(), type)) {
+            throw run.own(Own.EXPLICIT, run.exceptions.wrongType(tree.type(), type));
+        }
+        orderMatters |= Conversions.orderMatters(tree.type(), type);
+        MethodHandle made = isInOrder ? Conversions.explicitlyInOrder(tree.handle(), type) : converted;
+        return made("explicit", made, tree.weight() + 1);
     }
 
     private Tree spread(Tree tree, Class<?> array, int count) throws Throwable {
@@ -1064,6 +1142,37 @@ final class Conversions {
             converted = converted.asType(converted.type().changeParameterType(i, asked.parameterType(i)));
         }
         return converted.asType(asked);
+    }
+
+    /** The same with one explicitCastArguments for each parameter. */
+    static MethodHandle explicitlyInOrder(MethodHandle handle, MethodType asked) {
+        MethodHandle converted = handle;
+        for (int i = asked.parameterCount() - 1; i >= 0; i--) {
+            MethodType next = converted.type().changeParameterType(i, asked.parameterType(i));
+            converted = MethodHandles.explicitCastArguments(converted, next);
+        }
+        return MethodHandles.explicitCastArguments(converted, asked);
+    }
+
+    /** Whether each explicit conversion of a handle of the type to the asked one can give something else than an exception. */
+    static boolean canMeet(MethodType type, MethodType asked) {
+        for (int i = 0; i < type.parameterCount(); i++) {
+            if (!canMeet(asked.parameterType(i), type.parameterType(i))) {
+                return false;
+            }
+        }
+        return type.returnType() == void.class || asked.returnType() == void.class
+                || canMeet(type.returnType(), asked.returnType());
+    }
+
+    /** Whether values of both types can meet: a boxed number may be one of the class. */
+    private static boolean canMeet(Class<?> from, Class<?> to) {
+        if (from.isPrimitive() == to.isPrimitive()) {
+            return true;
+        }
+        return from.isPrimitive()
+                ? to.isAssignableFrom(MethodType.methodType(from).wrap().returnType())
+                : Primitive.isWrappedBelow(from);
     }
 }
 
@@ -1693,6 +1802,13 @@ enum Primitive {
     /** Whether values of a class are boxed ones of a primitive type. */
     static boolean wraps(Class<?> type) {
         return Arrays.stream(values()).anyMatch(primitive -> primitive.wrapper.equals(Classes.internal(type)));
+    }
+
+    /** Whether boxed values of a primitive type that mh has are of a class. */
+    static boolean isWrappedBelow(Class<?> type) {
+        return Arrays.stream(values())
+                .filter(primitive -> primitive != FLOAT && primitive != DOUBLE)
+                .anyMatch(primitive -> type.isAssignableFrom(MethodType.methodType(primitive.type).wrap().returnType()));
     }
 
     String unboxing() {

@@ -48,6 +48,8 @@ MOST_CONCAT_SLOTS = 200
 # In a recipe, the next argument and the next constant.
 ARGUMENT, CONSTANT = "\x01", "\x02"
 MOST_SLOTS = 254
+# OpenJDK takes no more slots in some cleanups, switches and loops, and refuses others that are wider.
+MOST_ENDED_SLOTS = 250
 # A script has at most 64 lines, and ends a few after this many.
 SOME_LINES = 45
 # The least and the greatest number of each type but boolean (JLS SE 17, 4.2.1).
@@ -260,6 +262,14 @@ class World:
         if slots(params) > MOST_SLOTS + 1:
             params = given.params
         return Type(params, self.target_of(given.ret))
+
+    def asked_explicitly(self, given):
+        """A type to which a handle of the given type may be converted explicitly, mostly: any primitive type becomes any other."""
+        asked = self.asked(given)
+        return Type(tuple(self.other_primitive(it) for it in asked.params), self.other_primitive(asked.ret))
+
+    def other_primitive(self, type):
+        return self.rng.choice("ZBCSIJ") if is_primitive(type) and self.chance(0.6) else type
 
     # Literals.
 
@@ -533,6 +543,10 @@ class Script:
         new = self.world.asked(type)
         self.let(f"astype {h} {self.method_type(new)}", new)
 
+    def explicit(self, h, type):
+        new = self.world.asked_explicitly(type)
+        self.let(f"explicit {h} {self.method_type(new)}", new)
+
     def guard(self, h, type):
         test = self.handle(Type(type.params[:self.rng.randint(0, len(type.params))], "Z"))
         self.let(f"guard {test} {h} {self.handle(type)}", type)
@@ -544,6 +558,39 @@ class Script:
         params = type.params[:self.rng.randint(0, len(type.params))]
         handler = self.handle(Type((of_class(self.rng.choice(above)), *params), type.ret))
         self.let(f"catch {h} {name} {handler}", type)
+
+    def tryfinally(self, h, type):
+        if slots(type.params) > MOST_ENDED_SLOTS:
+            return
+        first = THROWABLE if self.chance(0.95) else self.rng.choice([OBJECT, *self.world.below(THROWABLE)])
+        result = () if type.ret == "V" else (type.ret,)
+        params = type.params[:self.rng.randint(0, len(type.params))]
+        cleanup = self.handle(Type((of_class(first), *result, *params), type.ret))
+        self.let(f"tryfinally {h} {cleanup}", type)
+
+    def switch(self, h, type):
+        if slots(type.params) > MOST_ENDED_SLOTS:
+            return
+        new = Type(("I", *type.params[1:]), type.ret)
+        fallback, cases = self.handle(new), [self.handle(new) for _ in range(self.rng.randint(1, 3))]
+        while len(cases) < 16 and self.chance(0.3):
+            cases.append(self.rng.choice(cases))
+        self.let(f"switch {fallback} {' '.join(cases)}", new)
+
+    def counted(self, h, type):
+        turns, params = self.turns(), self.world.any_params(2)
+        iterations = turns if not params or self.chance(0.5) else self.fresh(f"drop {turns} 0 {params[0]}", Type(params[:1], "I"))
+        init = self.handle(Type(params[:self.rng.randint(0, len(params))], type.ret))
+        carried = () if type.ret == "V" else (type.ret,)
+        body = self.handle(Type((*carried, "I", *params), type.ret))
+        self.let(f"counted {iterations} {init} {body}", Type(params, type.ret))
+
+    def turns(self):
+        """A handle that gives a number of turns; mostly a few."""
+        if self.chance(0.1):
+            return self.handle(Type((), "I"))
+        count = self.rng.choice([-1, 63, 64, 65]) if self.chance(0.1) else self.rng.randint(0, 4)
+        return self.fresh(f"constant I I:{count}", Type((), "I"))
 
     def throw(self, h, type):
         name = self.rng.choice(self.world.below(THROWABLE))
@@ -587,8 +634,9 @@ class Script:
             f"constant {some} {value}", f"identity {some}", f"throw {some} {name}", f"bind {h} {p} {value}",
             f"drop {h} {p} {world.any_type()}", f"permute {h} {type} {rng.choice(['-', '0', '1,0', '0,0', '0,1,2'])}",
             f"filter {h} {p} {f}", f"filterret {h} {f}", f"fold {h} {p} {f}", f"collect {h} {p} {f}",
-            f"spread {h} {some} {p}", f"gather {h} {some} {p}", f"astype {h} {type}", f"guard {h} {f} {g}",
-            f"catch {h} {name} {f}", f"bind a0 {p} {value}", "RAISE", "FAILMOD",
+            f"spread {h} {some} {p}", f"gather {h} {some} {p}", f"astype {h} {type}", f"explicit {h} {type}", f"guard {h} {f} {g}",
+            f"catch {h} {name} {f}", f"tryfinally {h} {f}", f"switch {h} {f}", f"switch {h} {f} {g}", f"counted {h} {f} {g}",
+            f"bind a0 {p} {value}", "RAISE", "FAILMOD",
         ])
         if words == "FAILMOD":
             k = rng.randint(1, 3)
@@ -607,7 +655,8 @@ class Script:
 
     def write(self):
         lines = [self.bind, self.drop, self.permute, self.filter, self.filterret, self.fold, self.collect, self.spread, self.gather,
-                 self.astype, self.guard, self.catch, self.throw, self.identity, self.constant_line]
+                 self.astype, self.explicit, self.guard, self.catch, self.tryfinally, self.switch, self.counted, self.throw, self.identity,
+                 self.constant_line]
         for _ in range(self.rng.randint(1, 25 if self.chance(0.05) else 9)):
             self.line(lines)
             if self.chance(0.05):

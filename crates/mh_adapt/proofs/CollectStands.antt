@@ -23,7 +23,8 @@ use Rattle.mh_form.specs.declared.name.Name.TheVariants as name
 use Rattle.mh_form.specs.Erasure.{basic_of, basic_ret_of, erased, erased_ran}
 use Rattle.mh_form.specs.Run.{run_on}
 use Rattle.mh_form.proofs.Refines.{refined}
-use Rattle.mh_edit.specs.Applied.{applied, given}
+use Rattle.mh_form.specs.Slots.{given}
+use Rattle.mh_edit.specs.Applied.{applied}
 use Rattle.mh_edit.specs.Fit.{taken_by}
 use Rattle.mh_edit.specs.Law.{CollectLaw}
 use Rattle.mh_edit.specs.Rename.{table as places}

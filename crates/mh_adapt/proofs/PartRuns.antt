@@ -13,8 +13,7 @@ use Rattle.mh_form.specs.declared.slot.Slot.{Slot}
 use Rattle.mh_form.specs.declared.field.Bound.{Bound}
 use Rattle.mh_form.specs.Erasure.{basic_ret_of, erased, erased_ran}
 use Rattle.mh_form.specs.Run.{run_bound, run_on}
-use Rattle.mh_form.specs.Slots.{filled}
-use Rattle.mh_edit.specs.Applied.{given}
+use Rattle.mh_form.specs.Slots.{filled, given}
 use Rattle.mh_edit.specs.Law.{returned, slots_of_result}
 use Rattle.mh_handle.specs.Stands.{HandleView, Stands, handle_body, handle_run}
 use Rattle.mh_handle.proofs.Erasing.{part-map, part-then, result-then, spliced-map}

@@ -9,12 +9,13 @@ use Rattle.mh_values.specs.declared.value.Value.{Value}
 use Rattle.mh_values.specs.Classes.{AreClasses}
 use Rattle.mh_values.specs.Computation.{Stuck, and_then}
 use Rattle.mh_values.specs.HasType.{HaveTypes}
+use Rattle.mh_convert.specs.declared.conv.Rules.TheVariants as rules
 use Rattle.mh_convert.specs.Conversion.{is_trivial_ret}
 use Rattle.mh_leaf.specs.LeafTable.{LeafTable}
 use Rattle.mh_tree.specs.Tree.{Tree, AsType}
 use Rattle.mh_tree.specs.Rows.{TypeOrRefusal, astype_row}
 use Rattle.mh_tree.specs.Meaning.{Done, known, mean, or_throw, conv_all, conv_result}
-use Rattle.mh_tree.proofs.RowParts.{astype_row-parts}
+use Rattle.mh_tree.proofs.RowParts.{convert_row-parts}
 use Rattle.mh_tree.proofs.SoundConversions.{conv_all-converts}
 use Rattle.mh_form.specs.declared.field.Field.{Field}
 use Rattle.mh_form.specs.Erasure.{erased}
@@ -27,7 +28,7 @@ use Rattle.mh_handle.specs.Recipe as Rec
 use Rattle.mh_handle.specs.Stands.{HandleView, Stands}
 use Rattle.mh_handle.specs.Converting.{IsUsedAs, convert_fields}
 use Rattle.mh_handle.proofs.Answering.{typed_run-stands, typed_run-well_formed}
-use Rattle.mh_handle.proofs.AsTypeStands.{astype-stands}
+use Rattle.mh_handle.proofs.AsTypeStands.{converted-stands as handle-stands}
 use Rattle.mh_handle.proofs.TrivialConversions.{all-kept, converts-ok, or_throw-ok, run-kept}
 use Rattle.mh_astype.specs.Calls.{IsRefusal}
 use Rattle.mh_astype.proofs.Using.{trivial, convert_key, keys-changed, keys-kept}
@@ -56,9 +57,9 @@ used_view asked h f fields = record { ty = asked; weight = 1 + h.weight; sides =
 
 pub converted-used :
     (classes : List Class) (asked : MethodTy) (h : HandleView) (f : FormView) (key : Key) (fields : List Field) →
-    trivial classes asked h.ty ≡ false → key ≡ convert_key classes asked h.ty → fields ≡ convert_fields classes asked h.ty →
+    trivial classes asked h.ty ≡ false → key ≡ convert_key classes asked h.ty → fields ≡ convert_fields rules.AsType classes asked h.ty →
     f.recipe ≡ h.form.recipe ++ key ∷ [] →
-    IsUsedAs classes asked h (used_view asked h f fields)
+    IsUsedAs rules.AsType classes asked h (used_view asked h f fields)
 converted-used classes asked h f key fields is k fs made = record {
   ty = refl;
   weight = refl;
@@ -71,11 +72,11 @@ module _
     (table : LeafTable) (are : AreClasses table.classes) (asked : MethodTy) (h : HandleView) (f : FormView) (key : Key) (fields : List Field)
     (row : astype_row table.classes h.ty h.weight asked ≡ Ok asked) (is : trivial table.classes asked h.ty ≡ false) (k : key ≡ convert_key table.classes asked
     h.ty)
-    (fs : fields ≡ convert_fields table.classes asked h.ty) (made : f.recipe ≡ h.form.recipe ++ key ∷ [])
+    (fs : fields ≡ convert_fields rules.AsType table.classes asked h.ty) (made : f.recipe ≡ h.form.recipe ++ key ∷ [])
   where
     converted-stands : (t : Tree) → Stands table h t → Stands table (used_view asked h f fields) (AsType t asked)
     converted-stands t st =
-        astype-stands table are asked asked h (used_view asked h f fields) t row
+        handle-stands rules.AsType table are asked asked h (used_view asked h f fields) t row
         (converted-used table.classes asked h f key fields is k fs made) st
 
     pub converted-runs :
@@ -104,23 +105,23 @@ module _
     (row : astype_row table.classes h.ty h.weight asked ≡ Ok asked) (kept : trivial table.classes asked h.ty ≡ true) (args : List Value)
     (have : HaveTypes table.classes args asked.params)
   where
-    kept-args : conv_all table.classes asked.params h.ty.params args ≡ Ok args
+    kept-args : conv_all rules.AsType table.classes asked.params h.ty.params args ≡ Ok args
     kept-args =
         let p = and_parts (are_trivial table.classes asked.params h.ty.params) (is_trivial_ret table.classes h.ty.ret asked.ret) kept in
-        all-kept table.classes are asked.params h.ty.params args (astype_row-parts table.classes h.ty h.weight asked asked row).0 p.0 have
+        all-kept rules.AsType table.classes are asked.params h.ty.params args (convert_row-parts rules.AsType table.classes h.ty h.weight asked asked row).0 p.0 have
 
     pub kept-typed : HaveTypes table.classes args h.ty.params
     kept-typed =
-        converts-ok table.classes (conv_all table.classes asked.params h.ty.params args) args h.ty.params kept-args
-        (conv_all-converts table.classes are asked.params h.ty.params args (astype_row-parts table.classes h.ty h.weight asked asked row).0 have)
+        converts-ok table.classes (conv_all rules.AsType table.classes asked.params h.ty.params args) args h.ty.params kept-args
+        (conv_all-converts rules.AsType table.classes are asked.params h.ty.params args (convert_row-parts rules.AsType table.classes h.ty h.weight asked asked row).0 have)
 
     pub kept-mean : (n : ℕ) → mean table t args n ≡ mean table (AsType t asked) args n
     kept-mean n =
         let p = and_parts (are_trivial table.classes asked.params h.ty.params) (is_trivial_ret table.classes h.ty.ret asked.ret) kept in
-        let next : MethodTy → List Value → Done = λ own vs. and_then (mean table t vs n) n (λ r k. conv_result table.classes own.ret asked.ret r) in
-        sym (ap (λ c. known c (λ own. or_throw (conv_all table.classes asked.params own.params args) (next own))) st.typed
-        ∙ (or_throw-ok (conv_all table.classes asked.params h.ty.params args) args (next h.ty) kept-args
-        ∙ run-kept table.classes are h.ty.ret asked.ret (mean table t args n) n p.1 (st.returns args n kept-typed)))
+        let next : MethodTy → List Value → Done = λ own vs. and_then (mean table t vs n) n (λ r k. conv_result rules.AsType table.classes own.ret asked.ret r) in
+        sym (ap (λ c. known c (λ own. or_throw (conv_all rules.AsType table.classes asked.params own.params args) (next own))) st.typed
+        ∙ (or_throw-ok (conv_all rules.AsType table.classes asked.params h.ty.params args) args (next h.ty) kept-args
+        ∙ run-kept rules.AsType table.classes are h.ty.ret asked.ret (mean table t args n) n p.1 (st.returns args n kept-typed)))
 
     pub kept-keys : length h.form.recipe ≡ length (recipe table (AsType t asked))
     kept-keys =

@@ -5,12 +5,13 @@ use Rattle.mh_values.specs.declared.class.Class.{Class}
 use Rattle.mh_values.specs.declared.types.MethodTy.{MethodTy}
 use Rattle.mh_values.specs.Classes.{AreClasses}
 use Rattle.mh_values.specs.Same.{is_same_method_type}
+use Rattle.mh_convert.specs.declared.conv.Rules.{Rules}
 use Rattle.mh_leaf.specs.LeafTable.{LeafTable}
-use Rattle.mh_tree.specs.Tree.{Tree, AsType}
-use Rattle.mh_tree.specs.Rows.{astype_row}
+use Rattle.mh_tree.specs.Tree.{Tree, converted}
+use Rattle.mh_tree.specs.Rows.{convert_row}
 use Rattle.mh_tree.specs.declared.error.CheckError.{CheckError}
 use Rattle.mh_tree.specs.declared.error.CheckError.TheVariants as check
-use Rattle.mh_tree.specs.Use.{used_as}
+use Rattle.mh_tree.specs.Use.{used_by}
 use Rattle.mh_edit.specs.declared.key.Key.{Key}
 use Rattle.mh_handle.specs.declared.error.HandleError.{HandleError}
 use Rattle.mh_handle.specs.declared.handle.Handle.{Handle}
@@ -23,7 +24,7 @@ use Rattle.mh_handle.specs.Parts.{PartsView}
 use Rattle.mh_handle.specs.Recipe.{convert_keys}
 use Rattle.mh_handle.specs.Stands.{HandleView, IsShaped, Stands}
 use Rattle.mh_handle.specs.Works.{HoldsTypes, IsUnchanged, Makes, TradesTypes}
-use Rattle.mh_handle.proofs.AsTypeStands.{astype-stands}
+use Rattle.mh_handle.proofs.AsTypeStands.{converted-stands}
 use Rattle.mh_handle.proofs.Refusals.{check-makes}
 use Rattle.mh_astype.specs.Use.{AddsConversions, AsksNothing, MakesFrom}
 pub use Rattle.mh_astype.proofs.ConvertKeys.{convert-fits, convert-shaped, convert_key, fields-kept, kept-shaped, keys-changed, keys-kept, light, trivial}
@@ -31,19 +32,19 @@ pub use Rattle.mh_astype.proofs.ConvertKeys.{convert-fits, convert-shaped, conve
 -- ---- the handle
 
 pub used-kept :
-    (classes : List Class) (asked : MethodTy) (old new : HandleView) → trivial classes asked old.ty ≡ true →
+    (by : Rules) (classes : List Class) (asked : MethodTy) (old new : HandleView) → trivial classes asked old.ty ≡ true →
     new.ty ≡ asked → new.weight ≡ 1 + old.weight → new.sides ≡ old.sides → new.form ≡ old.form → new.fields ≡ old.fields →
-    IsUsedAs classes asked old new
-used-kept classes asked old new is t w s f fs = record {
+    IsUsedAs by classes asked old new
+used-kept by classes asked old new is t w s f fs = record {
   ty = t;
   weight = w;
   sides = s;
   recipe = ap (λ g. g.recipe) f ∙ sym (ap (λ ks. old.form.recipe ++ ks) (keys-kept classes asked old.ty is) ∙ append-nil old.form.recipe);
-  fields = fs ∙ sym (ap (λ xs. old.fields ++ xs) (fields-kept classes asked old.ty is) ∙ append-nil old.fields);
+  fields = fs ∙ sym (ap (λ xs. old.fields ++ xs) (fields-kept by classes asked old.ty is) ∙ append-nil old.fields);
 }
 
-module _ (classes : List Class) (asked : MethodTy) (old : HandleView) (by : Growth) (adds : AddsConversions classes asked old by) where
-  pub used-grown : (r : Result Handle HandleError) → trivial classes asked old.ty ≡ false → GrowsBy old by r → IfOk r (IsUsedAs classes asked old)
+module _ (by : Rules) (classes : List Class) (asked : MethodTy) (old : HandleView) (growth : Growth) (adds : AddsConversions by classes asked old growth) where
+  pub used-grown : (r : Result Handle HandleError) → trivial classes asked old.ty ≡ false → GrowsBy old growth r → IfOk r (IsUsedAs by classes asked old)
   used-grown (Ok new) is g = record {
     ty = g.typed ∙ adds.ty;
     weight = g.weighed ∙ adds.weight;
@@ -54,23 +55,23 @@ module _ (classes : List Class) (asked : MethodTy) (old : HandleView) (by : Grow
   used-grown (Err e) is g = tt
 
   -- the holds of the handle are all that are handed over
-  pub used-trades : (w new : Work) (r : Result Handle HandleError) → TradesTypes (by.ty ∷ []) (old.held ++ by.parts.held) w new r →
+  pub used-trades : (w new : Work) (r : Result Handle HandleError) → TradesTypes (growth.ty ∷ []) (old.held ++ growth.parts.held) w new r →
       TradesTypes (asked ∷ []) old.held w new r
   used-trades w new r trades =
-      let all : old.held ++ by.parts.held ≡ old.held = ap (λ (p : PartsView). old.held ++ p.held) adds.parts ∙ append-nil old.held in
+      let all : old.held ++ growth.parts.held ≡ old.held = ap (λ (p : PartsView). old.held ++ p.held) adds.parts ∙ append-nil old.held in
       subst (λ l. TradesTypes (asked ∷ []) l w new r) all
-      (subst (λ (t : MethodTy). TradesTypes (t ∷ []) (old.held ++ by.parts.held) w new r) adds.ty trades)
+      (subst (λ (t : MethodTy). TradesTypes (t ∷ []) (old.held ++ growth.parts.held) w new r) adds.ty trades)
 
   -- it holds no more types than it has nodes
-  pub used-few : IsShaped old → length old.held + length by.parts.held ≤ by.weight
+  pub used-few : IsShaped old → length old.held + length growth.parts.held ≤ growth.weight
   used-few shaped =
-      let none : length by.parts.held ≡ 0 = ap (λ (p : PartsView). length p.held) adds.parts in
+      let none : length growth.parts.held ≡ 0 = ap (λ (p : PartsView). length p.held) adds.parts in
       omega (arith, none, shaped.few, adds.weight)
 
   -- the holds that are handed over are those of the handle
-  pub used-held : (w : Work) → HoldsTypes w old.held → HoldsTypes w (old.held ++ by.parts.held)
+  pub used-held : (w : Work) → HoldsTypes w old.held → HoldsTypes w (old.held ++ growth.parts.held)
   used-held w held =
-      let all : old.held ++ by.parts.held ≡ old.held = ap (λ (p : PartsView). old.held ++ p.held) adds.parts ∙ append-nil old.held in
+      let all : old.held ++ growth.parts.held ≡ old.held = ap (λ (p : PartsView). old.held ++ p.held) adds.parts ∙ append-nil old.held in
       subst (HoldsTypes w) (sym all) held
 
 -- ---- the work
@@ -103,9 +104,10 @@ makes-refused recipe (k ∷ keys) old new e r is same =
 -- ---- the tree
 
 pub used-stands :
-    (table : LeafTable) (asked u : MethodTy) (old : HandleView) (t : Tree) (r : Result Handle HandleError) →
-    AreClasses table.classes → is_same_method_type old.ty asked ≡ false → astype_row table.classes old.ty old.weight asked ≡ Ok u → Stands table old t →
-    IfOk r (IsUsedAs table.classes asked old) → IfOk r (λ new. Stands table new (used_as old.ty asked t))
-used-stands table asked u old t (Ok new) are other row st used =
-    let P : Bool → Type 0 = λ b. Stands table new (cond b t (AsType t asked)) in subst P (sym other) (astype-stands table are asked u old new t row used st)
-used-stands table asked u old t (Err e) are other row st used = tt
+    (by : Rules) (table : LeafTable) (asked u : MethodTy) (old : HandleView) (t : Tree) (r : Result Handle HandleError) →
+    AreClasses table.classes → is_same_method_type old.ty asked ≡ false → convert_row by table.classes old.ty old.weight asked ≡ Ok u → Stands table old t →
+    IfOk r (IsUsedAs by table.classes asked old) → IfOk r (λ new. Stands table new (used_by by old.ty asked t))
+used-stands by table asked u old t (Ok new) are other row st used =
+    let P : Bool → Type 0 = λ b. Stands table new (cond b t (converted by t asked)) in
+    subst P (sym other) (converted-stands by table are asked u old new t row used st)
+used-stands by table asked u old t (Err e) are other row st used = tt

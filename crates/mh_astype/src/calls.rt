@@ -13,6 +13,7 @@ ghost use Rattle.mh_astype.specs.Calls.{AsksBy, IsRefusal, call_keys, exact_keys
 
 use crate::conversions::{convert_fields, convert_key, is_trivial};
 use mh_base::NoMemory;
+use mh_convert::Rules;
 use mh_form::Machine;
 use mh_handle::{Answer, EditError, Ended, Handle, Work};
 use mh_leaves::Leaves;
@@ -118,7 +119,7 @@ fn invoke_converted<'t, R: Wait>(
 {
     let classes = w.classes();
     let key = convert_key(w.alloc, call, handle.ty(), classes)?;
-    let more = convert_fields(w.alloc, call, handle.ty(), classes)?;
+    let more = convert_fields(w.alloc, Rules::AsType, call, handle.ty(), classes)?;
     let leaves = w.leaves;
     let form = w.edit(rt, handle.form(), key)?;
     Ok(handle.invoke_edited_with(machine, form, more, call.ret, leaves, args, n)?)

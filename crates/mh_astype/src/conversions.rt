@@ -3,14 +3,14 @@
 
 ghost use Rattle.std.specs.Prelude.{◌≡◌, ◌++◌, ◌&&◌, OnOk, IfOk, map};
 ghost use Rattle.mh_convert.specs.Conversion.{is_trivial_ret};
-ghost use Rattle.mh_form.specs.declared.field.Field.TheVariants as field;
 ghost use Rattle.mh_form.specs.Erasure.{basic_of, basic_ret_of};
 ghost use Rattle.mh_edit.specs.declared.key.Key.TheVariants.{Convert};
+ghost use Rattle.mh_edit.specs.Law.{conv_field, ret_field};
 ghost use Rattle.mh_handle.specs.Recipe.{are_trivial, entries_of, ret_entry_of};
 ghost use Rattle.mh_handle.specs.Converting.{convs_of, ret_fields_of, convert_fields};
 
 use mh_base::{NoMemory, Seq};
-use mh_convert::{Conv, ret_conversion};
+use mh_convert::{Conv, RetConv, Rules};
 use mh_edit::{Entries, Key, RetEntry};
 use mh_form::{Basic, BasicRet, Field, Fields, shape};
 use mh_values::{Classes, MethodTy, Ty, is_type_below};
@@ -111,14 +111,35 @@ pub(crate) fn convert_key(
     Ok(Key::Convert { params, ret })
 }
 
+/// The field of a conversion by the rules.
+fn conv_field<'t>(rules: Rules, conv: Conv) -> Field<'t>
+    ensures { result ≡ conv_field rules conv }
+{
+    match rules {
+        Rules::AsType => Field::Conv(conv),
+        Rules::Explicit => Field::Explicit(conv),
+    }
+}
+
+/// The field of a return conversion by the rules.
+fn ret_field<'t>(rules: Rules, conv: RetConv) -> Field<'t>
+    ensures { result ≡ ret_field rules conv }
+{
+    match rules {
+        Rules::AsType => Field::Ret(conv),
+        Rules::Explicit => Field::ExplicitRet(conv),
+    }
+}
+
 /// The conversions of parameters, from left to right.
 fn push_convs<'t>(
     fields: &mut Fields<'t>,
+    rules: Rules,
     asked: &[Ty],
     own: &[Ty],
     classes: &Classes,
 ) -> Result<(), NoMemory>
-    ensures { OnOk result (fields.new.items ≡ fields.old.items ++ map (λ c. field.Conv c)
+    ensures { OnOk result (fields.new.items ≡ fields.old.items ++ map (conv_field rules)
         (convs_of classes.now asked.now own.now)) }
 {
     let [from, asked @ ..] = asked else {
@@ -127,52 +148,54 @@ fn push_convs<'t>(
     let [to, own @ ..] = own else {
         return Ok(());
     };
-    if is_type_below(*from, *to, classes) {
-        push_convs(fields, asked, own, classes)
+    let (from, to) = (*from, *to);
+    if is_type_below(from, to, classes) {
+        push_convs(fields, rules, asked, own, classes)
     } else {
-        fields.push(Field::Conv(Conv {
-            from: *from,
-            to: *to,
-        }))?;
-        push_convs(fields, asked, own, classes)
+        fields.push(conv_field(rules, Conv { from, to }))?;
+        push_convs(fields, rules, asked, own, classes)
     }
 }
 
 /// The conversion of a result.
 fn push_ret<'t>(
     fields: &mut Fields<'t>,
+    rules: Rules,
     own: Option<Ty>,
     asked: Option<Ty>,
     classes: &Classes,
 ) -> Result<(), NoMemory>
-    ensures { OnOk result (fields.new.items ≡ fields.old.items ++ ret_fields_of classes.now own
-        asked) }
+    ensures { OnOk result (fields.new.items ≡ fields.old.items ++ ret_fields_of rules classes.now
+        own asked) }
 {
     if is_trivial_ret(own, asked, classes) {
         return Ok(());
     }
-    if let Some(conv) = ret_conversion(own, asked, classes) {
-        fields.push(Field::Ret(conv))?;
+    if let Some(conv) = rules.ret_conversion(own, asked, classes) {
+        fields.push(ret_field(rules, conv))?;
     }
     Ok(())
 }
 
-/// The fields of the conversions to the type.
+/// The fields of the conversions by the rules to the type.
 pub(crate) fn convert_fields<'t>(
     alloc: Global,
+    rules: Rules,
     asked: &MethodTy,
     own: &MethodTy,
     classes: &Classes,
 ) -> Result<Fields<'t>, NoMemory>
-    ensures { IfOk result (λ fields. fields.items ≡ convert_fields classes.now asked.now own.now) }
+    ensures { IfOk result (λ fields. fields.items
+        ≡ convert_fields rules classes.now asked.now own.now) }
 {
     let mut fields = Vec::new(alloc);
     push_convs(
         &mut fields,
+        rules,
         asked.params.as_slice(),
         own.params.as_slice(),
         classes,
     )?;
-    push_ret(&mut fields, own.ret, asked.ret, classes)?;
+    push_ret(&mut fields, rules, own.ret, asked.ret, classes)?;
     Ok(fields)
 }

@@ -8,4 +8,4 @@ mod use_as;
 pub use calls::{
     invoke_exact, invoke_exact_on, invoke_exact_with, invoke_generic, invoke_generic_with,
 };
-pub use use_as::as_type;
+pub use use_as::{as_type, use_by};

@@ -21,6 +21,7 @@ use Rattle.mh_script.specs.declared.script.Step.TheVariants as step
 use Rattle.mh_link.specs.Linked.{at_start, called_script, stepped}
 use Rattle.mh_link.specs.Made.{concat_nodes, handles_of, nodes, nodes_from, nodes_of, nodes_of_method, nodes_of_step, nodes_of_uses, unless_thrown}
 use Rattle.mh_link.specs.Operands.{Frame, handle_in}
+use Rattle.mh_link.specs.Resolved.{job_call}
 use Rattle.mh_link.specs.Operations.{node_of}
 use Rattle.mh_attempt.specs.Recipes.{asked_itself, attempt_asked, method_asked, script_asked, spread_asked, step_asked, use_asked}
 use Rattle.mh_attempt.proofs.KnownHandles.{recipes_of}
@@ -77,6 +78,9 @@ module _ (leaves : LeafTable) where
   itself-among frame (operation.AsType h ty) n =
       part-among (handle_in frame h) (λ t. use_asked leaves t n) n
       (λ t. among-among (recipes_of leaves (use_asked leaves t n)) (recipe leaves n ∷ []) (recipes_of leaves (nodes_of n)) (use-among t n) (own-among n))
+  itself-among frame (operation.Explicit h ty) n =
+      part-among (handle_in frame h) (λ t. use_asked leaves t n) n
+      (λ t. among-among (recipes_of leaves (use_asked leaves t n)) (recipe leaves n ∷ []) (recipes_of leaves (nodes_of n)) (use-among t n) (own-among n))
   itself-among frame op n = own-among n
 
   step-among : (s : Step) (frame : Frame) → AreTreesAmong (step_asked leaves s frame) (nodes_of_step leaves s frame)
@@ -104,4 +108,4 @@ module _ (leaves : LeafTable) where
   -- of an attempt
   pub attempt-among : (scripts : List Script) (job : Job) (serial : ℕ) →
       AreTreesAmong (attempt_asked leaves scripts job serial) (nodes leaves scripts job serial)
-  attempt-among scripts job serial = unless-among job.call _ _ (λ call. method-among scripts serial call call.method)
+  attempt-among scripts job serial = unless-among (job_call job) _ _ (λ call. method-among scripts serial call call.method)

@@ -5,7 +5,7 @@ use Rattle.mh_edit.specs.declared.key.Key.{Key}
 use Rattle.mh_handle.specs.declared.error.HandleError.{HandleError}
 use Rattle.mh_handle.specs.declared.error.HandleError.TheVariants.{NoMemory, FormsFull, TypesFull, Refused}
 use Rattle.mh_handle.specs.declared.work.Work.{Work}
-use Rattle.mh_attempt.specs.Asked.{AsksOrThrows, HasAskedMore, HasStoppedAt, HasNoNumber}
+use Rattle.mh_attempt.specs.Asked.{AsksIfMade, AsksOrThrows, HasAskedMore, HasStopped, HasStoppedAt, HasNoNumber}
 use Rattle.mh_attempt.proofs.AskedAfter.{asked_more-both, full-after, stopped-after}
 
 -- what is asked for is the same
@@ -43,3 +43,9 @@ asks-error A {B} recipes old new error (Err x) is asks = subst (λ y. AsksOrThro
     cases (FormsFull drawn) given = given
     cases (TypesFull bucket) given = given
     cases NoMemory given = given
+
+-- the same, where none is asked for if a rule refuses
+pub asks-handed : {B : Type 0} (recipes : List (List Key)) (old new : Work) (error : HandleError) (r : Result B HandleError) →
+    IsErrAnd r (λ x. x ≡ error) → HasStopped recipes old.pass.now new.pass.now error → AsksIfMade recipes old new r
+asks-handed recipes old new error (Ok b) is stopped = absurd is
+asks-handed recipes old new error (Err x) is stopped = subst (HasStopped recipes old.pass.now new.pass.now) (sym is) stopped

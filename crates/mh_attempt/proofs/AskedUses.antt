@@ -5,12 +5,13 @@ use Rattle.std.proofs.lemmas.List.{map-append}
 use Rattle.mh_base.proofs.Inversion.{ok_is}
 use Rattle.mh_values.specs.declared.types.Ty.{Ty}
 use Rattle.mh_values.specs.declared.types.MethodTy.{MethodTy}
+use Rattle.mh_convert.specs.declared.conv.Rules.{Rules}
 use Rattle.mh_leaf.specs.LeafTable.{LeafTable}
 use Rattle.mh_tree.specs.Rows.{component_of, illegal}
 use Rattle.mh_tree.specs.Tree.{Tree}
 use Rattle.mh_tree.specs.Tree as tree
 use Rattle.mh_tree.specs.Typing.{type_of}
-use Rattle.mh_tree.specs.Use.{items_used_as, used_as}
+use Rattle.mh_tree.specs.Use.{items_used_as, used_by}
 use Rattle.mh_handle.specs.declared.error.HandleError.{HandleError}
 use Rattle.mh_handle.specs.declared.handle.Handle.{Handle}
 use Rattle.mh_handle.specs.declared.work.Work.{Work}
@@ -30,10 +31,11 @@ use Rattle.mh_attempt.proofs.AskedNodes.{asks-both, asks-from, unless_same}
 
 -- ---- trees
 
-use-made : (leaves : LeafTable) (t u : Tree) (own asked : MethodTy) → type_of leaves t ≡ Ok own → use_of leaves t asked ≡ Ok u → u ≡ used_as own asked t
-use-made leaves t u own asked typed is =
-    let found = bound-parts (type_of leaves t) (λ o. Ok (used_as o asked t)) u is in
-    sym (ok_is (used_as found.0 asked t) u found.2) ∙ ap (λ o. used_as o asked t) (ok_is found.0 own (sym found.1 ∙ typed))
+use-made : (by : Rules) (leaves : LeafTable) (t u : Tree) (own asked : MethodTy) → type_of leaves t ≡ Ok own → use_of by leaves t asked ≡ Ok u → u ≡
+    used_by by own asked t
+use-made by leaves t u own asked typed is =
+    let found = bound-parts (type_of leaves t) (λ o. Ok (used_by by o asked t)) u is in
+    sym (ok_is (used_by by found.0 asked t) u found.2) ∙ ap (λ o. used_by by o asked t) (ok_is found.0 own (sym found.1 ∙ typed))
 
 spread-made : (leaves : LeafTable) (t s : Tree) (own : MethodTy) (array : Option Ty) (count : ℕ) → type_of leaves t ≡ Ok own →
     spread_of leaves t array count ≡ Ok s → s ≡ tree.Spread (items_used_as own array count t) array count
@@ -67,14 +69,14 @@ module _ (operands : List HandleOperand) (old mid new : Work) (t : Tree) (h : Ha
   there : Stands mid.leaves.now h t
   there = subst (λ l. Stands l h t) (ap (λ l. l.now) (sym same)) stands
 
-  pub asks-use : (asked : MethodTy) (u : Tree) → use_of old.leaves.now t asked ≡ Ok u →
-      (Stands mid.leaves.now h t → MakesFrom (recipe mid.leaves.now t) (recipe mid.leaves.now (used_as h.ty asked t)) mid new r) →
+  pub asks-use : (by : Rules) (asked : MethodTy) (u : Tree) → use_of by old.leaves.now t asked ≡ Ok u →
+      (Stands mid.leaves.now h t → MakesFrom (recipe mid.leaves.now t) (recipe mid.leaves.now (used_by by h.ty asked t)) mid new r) →
       AsksIfMade (recipes_made old.leaves.now operands (use_asked old.leaves.now t u)) old new r
-  asks-use asked u is makes =
+  asks-use by asked u is makes =
       let leaves = mid.leaves.now in
-      let v = used_as h.ty asked t in
+      let v = used_by by h.ty asked t in
       asks-nodes operands (λ l. use_asked l t u) old mid new r same first
-      (subst (λ w. AsksIfMade (map (recipe leaves) (use_asked leaves t w)) mid new r) (sym (use-made old.leaves.now t u h.ty asked stands.typed is))
+      (subst (λ w. AsksIfMade (map (recipe leaves) (use_asked leaves t w)) mid new r) (sym (use-made by old.leaves.now t u h.ty asked stands.typed is))
       (subst (λ rs. AsksIfMade rs mid new r) (use-recipes leaves t v) (asks-from (recipe leaves t) (recipe leaves v) mid new r (makes there))))
 
   pub asks-spread : (array : Option Ty) (count : ℕ) (s : Tree) → spread_of old.leaves.now t array count ≡ Ok s →

@@ -17,7 +17,7 @@ use Rattle.mh_jobs.specs.declared.job.Job.{Job}
 use Rattle.mh_jobs.specs.declared.job.Method.{Method}
 use Rattle.mh_jobs.specs.declared.job.Method.TheVariants as method
 use Rattle.mh_jobs.specs.Given.{IsJob}
-use Rattle.mh_jobs.specs.Job.{site_job}
+use Rattle.mh_jobs.specs.Sites.{site_job}
 use Rattle.mh_jobs.specs.Thrown.{OrThrown, ◌>>=◌}
 use Rattle.mh_script.specs.declared.script.End.{End}
 use Rattle.mh_script.specs.declared.script.Script.{Script}
@@ -25,6 +25,7 @@ use Rattle.mh_script.specs.declared.script.Step.{Step}
 use Rattle.mh_link.specs.Concatenation.{pieces_given}
 use Rattle.mh_link.specs.Linked.{at_start, called_script, ended, stepped}
 use Rattle.mh_link.specs.Made.{edits, nodes, nodes_from, nodes_of_call, nodes_of_method, nodes_of_step, returned, unless_thrown}
+use Rattle.mh_link.specs.Resolved.{job_call}
 use Rattle.mh_link.specs.Operands.{Frame}
 use Rattle.mh_link.proofs.Attempts.{made-typed}
 use Rattle.mh_link.proofs.Nodes.{IsTyped}
@@ -65,7 +66,7 @@ module _ (leaves : LeafTable) where
 
   attempt-edits : (scripts : List Script) (job : Job) (serial : ℕ) →
       AreAmong (edits (recipe leaves) leaves scripts job serial) (attempt_recipes leaves scripts job serial)
-  attempt-edits scripts job serial = called job.call
+  attempt-edits scripts job serial = called (job_call job)
     where
       joined : (ty : MethodTy) (m : OrThrown (List Piece)) →
           AreAmong (edits_of leaves (unless_thrown (m >>= (λ ps. Ok (tree.Concat ty ps))) (λ t. t ∷ [])))
@@ -91,12 +92,12 @@ module _ (leaves : LeafTable) where
       called (Err e) = none-among []
 
 -- the nodes of the attempt for a job of a run have types
-job-typed : (leaves : LeafTable) (scripts : List Script) (class : class_file.Class) (job : Job) (serial : ℕ) (o : Option SiteView) →
-    option_map (site_job leaves scripts class job.site) o ≡ Some job → All (IsTyped leaves) (nodes leaves scripts job serial)
-job-typed leaves scripts class job serial (Some site) h =
-    subst (λ j. All (IsTyped leaves) (nodes leaves scripts j serial)) (some_is (site_job leaves scripts class job.site site) job h)
-    (made-typed leaves scripts class job.site site serial)
-job-typed leaves scripts class job serial None h = absurd cc
+job-typed : (leaves : LeafTable) (scripts : List Script) (class : class_file.Class) (first : ℕ) (job : Job) (serial : ℕ) (o : Option SiteView) →
+    option_map (site_job leaves scripts class first job.site) o ≡ Some job → All (IsTyped leaves) (nodes leaves scripts job serial)
+job-typed leaves scripts class first job serial (Some site) h =
+    subst (λ j. All (IsTyped leaves) (nodes leaves scripts j serial)) (some_is (site_job leaves scripts class first job.site site) job h)
+    (made-typed leaves scripts class first job.site site serial)
+job-typed leaves scripts class first job serial None h = absurd cc
 
 -- a recipe is one of the edits of an attempt where a form of it is asked for
 pub edits-same : (leaves : LeafTable) (scripts : List Script) (job : Job) (serial : ℕ) → IsJob leaves scripts job → (r : List Key) →
@@ -105,4 +106,4 @@ edits-same leaves scripts job serial is r =
     let made = nodes leaves scripts job serial in
     among-same (edits (recipe leaves) leaves scripts job serial) (attempt_recipes leaves scripts job serial) (attempt-edits leaves scripts job serial)
     (among-among (attempt_recipes leaves scripts job serial) (recipes_of leaves made) (edits_of leaves made) (attempt-among leaves scripts job serial)
-    (recipes-among leaves made (job-typed leaves scripts is.0 job serial (slice_get is.0.sites is.1) is.2))) r
+    (recipes-among leaves made (job-typed leaves scripts is.0 is.2 job serial (slice_get is.0.sites is.1) is.3))) r

@@ -4,13 +4,15 @@ use Rattle.std.specs.Prelude.{is_some}
 use Rattle.mh_base.proofs.Inversion.{ok_is}
 use Rattle.mh_values.specs.declared.types.MethodTy.{MethodTy}
 use Rattle.mh_values.specs.declared.types.Ty.{Ty}
+use Rattle.mh_convert.specs.declared.conv.Rules.{Rules}
+use Rattle.mh_convert.specs.declared.conv.Rules.TheVariants as rules
 use Rattle.mh_leaf.specs.LeafTable.{LeafTable}
 use Rattle.mh_leaves.specs.declared.naming.How.TheVariants.{Any}
-use Rattle.mh_tree.specs.Tree.{Tree}
+use Rattle.mh_tree.specs.Tree.{Tree, cases_of}
 use Rattle.mh_tree.specs.Tree as tree
 use Rattle.mh_tree.specs.Rows.{component_of, illegal}
 use Rattle.mh_tree.specs.Typing.{type_of}
-use Rattle.mh_tree.specs.Use.{items_used_as, used_as}
+use Rattle.mh_tree.specs.Use.{items_used_as, used_by}
 use Rattle.mh_edit.specs.declared.key.Key.{Key}
 use Rattle.mh_handle.specs.Recipe.{recipe}
 use Rattle.mh_jobs.specs.Names.{class_of, leaf_named, types_of_text}
@@ -23,7 +25,7 @@ use Rattle.mh_script.specs.declared.script.Operation.{Operation}
 use Rattle.mh_script.specs.declared.script.Operation.TheVariants as operation
 use Rattle.mh_link.specs.Made.{beginnings, handles_of, nodes_of_uses, unless_thrown}
 use Rattle.mh_link.specs.Operands.{Frame, handle_in, method_type_in, type_in, value_in}
-use Rattle.mh_link.specs.Operations.{asked_by, node_of, spread_of, use_of}
+use Rattle.mh_link.specs.Operations.{asked_by, handles_in, node_of, spread_of, use_of}
 use Rattle.mh_attempt.specs.Recipes.{asked_itself, spread_asked, use_asked}
 use Rattle.mh_attempt.proofs.KnownHandles.{AreKnown, recipes_of}
 use Rattle.mh_attempt.proofs.KnownNodes.{adapter-known, first-known, one-part, root-known, spread-known, three-parts, two-parts, use-known}
@@ -68,16 +70,19 @@ module _ (leaves : LeafTable) (known : List (List Key)) (frame : Frame) (are : A
       (spread-known leaves all held.0 (items_used_as typed.0 array.0 count held.0) array.0 count (items-more leaves typed.0 array.0 count held.0)
       (first-known leaves known frame h [] held.0 are held.1)))
 
-  used : (h : Register) (ty : MethodTypeOperand) (n : Tree) → asked_by leaves frame (operation.AsType h ty) ≡ Ok n →
-      IsKnownOf leaves known frame (operation.AsType h ty) n
-  used h ty n is =
-      let held = bound-parts (handle_in frame h) (λ t. method_type_in leaves.classes frame ty >>= (λ asked. use_of leaves t asked)) n is in
-      let asked = bound-parts (method_type_in leaves.classes frame ty) (λ asked. use_of leaves held.0 asked) n held.2 in
-      let typed = bound-parts (type_of leaves held.0) (λ own. Ok (used_as own asked.0 held.0)) n asked.2 in
+  -- a conversion by the rules, whichever operation asks for it
+  used : (by : Rules) (h : Register) (ty : MethodTypeOperand) (n : Tree) →
+      (handle_in frame h >>= (λ t. method_type_in leaves.classes frame ty >>= (λ asked. use_of by leaves t asked))) ≡ Ok n →
+      AreAmong (beginnings (recipe leaves n)) ((known ++ recipes_of leaves (nodes_of_uses frame (h ∷ []))) ++ recipes_of leaves
+      (unless_thrown (handle_in frame h) (λ t. use_asked leaves t n)))
+  used by h ty n is =
+      let held = bound-parts (handle_in frame h) (λ t. method_type_in leaves.classes frame ty >>= (λ asked. use_of by leaves t asked)) n is in
+      let asked = bound-parts (method_type_in leaves.classes frame ty) (λ asked. use_of by leaves held.0 asked) n held.2 in
+      let typed = bound-parts (type_of leaves held.0) (λ own. Ok (used_by by own asked.0 held.0)) n asked.2 in
       let all = known ++ recipes_of leaves (nodes_of_uses frame (h ∷ [])) in
       subst (λ m. AreAmong (beginnings (recipe leaves n)) (all ++ recipes_of leaves (unless_thrown m (λ t. use_asked leaves t n)))) (sym held.1)
       (use-known leaves all held.0 n
-      (subst (HasOneMore leaves held.0) (ok_is (used_as typed.0 asked.0 held.0) n typed.2) (use-more leaves typed.0 asked.0 held.0))
+      (subst (HasOneMore leaves held.0) (ok_is (used_by by typed.0 asked.0 held.0) n typed.2) (use-more by leaves typed.0 asked.0 held.0))
       (first-known leaves known frame h [] held.0 are held.1))
 
   asked-known : (op : Operation) (n : Tree) → asked_by leaves frame op ≡ Ok n → IsKnownOf leaves known frame op n
@@ -125,7 +130,8 @@ module _ (leaves : LeafTable) (known : List (List Key)) (frame : Frame) (are : A
       adapter-known leaves known frame h [] n (λ t array. tree.Gather t array count) are
       (two-parts (handle_in frame h) (type_in leaves.classes frame ty) (λ t array. tree.Gather t array count) n is)
       (λ t array. has-some leaves t (tree.Gather t array count) (component_of array) _ refl)
-  asked-known (operation.AsType h ty) n is = used h ty n is
+  asked-known (operation.AsType h ty) n is = used rules.AsType h ty n is
+  asked-known (operation.Explicit h ty) n is = used rules.Explicit h ty n is
   asked-known (operation.Guard c h e) n is =
       let made = three-parts (handle_in frame c) (handle_in frame h) (handle_in frame e) (λ test t other. tree.Guard test t other) n is in
       branch (recipes_of leaves (nodes_of_uses frame (c ∷ h ∷ e ∷ []))) n (tree.Guard made.0 made.1 made.2) made.3
@@ -134,6 +140,19 @@ module _ (leaves : LeafTable) (known : List (List Key)) (frame : Frame) (are : A
       let made = three-parts (handle_in frame h) (class_of plainly leaves.classes class) (handle_in frame f) (λ t c p. tree.Catch t c p) n is in
       branch (recipes_of leaves (nodes_of_uses frame (h ∷ f ∷ []))) n (tree.Catch made.0 made.1 made.2) made.3
       (at_type-short (type_of leaves made.0) _ (λ ty. at_type-short (type_of leaves made.2) _ (λ handler. short-one _)))
+  asked-known (operation.TryFinally h f) n is =
+      let made = two-parts (handle_in frame h) (handle_in frame f) (λ t c. tree.TryFinally t c) n is in
+      branch (recipes_of leaves (nodes_of_uses frame (h ∷ f ∷ []))) n (tree.TryFinally made.0 made.2) made.3
+      (at_type-short (type_of leaves made.0) _ (λ ty. at_type-short (type_of leaves made.2) _ (λ cleanup. short-one _)))
+  asked-known (operation.Switch f cases) n is =
+      let made = two-parts (handle_in frame f) (handles_in frame cases) (λ t ts. tree.Switch t (cases_of ts)) n is in
+      branch (recipes_of leaves (nodes_of_uses frame (f ∷ cases))) n (tree.Switch made.0 (cases_of made.2)) made.3
+      (at_type-short (type_of leaves made.0) _ (λ ty. short-one _))
+  asked-known (operation.Counted c i b) n is =
+      let made = three-parts (handle_in frame c) (handle_in frame i) (handle_in frame b) (λ x y z. tree.Counted x y z) n is in
+      branch (recipes_of leaves (nodes_of_uses frame (c ∷ i ∷ b ∷ []))) n (tree.Counted made.0 made.1 made.2) made.3
+      (at_type-short (type_of leaves made.0) _ (λ counts. at_type-short (type_of leaves made.1) _ (λ starts.
+      at_type-short (type_of leaves made.2) _ (λ turns. short-one _))))
 
   -- the beginnings of a node
   pub line-known : (op : Operation) (n : Tree) → node_of leaves frame op ≡ Ok n → IsKnownOf leaves known frame op n

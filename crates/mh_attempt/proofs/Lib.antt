@@ -1,4 +1,5 @@
 pub mod Adding
+pub mod AllMade
 pub mod AskedAfter
 pub mod AskedAmong
 pub mod AskedForms
@@ -22,6 +23,7 @@ pub mod KnownLines
 pub mod KnownNodes
 pub mod KnownSteps
 pub mod LineNodes
+pub mod Once
 pub mod OperandTypes
 pub mod UseTypes
 pub mod LineTypes
@@ -44,6 +46,7 @@ pub mod NextLine
 pub mod NodeOperands
 pub mod NodeRules
 pub mod RunRegisters
+pub mod Resolving
 pub mod RoomyRegisters
 pub mod FailedSteps
 pub mod RunSteps
@@ -54,5 +57,6 @@ pub mod SiteEdits
 pub mod SiteTypes
 pub mod SpreadNodes
 pub mod Telling
+pub mod SwitchNodes
 pub mod TypedRecipes
 pub mod UsedNodes

@@ -11,6 +11,7 @@ use Rattle.mh_attempt.specs.declared.lines.nodes.Node.{Node}
 use Rattle.mh_attempt.specs.declared.lines.nodes.Node.TheVariants as node
 use Rattle.mh_attempt.specs.Nodes.{AreHeldIn, AreOperands, IsAsked, parts_of}
 use Rattle.mh_attempt.specs.Operations.{MakesAsked}
+use Rattle.mh_attempt.proofs.SwitchNodes.{all-operands}
 
 -- handles can be made of the operands
 pub are-operands : (leaves : LeafTable) (seat : SeatView) (n : Node) (m : OrThrown Tree) (itself : Tree → List Tree) → IsAsked leaves n m itself →
@@ -24,8 +25,12 @@ are-operands leaves seat (node.Two h by k) m itself is held =
     (record { stands = (is.0, is.2); held = held.0 }, record { stands = (is.1, is.3); held = held.1 })
 are-operands leaves seat (node.Guard f h k) m itself is held =
     (record { stands = (is.0, is.3); held = held.0 }, record { stands = (is.1, is.4); held = held.1 }, record { stands = (is.2, is.5); held = held.2 })
+are-operands leaves seat (node.Counted f h k) m itself is held =
+    (record { stands = (is.0, is.3); held = held.0 }, record { stands = (is.1, is.4); held = held.1 }, record { stands = (is.2, is.5); held = held.2 })
+are-operands leaves seat (node.Switch h os) m itself is held =
+    (record { stands = (is.0, is.2); held = held.0 }, all-operands leaves seat os is.1 is.3 held.1)
 are-operands leaves seat (node.Spread h array count) m itself is held = record { stands = (is.0, is.1); held = held }
-are-operands leaves seat (node.AsType h asked) m itself is held = record { stands = (is.0, is.1); held = held }
+are-operands leaves seat (node.Use h by asked) m itself is held = record { stands = (is.0, is.1); held = held }
 
 -- where the node is known
 pub made-for : (old new : Work) (r : Result Handle HandleError) (n known : Node) (m : OrThrown Tree) (itself : Tree → List Tree) → n ≡ known →

@@ -4,7 +4,7 @@ use Rattle.mh_values.specs.declared.class.Class.{Class}
 use Rattle.mh_values.specs.declared.types.MethodTy.{MethodTy}
 use Rattle.mh_leaf.specs.LeafTable.{LeafTable}
 use Rattle.mh_tree.specs.declared.joints.Joint.TheVariants as joint
-use Rattle.mh_tree.specs.Rows.{guard_row}
+use Rattle.mh_tree.specs.Rows.{counted_row, guard_row}
 use Rattle.mh_tree.specs.Tree.{Tree, weight}
 use Rattle.mh_tree.specs.Tree as tree
 use Rattle.mh_tree.specs.Typing.{type_of, with_type}
@@ -49,6 +49,7 @@ two-alone (two.Joint joint.FilterReturn) t p = refl
 two-alone (two.Joint (joint.Fold place)) t p = refl
 two-alone (two.Joint (joint.Collect place)) t p = refl
 two-alone (two.Catch class) t p = refl
+two-alone two.TryFinally t p = refl
 
 two-typed : (leaves : LeafTable) (by : OfTwo) (t p : Tree) →
     type_of leaves (two_tree by t p)
@@ -58,6 +59,7 @@ two-typed leaves (two.Joint joint.FilterReturn) t p = refl
 two-typed leaves (two.Joint (joint.Fold place)) t p = refl
 two-typed leaves (two.Joint (joint.Collect place)) t p = refl
 two-typed leaves (two.Catch class) t p = refl
+two-typed leaves two.TryFinally t p = refl
 
 pub two-ruled : (leaves : LeafTable) (classes : List Class) (by : OfTwo) (t p : Tree) (ty part : MethodTy) (n m : ℕ) → classes ≡ leaves.classes →
     IsTypedAs leaves t ty n → IsTypedAs leaves p part m → type_of leaves (two_tree by t p) ≡ two_row classes by ty n part m
@@ -73,3 +75,11 @@ pub guard-ruled : (leaves : LeafTable) (c t e : Tree) (test ty other : MethodTy)
 guard-ruled leaves c t e test ty other l n m first second third =
     λ i. with_type (first.typed i) (λ a. with_type (second.typed i) (λ b. with_type (third.typed i)
     (λ d. guard_row a (sym first.weighed i) b (sym second.weighed i) d (sym third.weighed i))))
+
+-- ---- of the parts of a loop
+
+pub counted-ruled : (leaves : LeafTable) (n i b : Tree) (counts starts turns : MethodTy) (l k m : ℕ) → IsTypedAs leaves n counts l →
+    IsTypedAs leaves i starts k → IsTypedAs leaves b turns m → type_of leaves (tree.Counted n i b) ≡ counted_row counts l starts k turns m
+counted-ruled leaves n i b counts starts turns l k m first second third =
+    λ j. with_type (first.typed j) (λ x. with_type (second.typed j) (λ y. with_type (third.typed j)
+    (λ z. counted_row x (sym first.weighed j) y (sym second.weighed j) z (sym third.weighed j))))

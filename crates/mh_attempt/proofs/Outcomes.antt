@@ -22,6 +22,7 @@ use Rattle.mh_jobs.specs.Thrown.{◌>>=◌}
 use Rattle.mh_link.specs.Concatenation.{concat_of}
 use Rattle.mh_link.specs.Linked.{at_start, called_script, method_target, ran, target_of}
 use Rattle.mh_link.specs.Made.{concat_nodes, nodes_from, nodes_of_call, nodes_of_method, types_of, unless_thrown}
+use Rattle.mh_link.specs.Resolved.{job_call}
 use Rattle.mh_attempt.specs.declared.registers.Registers.{Registers}
 use Rattle.mh_attempt.specs.AskedTypes.{job_types, script_types, target_types}
 use Rattle.mh_attempt.specs.Linkage.{target_recipes}
@@ -101,11 +102,11 @@ module _ (leaves : LeafTable) (scripts : List Script) (serial : ℕ) (call : Boo
 -- ---- a job
 
 -- a job calls its bootstrap method, and asks for the forms that this asks for
-pub job-asked : (leaves : LeafTable) (scripts : List Script) (job : Job) (serial : ℕ) (call : BootstrapCall) → job.call ≡ Ok call →
+pub job-asked : (leaves : LeafTable) (scripts : List Script) (job : Job) (serial : ℕ) (call : BootstrapCall) → job_call job ≡ Ok call →
     attempt_recipes leaves scripts job serial ≡ target_recipes leaves scripts serial call
 job-asked leaves scripts job serial call called = ap (λ m. map (recipe leaves) (unless_thrown m (call_asked leaves scripts serial))) called
 
 -- and for the types that this asks for
-pub job-types : (leaves : LeafTable) (scripts : List Script) (job : Job) (serial : ℕ) (call : BootstrapCall) → job.call ≡ Ok call →
+pub job-types : (leaves : LeafTable) (scripts : List Script) (job : Job) (serial : ℕ) (call : BootstrapCall) → job_call job ≡ Ok call →
     job_types leaves scripts job serial ≡ target_types leaves scripts serial call
 job-types leaves scripts job serial call called = ap (λ m. types_of leaves (unless_thrown m (nodes_of_call leaves scripts serial))) called

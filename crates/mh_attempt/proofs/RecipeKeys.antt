@@ -7,16 +7,18 @@ use Rattle.mh_values.specs.declared.types.Comp.{Comp}
 use Rattle.mh_values.specs.declared.types.Ty.{Ty}
 use Rattle.mh_values.specs.declared.types.MethodTy.{MethodTy}
 use Rattle.mh_values.specs.Same.{is_same_method_type}
+use Rattle.mh_convert.specs.declared.conv.Rules.{Rules}
+use Rattle.mh_convert.specs.declared.conv.Rules.TheVariants as rules
 use Rattle.mh_convert.specs.Conversion.{is_trivial_ret}
 use Rattle.mh_leaf.specs.LeafTable.{LeafTable}
 use Rattle.mh_tree.specs.Rows.{TypeOrRefusal, component_of}
-use Rattle.mh_tree.specs.Tree.{Tree}
-use Rattle.mh_tree.specs.Tree as tree
+use Rattle.mh_tree.specs.Tree.{Tree, converted}
 use Rattle.mh_tree.specs.Typing.{type_of}
-use Rattle.mh_tree.specs.Use.{used_as, items_used_as, taking_items}
+use Rattle.mh_tree.specs.Use.{used_as, used_by, items_used_as, taking_items}
 use Rattle.mh_edit.specs.declared.key.Key.{Key}
 use Rattle.mh_edit.specs.declared.key.Key.TheVariants as key
 use Rattle.mh_handle.specs.Recipe.{are_trivial, at_some, at_type, convert_keys, entries_of, recipe, ret_entry_of}
+use Rattle.mh_handle.proofs.Recipes.{recipe-converted}
 use Rattle.mh_link.specs.Made.{beginnings}
 use Rattle.mh_attempt.proofs.RecipeBeginnings.{IsShort, fewer-beginnings, more-beginnings}
 use Rattle.mh_attempt.proofs.RecipeSets.{AreAmong, among-among, each-among, same-among}
@@ -63,22 +65,22 @@ has-typed leaves t n m k is = (at_type m (λ ty. k ty ∷ []), at_type-short m (
 more-itself : (leaves : LeafTable) (t : Tree) → HasOneMore leaves t t
 more-itself leaves t = ([], short-none, sym (append-nil (recipe leaves t)))
 
-used-by : (leaves : LeafTable) (t : Tree) (asked : MethodTy) (b : Bool) → HasOneMore leaves t (if b then t else tree.AsType t asked)
-used-by leaves t asked true = more-itself leaves t
-used-by leaves t asked false = (
+used-by : (by : Rules) (leaves : LeafTable) (t : Tree) (asked : MethodTy) (b : Bool) → HasOneMore leaves t (if b then t else converted by t asked)
+used-by by leaves t asked true = more-itself leaves t
+used-by by leaves t asked false = (
   at_type (type_of leaves t) (convert_keys leaves.classes asked),
   at_type-short (type_of leaves t) (convert_keys leaves.classes asked)
       (convert-short leaves.classes asked),
-  refl,
+  recipe-converted by leaves t asked,
 )
 
--- a use of a tree
-pub use-more : (leaves : LeafTable) (own asked : MethodTy) (t : Tree) → HasOneMore leaves t (used_as own asked t)
-use-more leaves own asked t = used-by leaves t asked (is_same_method_type own asked)
+-- a conversion of a tree by the rules
+pub use-more : (by : Rules) (leaves : LeafTable) (own asked : MethodTy) (t : Tree) → HasOneMore leaves t (used_by by own asked t)
+use-more by leaves own asked t = used-by by leaves t asked (is_same_method_type own asked)
 
 items-by : (leaves : LeafTable) (own : MethodTy) (count : ℕ) (t : Tree) (o : Option Comp) →
     HasOneMore leaves t (option_map_or (λ c. used_as own (taking_items own c count) t) o t)
-items-by leaves own count t (Some c) = use-more leaves own (taking_items own c count) t
+items-by leaves own count t (Some c) = use-more rules.AsType leaves own (taking_items own c count) t
 items-by leaves own count t None = more-itself leaves t
 
 pub items-more : (leaves : LeafTable) (own : MethodTy) (array : Option Ty) (count : ℕ) (t : Tree) → HasOneMore leaves t (items_used_as own array count t)

@@ -54,6 +54,7 @@ recipe-key leaves (tree.Collect t place f) typed = more-key (recipe leaves t) _ 
 recipe-key leaves (tree.Spread t array count) typed = more-key (recipe leaves t) _ (recipe-key leaves t (part-typed (type_of leaves t) _ typed))
 recipe-key leaves (tree.Gather t array count) typed = more-key (recipe leaves t) _ (recipe-key leaves t (part-typed (type_of leaves t) _ typed))
 recipe-key leaves (tree.AsType t asked) typed = more-key (recipe leaves t) _ (recipe-key leaves t (part-typed (type_of leaves t) _ typed))
+recipe-key leaves (tree.Explicit t asked) typed = more-key (recipe leaves t) _ (recipe-key leaves t (part-typed (type_of leaves t) _ typed))
 recipe-key leaves (tree.Guard c t e) typed =
     let test = with_type-parts (type_of leaves c) _ typed.0 typed.1 in
     let own = with_type-parts (type_of leaves t) _ typed.0 test.2 in
@@ -62,6 +63,19 @@ recipe-key leaves (tree.Catch t class h) typed =
     let own = with_type-parts (type_of leaves t) _ typed.0 typed.1 in
     let handler = with_type-parts (type_of leaves h) _ typed.0 own.2 in
     typed-key (type_of leaves t) _ own.0 own.1 (typed-key (type_of leaves h) _ handler.0 handler.1 (_, [], refl))
+recipe-key leaves (tree.TryFinally t c) typed =
+    let own = with_type-parts (type_of leaves t) _ typed.0 typed.1 in
+    let cleanup = with_type-parts (type_of leaves c) _ typed.0 own.2 in
+    typed-key (type_of leaves t) _ own.0 own.1 (typed-key (type_of leaves c) _ cleanup.0 cleanup.1 (_, [], refl))
+recipe-key leaves (tree.Switch f cases) typed =
+    let own = with_type-parts (type_of leaves f) _ typed.0 typed.1 in
+    typed-key (type_of leaves f) _ own.0 own.1 (_, [], refl)
+recipe-key leaves (tree.Counted n i b) typed =
+    let counts = with_type-parts (type_of leaves n) _ typed.0 typed.1 in
+    let starts = with_type-parts (type_of leaves i) _ typed.0 counts.2 in
+    let turns = with_type-parts (type_of leaves b) _ typed.0 starts.2 in
+    typed-key (type_of leaves n) _ counts.0 counts.1
+    (typed-key (type_of leaves i) _ starts.0 starts.1 (typed-key (type_of leaves b) _ turns.0 turns.1 (_, [], refl)))
 
 -- the recipe of a tree that has a type is one of its beginnings
 pub recipe-whole : (leaves : LeafTable) (t : Tree) → IsTyped leaves t → is_one (beginnings (recipe leaves t)) (recipe leaves t) ≡ true

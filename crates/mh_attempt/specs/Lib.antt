@@ -1,5 +1,6 @@
 pub mod Asked
 pub mod AskedTypes
+pub mod Cases
 pub mod Errors
 pub mod Lines
 pub mod Linkage

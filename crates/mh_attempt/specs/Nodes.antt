@@ -8,8 +8,8 @@ use Rattle.mh_tree.specs.declared.error.CheckError.{CheckError}
 use Rattle.mh_tree.specs.declared.error.CheckError.TheVariants as check
 use Rattle.mh_tree.specs.declared.joints.Joint.{Joint}
 use Rattle.mh_tree.specs.Joints.{joint_row, joint_tree}
-use Rattle.mh_tree.specs.Rows.{TypeOrRefusal, bind_row, catch_row, drop_row, gather_row, permute_row}
-use Rattle.mh_tree.specs.Tree.{Tree, weight}
+use Rattle.mh_tree.specs.Rows.{TypeOrRefusal, bind_row, catch_row, drop_row, gather_row, permute_row, tryfinally_row}
+use Rattle.mh_tree.specs.Tree.{Cases, Tree, weight}
 use Rattle.mh_tree.specs.Tree as tree
 use Rattle.mh_tree.specs.Typing.{type_of}
 use Rattle.mh_script.specs.declared.operand.Register.{Register}
@@ -26,6 +26,7 @@ use Rattle.mh_attempt.specs.declared.lines.nodes.OfOne.TheVariants as one
 use Rattle.mh_attempt.specs.declared.lines.nodes.OfTwo.{OfTwo}
 use Rattle.mh_attempt.specs.declared.lines.nodes.OfTwo.TheVariants as two
 use Rattle.mh_attempt.specs.declared.registers.Registers.{Registers}
+use Rattle.mh_attempt.specs.Cases.{AreAllHeldIn, StandForEach}
 use Rattle.mh_attempt.specs.Recipes.{spread_asked, use_asked}
 use Rattle.mh_attempt.specs.Registers.{AreHeldBy, Hold, IsHeldIn, StandsFor, StandsForSome, node_made}
 
@@ -49,11 +50,13 @@ one_tree (one.Gather array count) t = tree.Gather t array count
 abbrev pub two_row : List Class → OfTwo → MethodTy → ℕ → MethodTy → ℕ → TypeOrRefusal
 two_row classes (two.Joint j) target target_weight part part_weight = joint_row j target target_weight part part_weight
 two_row classes (two.Catch class) target target_weight part part_weight = catch_row classes target target_weight class part part_weight
+two_row classes two.TryFinally target target_weight part part_weight = tryfinally_row target target_weight part part_weight
 
 -- its tree
 abbrev pub two_tree : OfTwo → Tree → Tree → Tree
 two_tree (two.Joint j) t p = joint_tree j t p
 two_tree (two.Catch class) t p = tree.Catch t class p
+two_tree two.TryFinally t p = tree.TryFinally t p
 
 -- ---- what an operation asks for
 
@@ -72,9 +75,13 @@ IsAsked leaves (node.One h by) m itself = (t : Tree) × StandsFor leaves h t × 
 IsAsked leaves (node.Two h by k) m itself = (t : Tree) × (p : Tree) × StandsFor leaves h t × StandsFor leaves k p × IsAlone m itself (two_tree by t p)
 IsAsked leaves (node.Guard f h k) m itself =
     (c : Tree) × (t : Tree) × (e : Tree) × StandsFor leaves f c × StandsFor leaves h t × StandsFor leaves k e × IsAlone m itself (tree.Guard c t e)
+IsAsked leaves (node.Counted c i b) m itself =
+    (n : Tree) × (s : Tree) × (t : Tree) × StandsFor leaves c n × StandsFor leaves i s × StandsFor leaves b t × IsAlone m itself (tree.Counted n s t)
+IsAsked leaves (node.Switch h os) m itself =
+    (t : Tree) × (ts : Cases) × StandsFor leaves h t × StandForEach leaves os ts × IsAlone m itself (tree.Switch t ts)
 IsAsked leaves (node.Spread h array count) m itself =
     (t : Tree) × StandsFor leaves h t × (m ≡ spread_of leaves t array count) × (itself ≡ spread_asked leaves t)
-IsAsked leaves (node.AsType h asked) m itself = (t : Tree) × StandsFor leaves h t × (m ≡ use_of leaves t asked) × (itself ≡ use_asked leaves t)
+IsAsked leaves (node.Use h by asked) m itself = (t : Tree) × StandsFor leaves h t × (m ≡ use_of by leaves t asked) × (itself ≡ use_asked leaves t)
 
 -- The answer is the node that is asked for, or the exception of an operand. If memory runs out, it says nothing.
 abbrev pub TellsNode : LeafTable → Result Node CheckError → OrThrown Tree → (Tree → List Tree) → Type 0
@@ -89,8 +96,10 @@ abbrev pub parts_of : Node → List HandleOperand
 parts_of (node.One h by) = h ∷ []
 parts_of (node.Two h by k) = h ∷ k ∷ []
 parts_of (node.Guard f h k) = f ∷ h ∷ k ∷ []
+parts_of (node.Counted c i b) = c ∷ i ∷ b ∷ []
+parts_of (node.Switch h os) = h ∷ os
 parts_of (node.Spread h array count) = h ∷ []
-parts_of (node.AsType h asked) = h ∷ []
+parts_of (node.Use h by asked) = h ∷ []
 parts_of _ = []
 
 -- the seat holds their types
@@ -98,8 +107,10 @@ abbrev pub AreHeldIn : SeatView → Node → Type 0
 AreHeldIn seat (node.One h by) = IsHeldIn seat h
 AreHeldIn seat (node.Two h by k) = IsHeldIn seat h × IsHeldIn seat k
 AreHeldIn seat (node.Guard f h k) = IsHeldIn seat f × IsHeldIn seat h × IsHeldIn seat k
+AreHeldIn seat (node.Counted c i b) = IsHeldIn seat c × IsHeldIn seat i × IsHeldIn seat b
+AreHeldIn seat (node.Switch h os) = IsHeldIn seat h × AreAllHeldIn seat os
 AreHeldIn seat (node.Spread h array count) = IsHeldIn seat h
-AreHeldIn seat (node.AsType h asked) = IsHeldIn seat h
+AreHeldIn seat (node.Use h by asked) = IsHeldIn seat h
 AreHeldIn seat _ = Unit {0}
 
 -- ---- where registers stand for frames
@@ -140,12 +151,19 @@ pub record IsOperand (leaves : LeafTable) (seat : SeatView) (h : HandleOperand) 
   pub stands : StandsForSome leaves h
   pub held : IsHeldIn seat h
 
+-- the same for all operands of a list
+abbrev pub AreAllOperands : LeafTable → SeatView → List HandleOperand → Type 0
+AreAllOperands leaves seat [] = Unit {0}
+AreAllOperands leaves seat (o ∷ os) = IsOperand leaves seat o × AreAllOperands leaves seat os
+
 -- the same for all operands of a node; a leaf must be one of the table
 abbrev pub AreOperands : LeafTable → SeatView → Node → Type 0
 AreOperands leaves seat (node.Leaf l) = l.0 < length leaves.leaves
 AreOperands leaves seat (node.One h by) = IsOperand leaves seat h
 AreOperands leaves seat (node.Two h by k) = IsOperand leaves seat h × IsOperand leaves seat k
 AreOperands leaves seat (node.Guard f h k) = IsOperand leaves seat f × IsOperand leaves seat h × IsOperand leaves seat k
+AreOperands leaves seat (node.Counted c i b) = IsOperand leaves seat c × IsOperand leaves seat i × IsOperand leaves seat b
+AreOperands leaves seat (node.Switch h os) = IsOperand leaves seat h × AreAllOperands leaves seat os
 AreOperands leaves seat (node.Spread h array count) = IsOperand leaves seat h
-AreOperands leaves seat (node.AsType h asked) = IsOperand leaves seat h
+AreOperands leaves seat (node.Use h by asked) = IsOperand leaves seat h
 AreOperands leaves seat _ = Unit {0}

@@ -22,6 +22,7 @@ use Rattle.mh_link.specs.Linked.{stepped, ended, called_script, at_start}
 use Rattle.mh_link.specs.Made.{concat_nodes, handles_of, returned, nodes_of_uses, unless_thrown}
 use Rattle.mh_link.specs.Operands.{Frame, handle_in}
 use Rattle.mh_link.specs.Operations.{node_of}
+use Rattle.mh_link.specs.Resolved.{job_call}
 
 -- ---- nodes
 
@@ -38,6 +39,7 @@ spread_asked leaves t s = s ∷ []
 abbrev pub asked_itself : LeafTable → Frame → Operation → Tree → List Tree
 asked_itself leaves frame (operation.Spread h ty count) s = unless_thrown (handle_in frame h) (λ t. spread_asked leaves t s)
 asked_itself leaves frame (operation.AsType h ty) u = unless_thrown (handle_in frame h) (λ t. use_asked leaves t u)
+asked_itself leaves frame (operation.Explicit h ty) u = unless_thrown (handle_in frame h) (λ t. use_asked leaves t u)
 asked_itself leaves frame op t = t ∷ []
 
 -- the nodes whose forms an operation asks for, with its uses of leaves first: none if it throws
@@ -70,7 +72,7 @@ call_asked leaves scripts serial call = method_asked leaves scripts serial call 
 
 -- the nodes whose forms the attempt with a serial number asks for
 abbrev pub attempt_asked : LeafTable → List Script → Job → ℕ → List Tree
-attempt_asked leaves scripts job serial = unless_thrown job.call (call_asked leaves scripts serial)
+attempt_asked leaves scripts job serial = unless_thrown (job_call job) (call_asked leaves scripts serial)
 
 -- ---- their recipes
 

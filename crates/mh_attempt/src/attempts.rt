@@ -16,6 +16,7 @@ ghost use Rattle.mh_attempt.specs.Recipes.{attempt_recipes, script_recipes};
 ghost use Rattle.mh_attempt.specs.Registers.{HasLeaves};
 ghost use Rattle.mh_attempt.specs.Several.{AddsTypes};
 
+use crate::call::call_of;
 use crate::concatenation::concatenated;
 use crate::error::WorkError;
 use crate::linkage::{Linkage, Linked};
@@ -116,8 +117,8 @@ fn called<'t, R: Wait>(
     }
 }
 
-/// The target of a job, in the attempt with a serial number. If the job has an exception, it is
-/// thrown before a script runs.
+/// The target of a job, in the attempt with a serial number. If the job or one of its static
+/// arguments has an exception, it is thrown before a script runs.
 fn target<'t, R: Wait>(
     w: &mut Work<'_, 't>,
     rt: &R,
@@ -137,10 +138,8 @@ fn target<'t, R: Wait>(
     ensures asked { AsksTypesOrThrows (job_types (leaves_of w.old) scripts.now job.now serial)
         w.old w.new result }
 {
-    match &job.call {
-        Ok(call) => called(w, rt, scripts, call, serial),
-        Err(exc) => Err(HandleError::Refused(exc.copy(w.alloc)?)),
-    }
+    let call = call_of(w.alloc, job)?;
+    called(w, rt, scripts, &call, serial)
 }
 
 /// What is linked for a job, in the attempt with a serial number.

@@ -1,16 +1,18 @@
 //! Method handles as operands.
 
-ghost use Rattle.std.specs.Prelude.{◌≡◌, ◌≤◌, [], ◌∷◌, Ok, IfOk};
+ghost use Rattle.std.specs.Prelude.{◌≡◌, ◌≤◌, ◌+◌, [], ◌∷◌, Ok, IfOk};
+ghost use Rattle.mh_values.specs.declared.types.MethodTy.{MethodTy};
 ghost use Rattle.mh_leaf.specs.LeafTable.{LeafTable};
 ghost use Rattle.mh_tree.specs.Tree.{Tree, weight};
 ghost use Rattle.mh_tree.specs.Typing.{type_of};
 ghost use Rattle.mh_handle.specs.Works.{IsReady, GoesOn, IsAccepted, StandsIn, leaves_of};
 ghost use Rattle.mh_attempt.specs.Asked.{AsksIfMade};
 ghost use Rattle.mh_attempt.specs.AskedTypes.{AsksTypesOrThrows, types_made};
+ghost use Rattle.mh_attempt.specs.Cases.{IsLeafOfType, leaf_recipe, own_weight};
 ghost use Rattle.mh_attempt.specs.Nodes.{IsTypedAs};
 ghost use Rattle.mh_attempt.specs.Recipes.{recipes_made};
 ghost use Rattle.mh_attempt.specs.Registers.{IsHeldIn, StandsFor, StandsForSome};
-ghost use Rattle.mh_attempt.specs.Several.{AddsTypes};
+ghost use Rattle.mh_attempt.specs.Several.{AddsTypes, DrawsOnce, LearnsOnce};
 
 use mh_handle::{Handle, HandleError, Work, leaf};
 use mh_leaves::Leaves;
@@ -43,6 +45,7 @@ impl<'f, 't> HandleOperand<'f, 't> {
     pub fn weight(&self) -> u32
         ensures weight { (leaves : LeafTable) (t : Tree) → StandsFor leaves self.now t
             → result ≡ weight t }
+        ensures own { result ≡ own_weight self.now }
         ensures light { result ≤ 256 }
     {
         match self {
@@ -78,10 +81,20 @@ impl<'f, 't> HandleOperand<'f, 't> {
             w.old w.new result }
         ensures stands { (t : Tree) → StandsFor (leaves_of w.old) self.now t
             → IfOk result (λ h. StandsIn w.old h t) }
+        ensures draws { (ty : MethodTy) → IsLeafOfType (leaves_of w.old) ty self.now
+            → DrawsOnce (leaf_recipe ty) w.old.pass.now w.new.pass.now }
+        ensures learns { (ty : MethodTy) → IsLeafOfType (leaves_of w.old) ty self.now
+            → IfOk result (λ h. LearnsOnce (leaf_recipe ty) w.old.pass.now w.new.pass.now) }
+        ensures room { w.old.seat.now.room ≤ w.new.seat.now.room + own_weight self.now }
     {
         match self {
             HandleOperand::Held(handle) => Ok(handle.copy(w)?),
-            HandleOperand::Leaf(id) => leaf(w, rt, *id),
+            HandleOperand::Leaf(id) => {
+                let made = leaf(w, rt, *id)?;
+                // It holds no more types than it weighs.
+                let _ty = made.ty();
+                Ok(made)
+            }
         }
     }
 }

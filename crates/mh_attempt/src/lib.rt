@@ -2,6 +2,7 @@
 #![tactic(auto)]
 
 mod attempts;
+mod call;
 mod concatenation;
 mod error;
 mod handle;

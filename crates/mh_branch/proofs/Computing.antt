@@ -17,7 +17,7 @@ use Rattle.mh_form.specs.Slots.{filled, none_as_zero}
 use Rattle.mh_form.proofs.Refines.{refines-after}
 use Rattle.mh_handle.proofs.Erasing.{erased-after, raised-low}
 
-refines-erased-after : (calls : List LeafCall) (r : Done) (s : Ran (Option Slot)) → Refines (erased_ran r) s →
+pub refines-erased-after : (calls : List LeafCall) (r : Done) (s : Ran (Option Slot)) → Refines (erased_ran r) s →
     Refines (erased_ran (after calls r)) (after calls s)
 refines-erased-after calls r s h =
     let P : Ran (Option Slot) → Type 0 = λ v. Refines v (after calls s) in

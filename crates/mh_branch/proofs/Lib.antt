@@ -1,10 +1,10 @@
 mod ArrayAnswers
 pub mod ArrayFits
 pub mod ArrayShapes
-mod Branching
+pub mod Branching
 mod CatchAnswers
 mod CatchStands
-mod Computing
+pub mod Computing
 mod GatherStands
 mod GatheredArrays
 mod Growing

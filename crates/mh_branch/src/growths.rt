@@ -88,7 +88,7 @@ pub(crate) fn catch_key<'t>(
 }
 
 /// Adds one more part. If memory runs out, all are given back.
-fn with_part<'t>(
+pub fn with_part<'t>(
     w: &mut Work<'_, 't>,
     parts: Parts<'t>,
     part: Handle<'t>,

@@ -8,5 +8,5 @@ mod roots;
 
 pub use arrays::{Gathered, gather, gather_of};
 pub use branches::{catch, catch_of, guard, guard_of};
-pub use growths::{Branches, Caught};
+pub use growths::{Branches, Caught, with_part};
 pub use roots::{constant, identity, throw};

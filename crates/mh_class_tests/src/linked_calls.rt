@@ -76,7 +76,7 @@ fn job_for(alloc: Global, leaves: &Leaves, scripts: &Scripts, site: Site) -> Res
     if view.sites() == 0 {
         return Err(NoMemory);
     }
-    job_of(alloc, &view, 0, 0, scripts, leaves)
+    job_of(alloc, &view, 0, 0, 0, scripts, leaves)
 }
 
 /// A word before an exception.

@@ -19,3 +19,4 @@ pub mod Under
 pub mod Calling
 pub mod Telling
 pub mod Counting
+pub mod Crossing

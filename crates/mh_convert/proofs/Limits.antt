@@ -13,7 +13,9 @@ use Rattle.mh_values.specs.HasType.{has_type}
 use Rattle.mh_values.specs.Primitives.{primitive_of, is_within}
 use Rattle.mh_values.specs.ValueLimits.{IsValueWithinLimits}
 use Rattle.mh_values.proofs.TypedLimits.{typed-within}
-use Rattle.mh_convert.specs.Conversion.{serves_as, widened, widened_value, boxed, cast, unboxed, conv, fit, default_of}
+use Rattle.mh_convert.specs.declared.conv.Rules.{Rules}
+use Rattle.mh_convert.specs.declared.conv.Rules.TheVariants as rules
+use Rattle.mh_convert.specs.Conversion.{serves_as, widened, widened_value, recast, recast_value, boxed, cast, unboxed, unboxed_explicitly, conv, fit, default_of}
 
 -- a value within its limits, or an exception
 abbrev pub ConvertsWithinLimits : Result Value Exc → Type 0
@@ -40,14 +42,29 @@ unboxed-limits v q = tt
 cast-limits : (classes : List Class) (v : Value) (t : Ty) → ConvertsWithinLimits (cast classes v t)
 cast-limits classes v t = chosen (has_type classes v t) v (bare class_cast_class) (typed-within classes v t)
 
+recast-limits : (v : Value) (q : Primitive) → IsValueWithinLimits v → IsValueWithinLimits (recast_value v q)
+recast-limits (value.Prim n) q h = tt
+recast-limits v q h = h
+
+unboxed_explicitly-limits : (v : Value) (q : Primitive) → ConvertsWithinLimits (unboxed_explicitly v q)
+unboxed_explicitly-limits value.Null q = tt
+unboxed_explicitly-limits (value.Boxed n) q = chosen (is_within n) (value.Prim (recast n q)) (bare class_cast_class) (λ is. tt)
+unboxed_explicitly-limits v q = tt
+
 -- a converted value is within its limits
-pub conv-limits : (classes : List Class) (s t : Ty) (v : Value) → IsValueWithinLimits v → ConvertsWithinLimits (conv classes s t v)
-conv-limits classes (ty.Prim p) (ty.Prim q) v h = widened-limits v q h
-conv-limits classes (ty.Prim p) (ty.Class c) v h = boxed-limits v h
-conv-limits classes (ty.Prim p) (ty.Array c) v h = boxed-limits v h
-conv-limits classes (ty.Class c) (ty.Prim q) v h = unboxed-limits v q
-conv-limits classes (ty.Array c) (ty.Prim q) v h = unboxed-limits v q
-conv-limits classes s t v h = cast-limits classes v t
+pub conv-limits : (by : Rules) (classes : List Class) (s t : Ty) (v : Value) → IsValueWithinLimits v → ConvertsWithinLimits (conv by classes s t v)
+conv-limits rules.AsType classes (ty.Prim p) (ty.Prim q) v h = widened-limits v q h
+conv-limits rules.AsType classes (ty.Prim p) (ty.Class c) v h = boxed-limits v h
+conv-limits rules.AsType classes (ty.Prim p) (ty.Array c) v h = boxed-limits v h
+conv-limits rules.AsType classes (ty.Class c) (ty.Prim q) v h = unboxed-limits v q
+conv-limits rules.AsType classes (ty.Array c) (ty.Prim q) v h = unboxed-limits v q
+conv-limits rules.AsType classes s t v h = cast-limits classes v t
+conv-limits rules.Explicit classes (ty.Prim p) (ty.Prim q) v h = recast-limits v q h
+conv-limits rules.Explicit classes (ty.Prim p) (ty.Class c) v h = boxed-limits v h
+conv-limits rules.Explicit classes (ty.Prim p) (ty.Array c) v h = boxed-limits v h
+conv-limits rules.Explicit classes (ty.Class c) (ty.Prim q) v h = unboxed_explicitly-limits v q
+conv-limits rules.Explicit classes (ty.Array c) (ty.Prim q) v h = unboxed_explicitly-limits v q
+conv-limits rules.Explicit classes s t v h = cast-limits classes v t
 
 -- and so is one that was bound, or is constant, whatever it was before
 pub fit-limits : (classes : List Class) (v : Value) (t : Ty) → ConvertsWithinLimits (fit classes v t)

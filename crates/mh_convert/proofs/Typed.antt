@@ -16,7 +16,9 @@ use Rattle.mh_values.specs.HasType.{has_type, is_type_below}
 use Rattle.mh_values.specs.Primitives.{is_same_primitive, primitive_of, whole, is_within, number_of}
 use Rattle.mh_values.proofs.PrimitiveLaws.{same_primitive-is}
 use Rattle.mh_values.proofs.BelowTypes.{value-below, type_below-itself}
-use Rattle.mh_convert.specs.Conversion.{widens, can, widened, widened_value, cast, conv, is_trivial}
+use Rattle.mh_convert.specs.declared.conv.Rules.{Rules}
+use Rattle.mh_convert.specs.declared.conv.Rules.TheVariants as rules
+use Rattle.mh_convert.specs.Conversion.{widens, can_as_type, can_explicit, can, widened, widened_value, narrowed, recast_value, cast, conv_as_type, conv_explicit, conv, is_trivial}
 pub use Rattle.mh_convert.proofs.TypedConversions.{
   cast-throws,
   cast-typed,
@@ -32,12 +34,23 @@ pub use Rattle.mh_convert.proofs.TypedConversions.{
 
 -- ---- what changes nothing
 
-pub trivial-allowed : (classes : List Class) (s t : Ty) → is_trivial classes s t ≡ true → can classes s t ≡ true
-trivial-allowed classes (ty.Prim p) (ty.Prim q) h = ap (λ b. b || widens p q) h
-trivial-allowed classes (ty.Class c) (ty.Class d) h = refl
-trivial-allowed classes (ty.Array c) (ty.Class d) h = refl
-trivial-allowed classes (ty.Array c) (ty.Array d) h = refl
-trivial-allowed classes s t h = absurd cc
+trivial-as_type : (classes : List Class) (s t : Ty) → is_trivial classes s t ≡ true → can_as_type classes s t ≡ true
+trivial-as_type classes (ty.Prim p) (ty.Prim q) h = ap (λ b. b || widens p q) h
+trivial-as_type classes (ty.Class c) (ty.Class d) h = refl
+trivial-as_type classes (ty.Array c) (ty.Class d) h = refl
+trivial-as_type classes (ty.Array c) (ty.Array d) h = refl
+trivial-as_type classes s t h = absurd cc
+
+trivial-explicit : (classes : List Class) (s t : Ty) → is_trivial classes s t ≡ true → can_explicit classes s t ≡ true
+trivial-explicit classes (ty.Prim p) (ty.Prim q) h = refl
+trivial-explicit classes (ty.Class c) (ty.Class d) h = refl
+trivial-explicit classes (ty.Array c) (ty.Class d) h = refl
+trivial-explicit classes (ty.Array c) (ty.Array d) h = refl
+trivial-explicit classes s t h = absurd cc
+
+pub trivial-allowed : (by : Rules) (classes : List Class) (s t : Ty) → is_trivial classes s t ≡ true → can by classes s t ≡ true
+trivial-allowed rules.AsType classes s t h = trivial-as_type classes s t h
+trivial-allowed rules.Explicit classes s t h = trivial-explicit classes s t h
 
 -- no type widens to itself
 widens-itself : (p : Primitive) → widens p p ≡ false
@@ -60,22 +73,42 @@ same_prim classes p q (value.Prim n) h k =
     ap value.Prim (same_number n q (subst P (same_primitive-is p q h) parts.0))
 same_prim classes p q v h k = absurd cc
 
+recast_prim : (classes : List Class) (p q : Primitive) (v : Value) → is_same_primitive p q ≡ true → has_type classes v (ty.Prim p) ≡ true → recast_value v q ≡ v
+recast_prim classes p q (value.Prim n) h k =
+    let P : Primitive → Type 0 = λ r. is_same_primitive (primitive_of n) r ≡ true in
+    let parts = and_parts (is_same_primitive (primitive_of n) p) (is_within n) k in
+    ap (λ t. value.Prim (if t then n else narrowed (whole n) q)) (subst P (same_primitive-is p q h) parts.0)
+recast_prim classes p q v h k = absurd cc
+
 kept : (classes : List Class) → AreClasses classes → (s t : Ty) (v : Value) → is_type_below classes s t ≡ true → has_type classes v s ≡ true →
     cast classes v t ≡ Ok v
 kept classes are s t v h k = ap (λ (b : Bool). cond b (Ok v) (Err (bare class_cast_class))) (value-below classes are s t h v k)
 
+as_type-keeps : (classes : List Class) → AreClasses classes → (s t : Ty) (v : Value) → is_trivial classes s t ≡ true → has_type classes v s ≡ true →
+    conv_as_type classes s t v ≡ Ok v
+as_type-keeps classes are (ty.Prim p) (ty.Prim q) v h k = ap Ok (same_prim classes p q v h k)
+as_type-keeps classes are (ty.Class c) (ty.Class d) v h k = kept classes are (ty.Class c) (ty.Class d) v h k
+as_type-keeps classes are (ty.Array c) (ty.Class d) v h k = kept classes are (ty.Array c) (ty.Class d) v h k
+as_type-keeps classes are (ty.Array c) (ty.Array d) v h k = kept classes are (ty.Array c) (ty.Array d) v h k
+as_type-keeps classes are s t v h k = absurd cc
+
+explicit-keeps : (classes : List Class) → AreClasses classes → (s t : Ty) (v : Value) → is_trivial classes s t ≡ true → has_type classes v s ≡ true →
+    conv_explicit classes s t v ≡ Ok v
+explicit-keeps classes are (ty.Prim p) (ty.Prim q) v h k = ap Ok (recast_prim classes p q v h k)
+explicit-keeps classes are (ty.Class c) (ty.Class d) v h k = kept classes are (ty.Class c) (ty.Class d) v h k
+explicit-keeps classes are (ty.Array c) (ty.Class d) v h k = kept classes are (ty.Array c) (ty.Class d) v h k
+explicit-keeps classes are (ty.Array c) (ty.Array d) v h k = kept classes are (ty.Array c) (ty.Array d) v h k
+explicit-keeps classes are s t v h k = absurd cc
+
 -- a trivial conversion changes nothing
-pub trivial-keeps : (classes : List Class) → AreClasses classes → (s t : Ty) (v : Value) → is_trivial classes s t ≡ true → has_type classes v s ≡ true →
-    conv classes s t v ≡ Ok v
-trivial-keeps classes are (ty.Prim p) (ty.Prim q) v h k = ap Ok (same_prim classes p q v h k)
-trivial-keeps classes are (ty.Class c) (ty.Class d) v h k = kept classes are (ty.Class c) (ty.Class d) v h k
-trivial-keeps classes are (ty.Array c) (ty.Class d) v h k = kept classes are (ty.Array c) (ty.Class d) v h k
-trivial-keeps classes are (ty.Array c) (ty.Array d) v h k = kept classes are (ty.Array c) (ty.Array d) v h k
-trivial-keeps classes are s t v h k = absurd cc
+pub trivial-keeps : (by : Rules) (classes : List Class) → AreClasses classes → (s t : Ty) (v : Value) → is_trivial classes s t ≡ true →
+    has_type classes v s ≡ true → conv by classes s t v ≡ Ok v
+trivial-keeps rules.AsType classes are s t v h k = as_type-keeps classes are s t v h k
+trivial-keeps rules.Explicit classes are s t v h k = explicit-keeps classes are s t v h k
 
 -- a type converts to itself, and each of its values to itself
-pub itself-allowed : (classes : List Class) (t : Ty) → can classes t t ≡ true
-itself-allowed classes t = trivial-allowed classes t t (type_below-itself classes t)
+pub itself-allowed : (by : Rules) (classes : List Class) (t : Ty) → can by classes t t ≡ true
+itself-allowed by classes t = trivial-allowed by classes t t (type_below-itself classes t)
 
-pub itself-keeps : (classes : List Class) → AreClasses classes → (t : Ty) (v : Value) → has_type classes v t ≡ true → conv classes t t v ≡ Ok v
-itself-keeps classes are t v k = trivial-keeps classes are t t v (type_below-itself classes t) k
+pub itself-keeps : (by : Rules) (classes : List Class) → AreClasses classes → (t : Ty) (v : Value) → has_type classes v t ≡ true → conv by classes t t v ≡ Ok v
+itself-keeps by classes are t v k = trivial-keeps by classes are t t v (type_below-itself classes t) k

@@ -1,5 +1,7 @@
--- Which conversions of a value from one type to another are allowed, and what each gives (`MethodHandle.asType`, SE 17).
-use Rattle.std.specs.Prelude.{Bool, true, false, ◌&&◌, ◌||◌, if◌then◌else◌, pos, List, [], ◌∷◌, Option, Some, None, Result, Ok, Err}
+-- Which conversions of a value from one type to another are allowed, and what each gives, by the rules of `MethodHandle.asType` and by those of
+-- `MethodHandles.explicitCastArguments` (SE 17).
+use Rattle.std.specs.Prelude.{ℕ, ◌^◌, ◌==◌, unsigned_abs, ℤ, pos, Bool, true, false, ◌&&◌, ◌||◌, if◌then◌else◌, List, [], ◌∷◌, Option, Some, None, Result, Ok, Err}
+use Rattle.std.specs.Int.{w8, w16, w32, cast_signed, int_rem_euclid}
 use Rattle.std.specs.List.{list_any}
 use Rattle.std.specs.Result.{result_map_both}
 use Rattle.mh_values.specs.declared.class.Class.{Class}
@@ -9,6 +11,7 @@ use Rattle.mh_values.specs.declared.types.Primitive.TheVariants as primitive
 use Rattle.mh_values.specs.declared.types.Ty.{Ty}
 use Rattle.mh_values.specs.declared.types.Ty.TheVariants as ty
 use Rattle.mh_values.specs.declared.value.Num.{Num}
+use Rattle.mh_values.specs.declared.value.Num.TheVariants as num
 use Rattle.mh_values.specs.declared.value.Value.{Value}
 use Rattle.mh_values.specs.declared.value.Value.TheVariants as value
 use Rattle.mh_values.specs.declared.value.Exc.{Exc}
@@ -19,6 +22,8 @@ use Rattle.mh_values.specs.Primitives.{wrapper_of, is_same_primitive, primitive_
 use Rattle.mh_convert.specs.declared.conv.Conv.{Conv}
 use Rattle.mh_convert.specs.declared.conv.RetConv.{RetConv}
 use Rattle.mh_convert.specs.declared.conv.RetConv.TheVariants as ret
+use Rattle.mh_convert.specs.declared.conv.Rules.{Rules}
+use Rattle.mh_convert.specs.declared.conv.Rules.TheVariants as rules
 
 -- a primitive type widens to another one: byte to short, int and long, short and char to int and long, int to long (JLS SE 17, 5.1.2)
 abbrev pub widens : Primitive → Primitive → Bool
@@ -41,14 +46,33 @@ primitives = primitive.Z ∷ primitive.B ∷ primitive.C ∷ primitive.S ∷ pri
 abbrev pub may_unbox : List Class → ClassId → Primitive → Bool
 may_unbox classes s q = list_any (λ p. serves_as p q && is_subclass classes (wrapper_of p) s) primitives
 
--- whether a value of the first type may be converted to the second
-abbrev pub can : List Class → Ty → Ty → Bool
-can classes (ty.Prim p) (ty.Prim q) = serves_as p q
-can classes (ty.Prim p) (ty.Class t) = is_subclass classes (wrapper_of p) t
-can classes (ty.Prim p) (ty.Array d) = false
-can classes (ty.Class s) (ty.Prim q) = may_unbox classes s q
-can classes (ty.Array c) (ty.Prim q) = false
-can classes _ _ = true
+-- whether a value of the first type may be converted to the second as `asType` does
+abbrev pub can_as_type : List Class → Ty → Ty → Bool
+can_as_type classes (ty.Prim p) (ty.Prim q) = serves_as p q
+can_as_type classes (ty.Prim p) (ty.Class t) = is_subclass classes (wrapper_of p) t
+can_as_type classes (ty.Prim p) (ty.Array d) = false
+can_as_type classes (ty.Class s) (ty.Prim q) = may_unbox classes s q
+can_as_type classes (ty.Array c) (ty.Prim q) = false
+can_as_type classes _ _ = true
+
+-- a value of the class may be a boxed number: the wrapper of some primitive type is at or below the class
+abbrev pub may_hold_number : List Class → ClassId → Bool
+may_hold_number classes s = list_any (λ p. is_subclass classes (wrapper_of p) s) primitives
+
+-- whether a value of the first type may be converted to the second explicitly: each primitive type to each other one, and a reference to each
+-- primitive type if it may be a boxed number
+abbrev pub can_explicit : List Class → Ty → Ty → Bool
+can_explicit classes (ty.Prim p) (ty.Prim q) = true
+can_explicit classes (ty.Prim p) (ty.Class t) = is_subclass classes (wrapper_of p) t
+can_explicit classes (ty.Prim p) (ty.Array d) = false
+can_explicit classes (ty.Class s) (ty.Prim q) = may_hold_number classes s
+can_explicit classes (ty.Array c) (ty.Prim q) = false
+can_explicit classes _ _ = true
+
+-- whether a value of the first type may be converted to the second by the rules
+abbrev pub can : Rules → List Class → Ty → Ty → Bool
+can rules.AsType classes s t = can_as_type classes s t
+can rules.Explicit classes s t = can_explicit classes s t
 
 -- a number as one of a primitive type that it serves as
 abbrev pub widened : Num → Primitive → Num
@@ -74,12 +98,52 @@ unboxed value.Null q = Err (bare null_pointer_class)
 unboxed (value.Boxed n) q = if serves_as (primitive_of n) q && is_within n then Ok (value.Prim (widened n q)) else Err (bare class_cast_class)
 unboxed v q = Err (bare class_cast_class)
 
--- what the conversion of a value of the first type to the second gives, or the exception that it throws
-abbrev pub conv : List Class → Ty → Ty → Value → Result Value Exc
-conv classes (ty.Prim p) (ty.Prim q) v = Ok (widened_value v q)
-conv classes (ty.Prim p) _ v = Ok (boxed v)
-conv classes _ (ty.Prim q) v = unboxed v q
-conv classes _ t v = cast classes v t
+-- what the conversion of a value of the first type to the second by `asType` gives, or the exception that it throws
+abbrev pub conv_as_type : List Class → Ty → Ty → Value → Result Value Exc
+conv_as_type classes (ty.Prim p) (ty.Prim q) v = Ok (widened_value v q)
+conv_as_type classes (ty.Prim p) _ v = Ok (boxed v)
+conv_as_type classes _ (ty.Prim q) v = unboxed v q
+conv_as_type classes _ t v = cast classes v t
+
+-- so many low bits of a whole number, as a number without a sign
+abbrev pub low_bits : ℕ → ℤ → ℕ
+low_bits bits z = unsigned_abs (int_rem_euclid z (pos (2 ^ bits)))
+
+-- The low bits of a whole number as a number of a primitive type (JLS SE 17, 5.1.3). A boolean is the lowest bit. A long has all bits.
+abbrev pub narrowed : ℤ → Primitive → Num
+narrowed z primitive.Z = num.Z (low_bits 1 z == 1)
+narrowed z primitive.B = num.B (cast_signed w8 (low_bits 8 z))
+narrowed z primitive.C = num.C (low_bits 16 z)
+narrowed z primitive.S = num.S (cast_signed w16 (low_bits 16 z))
+narrowed z primitive.I = num.I (cast_signed w32 (low_bits 32 z))
+narrowed z primitive.J = num.J z
+
+-- a number as one of any primitive type: itself if it has that type; true is 1, and false is 0
+abbrev pub recast : Num → Primitive → Num
+recast n q = if is_same_primitive (primitive_of n) q then n else narrowed (whole n) q
+
+-- a primitive value as one of any primitive type
+abbrev pub recast_value : Value → Primitive → Value
+recast_value (value.Prim n) q = value.Prim (recast n q)
+recast_value v q = v
+
+-- a reference as a number of a primitive type, explicitly: null is zero, and a boxed number in its range is recast
+abbrev pub unboxed_explicitly : Value → Primitive → Result Value Exc
+unboxed_explicitly value.Null q = Ok (value.Prim (number_of q (pos 0)))
+unboxed_explicitly (value.Boxed n) q = if is_within n then Ok (value.Prim (recast n q)) else Err (bare class_cast_class)
+unboxed_explicitly v q = Err (bare class_cast_class)
+
+-- what the explicit conversion of a value of the first type to the second gives, or the exception that it throws
+abbrev pub conv_explicit : List Class → Ty → Ty → Value → Result Value Exc
+conv_explicit classes (ty.Prim p) (ty.Prim q) v = Ok (recast_value v q)
+conv_explicit classes (ty.Prim p) _ v = Ok (boxed v)
+conv_explicit classes _ (ty.Prim q) v = unboxed_explicitly v q
+conv_explicit classes _ t v = cast classes v t
+
+-- what the conversion of a value of the first type to the second by the rules gives, or the exception that it throws
+abbrev pub conv : Rules → List Class → Ty → Ty → Value → Result Value Exc
+conv rules.AsType classes s t v = conv_as_type classes s t v
+conv rules.Explicit classes s t v = conv_explicit classes s t v
 
 -- a bound or constant value as a value of a type
 abbrev pub fit : List Class → Value → Ty → Result Value Exc
@@ -87,8 +151,8 @@ fit classes v (ty.Prim q) = unboxed v q
 fit classes v t = cast classes v t
 
 -- the conversion from one type to another, where it is allowed
-abbrev pub conversion_of : List Class → Ty → Ty → Option Conv
-conversion_of classes s t = if can classes s t then Some (record { from = s; to = t }) else None
+abbrev pub conversion_of : Rules → List Class → Ty → Ty → Option Conv
+conversion_of by classes s t = if can by classes s t then Some (record { from = s; to = t }) else None
 
 -- the conversion of a result, where it is allowed
 abbrev pub value_conversion : Option Conv → Option RetConv
@@ -96,11 +160,11 @@ value_conversion (Some c) = Some (ret.Value c)
 value_conversion None = None
 
 -- the conversion from one return type to another, where it is allowed; void may become any type, and any type void
-abbrev pub ret_conversion_of : List Class → Option Ty → Option Ty → Option RetConv
-ret_conversion_of classes None None = Some ret.Keep
-ret_conversion_of classes (Some s) None = Some ret.Discard
-ret_conversion_of classes None (Some t) = Some (ret.Default t)
-ret_conversion_of classes (Some s) (Some t) = value_conversion (conversion_of classes s t)
+abbrev pub ret_conversion_of : Rules → List Class → Option Ty → Option Ty → Option RetConv
+ret_conversion_of by classes None None = Some ret.Keep
+ret_conversion_of by classes (Some s) None = Some ret.Discard
+ret_conversion_of by classes None (Some t) = Some (ret.Default t)
+ret_conversion_of by classes (Some s) (Some t) = value_conversion (conversion_of by classes s t)
 
 -- the default of a type: false, zero or null
 abbrev pub default_of : Ty → Value
@@ -109,12 +173,12 @@ default_of (ty.Class c) = value.Null
 default_of (ty.Array c) = value.Null
 
 -- what a return conversion gives of what was returned
-abbrev pub ret_conv : List Class → RetConv → Option Value → Result (Option Value) Exc
-ret_conv classes ret.Keep r = Ok r
-ret_conv classes ret.Discard r = Ok None
-ret_conv classes (ret.Default t) r = Ok (Some (default_of t))
-ret_conv classes (ret.Value c) (Some v) = result_map_both (λ w. Some w) (λ e. e) (conv classes c.from c.to v)
-ret_conv classes (ret.Value c) None = Ok None
+abbrev pub ret_conv : Rules → List Class → RetConv → Option Value → Result (Option Value) Exc
+ret_conv by classes ret.Keep r = Ok r
+ret_conv by classes ret.Discard r = Ok None
+ret_conv by classes (ret.Default t) r = Ok (Some (default_of t))
+ret_conv by classes (ret.Value c) (Some v) = result_map_both (λ w. Some w) (λ e. e) (conv by classes c.from c.to v)
+ret_conv by classes (ret.Value c) None = Ok None
 
 -- a conversion that changes nothing: each value of the first type has the second
 abbrev pub is_trivial : List Class → Ty → Ty → Bool

@@ -1,7 +1,9 @@
 ghost use Rattle.std.specs.Prelude.{◌≡◌, IfSome, IsTrue};
-ghost use Rattle.mh_convert.specs.Conversion.{widens, serves_as, may_unbox, can, conversion_of, ret_conversion_of};
+ghost use Rattle.mh_convert.specs.declared.conv.Rules.TheVariants as rules;
+ghost use Rattle.mh_convert.specs.Conversion.{widens, serves_as, may_unbox, may_hold_number};
+ghost use Rattle.mh_convert.specs.Conversion.{can_as_type, can_explicit, can, conversion_of, ret_conversion_of};
 
-use crate::{Conv, RetConv};
+use crate::{Conv, RetConv, Rules};
 use mh_values::{ClassId, Classes, Primitive, Ty};
 
 /// The primitive types.
@@ -42,9 +44,9 @@ fn may_unbox(from: ClassId, to: Primitive, classes: &Classes) -> bool
         && classes.subclass(primitive.wrapper(), from))
 }
 
-/// Whether a value of the first type may be converted to the second.
-fn can(from: Ty, to: Ty, classes: &Classes) -> bool
-    ensures { result ≡ can classes.now from to }
+/// Whether a value of the first type may be converted to the second as `asType` does.
+fn can_as_type(from: Ty, to: Ty, classes: &Classes) -> bool
+    ensures { result ≡ can_as_type classes.now from to }
 {
     match (from, to) {
         (Ty::Prim(from), Ty::Prim(to)) => serves_as(from, to),
@@ -55,29 +57,84 @@ fn can(from: Ty, to: Ty, classes: &Classes) -> bool
     }
 }
 
+/// Whether a value of the class may be a boxed number.
+fn may_hold_number(from: ClassId, classes: &Classes) -> bool
+    ensures { result ≡ may_hold_number classes.now from }
+{
+    PRIMITIVES
+        .iter()
+        .any(|primitive| classes.subclass(primitive.wrapper(), from))
+}
+
+/// Whether a value of the first type may be converted to the second explicitly.
+fn can_explicit(from: Ty, to: Ty, classes: &Classes) -> bool
+    ensures { result ≡ can_explicit classes.now from to }
+{
+    match (from, to) {
+        (Ty::Prim(from), Ty::Class(to)) => classes.subclass(from.wrapper(), to),
+        (Ty::Class(from), Ty::Prim(_)) => may_hold_number(from, classes),
+        (Ty::Prim(_), Ty::Array(_)) | (Ty::Array(_), Ty::Prim(_)) => false,
+        _ => true,
+    }
+}
+
+impl Rules {
+    fn can(self, from: Ty, to: Ty, classes: &Classes) -> bool
+        ensures { result ≡ can self classes.now from to }
+    {
+        match self {
+            Rules::AsType => can_as_type(from, to, classes),
+            Rules::Explicit => can_explicit(from, to, classes),
+        }
+    }
+
+    /// The conversion of an argument from one type to another, where the rules allow it: the types
+    /// are equal, both are references, a primitive type is boxed, and as the rules say from a
+    /// primitive type or a reference to a primitive type.
+    pub fn conversion(self, from: Ty, to: Ty, classes: &Classes) -> Option<Conv>
+        ensures found { result ≡ conversion_of self classes.now from to }
+        ensures allowed { IfSome result (λ c. IsTrue (can self classes.now c.from c.to)) }
+    {
+        if self.can(from, to, classes) {
+            Some(Conv { from, to })
+        } else {
+            None
+        }
+    }
+
+    /// The conversion of what a method returns, where the rules allow it: as of an argument, and
+    /// any type may become void, and void any type.
+    pub fn ret_conversion(
+        self,
+        from: Option<Ty>,
+        to: Option<Ty>,
+        classes: &Classes,
+    ) -> Option<RetConv>
+        ensures { result ≡ ret_conversion_of self classes.now from to }
+    {
+        match (from, to) {
+            (None, None) => Some(RetConv::Keep),
+            (Some(_), None) => Some(RetConv::Discard),
+            (None, Some(to)) => Some(RetConv::Default(to)),
+            (Some(from), Some(to)) => self.conversion(from, to, classes).map(RetConv::Value),
+        }
+    }
+}
+
 /// The conversion of an argument from one type to another, where it is allowed: the types are
 /// equal, both are references, a primitive type widens or is boxed, or a reference may hold a boxed
 /// number that serves (`MethodHandle.asType`, SE 17).
 pub fn conversion(from: Ty, to: Ty, classes: &Classes) -> Option<Conv>
-    ensures found { result ≡ conversion_of classes.now from to }
-    ensures allowed { IfSome result (λ c. IsTrue (can classes.now c.from c.to)) }
+    ensures found { result ≡ conversion_of rules.AsType classes.now from to }
+    ensures allowed { IfSome result (λ c. IsTrue (can rules.AsType classes.now c.from c.to)) }
 {
-    if can(from, to, classes) {
-        Some(Conv { from, to })
-    } else {
-        None
-    }
+    Rules::AsType.conversion(from, to, classes)
 }
 
 /// The conversion of what a method returns, where it is allowed: as of an argument, and any type
 /// may become void, and void any type (`MethodHandle.asType`, SE 17).
 pub fn ret_conversion(from: Option<Ty>, to: Option<Ty>, classes: &Classes) -> Option<RetConv>
-    ensures { result ≡ ret_conversion_of classes.now from to }
+    ensures { result ≡ ret_conversion_of rules.AsType classes.now from to }
 {
-    match (from, to) {
-        (None, None) => Some(RetConv::Keep),
-        (Some(_), None) => Some(RetConv::Discard),
-        (None, Some(to)) => Some(RetConv::Default(to)),
-        (Some(from), Some(to)) => conversion(from, to, classes).map(RetConv::Value),
-    }
+    Rules::AsType.ret_conversion(from, to, classes)
 }

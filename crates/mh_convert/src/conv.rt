@@ -1,5 +1,14 @@
 use mh_values::Ty;
 
+/// The rules by which values are converted from one type to another.
+#[derive(Clone, Copy, Debug, PartialEq, Eq)]
+pub enum Rules {
+    /// Those of `MethodHandle.asType`: no number loses anything.
+    AsType,
+    /// Those of `MethodHandles.explicitCastArguments`: a number may lose its high bits.
+    Explicit,
+}
+
 /// An allowed conversion of an argument from one type to another.
 #[derive(Clone, Copy, Debug, PartialEq, Eq)]
 pub struct Conv {

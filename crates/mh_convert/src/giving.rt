@@ -1,10 +1,13 @@
 ghost use Rattle.std.specs.Prelude.{◌≡◌, pos, IsTrue};
 ghost use Rattle.mh_values.specs.HasType.{has_type};
 ghost use Rattle.mh_values.specs.Primitives.{number_of};
-ghost use Rattle.mh_convert.specs.Conversion.{can, widened, widened_value, boxed, cast, unboxed, conv, fit, default_of};
+ghost use Rattle.mh_convert.specs.declared.conv.Rules.TheVariants as rules;
+ghost use Rattle.mh_convert.specs.Conversion.{can, widened, widened_value, boxed, cast, unboxed};
+ghost use Rattle.mh_convert.specs.Conversion.{conv_as_type, conv_explicit, conv, fit, default_of};
 
-use crate::Conv;
 use crate::allowed::serves_as;
+use crate::narrowing::{recast_value, unboxed_explicitly};
+use crate::{Conv, Rules};
 use mh_values::{ClassId, Classes, Exc, Num, Primitive, Ty, Value, has_type};
 
 /// A number as one of a primitive type that it serves as.
@@ -66,13 +69,8 @@ fn unboxed(v: Value, to: Primitive) -> Result<Value, Exc>
     }
 }
 
-/// What an allowed conversion gives of a value of its `from`: the value itself, widened, boxed or
-/// unboxed, or `NullPointerException` or `ClassCastException`, with an empty message, where a
-/// reference is not what is wanted (`MethodHandle.asType`, SE 17). It takes no memory.
-pub fn convert(by: Conv, v: Value, classes: &Classes) -> Result<Value, Exc>
-    requires allowed { IsTrue (can classes.now by.from by.to) }
-    requires typed { IsTrue (has_type classes.now v by.from) }
-    ensures { result ≡ conv classes.now by.from by.to v }
+fn convert_as_type(by: Conv, v: Value, classes: &Classes) -> Result<Value, Exc>
+    ensures { result ≡ conv_as_type classes.now by.from by.to v }
 {
     match (by.from, by.to) {
         (Ty::Prim(_), Ty::Prim(to)) => Ok(widened_value(v, to)),
@@ -82,8 +80,45 @@ pub fn convert(by: Conv, v: Value, classes: &Classes) -> Result<Value, Exc>
     }
 }
 
+fn convert_explicitly(by: Conv, v: Value, classes: &Classes) -> Result<Value, Exc>
+    ensures { result ≡ conv_explicit classes.now by.from by.to v }
+{
+    match (by.from, by.to) {
+        (Ty::Prim(_), Ty::Prim(to)) => Ok(recast_value(v, to)),
+        (Ty::Prim(_), _) => Ok(boxed(v)),
+        (_, Ty::Prim(to)) => unboxed_explicitly(v, to),
+        (_, to) => cast(v, to, classes),
+    }
+}
+
+impl Rules {
+    /// What an allowed conversion gives of a value of its `from`, or its exception, with an empty
+    /// message, where a reference is not what is wanted. It takes no memory.
+    pub fn convert(self, by: Conv, v: Value, classes: &Classes) -> Result<Value, Exc>
+        requires allowed { IsTrue (can self classes.now by.from by.to) }
+        requires typed { IsTrue (has_type classes.now v by.from) }
+        ensures { result ≡ conv self classes.now by.from by.to v }
+    {
+        match self {
+            Rules::AsType => convert_as_type(by, v, classes),
+            Rules::Explicit => convert_explicitly(by, v, classes),
+        }
+    }
+}
+
+/// What an allowed conversion gives of a value of its `from`: the value itself, widened, boxed or
+/// unboxed, or `NullPointerException` or `ClassCastException`, with an empty message, where a
+/// reference is not what is wanted (`MethodHandle.asType`, SE 17). It takes no memory.
+pub fn convert(by: Conv, v: Value, classes: &Classes) -> Result<Value, Exc>
+    requires allowed { IsTrue (can rules.AsType classes.now by.from by.to) }
+    requires typed { IsTrue (has_type classes.now v by.from) }
+    ensures { result ≡ conv rules.AsType classes.now by.from by.to v }
+{
+    Rules::AsType.convert(by, v, classes)
+}
+
 /// The zero of a primitive type; of `boolean` it is false.
-fn zero(primitive: Primitive) -> Num
+pub(crate) fn zero(primitive: Primitive) -> Num
     ensures { result ≡ number_of primitive (pos 0) }
 {
     match primitive {

@@ -4,13 +4,14 @@ use Rattle.std.specs.Prelude.{slice_get}
 use Rattle.std.proofs.lemmas.List.{length-map, map-append}
 use Rattle.mh_values.specs.Computation.{Ran, Refines, and_then, found}
 use Rattle.mh_convert.specs.declared.conv.RetConv.{RetConv}
+use Rattle.mh_convert.specs.declared.conv.Rules.{Rules}
+use Rattle.mh_convert.specs.declared.conv.Rules.TheVariants as rules
 use Rattle.mh_leaf.specs.LeafTable.{LeafTable}
 use Rattle.mh_form.specs.declared.basic.Basic.{Basic}
 use Rattle.mh_form.specs.declared.basic.BasicRet.{BasicRet}
 use Rattle.mh_form.specs.declared.body.FormBody.{FormBody}
 use Rattle.mh_form.specs.declared.name.Name.TheVariants.{Ret}
 use Rattle.mh_form.specs.declared.slot.Slot.{Slot}
-use Rattle.mh_form.specs.declared.field.Field.TheVariants as field
 use Rattle.mh_form.specs.Slots.{converted, filled, ret_converted}
 use Rattle.mh_form.specs.Run.{IsRet, Sense, conv_of, field_of, of_kind, ret_of, run_body, sense, with_result}
 use Rattle.mh_form.proofs.Refines.{refines-refl, refines-is, refines-trans, refines-and_then}
@@ -18,7 +19,7 @@ use Rattle.mh_edit.specs.Applied.{applied, conv_count, conv_names, conv_params, 
 use Rattle.mh_edit.specs.declared.key.Key.TheVariants.{Convert}
 use Rattle.mh_edit.specs.declared.key.RetEntry.{RetEntry}
 use Rattle.mh_edit.specs.declared.key.RetEntry.TheVariants.{Keep, New}
-use Rattle.mh_edit.specs.Law.{ConvertLaw, converting_slots, ret_entry_on, ret_fields, returned}
+use Rattle.mh_edit.specs.Law.{ConvertLaw, conv_field, converting_slots, ret_entry_on, ret_fields, returned}
 use Rattle.mh_edit.proofs.RenamedSlots.{Extends}
 use Rattle.mh_edit.proofs.Reframing.{run-reframed}
 use Rattle.mh_edit.proofs.Places.{extends-more, extends-same}
@@ -52,30 +53,30 @@ run-converting es convs old senses senses' args n ext each long fields =
 
 -- the same, and then what is done with the result
 run-returning :
-    (ret : RetEntry) (c : RetConv) (es : List (Option Basic)) (convs : List (Slot → Ran Slot)) (old : FormBody) (leaves : LeafTable)
+    (by : Rules) (ret : RetEntry) (c : RetConv) (es : List (Option Basic)) (convs : List (Slot → Ran Slot)) (old : FormBody) (leaves : LeafTable)
     (senses senses' : List Sense)
     (args : List Slot) (n : ℕ) →
     Extends senses senses' →
     length es ≡ length old.params →
     length args ≡ length old.params →
     ((j : ℕ) (c : Slot → Ran Slot) → slice_get convs j ≡ Some c → field_of conv_of senses' (old.fields + j) ≡ Some c) →
-    ((r : BasicRet) → ret ≡ New r → field_of ret_of senses' (old.fields + conv_count es) ≡ Some (ret_converted leaves.classes c)) →
+    ((r : BasicRet) → ret ≡ New r → field_of ret_of senses' (old.fields + conv_count es) ≡ Some (ret_converted by leaves.classes c)) →
     Refines
-    (converting_slots es convs args n (λ xs k. and_then (run_body old senses xs k) k (λ r m. ret_entry_on leaves ret c r)))
+    (converting_slots es convs args n (λ xs k. and_then (run_body old senses xs k) k (λ r m. ret_entry_on by leaves ret c r)))
     (run_body (applied (Convert es ret) old) senses' args n)
-run-returning Keep c es convs old leaves senses senses' args n ext each long fields last =
+run-returning by Keep c es convs old leaves senses senses' args n ext each long fields last =
     refines-trans _ _ _
     (converting-refines es convs args n _ _ (λ ys k. refines-is _ _ (and_then-unit (run_body old senses ys k) k)))
     (run-converting es convs old senses senses' args n ext each long fields)
-run-returning (New r) c es convs old leaves senses senses' args n ext each long fields last =
+run-returning by (New r) c es convs old leaves senses senses' args n ext each long fields last =
     let body = converting es old in
-    let post : Option Slot → ℕ → Ran (Option Slot) = λ s m. returned r (ret_converted leaves.classes c s) in
+    let post : Option Slot → ℕ → Ran (Option Slot) = λ s m. returned r (ret_converted by leaves.classes c s) in
     let all : ℕ → Ran (Option Slot) = λ m. converting_slots es convs args m (λ xs k. run_body old senses xs k) in
     let first : Refines (and_then (all n) n post) (and_then (run_body body senses' args n) n post) =
     refines-and_then (all n) (run_body body senses' args n) n post post (run-converting es convs old senses senses' args n ext each long fields)
     (λ s m. refines-refl (post s m)) in
     let second : Refines (and_then (run_body body senses' args n) n post) (run_body (applied (Convert es (New r)) old) senses' args n) =
-    run-finishing (Ret body.fields) r body senses' senses' args n (λ s m. ret_converted leaves.classes c s) (extends-same senses')
+    run-finishing (Ret body.fields) r body senses' senses' args n (λ s m. ret_converted by leaves.classes c s) (extends-same senses')
     (long ∙ sym (length-conv_params es old.params each))
     (λ env k. refines-is _ _ (ap (λ o. found o (λ conv. with_result body.out env (λ s. filled (conv s)))) (sym (last r refl)))) in
     let P : Ran (Option Slot) → Type 0 = λ v. Refines v (run_body (applied (Convert es (New r)) old) senses' args n) in
@@ -83,31 +84,33 @@ run-returning (New r) c es convs old leaves senses senses' args n ext each long 
 
 -- the field of a return conversion, where there is an entry
 ret-at :
-    (leaves : LeafTable) (ret : RetEntry) (c : RetConv) (r : BasicRet) →
+    (by : Rules) (leaves : LeafTable) (ret : RetEntry) (c : RetConv) (r : BasicRet) →
     ret ≡ New r →
-    slice_get (map (sense leaves) (ret_fields ret c)) 0 ≡ Some (IsRet (ret_converted leaves.classes c))
-ret-at leaves Keep c r h = absurd cc
-ret-at leaves (New q) c r h = refl
+    slice_get (map (sense leaves) (ret_fields by ret c)) 0 ≡ Some (IsRet (ret_converted by leaves.classes c))
+ret-at by leaves Keep c r h = absurd cc
+ret-at rules.AsType leaves (New q) c r h = refl
+ret-at rules.Explicit leaves (New q) c r h = refl
 
 pub law-Convert :
     (es : List (Option Basic)) (ret : RetEntry) (old : FormBody) → length es ≡ length old.params → ConvertLaw es ret old (applied (Convert es ret) old)
-law-Convert es ret old each leaves fields convs c args n held many long =
+law-Convert es ret old each by leaves fields convs c args n held many long =
     let senses = map (sense leaves) fields in
-    let made = map (sense leaves) (map (λ d. field.Conv d) convs) in
-    let last = map (sense leaves) (ret_fields ret c) in
+    let made = map (sense leaves) (map (conv_field by) convs) in
+    let last = map (sense leaves) (ret_fields by ret c) in
     let senses' = senses ++ (made ++ last) in
-    let funs = map (converted leaves.classes) convs in
-    let whole : map (sense leaves) (fields ++ (map (λ d. field.Conv d) convs ++ ret_fields ret c)) ≡ senses' =
-    map-append (sense leaves) fields (map (λ d. field.Conv d) convs ++ ret_fields ret c)
-    ∙ ap (λ v. senses ++ v) (map-append (sense leaves) (map (λ d. field.Conv d) convs) (ret_fields ret c)) in
+    let funs = map (converted by leaves.classes) convs in
+    let whole : map (sense leaves) (fields ++ (map (conv_field by) convs ++ ret_fields by ret c)) ≡ senses' =
+    map-append (sense leaves) fields (map (conv_field by) convs ++ ret_fields by ret c)
+    ∙ ap (λ v. senses ++ v) (map-append (sense leaves) (map (conv_field by) convs) (ret_fields by ret c)) in
     let front : length senses ≡ old.fields = length-map fields (sense leaves) ∙ held in
-    let middle : length made ≡ conv_count es = length-map (map (λ d. field.Conv d) convs) (sense leaves) ∙ (length-map convs (λ d. field.Conv d) ∙ many) in
+    let middle : length made ≡ conv_count es = length-map (map (conv_field by) convs) (sense leaves) ∙ (length-map convs (conv_field by) ∙ many) in
     let there : (j : ℕ) → slice_get senses' (old.fields + j) ≡ slice_get (made ++ last) j =
     λ j. ap (λ m. slice_get senses' (m + j)) (sym front) ∙ slice_get-later senses (made ++ last) j in
     let count : conv_count es ≡ length made + 0 = omega arith in
-    let done = run-returning ret c es funs old leaves senses senses' args n (extends-more senses (made ++ last)) each long
-    (λ j g h. ap (of_kind conv_of) (there j ∙ conv-at leaves convs last j g h))
-    (λ r is. ap (of_kind ret_of) (there (conv_count es) ∙ (ap (slice_get (made ++ last)) count ∙ (slice_get-later made last 0 ∙ ret-at leaves ret c r is)))) in
-    let law = converting_slots es funs args n (λ xs k. and_then (run_body old senses xs k) k (λ r m. ret_entry_on leaves ret c r)) in
+    let done = run-returning by ret c es funs old leaves senses senses' args n (extends-more senses (made ++ last)) each long
+    (λ j g h. ap (of_kind conv_of) (there j ∙ conv-at by leaves convs last j g h))
+    (λ r is. ap (of_kind ret_of) (there (conv_count es) ∙ (ap (slice_get (made ++ last)) count ∙ (slice_get-later made last 0 ∙ ret-at by leaves ret
+    c r is)))) in
+    let law = converting_slots es funs args n (λ xs k. and_then (run_body old senses xs k) k (λ r m. ret_entry_on by leaves ret c r)) in
     let Q : List Sense → Type 0 = λ v. Refines law (run_body (applied (Convert es ret) old) v args n) in
     subst Q (sym whole) done

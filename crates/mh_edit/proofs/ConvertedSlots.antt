@@ -4,15 +4,16 @@ use Rattle.std.specs.Prelude.{slice_get}
 use Rattle.std.proofs.lemmas.List.{append-nil}
 use Rattle.mh_values.specs.Computation.{Ran, Gave, Threw, Stuck, Refines, and_then}
 use Rattle.mh_convert.specs.declared.conv.Conv.{Conv as Conversion}
+use Rattle.mh_convert.specs.declared.conv.Rules.{Rules}
+use Rattle.mh_convert.specs.declared.conv.Rules.TheVariants as rules
 use Rattle.mh_leaf.specs.LeafTable.{LeafTable}
 use Rattle.mh_form.specs.declared.basic.Basic.{Basic}
 use Rattle.mh_form.specs.declared.slot.Slot.{Slot}
-use Rattle.mh_form.specs.declared.field.Field.TheVariants as field
 use Rattle.mh_form.specs.Slots.{converted}
 use Rattle.mh_form.specs.Run.{IsConv, Sense, sense}
 use Rattle.mh_form.proofs.Computations.{and_then-assoc}
 use Rattle.mh_form.proofs.Refines.{refines-refl, refines-and_then}
-use Rattle.mh_edit.specs.Law.{converting_slots}
+use Rattle.mh_edit.specs.Law.{conv_field, converting_slots}
 
 -- what runs on the converted arguments may be replaced by what does more
 pub converting-refines :
@@ -54,11 +55,17 @@ slice_get-later [] ys j = ap (slice_get ys) (zero-add j)
 slice_get-later (x ∷ xs) ys j =
     let e : suc (length xs) + j ≡ suc (length xs + j) = omega arith in ap (slice_get (x ∷ (xs ++ ys))) e ∙ slice_get-later xs ys j
 
+-- what the field of a conversion by the rules stands for
+pub sense-conv_field : (by : Rules) (leaves : LeafTable) (c : Conversion) → sense leaves (conv_field by c) ≡ IsConv (converted by leaves.classes c)
+sense-conv_field rules.AsType leaves c = refl
+sense-conv_field rules.Explicit leaves c = refl
+
 -- the fields of conversions, before others
 pub conv-at :
-    (leaves : LeafTable) (convs : List Conversion) (more : List Sense) (j : ℕ) (g : Slot → Ran Slot) →
-    slice_get (map (converted leaves.classes) convs) j ≡ Some g →
-    slice_get (map (sense leaves) (map (λ d. field.Conv d) convs) ++ more) j ≡ Some (IsConv g)
-conv-at leaves [] more j g h = absurd cc
-conv-at leaves (c ∷ convs) more zero g h = let e : converted leaves.classes c ≡ g = cc in ap (λ v. Some (IsConv v)) e
-conv-at leaves (c ∷ convs) more (suc j) g h = conv-at leaves convs more j g h
+    (by : Rules) (leaves : LeafTable) (convs : List Conversion) (more : List Sense) (j : ℕ) (g : Slot → Ran Slot) →
+    slice_get (map (converted by leaves.classes) convs) j ≡ Some g →
+    slice_get (map (sense leaves) (map (conv_field by) convs) ++ more) j ≡ Some (IsConv g)
+conv-at by leaves [] more j g h = absurd cc
+conv-at by leaves (c ∷ convs) more zero g h =
+    let e : converted by leaves.classes c ≡ g = cc in ap Some (sense-conv_field by leaves c) ∙ ap (λ v. Some (IsConv v)) e
+conv-at by leaves (c ∷ convs) more (suc j) g h = conv-at by leaves convs more j g h

@@ -7,12 +7,12 @@ use Rattle.mh_form.specs.declared.basic.BasicRet.TheVariants as basic_ret
 use Rattle.mh_form.specs.declared.basic.Shape.{Shape}
 use Rattle.mh_form.specs.declared.body.FormBody.{FormBody}
 use Rattle.mh_form.specs.declared.name.Name.{Name}
-use Rattle.mh_form.specs.declared.name.Name.TheVariants.{Get, Call, Link, Select, Guarded, Conv, Cast, Ret, MakeArray, CheckArray, Elem, Join}
+use Rattle.mh_form.specs.declared.name.Name.TheVariants.{Get, Call, Link, Select, Guarded, Finally, Switch, Loop, Conv, Cast, Ret, MakeArray, CheckArray, Elem, Join}
 use Rattle.mh_form.specs.Body.{nothing}
 use Rattle.mh_edit.specs.declared.key.Key.{Key}
 use Rattle.mh_edit.specs.declared.key.Key.TheVariants as key
 use Rattle.mh_edit.specs.declared.key.RetEntry.TheVariants as entry
-use Rattle.mh_edit.specs.Applied.{applied}
+use Rattle.mh_edit.specs.Applied.{applied, counts_of}
 
 -- the bodies of a recipe, each key applied to what those before it made
 abbrev made : List Key → FormBody → FormBody
@@ -133,6 +133,21 @@ a_handler_keeps_the_first_arguments :
     made (key.CatchRoot (of (basic.I ∷ basic.J ∷ []) basic_ret.V) 1 ∷ []) nothing
     ≡ body (basic.I ∷ basic.J ∷ []) 3 (Guarded 0 1 2 (0 ∷ 1 ∷ []) 1 ∷ []) None
 a_handler_keeps_the_first_arguments = refl
+
+a_cleanup_keeps_the_first_arguments :
+    made (key.TryRoot (of (basic.I ∷ basic.J ∷ []) (basic_ret.Is basic.J)) 1 ∷ []) nothing
+    ≡ body (basic.I ∷ basic.J ∷ []) 2 (Finally 0 1 (0 ∷ 1 ∷ []) 1 (basic_ret.Is basic.J) ∷ []) (Some 2)
+a_cleanup_keeps_the_first_arguments = refl
+
+a_switch_has_a_field_for_each_case_and_one_more :
+    made (key.SwitchRoot (of (basic.I ∷ basic.L ∷ []) basic_ret.V) 3 ∷ []) nothing
+    ≡ body (basic.I ∷ basic.L ∷ []) 4 (Switch 0 0 3 (0 ∷ 1 ∷ []) ∷ []) None
+a_switch_has_a_field_for_each_case_and_one_more = refl
+
+each_part_of_a_loop_takes_its_own_number_of_arguments :
+    made (key.LoopRoot (of (basic.I ∷ basic.J ∷ []) (basic_ret.Is basic.I)) 1 2 0 ∷ []) nothing
+    ≡ body (basic.I ∷ basic.J ∷ []) 3 (Loop 0 (0 ∷ 1 ∷ []) (counts_of 1 2 0) (basic_ret.Is basic.I) ∷ []) (Some 2)
+each_part_of_a_loop_takes_its_own_number_of_arguments = refl
 
 -- FilterArg at 1, Drop at 0, Bind at 1, and then a filter of the result
 edits_rename_what_those_before_them_made :

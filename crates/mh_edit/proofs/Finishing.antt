@@ -9,7 +9,7 @@ use Rattle.mh_form.specs.declared.basic.BasicRet.{BasicRet}
 use Rattle.mh_form.specs.declared.basic.BasicRet.TheVariants.{V, Is}
 use Rattle.mh_form.specs.declared.body.FormBody.{FormBody}
 use Rattle.mh_form.specs.declared.name.Name.{Name}
-use Rattle.mh_form.specs.declared.name.Name.TheVariants.{Get, Call, Link, Select, Guarded, Conv, Cast, Ret, MakeArray, CheckArray, Elem, Join, Raise}
+use Rattle.mh_form.specs.declared.name.Name.TheVariants.{Get, Call, Link, Select, Guarded, Finally, Switch, Loop, Conv, Cast, Ret, MakeArray, CheckArray, Elem, Join, Raise}
 use Rattle.mh_form.specs.declared.slot.Slot.{Slot}
 use Rattle.mh_form.specs.Slots.{filled, none_as_zero}
 use Rattle.mh_form.specs.Run.{Sense, step, run_names, run_body, ended, with_result}
@@ -32,6 +32,9 @@ renamed-same (Call f args) = ap (Call f) (map-id args)
 renamed-same (Link f args) = ap (Link f) (map-id args)
 renamed-same (Select i f g args) = ap (Select i f g) (map-id args)
 renamed-same (Guarded f c h args kept) = ap (λ v. Guarded f c h v kept) (map-id args)
+renamed-same (Finally f h args kept ret) = ap (λ v. Finally f h v kept ret) (map-id args)
+renamed-same (Switch i first count args) = ap (Switch i first count) (map-id args)
+renamed-same (Loop first args counts ret) = ap (λ v. Loop first v counts ret) (map-id args)
 renamed-same (Conv f i) = refl
 renamed-same (Cast f i) = refl
 renamed-same (Ret f i) = ap (Ret f) (option_map-same i)

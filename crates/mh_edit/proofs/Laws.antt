@@ -8,12 +8,13 @@ use Rattle.mh_edit.specs.Applied.{applied}
 use Rattle.mh_edit.specs.Fit.{fits, is_nothing}
 use Rattle.mh_edit.specs.Law.{Law}
 use Rattle.mh_edit.specs.declared.key.Key.{Key}
-use Rattle.mh_edit.specs.declared.key.Key.TheVariants.{LeafRoot, ConstRoot, IdentityRoot, ThrowRoot, GuardRoot, CatchRoot, ConcatRoot, Bind, Add, Permute, Collect, Fold, FilterReturn, Convert, Spread, Gather}
+use Rattle.mh_edit.specs.declared.key.Key.TheVariants.{LeafRoot, ConstRoot, IdentityRoot, ThrowRoot, GuardRoot, CatchRoot, TryRoot, SwitchRoot, LoopRoot, ConcatRoot, Bind, Add, Permute, Collect, Fold, FilterReturn, Convert, Spread, Gather}
 use Rattle.mh_edit.proofs.Fitting.{first-true, second-true, at-most, below, same-number, is-parameter, takes-result, has-last}
 use Rattle.mh_edit.proofs.Parameters.{law-Add, law-Bind, law-Permute}
 use Rattle.mh_edit.proofs.Parts.{law-Collect, law-Fold}
 use Rattle.mh_edit.proofs.Results.{law-FilterReturn}
 use Rattle.mh_edit.proofs.Converted.{law-Convert}
+use Rattle.mh_edit.proofs.RootEndings.{law-TryRoot, law-SwitchRoot, law-LoopRoot}
 use Rattle.mh_edit.proofs.RootLaws.{law-LeafRoot, law-ConstRoot, law-IdentityRoot, law-ThrowRoot, law-GuardRoot, law-CatchRoot, law-ConcatRoot}
 use Rattle.mh_edit.proofs.Arrays.{law-Spread, law-Gather}
 
@@ -24,6 +25,9 @@ law-applied (IdentityRoot b) body h = law-IdentityRoot b body
 law-applied (ThrowRoot ret) body h = law-ThrowRoot ret body
 law-applied (GuardRoot shape test) body h = law-GuardRoot shape test body (at-most test (length shape.params) (second-true _ _ h))
 law-applied (CatchRoot shape handler) body h = law-CatchRoot shape handler body
+law-applied (TryRoot shape cleanup) body h = law-TryRoot shape cleanup body
+law-applied (SwitchRoot shape count) body h = law-SwitchRoot shape count body
+law-applied (LoopRoot shape iterations init turns) body h = law-LoopRoot shape iterations init turns body
 law-applied (ConcatRoot shape) body h = law-ConcatRoot shape body
 law-applied (Bind pos) body h = law-Bind pos body (below pos (length body.params) (second-true _ _ h))
 law-applied (Add pos basics) body h = law-Add pos basics body (at-most pos (length body.params) (second-true _ _ h))

@@ -17,4 +17,5 @@ pub mod Reframing
 pub mod RenamedSlots
 pub mod Renaming
 pub mod Results
+pub mod RootEndings
 pub mod RootLaws

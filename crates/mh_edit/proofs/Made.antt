@@ -14,7 +14,7 @@ use Rattle.mh_edit.specs.Applied.{applied, conv_params, converting, finishing, p
 use Rattle.mh_edit.specs.Fit.{fits, is_basic_at, is_nothing, names_each}
 use Rattle.mh_edit.specs.Rename.{place_by, reframed, renamed}
 use Rattle.mh_edit.specs.declared.key.Key.{Key}
-use Rattle.mh_edit.specs.declared.key.Key.TheVariants.{LeafRoot, ConstRoot, IdentityRoot, ThrowRoot, GuardRoot, CatchRoot, ConcatRoot, Bind, Add, Permute, Collect, Fold, FilterReturn, Convert, Spread, Gather}
+use Rattle.mh_edit.specs.declared.key.Key.TheVariants.{LeafRoot, ConstRoot, IdentityRoot, ThrowRoot, GuardRoot, CatchRoot, TryRoot, SwitchRoot, LoopRoot, ConcatRoot, Bind, Add, Permute, Collect, Fold, FilterReturn, Convert, Spread, Gather}
 use Rattle.mh_edit.specs.declared.key.RetEntry.TheVariants.{Keep, New}
 use Rattle.mh_edit.proofs.Converted.{length-conv_params}
 use Rattle.mh_edit.proofs.Fitting.{first-true, second-true, same-number, at-most}
@@ -90,6 +90,9 @@ made-applied (IdentityRoot b) body h = refl
 made-applied (ThrowRoot ret) body h = refl
 made-applied (GuardRoot shape test) body h = named-made (applied (GuardRoot shape test) body) _ _ refl
 made-applied (CatchRoot shape handler) body h = named-made (applied (CatchRoot shape handler) body) _ [] refl
+made-applied (TryRoot shape cleanup) body h = named-made (applied (TryRoot shape cleanup) body) _ [] refl
+made-applied (SwitchRoot shape count) body h = named-made (applied (SwitchRoot shape count) body) _ [] refl
+made-applied (LoopRoot shape iterations init turns) body h = named-made (applied (LoopRoot shape iterations init turns) body) _ [] refl
 made-applied (ConcatRoot shape) body h = named-made (applied (ConcatRoot shape) body) _ [] refl
 made-applied (Bind pos) body h = named-made (applied (Bind pos) body) _ _ refl
 made-applied (Add pos basics) body h =

@@ -15,10 +15,10 @@ use Rattle.mh_form.specs.declared.slot.Slot.{Slot}
 use Rattle.mh_form.specs.declared.field.Bound.{Bound}
 use Rattle.mh_form.specs.declared.field.Field.{Field}
 use Rattle.mh_form.specs.declared.field.Field.TheVariants as field
-use Rattle.mh_form.specs.Slots.{filled}
+use Rattle.mh_form.specs.Slots.{filled, given}
 use Rattle.mh_form.specs.Run.{Sense, sense, part_of, of_kind, step, run_body, run_bound, run_field, run_on}
 use Rattle.mh_form.proofs.Fields.{sense-Part}
-use Rattle.mh_edit.specs.Applied.{applied, given}
+use Rattle.mh_edit.specs.Applied.{applied}
 use Rattle.mh_edit.specs.Fit.{taken_by}
 use Rattle.mh_edit.specs.declared.key.Key.TheVariants.{Collect, Fold}
 use Rattle.mh_edit.specs.Law.{CollectLaw, FoldLaw}

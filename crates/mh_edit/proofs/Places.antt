@@ -10,9 +10,8 @@ use Rattle.mh_values.specs.Computation.{spliced}
 use Rattle.mh_form.specs.declared.basic.BasicRet.{BasicRet}
 use Rattle.mh_form.specs.declared.basic.BasicRet.TheVariants.{V, Is}
 use Rattle.mh_form.specs.declared.slot.Slot.{Slot}
-use Rattle.mh_form.specs.Slots.{none_as_zero}
+use Rattle.mh_form.specs.Slots.{given, none_as_zero}
 use Rattle.mh_form.specs.Run.{Sense, picked, picked_more}
-use Rattle.mh_edit.specs.Applied.{given}
 use Rattle.mh_edit.specs.Rename.{table}
 use Rattle.mh_edit.proofs.Renaming.{slice_get-append_left}
 use Rattle.mh_edit.proofs.RenamedSlots.{Extends}

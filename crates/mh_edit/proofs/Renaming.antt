@@ -4,11 +4,12 @@ use Rattle.std.specs.Prelude.{slice_get, if◌then◌else◌}
 use Rattle.mh_base.proofs.Slices.{slice_get-push, slice_get-end}
 use Rattle.mh_values.specs.Computation.{Ran, Gave, Refines, found}
 use Rattle.mh_form.specs.declared.name.Name.{Name}
-use Rattle.mh_form.specs.declared.name.Name.TheVariants.{Get, Call, Link, Select, Guarded, Conv, Cast, Ret, MakeArray, CheckArray, Elem, Join, Raise}
+use Rattle.mh_form.specs.declared.name.Name.TheVariants.{Get, Call, Link, Select, Guarded, Finally, Switch, Loop, Conv, Cast, Ret, MakeArray, CheckArray, Elem, Join, Raise}
 use Rattle.mh_form.specs.declared.slot.Slot.{Slot}
-use Rattle.mh_form.specs.Slots.{filled, holds_one, checked_array, item_in, raised_slot}
+use Rattle.mh_form.specs.Slots.{case_field, filled, holds_one, checked_array, item_in, raised_slot}
 use Rattle.mh_form.specs.Run.{Sense, step, run_names, guarded_field, run_field, slot_of, leaf_of, class_of, conv_of, ret_of, comp_of, joined_of}
 use Rattle.mh_edit.specs.Rename.{renamed}
+use Rattle.mh_form.proofs.RefinedEndings.{refines-finally_run, refines-loop_run}
 use Rattle.mh_form.proofs.Refines.{refines-refl, refines-and_then, refines-found}
 use Rattle.mh_edit.proofs.RenamedSlots.{Extends, Renames, refines-with_field, refines-run_field, refines-filled, refines-guarded_field, refines-with_result, refines-at, refines-picked}
 
@@ -34,6 +35,17 @@ step-renamed (Guarded f c h args kept) to ss ss' old new n ext ren =
     refines-picked to old new args _ _ ren (λ xs.
     refines-with_field class_of ss ss' c _ _ ext (λ test.
     refines-filled (guarded_field ss f test h kept xs n) _ (refines-guarded_field ss ss' f test h kept xs n ext)))
+step-renamed (Finally f h args kept ret) to ss ss' old new n ext ren =
+    refines-picked to old new args _ _ ren (λ xs.
+    refines-finally_run _ _ _ _ kept ret xs n (λ ys k. refines-run_field ss ss' f ys k ext) (λ ys k. refines-run_field ss ss' h ys k ext))
+step-renamed (Switch i first count args) to ss ss' old new n ext ren =
+    refines-found (slice_get old i) (slice_get new (to i)) _ _ (ren.finds i) (λ s.
+    refines-found (case_field first count s) (case_field first count s) _ _ (λ f h. h) (λ f.
+    refines-picked to old new args _ _ ren (λ xs. refines-filled (run_field ss f xs n) _ (refines-run_field ss ss' f xs n ext))))
+step-renamed (Loop first args counts ret) to ss ss' old new n ext ren =
+    refines-picked to old new args _ _ ren (λ xs.
+    refines-loop_run _ _ _ _ _ _ counts ret xs n (λ ys k. refines-run_field ss ss' first ys k ext)
+    (λ ys k. refines-run_field ss ss' (first + 1) ys k ext) (λ ys k. refines-run_field ss ss' (first + 2) ys k ext))
 step-renamed (Conv f i) to ss ss' old new n ext ren =
     refines-with_field conv_of ss ss' f _ _ ext (λ conv. refines-at to old new i conv ren)
 step-renamed (Cast f i) to ss ss' old new n ext ren =

@@ -10,7 +10,6 @@ use Rattle.mh_values.specs.declared.class.ClassId.{ClassId}
 use Rattle.mh_values.specs.declared.value.Value.TheVariants as value
 use Rattle.mh_values.specs.Computation.{Ran, Gave, Threw, Stuck, Refines, and_then, found, guarded, is_caught, mapped}
 use Rattle.mh_leaf.specs.LeafTable.{LeafTable}
-use Rattle.mh_pieces.specs.declared.piece.Piece.{Piece}
 use Rattle.mh_form.specs.declared.basic.Basic.{Basic}
 use Rattle.mh_form.specs.declared.basic.BasicRet.{BasicRet}
 use Rattle.mh_form.specs.declared.basic.Shape.{Shape}
@@ -32,7 +31,7 @@ use Rattle.mh_edit.proofs.Parts.{run-part}
 use Rattle.mh_edit.proofs.Finishing.{returned-end}
 
 -- a body of one name
-run-single :
+pub run-single :
     (x : Name) (ret : BasicRet) (senses : List Sense) (args : List Slot) (n m : ℕ) (r : Ran (Option Slot)) →
     length args ≡ m →
     step x senses args n ≡ filled r →
@@ -129,7 +128,7 @@ law-CatchRoot shape kept old leaves t c h args n long =
     refines-is _ _ (run-single name shape.ret senses args n m _ long (one ∙ ap filled (run-guarded leaves senses t c h kept args n refl refl)))
 
 -- a slot that is always given
-filled-some : (r : Ran Slot) → r ≡ filled (mapped Some r)
+pub filled-some : (r : Ran Slot) → r ≡ filled (mapped Some r)
 filled-some (Gave s calls) = refl
 filled-some (Threw e calls) = refl
 filled-some Stuck = refl

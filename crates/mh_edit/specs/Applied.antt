@@ -7,19 +7,16 @@ use Rattle.mh_form.specs.declared.basic.BasicRet.{BasicRet}
 use Rattle.mh_form.specs.declared.basic.BasicRet.TheVariants as basic_ret
 use Rattle.mh_form.specs.declared.basic.Shape.{Shape}
 use Rattle.mh_form.specs.declared.body.FormBody.{FormBody}
+use Rattle.mh_form.specs.declared.name.LoopCounts.{LoopCounts}
 use Rattle.mh_form.specs.declared.name.Name.{Name}
 use Rattle.mh_form.specs.declared.name.Name.TheVariants as name
+use Rattle.mh_form.specs.Slots.{given}
 use Rattle.mh_edit.specs.declared.key.Key.{Key}
 use Rattle.mh_edit.specs.declared.key.Key.TheVariants as key
 use Rattle.mh_edit.specs.declared.key.RetEntry.{RetEntry}
 use Rattle.mh_edit.specs.declared.key.RetEntry.TheVariants as entry
 use Rattle.mh_edit.specs.Fit.{taken_by}
 use Rattle.mh_edit.specs.Rename.{reframed, edited, ending_with}
-
--- what stands for the result of a part: nothing if the part is void
-abbrev pub given : {A : Type 0} → BasicRet → A → List A
-given basic_ret.V a = []
-given (basic_ret.Is b) a = a ∷ []
 
 -- the place of a result: none if it is void
 abbrev pub out_of : BasicRet → ℕ → Option ℕ
@@ -118,6 +115,22 @@ guard_body shape test =
 abbrev pub catch_body : Shape → ℕ → FormBody
 catch_body shape handler = named_body shape 3 (name.Guarded 0 1 2 (all_places shape) handler)
 
+-- runs a part on all arguments, and then in any case its cleanup
+abbrev pub try_body : Shape → ℕ → FormBody
+try_body shape cleanup = named_body shape 2 (name.Finally 0 1 (all_places shape) cleanup shape.ret)
+
+-- runs on all arguments the part that the first of them picks
+abbrev pub switch_body : Shape → ℕ → FormBody
+switch_body shape count = named_body shape (count + 1) (name.Switch 0 0 count (all_places shape))
+
+-- runs a loop on all arguments
+abbrev pub loop_body : Shape → LoopCounts → FormBody
+loop_body shape counts = named_body shape 3 (name.Loop 0 (all_places shape) counts shape.ret)
+
+-- how many arguments each part of a loop takes
+abbrev pub counts_of : ℕ → ℕ → ℕ → LoopCounts
+counts_of iterations init body = record { iterations = iterations; init = init; body = body }
+
 -- joins pieces, with all arguments
 abbrev pub concat_body : Shape → FormBody
 concat_body shape = named_body shape 1 (name.Join 0 (all_places shape))
@@ -172,6 +185,9 @@ applied (key.IdentityRoot b) body = identity_body b
 applied (key.ThrowRoot ret) body = throw_body ret
 applied (key.GuardRoot shape test) body = guard_body shape test
 applied (key.CatchRoot shape handler) body = catch_body shape handler
+applied (key.TryRoot shape cleanup) body = try_body shape cleanup
+applied (key.SwitchRoot shape count) body = switch_body shape count
+applied (key.LoopRoot shape iterations init turns) body = loop_body shape (counts_of iterations init turns)
 applied (key.ConcatRoot shape) body = concat_body shape
 applied (key.Bind pos) body = binding pos body
 applied (key.Add pos basics) body = adding pos basics body

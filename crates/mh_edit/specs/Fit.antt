@@ -45,6 +45,10 @@ names_each basics (r ∷ reorder) (b ∷ params) = is_basic_at basics r b && nam
 abbrev pub ends_with : List Basic → ℕ → Basic → Bool
 ends_with params count b = nat_le count (length params) && list_all (is_same_basic b) (drop (length params - count) params)
 
+-- the most cases of a switch
+abbrev pub most_cases : ℕ
+most_cases = 16
+
 -- a root fits only the empty body; any other key fits only a body that was made, and has what the key needs
 abbrev pub fits : Key → FormBody → Bool
 fits (key.LeafRoot shape) body = is_nothing body
@@ -53,6 +57,11 @@ fits (key.IdentityRoot b) body = is_nothing body
 fits (key.ThrowRoot ret) body = is_nothing body
 fits (key.GuardRoot shape test) body = is_nothing body && nat_le test (length shape.params)
 fits (key.CatchRoot shape handler) body = is_nothing body && nat_le handler (length shape.params)
+fits (key.TryRoot shape cleanup) body = is_nothing body && nat_le cleanup (length shape.params)
+fits (key.SwitchRoot shape count) body = is_nothing body && (is_basic_at shape.params 0 basic.I && (nat_lt 0 count && nat_le count most_cases))
+fits (key.LoopRoot shape iterations init turns) body =
+    is_nothing body
+    && (nat_le iterations (length shape.params) && (nat_le init (length shape.params) && nat_le turns (length shape.params)))
 fits (key.ConcatRoot shape) body = is_nothing body
 fits (key.Bind pos) body = not (is_nothing body) && nat_lt pos (length body.params)
 fits (key.Add pos basics) body = not (is_nothing body) && nat_le pos (length body.params)

@@ -1,5 +1,5 @@
 -- The law of each key: what the run of the new body is, given the run of the old one.
-use Rattle.std.specs.Prelude.{ℕ, ◌+◌, ◌-◌, ◌≡◌, List, [], ◌∷◌, ◌++◌, Option, Some, None, take, drop, length, map, slice_get, if◌then◌else◌}
+use Rattle.std.specs.Prelude.{ℕ, ◌+◌, ◌-◌, ◌≡◌, List, [], ◌∷◌, ◌++◌, Option, Some, None, take, drop, get_or, length, map, slice_get, if◌then◌else◌}
 use Rattle.std.specs.declared.sync.Arc.{Arc}
 use Rattle.std.specs.declared.alloc.Global.{Global}
 use Rattle.mh_values.specs.declared.class.ClassId.{ClassId}
@@ -7,26 +7,30 @@ use Rattle.mh_values.specs.declared.types.Comp.{Comp}
 use Rattle.mh_values.specs.declared.value.LeafId.{LeafId}
 use Rattle.mh_values.specs.declared.value.Value.TheVariants as value
 use Rattle.mh_values.specs.Computation.{Ran, Gave, Stuck, Refines, and_then, found, mapped, guarded, spliced, is_caught}
+use Rattle.mh_leaf.specs.Ending.{picked_by}
 use Rattle.mh_convert.specs.declared.conv.Conv.{Conv}
 use Rattle.mh_convert.specs.declared.conv.RetConv.{RetConv}
+use Rattle.mh_convert.specs.declared.conv.Rules.{Rules}
+use Rattle.mh_convert.specs.declared.conv.Rules.TheVariants as rules
 use Rattle.mh_leaf.specs.LeafTable.{LeafTable}
 use Rattle.mh_pieces.specs.declared.piece.Piece.{Piece}
 use Rattle.mh_form.specs.declared.basic.Basic.{Basic}
 use Rattle.mh_form.specs.declared.basic.BasicRet.{BasicRet}
 use Rattle.mh_form.specs.declared.basic.BasicRet.TheVariants as basic_ret
 use Rattle.mh_form.specs.declared.body.FormBody.{FormBody}
+use Rattle.mh_form.specs.declared.name.LoopCounts.{LoopCounts}
 use Rattle.mh_form.specs.declared.slot.Slot.{Slot}
 use Rattle.mh_form.specs.declared.slot.Slot.TheVariants as slot
 use Rattle.mh_form.specs.declared.field.Bound.{Bound}
 use Rattle.mh_form.specs.declared.field.Field.{Field}
 use Rattle.mh_form.specs.declared.field.Field.TheVariants as field
-use Rattle.mh_form.specs.Slots.{called, converted, filled, holds_one, joined_slots, made_array, none_as_zero, raised_slot, ret_converted, spread_slots}
-use Rattle.mh_form.specs.Run.{picked, run_on, run_bound}
+use Rattle.mh_form.specs.Slots.{called, converted, filled, given, holds_one, joined_slots, made_array, none_as_zero, raised_slot, ret_converted, spread_slots}
+use Rattle.mh_form.specs.Run.{finally_run, loop_run, picked, run_on, run_bound}
 use Rattle.mh_edit.specs.declared.key.Key.{Key}
 use Rattle.mh_edit.specs.declared.key.Key.TheVariants as key
 use Rattle.mh_edit.specs.declared.key.RetEntry.{RetEntry}
 use Rattle.mh_edit.specs.declared.key.RetEntry.TheVariants as entry
-use Rattle.mh_edit.specs.Applied.{conv_count, given}
+use Rattle.mh_edit.specs.Applied.{conv_count, counts_of}
 use Rattle.mh_edit.specs.Fit.{taken_by}
 
 -- a result, adapted to a basic return type: nothing if that is void, otherwise a slot
@@ -51,15 +55,25 @@ converting_slots (Some b ∷ entries) (conv ∷ convs) (x ∷ xs) n next =
     and_then (conv x) n (λ y k. converting_slots entries convs xs k (λ ys m. next (y ∷ ys) m))
 converting_slots _ _ _ n next = Stuck
 
--- the fields of a return conversion: one if there is an entry
-abbrev pub ret_fields : RetEntry → RetConv → List Field
-ret_fields entry.Keep c = []
-ret_fields (entry.New ret) c = field.Ret c ∷ []
+-- the field of a conversion by the rules
+abbrev pub conv_field : Rules → Conv → Field
+conv_field rules.AsType c = field.Conv c
+conv_field rules.Explicit c = field.Explicit c
 
--- a result, converted if there is an entry
-abbrev pub ret_entry_on : LeafTable → RetEntry → RetConv → Option Slot → Ran (Option Slot)
-ret_entry_on table entry.Keep c r = Gave r []
-ret_entry_on table (entry.New ret) c r = returned ret (ret_converted table.classes c r)
+-- the field of a return conversion by the rules
+abbrev pub ret_field : Rules → RetConv → Field
+ret_field rules.AsType c = field.Ret c
+ret_field rules.Explicit c = field.ExplicitRet c
+
+-- the fields of a return conversion by the rules: one if there is an entry
+abbrev pub ret_fields : Rules → RetEntry → RetConv → List Field
+ret_fields by entry.Keep c = []
+ret_fields by (entry.New ret) c = ret_field by c ∷ []
+
+-- a result, converted by the rules if there is an entry
+abbrev pub ret_entry_on : Rules → LeafTable → RetEntry → RetConv → Option Slot → Ran (Option Slot)
+ret_entry_on by table entry.Keep c r = Gave r []
+ret_entry_on by table (entry.New ret) c r = returned ret (ret_converted by table.classes c r)
 
 -- the new body calls the leaf in its field on all arguments
 abbrev pub LeafRootLaw : List Basic → BasicRet → FormBody → Type 0
@@ -103,6 +117,41 @@ CatchRootLaw params ret kept new =
     (guarded (run_bound table t.value args n) (is_caught table.classes c) n
     (λ e k. run_bound table h.value (slot.L (value.Thrown e) ∷ take kept args) k)))
     (run_on table new (field.Part t ∷ field.Class c ∷ field.Part h ∷ []) args n)
+
+-- The new body runs a part on all arguments, and then in any case its cleanup: on null and the result, or on the exception and the default, and on
+-- the first arguments.
+abbrev pub TryRootLaw : List Basic → BasicRet → ℕ → FormBody → Type 0
+TryRootLaw params ret kept new =
+    (table : LeafTable) (t c : Arc Bound Global) (args : List Slot) (n : ℕ) →
+    length args ≡ length params →
+    Refines
+    (returned ret (mapped Some (finally_run (run_bound table t.value) (run_bound table c.value) kept ret args n)))
+    (run_on table new (field.Part t ∷ field.Part c ∷ []) args n)
+
+-- the part that the int in a slot picks: the case of that number, or the other part if there is none
+abbrev pub case_of : {A : Type 0} → A → List A → Slot → Option A
+case_of other cases (slot.I z) = Some (picked_by z (λ k. get_or cases k other) other)
+case_of other cases s = None
+
+-- the new body runs on all arguments the part that the first of them picks
+abbrev pub SwitchRootLaw : List Basic → BasicRet → ℕ → FormBody → Type 0
+SwitchRootLaw params ret count new =
+    (table : LeafTable) (f : Arc Bound Global) (cases : List (Arc Bound Global)) (args : List Slot) (n : ℕ) →
+    length cases ≡ count →
+    length args ≡ length params →
+    Refines
+    (found (slice_get args 0) (λ s. found (case_of f cases s) (λ part. returned ret (run_bound table part.value args n))))
+    (run_on table new (field.Part f ∷ map field.Part cases) args n)
+
+-- the new body runs the parts of a loop, each on so many of the first arguments
+abbrev pub LoopRootLaw : List Basic → BasicRet → LoopCounts → FormBody → Type 0
+LoopRootLaw params ret counts new =
+    (table : LeafTable) (i s b : Arc Bound Global) (args : List Slot) (n : ℕ) →
+    length args ≡ length params →
+    Refines
+    (returned ret (mapped Some
+    (loop_run (run_bound table i.value) (run_bound table s.value) (run_bound table b.value) counts ret args n)))
+    (run_on table new (field.Part i ∷ field.Part s ∷ field.Part b ∷ []) args n)
 
 -- the new body joins the pieces with all arguments
 abbrev pub ConcatRootLaw : List Basic → BasicRet → FormBody → Type 0
@@ -171,17 +220,17 @@ FilterReturnLaw ret old new =
     (λ r k. returned ret (run_bound table part.value (slots_of_result r) k)))
     (run_on table new (fields ++ field.Part part ∷ []) args n)
 
--- the new body converts the arguments that have an entry, runs the old body, and converts its result
+-- the new body converts the arguments that have an entry, runs the old body, and converts its result, by the rules that its fields name
 abbrev pub ConvertLaw : List (Option Basic) → RetEntry → FormBody → FormBody → Type 0
 ConvertLaw entries ret old new =
-    (table : LeafTable) (fields : List Field) (convs : List Conv) (c : RetConv) (args : List Slot) (n : ℕ) →
+    (by : Rules) (table : LeafTable) (fields : List Field) (convs : List Conv) (c : RetConv) (args : List Slot) (n : ℕ) →
     length fields ≡ old.fields →
     length convs ≡ conv_count entries →
     length args ≡ length old.params →
     Refines
-    (converting_slots entries (map (converted table.classes) convs) args n
-    (λ xs k. and_then (run_on table old fields xs k) k (λ r m. ret_entry_on table ret c r)))
-    (run_on table new (fields ++ (map (λ d. field.Conv d) convs ++ ret_fields ret c)) args n)
+    (converting_slots entries (map (converted by table.classes) convs) args n
+    (λ xs k. and_then (run_on table old fields xs k) k (λ r m. ret_entry_on by table ret c r)))
+    (run_on table new (fields ++ (map (conv_field by) convs ++ ret_fields by ret c)) args n)
 
 -- the new body checks that the array at a position has `count` items, and runs the old body with these items in the array's place
 abbrev pub SpreadLaw : ℕ → ℕ → FormBody → FormBody → Type 0
@@ -213,6 +262,9 @@ Law (key.IdentityRoot b) old new = IdentityRootLaw new
 Law (key.ThrowRoot ret) old new = ThrowRootLaw new
 Law (key.GuardRoot shape test) old new = GuardRootLaw shape.params shape.ret test new
 Law (key.CatchRoot shape handler) old new = CatchRootLaw shape.params shape.ret handler new
+Law (key.TryRoot shape cleanup) old new = TryRootLaw shape.params shape.ret cleanup new
+Law (key.SwitchRoot shape count) old new = SwitchRootLaw shape.params shape.ret count new
+Law (key.LoopRoot shape iterations init turns) old new = LoopRootLaw shape.params shape.ret (counts_of iterations init turns) new
 Law (key.ConcatRoot shape) old new = ConcatRootLaw shape.params shape.ret new
 Law (key.Bind pos) old new = BindLaw pos old new
 Law (key.Add pos basics) old new = AddLaw pos (length basics) old new

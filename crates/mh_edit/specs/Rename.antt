@@ -6,7 +6,7 @@ use Rattle.mh_values.specs.Computation.{spliced}
 use Rattle.mh_form.specs.declared.basic.Basic.{Basic}
 use Rattle.mh_form.specs.declared.body.FormBody.{FormBody}
 use Rattle.mh_form.specs.declared.name.Name.{Name}
-use Rattle.mh_form.specs.declared.name.Name.TheVariants.{Get, Call, Link, Select, Guarded, Conv, Cast, Ret, MakeArray, CheckArray, Elem, Join, Raise}
+use Rattle.mh_form.specs.declared.name.Name.TheVariants.{Get, Call, Link, Select, Guarded, Finally, Switch, Loop, Conv, Cast, Ret, MakeArray, CheckArray, Elem, Join, Raise}
 
 -- a name with its places renamed; fields keep their numbers
 abbrev pub renamed : (ℕ → ℕ) → Name → Name
@@ -15,6 +15,9 @@ renamed to (Call f args) = Call f (map to args)
 renamed to (Link f args) = Link f (map to args)
 renamed to (Select i f g args) = Select (to i) f g (map to args)
 renamed to (Guarded f c h args kept) = Guarded f c h (map to args) kept
+renamed to (Finally f h args kept ret) = Finally f h (map to args) kept ret
+renamed to (Switch i first count args) = Switch (to i) first count (map to args)
+renamed to (Loop first args counts ret) = Loop first (map to args) counts ret
 renamed to (Conv f i) = Conv f (to i)
 renamed to (Cast f i) = Cast f (to i)
 renamed to (Ret f i) = Ret f (option_map to i)

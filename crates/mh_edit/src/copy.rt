@@ -27,6 +27,25 @@ impl Copied for Key {
                 shape: shape.copy(alloc)?,
                 handler: *handler,
             },
+            Key::TryRoot { shape, cleanup } => Key::TryRoot {
+                shape: shape.copy(alloc)?,
+                cleanup: *cleanup,
+            },
+            Key::SwitchRoot { shape, count } => Key::SwitchRoot {
+                shape: shape.copy(alloc)?,
+                count: *count,
+            },
+            Key::LoopRoot {
+                shape,
+                iterations,
+                init,
+                body,
+            } => Key::LoopRoot {
+                shape: shape.copy(alloc)?,
+                iterations: *iterations,
+                init: *init,
+                body: *body,
+            },
             Key::ConcatRoot { shape } => Key::ConcatRoot {
                 shape: shape.copy(alloc)?,
             },

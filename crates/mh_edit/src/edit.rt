@@ -1,7 +1,8 @@
 ghost use Rattle.std.specs.Prelude.{◌≡◌, ◌+◌, ◌-◌, ◌<◌, ◌≤◌, ◌∷◌, [], IfOk, IsTrue, length, replicate};
 ghost use Rattle.std.specs.List.{range_with_len};
 ghost use Rattle.mh_form.specs.declared.name.Name.TheVariants.{CheckArray, MakeArray};
-ghost use Rattle.mh_edit.specs.Applied.{adding, applied, binding, collecting, converting, elem_names, filtering, folding, gathering, given, permuting, places_of, returning, spreading};
+ghost use Rattle.mh_form.specs.Slots.{given};
+ghost use Rattle.mh_edit.specs.Applied.{adding, applied, binding, collecting, converting, counts_of, elem_names, filtering, folding, gathering, permuting, places_of, returning, spreading};
 ghost use Rattle.mh_edit.specs.Fit.{fits, taken_by};
 ghost use Rattle.mh_edit.specs.Law.{Law};
 
@@ -10,11 +11,12 @@ use crate::frame::{Splice, converting, edited, finished, reframed, returning};
 use crate::names::{link, one_basic, push_elems, range, single};
 use crate::narrow::narrow;
 use crate::roots::{
-    catch_body, concat_body, constant_body, guard_body, identity_body, leaf_body, throw_body,
+    catch_body, concat_body, constant_body, guard_body, identity_body, leaf_body, loop_body,
+    switch_body, throw_body, try_body,
 };
 use crate::{Key, Places, RetEntry};
 use mh_base::{Copied, NoMemory, Seq};
-use mh_form::{Basic, BasicRet, Basics, FormBody, Name, Names, Operands};
+use mh_form::{Basic, BasicRet, Basics, FormBody, LoopCounts, Name, Names, Operands};
 use std::alloc::Global;
 
 /// The place of a part's result as a list, which is empty if the part is void.
@@ -210,6 +212,17 @@ fn converted(
     returning(converting(alloc, body, params)?, ret)
 }
 
+/// How many arguments each part of a loop takes.
+fn loop_counts(iterations: u8, init: u8, body: u8) -> LoopCounts
+    ensures { result ≡ counts_of iterations init body }
+{
+    LoopCounts {
+        iterations: iterations as u32,
+        init: init as u32,
+        body: body as u32,
+    }
+}
+
 fn body_of(alloc: Global, body: &FormBody, key: &Key) -> Result<FormBody, NoMemory>
     requires { IsTrue (fits key.now body.now) }
     ensures { IfOk result (λ new. new ≡ applied key.now body.now) }
@@ -221,6 +234,14 @@ fn body_of(alloc: Global, body: &FormBody, key: &Key) -> Result<FormBody, NoMemo
         Key::ThrowRoot { ret } => throw_body(alloc, *ret),
         Key::GuardRoot { shape, test } => guard_body(alloc, shape, *test),
         Key::CatchRoot { shape, handler } => catch_body(alloc, shape, *handler),
+        Key::TryRoot { shape, cleanup } => try_body(alloc, shape, *cleanup),
+        Key::SwitchRoot { shape, count } => switch_body(alloc, shape, *count),
+        Key::LoopRoot {
+            shape,
+            iterations,
+            init,
+            body: turns,
+        } => loop_body(alloc, shape, loop_counts(*iterations, *init, *turns)),
         Key::ConcatRoot { shape } => concat_body(alloc, shape),
         Key::Bind { pos } => binding(alloc, body, *pos),
         Key::Add { pos, basics } => adding(alloc, body, *pos, basics),

@@ -5,6 +5,9 @@ ghost use Rattle.mh_edit.specs.Fit.{is_same_basic, is_nothing, is_basic_at, take
 use crate::Key;
 use mh_form::{Basic, BasicRet, FormBody};
 
+/// The most cases of a switch.
+const MOST_CASES: u8 = 16;
+
 fn is_same_basic(a: Basic, b: Basic) -> bool
     ensures { result ≡ is_same_basic a b }
 {
@@ -94,6 +97,25 @@ pub fn key_fits(body: &FormBody, key: &Key) -> bool
         | Key::ConcatRoot { .. } => nothing,
         Key::GuardRoot { shape, test } => nothing && *test as usize <= shape.params.len(),
         Key::CatchRoot { shape, handler } => nothing && *handler as usize <= shape.params.len(),
+        Key::TryRoot { shape, cleanup } => nothing && *cleanup as usize <= shape.params.len(),
+        Key::SwitchRoot { shape, count } => {
+            nothing
+                && is_basic_at(shape.params.as_slice(), 0, Basic::I)
+                && 0 < *count
+                && *count <= MOST_CASES
+        }
+        Key::LoopRoot {
+            shape,
+            iterations,
+            init,
+            body: turns,
+        } => {
+            let most = shape.params.len();
+            nothing
+                && *iterations as usize <= most
+                && *init as usize <= most
+                && *turns as usize <= most
+        }
         Key::Bind { pos } => !nothing && (*pos as usize) < params.len(),
         Key::Add { pos, .. } => !nothing && *pos as usize <= params.len(),
         Key::Permute { basics, reorder } => {

@@ -47,6 +47,26 @@ pub enum Key {
         shape: Shape,
         handler: u8,
     },
+    /// A part, and a cleanup that takes how the part ended and the first arguments. Fields: the
+    /// part and the cleanup.
+    TryRoot {
+        shape: Shape,
+        cleanup: u8,
+    },
+    /// A switch: the first argument, an `int`, picks one of several parts. Fields: the part for all
+    /// ints that number no case, and the parts of the cases, from 0 on.
+    SwitchRoot {
+        shape: Shape,
+        count: u8,
+    },
+    /// A counted loop. Fields: the parts that give its end and its start, and its body. Each takes
+    /// so many of the first arguments.
+    LoopRoot {
+        shape: Shape,
+        iterations: u8,
+        init: u8,
+        body: u8,
+    },
     /// A concatenation. Field: its pieces.
     ConcatRoot {
         shape: Shape,

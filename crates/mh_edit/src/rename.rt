@@ -63,6 +63,15 @@ fn rename(alloc: Global, to: Renaming<'_>, name: &Name) -> Result<Name, NoMemory
         Name::Guarded(part, class, handler, args, kept) => {
             Name::Guarded(*part, *class, *handler, places(alloc, to, args)?, *kept)
         }
+        Name::Finally(part, cleanup, args, kept, ret) => {
+            Name::Finally(*part, *cleanup, places(alloc, to, args)?, *kept, *ret)
+        }
+        Name::Switch(slot, first, count, args) => {
+            Name::Switch(place(to, *slot)?, *first, *count, places(alloc, to, args)?)
+        }
+        Name::Loop(first, args, counts, ret) => {
+            Name::Loop(*first, places(alloc, to, args)?, *counts, *ret)
+        }
         Name::Conv(conv, slot) => Name::Conv(*conv, place(to, *slot)?),
         Name::Cast(conv, slot) => Name::Cast(*conv, place(to, *slot)?),
         Name::Ret(conv, slot) => Name::Ret(*conv, place_if_any(to, *slot)?),

@@ -3,13 +3,13 @@
 ghost use Rattle.std.specs.Prelude.{◌≡◌, ◌∷◌, [], IfOk};
 ghost use Rattle.std.specs.List.{range_with_len};
 ghost use Rattle.mh_form.specs.declared.name.Name.TheVariants.{Link, Select};
-ghost use Rattle.mh_edit.specs.Applied.{all_places, catch_body, concat_body, constant_body, guard_body, identity_body, leaf_body, named_body, throw_body};
+ghost use Rattle.mh_edit.specs.Applied.{all_places, catch_body, concat_body, constant_body, guard_body, identity_body, leaf_body, loop_body, named_body, switch_body, throw_body, try_body};
 
 use crate::frame::out_of;
 use crate::names::{link, one_basic, range, single};
 use crate::narrow::narrow;
 use mh_base::{NoMemory, Seq};
-use mh_form::{Basic, BasicRet, FormBody, Name, Names, Operands, Shape};
+use mh_form::{Basic, BasicRet, FormBody, LoopCounts, Name, Names, Operands, Shape};
 use std::alloc::Global;
 
 /// The places of all arguments.
@@ -109,6 +109,33 @@ pub(crate) fn catch_body(alloc: Global, shape: &Shape, kept: u8) -> Result<FormB
 {
     let args = all_places(alloc, shape)?;
     named_body(alloc, shape, 3, Name::Guarded(0, 1, 2, args, kept as u32))
+}
+
+pub(crate) fn try_body(alloc: Global, shape: &Shape, kept: u8) -> Result<FormBody, NoMemory>
+    ensures { IfOk result (λ body. body ≡ try_body shape.now kept) }
+{
+    let args = all_places(alloc, shape)?;
+    let name = Name::Finally(0, 1, args, kept as u32, shape.ret);
+    named_body(alloc, shape, 2, name)
+}
+
+pub(crate) fn switch_body(alloc: Global, shape: &Shape, count: u8) -> Result<FormBody, NoMemory>
+    ensures { IfOk result (λ body. body ≡ switch_body shape.now count) }
+{
+    let args = all_places(alloc, shape)?;
+    let name = Name::Switch(0, 0, count as u32, args);
+    named_body(alloc, shape, count as u32 + 1, name)
+}
+
+pub(crate) fn loop_body(
+    alloc: Global,
+    shape: &Shape,
+    counts: LoopCounts,
+) -> Result<FormBody, NoMemory>
+    ensures { IfOk result (λ body. body ≡ loop_body shape.now counts) }
+{
+    let args = all_places(alloc, shape)?;
+    named_body(alloc, shape, 3, Name::Loop(0, args, counts, shape.ret))
 }
 
 pub(crate) fn concat_body(alloc: Global, shape: &Shape) -> Result<FormBody, NoMemory>

@@ -15,7 +15,7 @@ ghost use Rattle.mh_runtime.specs.Passes.{most_sites};
 use mh_base::{NoMemory, Seq};
 use mh_classfile::read;
 use mh_form::Machine;
-use mh_jobs::{Jobs, Run, push_jobs};
+use mh_jobs::{Run, RunJobs, push_class};
 use mh_leaves::read_manifest;
 use mh_outside::{Inputs, OpenGate, read_whole, real_inputs, real_sink, write_whole};
 use mh_plan::Call;
@@ -120,15 +120,15 @@ fn lines<R: Threads + Wait + Sync, I: Inputs>(rt: &R, alloc: Global, inputs: &mu
     let scripts = read_scripts(alloc, &file(alloc, inputs, "scripts.txt")?).or(Err(Stopped))?;
     let bytes = file(alloc, inputs, "Prices.class")?;
     let class = read(alloc, &bytes, MOST_SITES).or(Err(Stopped))?;
-    let mut jobs = Jobs::new(alloc);
-    push_jobs(alloc, &mut jobs, &class, &scripts, &leaves)?;
-    if jobs.len() > MOST_SITES as usize {
+    let mut jobs = RunJobs::new(alloc);
+    push_class(alloc, &mut jobs, &class, &scripts, &leaves)?;
+    if jobs.sites.len() > MOST_SITES as usize {
         return Err(Stopped);
     }
     let input = RunInput {
         leaves: &leaves,
         scripts: &scripts,
-        jobs: &jobs,
+        jobs: &jobs.sites,
     };
     link_and_call::<std::marker::Brand, R>(rt, alloc, &input)
 }

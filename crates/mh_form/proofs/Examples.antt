@@ -1,5 +1,5 @@
 -- Worked examples: what a body of one name gives, on one field and one argument.
-use Rattle.std.specs.Prelude.{◌≡◌, refl, [], ◌∷◌, codes, pos, Option, Some}
+use Rattle.std.specs.Prelude.{◌≡◌, refl, [], ◌∷◌, codes, pos, negsuc, Option, Some}
 use Rattle.mh_values.specs.declared.types.Comp.TheVariants as comp
 use Rattle.mh_values.specs.declared.types.Primitive.TheVariants as primitive
 use Rattle.mh_values.specs.declared.types.Ty.{Ty}
@@ -66,6 +66,18 @@ refuses_to_cast :
     ran (name.Cast 0 0) (field.Conv (conv (ty.Class object_class) (ty.Class integer_class))) (slot.L (value.Boxed (num.J (pos 7))))
     ≡ Threw (bare class_cast_class) []
 refuses_to_cast = refl
+
+narrows : ran (name.Conv 0 0) (field.Explicit (conv long int)) (slot.J (pos 4294967301)) ≡ gave (slot.I (pos 5))
+narrows = refl
+
+null_is_zero_explicitly : ran (name.Conv 0 0) (field.Explicit (conv (ty.Class object_class) long)) (slot.L value.Null) ≡ gave (slot.J (pos 0))
+null_is_zero_explicitly = refl
+
+narrows_results : ran (name.Ret 0 (Some 0)) (field.ExplicitRet (ret.Value (conv long int))) (slot.J (negsuc 4294967295)) ≡ gave (slot.I (pos 0))
+narrows_results = refl
+
+a_long_is_not_narrowed_by_the_other_rules : ran (name.Conv 0 0) (field.Conv (conv long int)) (slot.J (pos 5)) ≡ Stuck
+a_long_is_not_narrowed_by_the_other_rules = refl
 
 keeps_results : ran (name.Ret 0 (Some 0)) (field.Ret ret.Keep) (slot.J (pos 5)) ≡ gave (slot.J (pos 5))
 keeps_results = refl

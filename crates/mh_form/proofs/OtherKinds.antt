@@ -13,7 +13,7 @@ use Rattle.mh_form.specs.declared.slot.Slot.{Slot}
 use Rattle.mh_form.specs.declared.field.Bound.{Bound}
 use Rattle.mh_form.specs.declared.field.Field.{Field}
 use Rattle.mh_form.specs.declared.field.Field.TheViews.{roll-Field, roll-out-Field}
-use Rattle.mh_form.specs.declared.field.Field.TheVariants.{Part, Part', outs-Part', rolls-Part, Val, Leaf, Class, Conv, Ret, Comp, Joined}
+use Rattle.mh_form.specs.declared.field.Field.TheVariants.{Part, Part', outs-Part', rolls-Part, Val, Leaf, Class, Conv, Ret, Explicit, ExplicitRet, Comp, Joined}
 use Rattle.mh_form.specs.Run.{sense, slot_of, leaf_of, part_of, class_of, conv_of, ret_of, comp_of, joined_of}
 
 pub no_slot : (table : LeafTable) (e : Field) → ((x : Slot) → e ≡ Val x → ⊥) → slot_of (sense table e) ≡ None
@@ -23,6 +23,8 @@ no_slot table (Part' p b s r) h = refl
 no_slot table (Class x) h = refl
 no_slot table (Conv x) h = refl
 no_slot table (Ret x) h = refl
+no_slot table (Explicit x) h = refl
+no_slot table (ExplicitRet x) h = refl
 no_slot table (Comp x) h = refl
 no_slot table (Joined x) h = refl
 
@@ -33,6 +35,8 @@ no_leaf table (Part' p b s r) h = refl
 no_leaf table (Class x) h = refl
 no_leaf table (Conv x) h = refl
 no_leaf table (Ret x) h = refl
+no_leaf table (Explicit x) h = refl
+no_leaf table (ExplicitRet x) h = refl
 no_leaf table (Comp x) h = refl
 no_leaf table (Joined x) h = refl
 
@@ -44,6 +48,8 @@ no_part table (Part' p b s r) h =
 no_part table (Class x) h = refl
 no_part table (Conv x) h = refl
 no_part table (Ret x) h = refl
+no_part table (Explicit x) h = refl
+no_part table (ExplicitRet x) h = refl
 no_part table (Comp x) h = refl
 no_part table (Joined x) h = refl
 
@@ -54,28 +60,34 @@ no_class table (Part' p b s r) h = refl
 no_class table (Class x) h = absurd (h x refl)
 no_class table (Conv x) h = refl
 no_class table (Ret x) h = refl
+no_class table (Explicit x) h = refl
+no_class table (ExplicitRet x) h = refl
 no_class table (Comp x) h = refl
 no_class table (Joined x) h = refl
 
-pub no_conv : (table : LeafTable) (e : Field) → ((x : Rule) → e ≡ Conv x → ⊥) → conv_of (sense table e) ≡ None
-no_conv table (Val x) h = refl
-no_conv table (Leaf x) h = refl
-no_conv table (Part' p b s r) h = refl
-no_conv table (Class x) h = refl
-no_conv table (Conv x) h = absurd (h x refl)
-no_conv table (Ret x) h = refl
-no_conv table (Comp x) h = refl
-no_conv table (Joined x) h = refl
+pub no_conv : (table : LeafTable) (e : Field) → ((x : Rule) → e ≡ Conv x → ⊥) → ((x : Rule) → e ≡ Explicit x → ⊥) → conv_of (sense table e) ≡ None
+no_conv table (Val x) h k = refl
+no_conv table (Leaf x) h k = refl
+no_conv table (Part' p b s r) h k = refl
+no_conv table (Class x) h k = refl
+no_conv table (Conv x) h k = absurd (h x refl)
+no_conv table (Ret x) h k = refl
+no_conv table (Explicit x) h k = absurd (k x refl)
+no_conv table (ExplicitRet x) h k = refl
+no_conv table (Comp x) h k = refl
+no_conv table (Joined x) h k = refl
 
-pub no_ret : (table : LeafTable) (e : Field) → ((x : RetConv) → e ≡ Ret x → ⊥) → ret_of (sense table e) ≡ None
-no_ret table (Val x) h = refl
-no_ret table (Leaf x) h = refl
-no_ret table (Part' p b s r) h = refl
-no_ret table (Class x) h = refl
-no_ret table (Conv x) h = refl
-no_ret table (Ret x) h = absurd (h x refl)
-no_ret table (Comp x) h = refl
-no_ret table (Joined x) h = refl
+pub no_ret : (table : LeafTable) (e : Field) → ((x : RetConv) → e ≡ Ret x → ⊥) → ((x : RetConv) → e ≡ ExplicitRet x → ⊥) → ret_of (sense table e) ≡ None
+no_ret table (Val x) h k = refl
+no_ret table (Leaf x) h k = refl
+no_ret table (Part' p b s r) h k = refl
+no_ret table (Class x) h k = refl
+no_ret table (Conv x) h k = refl
+no_ret table (Ret x) h k = absurd (h x refl)
+no_ret table (Explicit x) h k = refl
+no_ret table (ExplicitRet x) h k = absurd (k x refl)
+no_ret table (Comp x) h k = refl
+no_ret table (Joined x) h k = refl
 
 pub no_comp : (table : LeafTable) (e : Field) → ((x : Component) → e ≡ Comp x → ⊥) → comp_of (sense table e) ≡ None
 no_comp table (Val x) h = refl
@@ -84,6 +96,8 @@ no_comp table (Part' p b s r) h = refl
 no_comp table (Class x) h = refl
 no_comp table (Conv x) h = refl
 no_comp table (Ret x) h = refl
+no_comp table (Explicit x) h = refl
+no_comp table (ExplicitRet x) h = refl
 no_comp table (Comp x) h = absurd (h x refl)
 no_comp table (Joined x) h = refl
 
@@ -94,5 +108,7 @@ no_joined table (Part' p b s r) h = refl
 no_joined table (Class x) h = refl
 no_joined table (Conv x) h = refl
 no_joined table (Ret x) h = refl
+no_joined table (Explicit x) h = refl
+no_joined table (ExplicitRet x) h = refl
 no_joined table (Comp x) h = refl
 no_joined table (Joined x) h = absurd (h x refl)

@@ -56,7 +56,7 @@ refined (Threw e calls) y runs h = sym h
 refined Stuck y runs h = absurd (runs refl)
 
 -- where an exception is guarded: the class decides, and then the handler
-refines-if : {B : Type 0} → (b : Bool) (x x' y y' : Ran B) → Refines x x' → Refines y y' → Refines (cond b x y) (cond b x' y')
+pub refines-if : {B : Type 0} → (b : Bool) (x x' y y' : Ran B) → Refines x x' → Refines y y' → Refines (cond b x y) (cond b x' y')
 refines-if true x x' y y' h k = h
 refines-if false x x' y y' h k = k
 

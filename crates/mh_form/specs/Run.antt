@@ -1,14 +1,18 @@
 -- What running a body does: its names in order, each putting one slot at the end of a list that begins with the arguments.
-use Rattle.std.specs.Prelude.{ℕ, Bool, List, [], ◌∷◌, ◌++◌, Option, Some, None, if◌then◌else◌, slice_get, map, take}
+use Rattle.std.specs.Prelude.{ℕ, ◌+◌, pos, Bool, List, [], ◌∷◌, ◌++◌, Option, Some, None, if◌then◌else◌, slice_get, map, take}
 use Rattle.std.specs.Option.{option_map}
 use Rattle.mh_values.specs.declared.value.Exc.{Exc}
 use Rattle.mh_values.specs.declared.calls.LeafCall.{LeafCall}
 use Rattle.mh_values.specs.declared.value.Value.TheVariants as value
 use Rattle.mh_values.specs.Computation.{Ran, Gave, Threw, and_then, found, guarded, is_caught}
+use Rattle.mh_leaf.specs.Ending.{ended_by, turned}
+use Rattle.mh_convert.specs.declared.conv.Rules.TheVariants as rules
 use Rattle.mh_leaf.specs.LeafTable.{LeafTable}
 use Rattle.mh_form.specs.declared.body.FormBody.{FormBody}
+use Rattle.mh_form.specs.declared.basic.BasicRet.{BasicRet}
+use Rattle.mh_form.specs.declared.name.LoopCounts.{LoopCounts}
 use Rattle.mh_form.specs.declared.name.Name.{Name}
-use Rattle.mh_form.specs.declared.name.Name.TheVariants.{Get, Call, Link, Select, Guarded, Conv, Cast, Ret, MakeArray, CheckArray, Elem, Join, Raise}
+use Rattle.mh_form.specs.declared.name.Name.TheVariants.{Get, Call, Link, Select, Guarded, Finally, Switch, Loop, Conv, Cast, Ret, MakeArray, CheckArray, Elem, Join, Raise}
 use Rattle.mh_form.specs.declared.slot.Slot.{Slot}
 use Rattle.mh_form.specs.declared.slot.Slot.TheVariants as slot
 use Rattle.mh_form.specs.declared.outcome.Ran.{Ran as Done}
@@ -18,7 +22,7 @@ use Rattle.mh_form.specs.declared.field.Bound.{Bound, Row_of-Field, end_of-Field
 use Rattle.mh_form.specs.declared.field.Field.{Field}
 use Rattle.mh_form.specs.declared.field.Field.TheVariants.{Part'}
 use Rattle.mh_form.specs.declared.field.Field.TheVariants as field
-use Rattle.mh_form.specs.Slots.{called, filled, holds_one, converted, ret_converted, made_array, joined_slots, checked_array, item_in, raised_slot}
+use Rattle.mh_form.specs.Slots.{bounded_slot, called, case_field, default_slots, filled, given, holds_one, converted, ret_converted, made_array, joined_slots, checked_array, item_in, raised_slot}
 
 -- what runs on a list of slots, where n leaf calls were made before
 abbrev pub SlotRun : Type 0
@@ -118,6 +122,33 @@ abbrev pub guarded_field : List Sense → ℕ → (Exc → Bool) → ℕ → ℕ
 guarded_field senses f test h kept xs n =
     guarded (run_field senses f xs n) test n (λ e k. run_field senses h (slot.L (value.Thrown e) ∷ take kept xs) k)
 
+-- A part, and in any case then its cleanup: on null and the result, or on the exception and the default, and on the first arguments. An exception
+-- of the part is thrown after its cleanup.
+abbrev pub finally_run : SlotRun → SlotRun → ℕ → BasicRet → List Slot → ℕ → Ran Slot
+finally_run part cleanup kept ret xs n =
+    ended_by (filled (part xs n)) n
+    (λ s k. filled (cleanup (slot.L value.Null ∷ (given ret s ++ take kept xs)) k))
+    (λ e k. filled (cleanup (slot.L (value.Thrown e) ∷ (default_slots ret ++ take kept xs)) k))
+
+-- the part in one field, and the cleanup in another
+abbrev pub finally_field : List Sense → ℕ → ℕ → ℕ → BasicRet → List Slot → ℕ → Ran Slot
+finally_field senses f h kept ret xs n = finally_run (run_field senses f) (run_field senses h) kept ret xs n
+
+-- a turn of a loop: its body on the slot that the turn before gave, if it gives one, on the number, and on the first arguments
+abbrev pub turn_of : SlotRun → ℕ → BasicRet → List Slot → ℕ → Slot → ℕ → Ran Slot
+turn_of body kept ret xs number s n = filled (body (given ret s ++ (slot.I (pos number) ∷ take kept xs)) n)
+
+-- the iterations of a loop, its start, and then the turns of its body
+abbrev pub loop_run : SlotRun → SlotRun → SlotRun → LoopCounts → BasicRet → List Slot → ℕ → Ran Slot
+loop_run iterations init body counts ret xs n =
+    and_then (filled (iterations (take counts.iterations xs) n)) n (λ s k. bounded_slot s (λ turns.
+    and_then (filled (init (take counts.init xs) k)) k (λ v m. turned (turn_of body counts.body ret xs) 0 turns v m)))
+
+-- the iterations in one field, the start in the next, and the body in the third
+abbrev pub loop_field : List Sense → ℕ → LoopCounts → BasicRet → List Slot → ℕ → Ran Slot
+loop_field senses first counts ret xs n =
+    loop_run (run_field senses first) (run_field senses (first + 1)) (run_field senses (first + 2)) counts ret xs n
+
 -- what one name gives
 abbrev pub step : Name → List Sense → List Slot → ℕ → Ran Slot
 step (Get f) senses slots n = with_field slot_of senses f (λ s. Gave s [])
@@ -130,6 +161,11 @@ step (Select i f g args) senses slots n =
 step (Guarded f c h args kept) senses slots n =
     found (picked slots args) (λ xs. with_field class_of senses c (λ test.
     filled (guarded_field senses f test h kept xs n)))
+step (Finally f h args kept ret) senses slots n = found (picked slots args) (λ xs. finally_field senses f h kept ret xs n)
+step (Switch i first count args) senses slots n =
+    found (slice_get slots i) (λ s. found (case_field first count s) (λ f. found (picked slots args) (λ xs.
+    filled (run_field senses f xs n))))
+step (Loop first args counts ret) senses slots n = found (picked slots args) (λ xs. loop_field senses first counts ret xs n)
 step (Conv f i) senses slots n = with_field conv_of senses f (λ conv. found (slice_get slots i) conv)
 step (Cast f i) senses slots n = with_field conv_of senses f (λ conv. found (slice_get slots i) conv)
 step (Ret f i) senses slots n = with_field ret_of senses f (λ conv. with_result i slots (λ r. filled (conv r)))
@@ -160,8 +196,10 @@ abbrev mutual
   sense table (field.Leaf l) = IsLeaf (called table l)
   sense table (Part' p body shape fields) = IsPart (run_body body.now (senses_of table fields))
   sense table (field.Class c) = IsClass (is_caught table.classes c)
-  sense table (field.Conv c) = IsConv (converted table.classes c)
-  sense table (field.Ret c) = IsRet (ret_converted table.classes c)
+  sense table (field.Conv c) = IsConv (converted rules.AsType table.classes c)
+  sense table (field.Ret c) = IsRet (ret_converted rules.AsType table.classes c)
+  sense table (field.Explicit c) = IsConv (converted rules.Explicit table.classes c)
+  sense table (field.ExplicitRet c) = IsRet (ret_converted rules.Explicit table.classes c)
   sense table (field.Comp c) = IsComp (made_array table.classes c)
   sense table (field.Joined pieces) = IsJoined (joined_slots table.classes pieces)
 

@@ -1,5 +1,5 @@
 -- What is done on slots: conversions, arrays and exceptions.
-use Rattle.std.specs.Prelude.{ℕ, pos, Bool, false, List, [], Option, None, Some, Result, Ok, Err, map, slice_get, if◌then◌else◌}
+use Rattle.std.specs.Prelude.{ℕ, ◌+◌, pos, codes, nat_lt, Bool, false, List, [], ◌∷◌, Option, None, Some, Result, Ok, Err, map, slice_get, if◌then◌else◌}
 use Rattle.mh_values.specs.declared.class.Class.{Class}
 use Rattle.mh_values.specs.declared.types.Comp.{Comp}
 use Rattle.mh_values.specs.declared.value.Exc.{Exc}
@@ -7,21 +7,58 @@ use Rattle.mh_values.specs.declared.value.LeafId.{LeafId}
 use Rattle.mh_values.specs.declared.value.Value.{Value}
 use Rattle.mh_values.specs.declared.value.Value.TheVariants as value
 use Rattle.mh_values.specs.Array.{array_of, item_type, spread_values, values_of_array}
-use Rattle.mh_values.specs.Class.{null_pointer_class, class_cast_class}
+use Rattle.mh_values.specs.Class.{null_pointer_class, class_cast_class, internal_error_class}
 use Rattle.mh_values.specs.Computation.{Ran, Gave, Threw, Stuck, found, mapped}
-use Rattle.mh_values.specs.Exception.{bare}
+use Rattle.mh_leaf.specs.Ending.{bounded, picked_by}
+use Rattle.mh_values.specs.Exception.{bare, saying}
 use Rattle.mh_values.specs.Primitives.{is_one}
 use Rattle.mh_convert.specs.declared.conv.Conv.{Conv}
 use Rattle.mh_convert.specs.declared.conv.RetConv.{RetConv}
 use Rattle.mh_convert.specs.declared.conv.RetConv.TheVariants as ret
+use Rattle.mh_convert.specs.declared.conv.Rules.{Rules}
 use Rattle.mh_convert.specs.Conversion.{can, conv, default_of}
 use Rattle.mh_leaf.specs.LeafTable.{LeafTable}
 use Rattle.mh_leaf.specs.Outcome.{leaf_mean, ran_of}
 use Rattle.mh_pieces.specs.declared.piece.Piece.{Piece}
 use Rattle.mh_pieces.specs.Joined.{arg_types, joined}
+use Rattle.mh_form.specs.declared.basic.Basic.{Basic}
+use Rattle.mh_form.specs.declared.basic.Basic.TheVariants as basic
+use Rattle.mh_form.specs.declared.basic.BasicRet.{BasicRet}
+use Rattle.mh_form.specs.declared.basic.BasicRet.TheVariants as basic_ret
 use Rattle.mh_form.specs.declared.slot.Slot.{Slot}
 use Rattle.mh_form.specs.declared.slot.Slot.TheVariants as slot
 use Rattle.mh_form.specs.Erasure.{erased, erased_ran, typed, all_typed, typed_at}
+
+-- what stands for the result of a part: nothing if the part is void
+abbrev pub given : {A : Type 0} → BasicRet → A → List A
+given basic_ret.V a = []
+given (basic_ret.Is b) a = a ∷ []
+
+-- the slot of the default of a basic type: null or zero
+abbrev pub default_slot : Basic → Slot
+default_slot basic.L = slot.L value.Null
+default_slot basic.I = slot.I (pos 0)
+default_slot basic.J = slot.J (pos 0)
+
+-- the slot of the default of a basic return type: none if that is void
+abbrev pub default_slots : BasicRet → List Slot
+default_slots basic_ret.V = []
+default_slots (basic_ret.Is b) = default_slot b ∷ []
+
+-- goes on with the turns of a loop, if the slot holds an int that is no more than there may be
+abbrev pub bounded_slot : {B : Type 0} → Slot → (ℕ → Ran B) → Ran B
+bounded_slot (slot.I z) next = bounded z next
+bounded_slot s next = Stuck
+
+-- the turns that were told, or the exception of a loop that has too many
+abbrev pub told_turns : Option ℕ → Ran ℕ
+told_turns (Some turns) = Gave turns []
+told_turns None = Threw (saying internal_error_class (codes "loop")) []
+
+-- the field of the case that the int in a slot picks: the fallback is in the first field, and so many cases follow
+abbrev pub case_field : ℕ → ℕ → Slot → Option ℕ
+case_field first count (slot.I z) = Some (picked_by z (λ k. if nat_lt k count then first + (k + 1) else first) first)
+case_field first count s = None
 
 -- the slot holds int 1, as the result of a test that is true does
 abbrev pub holds_one : Slot → Bool
@@ -54,18 +91,18 @@ abbrev pub slot_or_throw : Result Value Exc → Ran Slot
 slot_or_throw (Ok v) = Gave (erased v) []
 slot_or_throw (Err e) = Threw e []
 
--- an allowed conversion of a slot that is the erasure of a value of the type that it converts from
-abbrev pub converted : List Class → Conv → Slot → Ran Slot
-converted classes c s =
-    if can classes c.from c.to then found (typed classes c.from s) (λ v. slot_or_throw (conv classes c.from c.to v)) else Stuck
+-- a conversion, allowed by the rules, of a slot that is the erasure of a value of the type that it converts from
+abbrev pub converted : Rules → List Class → Conv → Slot → Ran Slot
+converted by classes c s =
+    if can by classes c.from c.to then found (typed classes c.from s) (λ v. slot_or_throw (conv by classes c.from c.to v)) else Stuck
 
--- a return conversion of a result
-abbrev pub ret_converted : List Class → RetConv → Option Slot → Ran (Option Slot)
-ret_converted classes ret.Keep r = Gave r []
-ret_converted classes ret.Discard r = Gave None []
-ret_converted classes (ret.Default t) r = Gave (Some (erased (default_of t))) []
-ret_converted classes (ret.Value c) (Some s) = mapped Some (converted classes c s)
-ret_converted classes (ret.Value c) None = Stuck
+-- a return conversion of a result by the rules
+abbrev pub ret_converted : Rules → List Class → RetConv → Option Slot → Ran (Option Slot)
+ret_converted by classes ret.Keep r = Gave r []
+ret_converted by classes ret.Discard r = Gave None []
+ret_converted by classes (ret.Default t) r = Gave (Some (erased (default_of t))) []
+ret_converted by classes (ret.Value c) (Some s) = mapped Some (converted by classes c s)
+ret_converted by classes (ret.Value c) None = Stuck
 
 -- the array of these slots, each the erasure of an item
 abbrev pub made_array : List Class → Comp → List Slot → Ran Slot

@@ -6,7 +6,7 @@ ghost use Rattle.mh_form.specs.Slots.{converted, filled, ret_converted, slot_or_
 ghost use Rattle.mh_form.specs.Stack.{slot_or_exc};
 
 use crate::{Slot, erase, typed};
-use mh_convert::{Conv, RetConv, convert, default_value};
+use mh_convert::{Conv, RetConv, Rules, default_value};
 use mh_values::{Classes, Exc, Value};
 
 /// A value that was given as a slot, or the exception.
@@ -20,29 +20,46 @@ pub(crate) fn slot_or_throw(given: Result<Value, Exc>) -> Result<Slot, Exc>
     }
 }
 
+/// The conversion of an argument, and the rules by which it is done.
+#[derive(Clone, Copy)]
+pub(crate) struct Converting {
+    pub(crate) rules: Rules,
+    pub(crate) conv: Conv,
+}
+
+/// The conversion of a result, and the rules by which it is done.
+#[derive(Clone, Copy)]
+pub(crate) struct Returning {
+    pub(crate) rules: Rules,
+    pub(crate) conv: RetConv,
+}
+
 #[inline(always)]
-pub(crate) fn convert_slot(conv: Conv, slot: Slot, classes: &Classes) -> Result<Slot, Exc>
-    requires { converted classes.now conv slot ≢ Stuck }
-    ensures { slot_or_exc result ≡ converted classes.now conv slot }
+pub(crate) fn convert_slot(by: Converting, slot: Slot, classes: &Classes) -> Result<Slot, Exc>
+    requires { converted by.rules classes.now by.conv slot ≢ Stuck }
+    ensures { slot_or_exc result ≡ converted by.rules classes.now by.conv slot }
 {
-    let value = typed(conv.from, slot, classes);
-    slot_or_throw(convert(conv, value, classes))
+    let value = typed(by.conv.from, slot, classes);
+    slot_or_throw(by.rules.convert(by.conv, value, classes))
 }
 
 #[inline(always)]
 pub(crate) fn convert_result(
-    conv: RetConv,
+    by: Returning,
     given: Option<Slot>,
     classes: &Classes,
 ) -> Result<Slot, Exc>
-    requires { ret_converted classes.now conv given ≢ Stuck }
-    ensures { slot_or_exc result ≡ filled (ret_converted classes.now conv given) }
+    requires { ret_converted by.rules classes.now by.conv given ≢ Stuck }
+    ensures { slot_or_exc result ≡ filled (ret_converted by.rules classes.now by.conv given) }
 {
-    match (conv, given) {
+    let rules = by.rules;
+    match (by.conv, given) {
         (RetConv::Keep, Some(slot)) => Ok(slot),
         (RetConv::Keep, None) | (RetConv::Discard, _) => Ok(Slot::I(0)),
         (RetConv::Default(ty), _) => Ok(erase(default_value(ty))),
-        (RetConv::Value(conv), Some(slot)) => convert_slot(conv, slot, classes),
+        (RetConv::Value(conv), Some(slot)) => {
+            convert_slot(Converting { rules, conv }, slot, classes)
+        }
         (RetConv::Value(_), None) => unreachable!(),
     }
 }

@@ -19,6 +19,8 @@ pub fn copy_field<'t>(alloc: Global, field: &Field<'t>) -> Result<Field<'t>, NoM
         Field::Class(class) => Ok(Field::Class(*class)),
         Field::Conv(conv) => Ok(Field::Conv(*conv)),
         Field::Ret(conv) => Ok(Field::Ret(*conv)),
+        Field::Explicit(conv) => Ok(Field::Explicit(*conv)),
+        Field::ExplicitRet(conv) => Ok(Field::ExplicitRet(*conv)),
         Field::Comp(comp) => Ok(Field::Comp(*comp)),
         Field::Joined(pieces) => Ok(Field::Joined(pieces.copy(alloc)?)),
     }
@@ -79,6 +81,15 @@ impl Copied for Name {
             }
             Name::Guarded(part, class, handler, args, kept) => {
                 Name::Guarded(*part, *class, *handler, args.copy()?, *kept)
+            }
+            Name::Finally(part, cleanup, args, kept, ret) => {
+                Name::Finally(*part, *cleanup, args.copy()?, *kept, *ret)
+            }
+            Name::Switch(slot, first, count, args) => {
+                Name::Switch(*slot, *first, *count, args.copy()?)
+            }
+            Name::Loop(first, args, counts, ret) => {
+                Name::Loop(*first, args.copy()?, *counts, *ret)
             }
             Name::Conv(conv, slot) => Name::Conv(*conv, *slot),
             Name::Cast(conv, slot) => Name::Cast(*conv, *slot),

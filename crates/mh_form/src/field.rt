@@ -17,10 +17,14 @@ pub enum Field<'t> {
     Part(Arc<Bound<'t>, Global>),
     /// The class of the exceptions that are handled.
     Class(ClassId),
-    /// The conversion of an argument.
+    /// The conversion of an argument, as `asType` converts.
     Conv(Conv),
-    /// The conversion of a result.
+    /// The conversion of a result, as `asType` converts.
     Ret(RetConv),
+    /// The explicit conversion of an argument.
+    Explicit(Conv),
+    /// The explicit conversion of a result.
+    ExplicitRet(RetConv),
     /// The component type of an array.
     Comp(Comp),
     /// The pieces of a concatenation.

@@ -6,8 +6,9 @@ ghost use Rattle.mh_values.specs.Computation.{is_caught};
 ghost use Rattle.mh_form.specs.Slots.{called, converted, joined_slots, made_array, ret_converted};
 ghost use Rattle.mh_form.specs.Run.{class_of, comp_of, conv_of, field_of, joined_of, leaf_of, ret_of, senses_in, slot_of};
 
+use crate::convert::{Converting, Returning};
 use crate::{Bound, Field, Slot};
-use mh_convert::{Conv, RetConv};
+use mh_convert::Rules;
 use mh_leaves::Leaves;
 use mh_pieces::Pieces;
 use mh_values::{ClassId, Comp, LeafId};
@@ -53,23 +54,37 @@ pub(crate) fn class_in(bound: &Bound<'_>, leaves: &Leaves, field: u32) -> Option
 }
 
 #[inline(always)]
-pub(crate) fn conv_in(bound: &Bound<'_>, leaves: &Leaves, field: u32) -> Option<Conv>
-    ensures { option_map (converted leaves.now.classes) result
+pub(crate) fn conv_in(bound: &Bound<'_>, leaves: &Leaves, field: u32) -> Option<Converting>
+    ensures { option_map (λ by. converted by.rules leaves.now.classes by.conv) result
         ≡ field_of conv_of (senses_in leaves.now bound.now) field }
 {
     match field_at(bound, field)? {
-        Field::Conv(found) => Some(*found),
+        Field::Conv(found) => Some(Converting {
+            rules: Rules::AsType,
+            conv: *found,
+        }),
+        Field::Explicit(found) => Some(Converting {
+            rules: Rules::Explicit,
+            conv: *found,
+        }),
         _ => None,
     }
 }
 
 #[inline(always)]
-pub(crate) fn ret_in(bound: &Bound<'_>, leaves: &Leaves, field: u32) -> Option<RetConv>
-    ensures { option_map (ret_converted leaves.now.classes) result
+pub(crate) fn ret_in(bound: &Bound<'_>, leaves: &Leaves, field: u32) -> Option<Returning>
+    ensures { option_map (λ by. ret_converted by.rules leaves.now.classes by.conv) result
         ≡ field_of ret_of (senses_in leaves.now bound.now) field }
 {
     match field_at(bound, field)? {
-        Field::Ret(found) => Some(*found),
+        Field::Ret(found) => Some(Returning {
+            rules: Rules::AsType,
+            conv: *found,
+        }),
+        Field::ExplicitRet(found) => Some(Returning {
+            rules: Rules::Explicit,
+            conv: *found,
+        }),
         _ => None,
     }
 }

@@ -1,7 +1,16 @@
+use crate::BasicRet;
 use mh_base::Seq;
 
 /// The places of the slots that a name takes, in order.
 pub type Operands = Seq<u32>;
+
+/// How many of the arguments of a loop each of its parts takes.
+#[derive(Clone, Copy, Debug, PartialEq, Eq, Drop)]
+pub struct LoopCounts {
+    pub iterations: u32,
+    pub init: u32,
+    pub body: u32,
+}
 
 /// One step of a form (a `Name` of OpenJDK's `LambdaForm`). It puts one slot at the end of the list
 /// of slots: what it gives, or int 0 where it gives nothing. Fields are named by their number, and
@@ -21,6 +30,19 @@ pub enum Name {
     /// the class in another, or below it, goes to the handler in a third, which runs on the
     /// exception and the first arguments, as many as are kept.
     Guarded(u32, u32, u32, Operands, u32),
+    /// `Finally(part, cleanup, arguments, kept, result)`: runs the part in a field, and then the
+    /// cleanup in another, on null, the result if there is one, and the first arguments, as many as
+    /// are kept. If the part throws, the cleanup runs on the exception, the default of the result
+    /// and those arguments, and then the exception ends the run.
+    Finally(u32, u32, Operands, u32, BasicRet),
+    /// `Switch(slot, first, count, arguments)`: runs one of several parts. The fallback is in the
+    /// first field, and so many cases follow. The int in the slot numbers the cases from 0.
+    Switch(u32, u32, u32, Operands),
+    /// `Loop(first, arguments, counts, result)`: runs the iterations in the first field, which give
+    /// an int, then the start in the next field, and then for each number from 0 below that int the
+    /// body in the third, on its own result or that of the start, if there is one, on the number,
+    /// and on the first arguments.
+    Loop(u32, Operands, LoopCounts, BasicRet),
     /// `Conv(field, slot)`: converts a slot by the conversion in a field.
     Conv(u32, u32),
     /// `Cast(field, slot)`: the same where both types are references, so that the slot stays as it

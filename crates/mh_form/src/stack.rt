@@ -1,4 +1,5 @@
-ghost use Rattle.std.specs.Prelude.{◌≡◌, ◌≢◌, ◌++◌, ◌∷◌, ◌≤◌, List, [], IfOk, OnOk, None, Some, length, slice_get, take, map};
+ghost use Rattle.std.specs.Prelude.{◌≡◌, ◌≢◌, ◌++◌, ◌∷◌, ◌≤◌, ◌<◌, ◌^◌, List, [], pos, IfOk, OnOk};
+ghost use Rattle.std.specs.Prelude.{None, Some, length, option_to_list, slice_get, take, map};
 ghost use Rattle.std.specs.Option.{option_map};
 ghost use Rattle.std.specs.declared.alloc.Global.{Global};
 ghost use Rattle.mh_values.specs.declared.value.Value.{Value};
@@ -306,10 +307,10 @@ impl Stack {
         Ok(count)
     }
 
-    // Puts copies of the slots of the run under way after all slots, as many as are left of them.
-    fn push_all(&mut self, count: usize) -> Result<(), NoMemory>
-        requires { count ≡ length self.old.frame }
-        ensures { OnOk result (self.new ≡ with_slots self.old self.old.frame) }
+    // Puts copies of the first slots of the run under way after all slots.
+    fn push_first(&mut self, count: usize) -> Result<(), NoMemory>
+        requires { count ≤ length self.old.frame }
+        ensures { OnOk result (self.new ≡ with_slots self.old (take count self.old.frame)) }
     {
         let alloc = self.alloc();
         for place in 0..count {
@@ -317,6 +318,19 @@ impl Stack {
             self.push(copy)?;
         }
         Ok(())
+    }
+
+    // Puts copies after all slots: of the first slots of the run under way, as many as are kept of
+    // those that it had before others were put there.
+    fn push_kept(&mut self, own: usize, kept: usize) -> Result<(), NoMemory>
+        requires { own ≤ length self.old.frame }
+        ensures { OnOk result (self.new ≡ with_slots self.old (take kept (take own self.old.frame))) }
+    {
+        if kept < own {
+            self.push_first(kept)
+        } else {
+            self.push_first(own)
+        }
     }
 
     /// Begins a run on copies of the slots of the run under way, which waits. Answers how many
@@ -328,9 +342,128 @@ impl Stack {
         ensures count { IfOk result (λ count. count ≡ length self.old.frame) }
     {
         let count = self.count();
-        self.push_all(count)?;
+        self.push_first(count)?;
         self.begin(count);
         Ok(count)
+    }
+
+    /// Begins a run on copies of the first slots of the run under way, as many as are kept, while
+    /// that waits. Answers how many slots it has.
+    pub(crate) fn enter_first(&mut self, kept: u32) -> Result<usize, NoMemory>
+        ensures frame { OnOk result (self.new.frame ≡ take kept self.old.frame) }
+        ensures below { OnOk result (self.new.below ≡ self.old.below ++ self.old.frame) }
+        ensures calls { OnOk result (self.new.calls ≡ self.old.calls) }
+        ensures count { IfOk result (λ count. count ≡ length self.old.frame) }
+    {
+        let count = self.count();
+        self.push_kept(count, kept as usize)?;
+        self.begin(count);
+        Ok(count)
+    }
+
+    // Puts a slot after those of the run under way, if there is one.
+    fn push_if_any(&mut self, slot: Option<Slot>) -> Result<(), NoMemory>
+        ensures { OnOk result (self.new ≡ with_slots self.old (option_to_list slot)) }
+    {
+        match slot {
+            Some(slot) => self.push(slot),
+            None => Ok(()),
+        }
+    }
+
+    // Puts the slot of a number after those of the run under way.
+    fn push_number(&mut self, number: u32) -> Result<(), NoMemory>
+        requires { number < 2 ^ 31 }
+        ensures { OnOk result (self.new ≡ with_slot self.old (slot.I (pos number))) }
+    {
+        self.push(Slot::I(number as i32))
+    }
+
+    /// Begins a run on a slot, if there is one, an int, and copies of the first slots of the run
+    /// under way, as many as are kept, while that waits. Answers how many slots it has.
+    pub(crate) fn enter_turn(
+        &mut self,
+        given: Option<Slot>,
+        number: u32,
+        kept: u32,
+    ) -> Result<usize, NoMemory>
+        requires { number < 2 ^ 31 }
+        ensures frame { OnOk result (self.new.frame
+            ≡ option_to_list given ++ slot.I (pos number) ∷ take kept self.old.frame) }
+        ensures below { OnOk result (self.new.below ≡ self.old.below ++ self.old.frame) }
+        ensures calls { OnOk result (self.new.calls ≡ self.old.calls) }
+        ensures count { IfOk result (λ count. count ≡ length self.old.frame) }
+    {
+        let count = self.count();
+        self.push_if_any(given)?;
+        self.push_number(number)?;
+        self.push_kept(count, kept as usize)?;
+        self.begin(count);
+        Ok(count)
+    }
+
+    /// Takes the last slot of the run under way out of it.
+    pub(crate) fn take_last(&mut self) -> Slot
+        requires { self.old.frame ≢ [] }
+        ensures given { self.old.frame ≡ self.new.frame ++ result ∷ [] }
+        ensures below { self.new.below ≡ self.old.below }
+        ensures calls { self.new.calls ≡ self.old.calls }
+    {
+        match self.slots.pop() {
+            Some(slot) => slot,
+            None => unreachable!(),
+        }
+    }
+
+    // Drops the slots of the run under way after the first, as many as are kept.
+    fn keep_first(&mut self, kept: u32)
+        ensures frame { self.new.frame ≡ take kept self.old.frame }
+        ensures below { self.new.below ≡ self.old.below }
+        ensures calls { self.new.calls ≡ self.old.calls }
+        ensures thrown { self.new.thrown ≡ self.old.thrown }
+    {
+        let end = self.base + kept as usize;
+        self.slots.truncate(end);
+    }
+
+    // Puts a slot before those of the run under way.
+    fn put_first(&mut self, slot: Slot) -> Result<(), NoMemory>
+        ensures frame { OnOk result (self.new.frame ≡ slot ∷ self.old.frame) }
+        ensures below { OnOk result (self.new.below ≡ self.old.below) }
+        ensures calls { OnOk result (self.new.calls ≡ self.old.calls) }
+    {
+        self.slots.insert(self.base, slot)?;
+        Ok(())
+    }
+
+    // Puts a slot before those of the run under way, if there is one.
+    fn put_if_any(&mut self, slot: Option<Slot>) -> Result<(), NoMemory>
+        ensures frame { OnOk result (self.new.frame ≡ option_to_list slot ++ self.old.frame) }
+        ensures below { OnOk result (self.new.below ≡ self.old.below) }
+        ensures calls { OnOk result (self.new.calls ≡ self.old.calls) }
+    {
+        match slot {
+            Some(slot) => self.put_first(slot),
+            None => Ok(()),
+        }
+    }
+
+    /// The run under way gives way to one on a slot, on another if there is one, and on the first
+    /// of its own slots, as many as are kept.
+    pub(crate) fn end_with(
+        &mut self,
+        first: Slot,
+        second: Option<Slot>,
+        kept: u32,
+    ) -> Result<(), NoMemory>
+        ensures frame { OnOk result (self.new.frame
+            ≡ first ∷ (option_to_list second ++ take kept self.old.frame)) }
+        ensures below { OnOk result (self.new.below ≡ self.old.below) }
+        ensures calls { OnOk result (self.new.calls ≡ self.old.calls) }
+    {
+        self.keep_first(kept);
+        self.put_if_any(second)?;
+        self.put_first(first)
     }
 
     // Takes the slot at a place out of the run under way, in which int 0 stands then.
@@ -434,9 +567,7 @@ impl Stack {
         ensures calls { OnOk result (self.new.calls ≡ self.old.calls) }
     {
         let exc = self.take_thrown();
-        let kept = self.base + kept as usize;
-        self.slots.truncate(kept);
-        self.slots.insert(self.base, Slot::L(Value::Thrown(exc)))?;
-        Ok(())
+        self.keep_first(kept);
+        self.put_first(Slot::L(Value::Thrown(exc)))
     }
 }

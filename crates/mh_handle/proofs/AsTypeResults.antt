@@ -9,6 +9,7 @@ use Rattle.mh_values.specs.Computation.{Ran, Gave, Threw, Stuck, and_then, after
 use Rattle.mh_values.specs.HasType.{HaveTypes}
 use Rattle.mh_values.specs.Returns.{Returns}
 use Rattle.mh_convert.specs.declared.conv.RetConv.{RetConv}
+use Rattle.mh_convert.specs.declared.conv.Rules.{Rules}
 use Rattle.mh_convert.specs.Conversion.{ret_conversion_of}
 use Rattle.mh_leaf.specs.LeafTable.{LeafTable}
 use Rattle.mh_tree.specs.Meaning.{Done, or_throw, conv_result}
@@ -23,15 +24,15 @@ use Rattle.mh_handle.proofs.ConvertedSlots.{result-converted}
 
 -- what runs, and then its result converted
 pub then-converted :
-    (table : LeafTable) → AreClasses table.classes → (s t : Option Ty) (c : RetConv) (m : Done) (n : ℕ) →
-    ret_conversion_of table.classes s t ≡ Some c → Returns table.classes m s →
-    and_then (erased_ran m) n (λ r k. ret_entry_on table (ret_entry_of table.classes s t) c r) ≡ erased_ran
-    (and_then m n (λ r k. conv_result table.classes s t r))
-then-converted table are s t c (Gave r calls) n is returns =
-    ap (after calls) (result-converted table are s t c r is (returned-typed table.classes r calls s returns))
-    ∙ sym (mapped-after erased_option calls (conv_result table.classes s t r))
-then-converted table are s t c (Threw e calls) n is returns = refl
-then-converted table are s t c Stuck n is returns = absurd returns
+    (by : Rules) (table : LeafTable) → AreClasses table.classes → (s t : Option Ty) (c : RetConv) (m : Done) (n : ℕ) →
+    ret_conversion_of by table.classes s t ≡ Some c → Returns table.classes m s →
+    and_then (erased_ran m) n (λ r k. ret_entry_on by table (ret_entry_of table.classes s t) c r) ≡ erased_ran
+    (and_then m n (λ r k. conv_result by table.classes s t r))
+then-converted by table are s t c (Gave r calls) n is returns =
+    ap (after calls) (result-converted by table are s t c r is (returned-typed table.classes r calls s returns))
+    ∙ sym (mapped-after erased_option calls (conv_result by table.classes s t r))
+then-converted by table are s t c (Threw e calls) n is returns = refl
+then-converted by table are s t c Stuck n is returns = absurd returns
 
 pub or_throw-erased :
     (classes : List Class) (ts : List Ty) (r : Result (List Value) Exc) (f : List Slot → Ran (Option Slot)) (g : List Value → Done) →

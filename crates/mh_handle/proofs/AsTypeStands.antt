@@ -5,15 +5,15 @@ use Rattle.std.specs.Prelude.{option_to_list}
 use Rattle.std.proofs.lemmas.List.{append-nil}
 use Rattle.mh_values.specs.declared.types.MethodTy.{MethodTy}
 use Rattle.mh_values.specs.Classes.{AreClasses}
+use Rattle.mh_convert.specs.declared.conv.Rules.{Rules}
 use Rattle.mh_convert.specs.Conversion.{is_trivial_ret, ret_conversion_of}
 use Rattle.mh_leaf.specs.LeafTable.{LeafTable}
-use Rattle.mh_tree.specs.Tree.{Tree, AsType}
-use Rattle.mh_tree.specs.Rows.{astype_row}
+use Rattle.mh_tree.specs.Tree.{Tree, converted}
+use Rattle.mh_tree.specs.Rows.{convert_row}
 use Rattle.mh_form.specs.declared.field.Field.{Field}
-use Rattle.mh_form.specs.declared.field.Field.TheVariants as field
 use Rattle.mh_form.specs.Erasure.{basic_ret_of}
 use Rattle.mh_edit.specs.declared.key.Key.TheVariants.{Convert}
-use Rattle.mh_edit.specs.Law.{ret_fields}
+use Rattle.mh_edit.specs.Law.{conv_field, ret_field, ret_fields}
 use Rattle.mh_handle.specs.Recipe.{are_trivial, convert_keys, entries_of, ret_entry_of}
 use Rattle.mh_intern.specs.Views.{HoldView}
 use Rattle.mh_handle.specs.Stands.{HandleView, Stands}
@@ -24,45 +24,45 @@ use Rattle.mh_handle.proofs.AsTypeRuns.{back}
 use Rattle.mh_handle.proofs.AsTypeForms.{viewed, with-key, without-key}
 
 module _
-    (table : LeafTable) (are : AreClasses table.classes) (asked u : MethodTy) (h : HandleView) (t : Tree)
-    (row : astype_row table.classes h.ty h.weight asked ≡ Ok u) (st : Stands table h t)
+    (by : Rules) (table : LeafTable) (are : AreClasses table.classes) (asked u : MethodTy) (h : HandleView) (t : Tree)
+    (row : convert_row by table.classes h.ty h.weight asked ≡ Ok u) (st : Stands table h t)
   where
     -- whether something changes or not
     as-type :
         (number : ℕ) (trivial : Bool) → (are_trivial table.classes asked.params h.ty.params && is_trivial_ret table.classes h.ty.ret asked.ret) ≡ trivial →
-        Stands table (viewed table are asked u h t row st number (convert_keys table.classes asked h.ty) (h.fields ++ convert_fields table.classes asked h.ty))
-        (AsType t asked)
+        Stands table (viewed by table are asked u h t row st number (convert_keys table.classes asked h.ty) (h.fields ++ convert_fields by table.classes asked h.ty))
+        (converted by t asked)
     unfolding viewed
     as-type number true is =
         let p = and_parts (are_trivial table.classes asked.params h.ty.params) (is_trivial_ret table.classes h.ty.ret asked.ret) is in
         let keys : convert_keys table.classes asked h.ty ≡ [] =
         ap (λ b. cond b [] (Convert (entries_of table.classes asked.params h.ty.params) (ret_entry_of table.classes h.ty.ret asked.ret) ∷ [])) is in
-        let convs : map (λ d. field.Conv d) (convs_of table.classes asked.params h.ty.params) ≡ [] =
-        ap (map (λ d. field.Conv d)) (none-converted table.classes asked.params h.ty.params p.0) in
-        let last : ret_fields_of table.classes h.ty.ret asked.ret ≡ [] =
-        ap (λ b. cond b [] (map (λ c. field.Ret c) (option_to_list (ret_conversion_of table.classes h.ty.ret asked.ret)))) p.1 in
-        let fields : convert_fields table.classes asked h.ty ≡ [] = ap₂ (λ (a b : List Field). a ++ b) convs last in
-        subst (λ ks. Stands table (viewed table are asked u h t row st number ks (h.fields ++ convert_fields table.classes asked h.ty)) (AsType t asked))
+        let convs : map (conv_field by) (convs_of table.classes asked.params h.ty.params) ≡ [] =
+        ap (map (conv_field by)) (none-converted table.classes asked.params h.ty.params p.0) in
+        let last : ret_fields_of by table.classes h.ty.ret asked.ret ≡ [] =
+        ap (λ b. cond b [] (map (ret_field by) (option_to_list (ret_conversion_of by table.classes h.ty.ret asked.ret)))) p.1 in
+        let fields : convert_fields by table.classes asked h.ty ≡ [] = ap₂ (λ (a b : List Field). a ++ b) convs last in
+        subst (λ ks. Stands table (viewed by table are asked u h t row st number ks (h.fields ++ convert_fields by table.classes asked h.ty)) (converted by t asked))
         (sym keys)
-        (subst (λ fs. Stands table (viewed table are asked u h t row st number [] fs) (AsType t asked))
+        (subst (λ fs. Stands table (viewed by table are asked u h t row st number [] fs) (converted by t asked))
         (sym (ap (λ fs. h.fields ++ fs) fields ∙ append-nil h.fields))
-        (without-key table are asked u h t row st number p.0 p.1 keys))
+        (without-key by table are asked u h t row st number p.0 p.1 keys))
     as-type number false is =
         let keys : convert_keys table.classes asked h.ty ≡ Convert (entries_of table.classes asked.params h.ty.params)
         (ret_entry_of table.classes h.ty.ret asked.ret) ∷ [] =
         ap (λ b. cond b [] (Convert (entries_of table.classes asked.params h.ty.params) (ret_entry_of table.classes h.ty.ret asked.ret) ∷ [])) is in
-        let fields : convert_fields table.classes asked h.ty
-        ≡ map (λ d. field.Conv d) (convs_of table.classes asked.params h.ty.params) ++ ret_fields (ret_entry_of table.classes h.ty.ret asked.ret)
-        (back table are asked u h t row st).0 =
-        ap (λ fs. map (λ d. field.Conv d) (convs_of table.classes asked.params h.ty.params) ++ fs)
-        (ret-one (is_trivial_ret table.classes h.ty.ret asked.ret) (basic_ret_of asked.ret) (ret_conversion_of table.classes h.ty.ret asked.ret)
-        (back table are asked u h t row st).0 (back table are asked u h t row st).1) in
-        subst (λ ks. Stands table (viewed table are asked u h t row st number ks (h.fields ++ convert_fields table.classes asked h.ty)) (AsType t asked))
+        let fields : convert_fields by table.classes asked h.ty
+        ≡ map (conv_field by) (convs_of table.classes asked.params h.ty.params) ++ ret_fields by (ret_entry_of table.classes h.ty.ret asked.ret)
+        (back by table are asked u h t row st).0 =
+        ap (λ fs. map (conv_field by) (convs_of table.classes asked.params h.ty.params) ++ fs)
+        (ret-one by (is_trivial_ret table.classes h.ty.ret asked.ret) (basic_ret_of asked.ret) (ret_conversion_of by table.classes h.ty.ret asked.ret)
+        (back by table are asked u h t row st).0 (back by table are asked u h t row st).1) in
+        subst (λ ks. Stands table (viewed by table are asked u h t row st number ks (h.fields ++ convert_fields by table.classes asked h.ty)) (converted by t asked))
         (sym keys)
-        (subst (λ fs. Stands table (viewed table are asked u h t row st number (Convert (entries_of table.classes asked.params h.ty.params)
+        (subst (λ fs. Stands table (viewed by table are asked u h t row st number (Convert (entries_of table.classes asked.params h.ty.params)
         (ret_entry_of table.classes h.ty.ret asked.ret) ∷
-        []) (h.fields ++ fs)) (AsType t asked)) (sym fields)
-        (with-key table are asked u h t row st number keys))
+        []) (h.fields ++ fs)) (converted by t asked)) (sym fields)
+        (with-key by table are asked u h t row st number keys))
 
 -- what a handle stands for does not depend on the holds that it has
 stands-holding : (table : LeafTable) (h : HandleView) (held : List HoldView) (t : Tree) →
@@ -80,17 +80,17 @@ stands-holding table h held t st = record {
   returns = st.returns;
 }
 
-pub astype-stands :
-    (table : LeafTable) → AreClasses table.classes → (asked u : MethodTy) (old new : HandleView) (t : Tree) →
-    astype_row table.classes old.ty old.weight asked ≡ Ok u →
-    IsUsedAs table.classes asked old new →
+pub converted-stands :
+    (by : Rules) (table : LeafTable) → AreClasses table.classes → (asked u : MethodTy) (old new : HandleView) (t : Tree) →
+    convert_row by table.classes old.ty old.weight asked ≡ Ok u →
+    IsUsedAs by table.classes asked old new →
     Stands table old t →
-    Stands table new (AsType t asked)
+    Stands table new (converted by t asked)
 unfolding viewed
-astype-stands table are asked u old new t row used st =
-    let P : HandleView → Type 0 = λ h. Stands table h (AsType t asked) in
-    let made : HandleView = viewed table are asked u old t row st new.form.number (convert_keys table.classes asked old.ty)
-    (old.fields ++ convert_fields table.classes asked old.ty) in
+converted-stands by table are asked u old new t row used st =
+    let P : HandleView → Type 0 = λ h. Stands table h (converted by t asked) in
+    let made : HandleView = viewed by table are asked u old t row st new.form.number (convert_keys table.classes asked old.ty)
+    (old.fields ++ convert_fields by table.classes asked old.ty) in
     let bare : HandleView =
     record { ty = new.ty; weight = new.weight; sides = new.sides; form = new.form; fields = new.fields; held = [] } in
     let is : bare ≡ made =
@@ -102,6 +102,6 @@ astype-stands table are asked u old new t row used st =
       fields = used.fields i;
       held = [];
     } in
-    stands-holding table new [] (AsType t asked) (subst P (sym is)
-    (as-type table are asked u old t row st new.form.number (are_trivial table.classes asked.params old.ty.params && is_trivial_ret table.classes old.ty.ret
+    stands-holding table new [] (converted by t asked) (subst P (sym is)
+    (as-type by table are asked u old t row st new.form.number (are_trivial table.classes asked.params old.ty.params && is_trivial_ret table.classes old.ty.ret
     asked.ret) refl))

@@ -9,18 +9,18 @@ use Rattle.mh_values.specs.declared.types.Ty.TheVariants as ty
 use Rattle.mh_values.proofs.PrimitiveLaws.{same_primitive-is}
 use Rattle.mh_convert.specs.declared.conv.Conv.{Conv}
 use Rattle.mh_convert.specs.declared.conv.RetConv.{RetConv}
+use Rattle.mh_convert.specs.declared.conv.Rules.{Rules}
 use Rattle.mh_convert.specs.Conversion.{can, is_trivial}
 use Rattle.mh_tree.specs.Rows.{can_all}
 use Rattle.mh_form.specs.declared.basic.Basic.{Basic}
 use Rattle.mh_form.specs.declared.basic.BasicRet.{BasicRet}
 use Rattle.mh_form.specs.declared.body.FormBody.{FormBody}
 use Rattle.mh_form.specs.declared.name.Name.TheVariants.{Ret}
-use Rattle.mh_form.specs.declared.field.Field.TheVariants as field
 use Rattle.mh_form.specs.Erasure.{basic_of}
 use Rattle.mh_edit.specs.declared.key.RetEntry.{RetEntry}
 use Rattle.mh_edit.specs.declared.key.RetEntry.TheVariants.{Keep, New}
 use Rattle.mh_edit.specs.Applied.{conv_count, conv_params, returning}
-use Rattle.mh_edit.specs.Law.{ret_fields}
+use Rattle.mh_edit.specs.Law.{ret_field, ret_fields}
 use Rattle.mh_handle.specs.Recipe.{are_trivial, entries_of}
 use Rattle.mh_handle.specs.Stands.{IsMade}
 use Rattle.mh_handle.specs.Converting.{conversion_between, convs_of}
@@ -28,17 +28,17 @@ use Rattle.mh_handle.proofs.Standing.{suc-positive}
 
 -- ---- entries, conversions and parameters, one for each
 
-pub lengths : (classes : List Class) (ss ts : List Ty) → can_all classes ss ts ≡ true → length ss ≡ length ts
-lengths classes [] [] h = refl
-lengths classes [] (t ∷ ts) h = absurd cc
-lengths classes (s ∷ ss) [] h = absurd cc
-lengths classes (s ∷ ss) (t ∷ ts) h = ap suc (lengths classes ss ts (and_parts (can classes s t) (can_all classes ss ts) h).1)
+pub lengths : (by : Rules) (classes : List Class) (ss ts : List Ty) → can_all by classes ss ts ≡ true → length ss ≡ length ts
+lengths by classes [] [] h = refl
+lengths by classes [] (t ∷ ts) h = absurd cc
+lengths by classes (s ∷ ss) [] h = absurd cc
+lengths by classes (s ∷ ss) (t ∷ ts) h = ap suc (lengths by classes ss ts (and_parts (can by classes s t) (can_all by classes ss ts) h).1)
 
-pub length-entries : (classes : List Class) (ss ts : List Ty) → can_all classes ss ts ≡ true → length (entries_of classes ss ts) ≡ length ts
-length-entries classes [] [] h = refl
-length-entries classes [] (t ∷ ts) h = absurd cc
-length-entries classes (s ∷ ss) [] h = absurd cc
-length-entries classes (s ∷ ss) (t ∷ ts) h = ap suc (length-entries classes ss ts (and_parts (can classes s t) (can_all classes ss ts) h).1)
+pub length-entries : (by : Rules) (classes : List Class) (ss ts : List Ty) → can_all by classes ss ts ≡ true → length (entries_of classes ss ts) ≡ length ts
+length-entries by classes [] [] h = refl
+length-entries by classes [] (t ∷ ts) h = absurd cc
+length-entries by classes (s ∷ ss) [] h = absurd cc
+length-entries by classes (s ∷ ss) (t ∷ ts) h = ap suc (length-entries by classes ss ts (and_parts (can by classes s t) (can_all by classes ss ts) h).1)
 
 count-one : (b : Bool) (c : Basic) (es : List (Option Basic)) (d : Conv) (ds : List Conv) → length ds ≡ conv_count es →
     length (cond b ds (d ∷ ds)) ≡ conv_count (cond b None (Some c) ∷ es)
@@ -64,34 +64,34 @@ param-one : (b : Bool) (c d : Basic) (es : List (Option Basic)) (cs ds : List Ba
 param-one true c d es cs ds same h = ap₂ (λ (x : Basic) (xs : List Basic). x ∷ xs) (same refl) h
 param-one false c d es cs ds same h = ap (λ xs. d ∷ xs) h
 
-pub params-converted : (classes : List Class) (ss ts : List Ty) → can_all classes ss ts ≡ true → conv_params (entries_of classes ss ts) (map basic_of ts) ≡ map
+pub params-converted : (by : Rules) (classes : List Class) (ss ts : List Ty) → can_all by classes ss ts ≡ true → conv_params (entries_of classes ss ts) (map basic_of ts) ≡ map
     basic_of ss
-params-converted classes [] [] h = refl
-params-converted classes [] (t ∷ ts) h = absurd cc
-params-converted classes (s ∷ ss) [] h = absurd cc
-params-converted classes (s ∷ ss) (t ∷ ts) h =
+params-converted by classes [] [] h = refl
+params-converted by classes [] (t ∷ ts) h = absurd cc
+params-converted by classes (s ∷ ss) [] h = absurd cc
+params-converted by classes (s ∷ ss) (t ∷ ts) h =
     param-one (is_trivial classes s t) (basic_of t) (basic_of s) (entries_of classes ss ts) (map basic_of ts) (map basic_of ss) (below-basic classes s t)
-    (params-converted classes ss ts (and_parts (can classes s t) (can_all classes ss ts) h).1)
+    (params-converted by classes ss ts (and_parts (can by classes s t) (can_all by classes ss ts) h).1)
 
 -- the same where nothing is converted
-pub params-kept : (classes : List Class) (ss ts : List Ty) → can_all classes ss ts ≡ true → are_trivial classes ss ts ≡ true → map basic_of ts ≡ map basic_of ss
-params-kept classes [] [] h k = refl
-params-kept classes [] (t ∷ ts) h k = absurd cc
-params-kept classes (s ∷ ss) [] h k = absurd cc
-params-kept classes (s ∷ ss) (t ∷ ts) h k =
+pub params-kept : (by : Rules) (classes : List Class) (ss ts : List Ty) → can_all by classes ss ts ≡ true → are_trivial classes ss ts ≡ true → map basic_of ts ≡ map basic_of ss
+params-kept by classes [] [] h k = refl
+params-kept by classes [] (t ∷ ts) h k = absurd cc
+params-kept by classes (s ∷ ss) [] h k = absurd cc
+params-kept by classes (s ∷ ss) (t ∷ ts) h k =
     let p = and_parts (is_trivial classes s t) (are_trivial classes ss ts) k in
     ap₂ (λ (x : Basic) (xs : List Basic). x ∷ xs) (below-basic classes s t p.0)
-    (params-kept classes ss ts (and_parts (can classes s t) (can_all classes ss ts) h).1 p.1)
+    (params-kept by classes ss ts (and_parts (can by classes s t) (can_all by classes ss ts) h).1 p.1)
 
 -- the field of a result's conversion
 pub some-is : (o : Option RetConv) → is_some o ≡ true → (c : RetConv) × (o ≡ Some c)
 some-is None h = absurd cc
 some-is (Some c) h = (c, refl)
 
-pub ret-one : (b : Bool) (r : BasicRet) (o : Option RetConv) (c : RetConv) → o ≡ Some c → cond b [] (map (λ d. field.Ret d) (option_to_list o)) ≡ ret_fields
-    (cond b Keep (New r)) c
-ret-one true r o c is = refl
-ret-one false r o c is = ap (λ p. map (λ d. field.Ret d) (option_to_list p)) is
+pub ret-one : (by : Rules) (b : Bool) (r : BasicRet) (o : Option RetConv) (c : RetConv) → o ≡ Some c →
+    cond b [] (map (ret_field by) (option_to_list o)) ≡ ret_fields by (cond b Keep (New r)) c
+ret-one by true r o c is = refl
+ret-one by false r o c is = ap (λ p. map (ret_field by) (option_to_list p)) is
 
 -- ---- the body
 
@@ -103,9 +103,9 @@ pub returning-made : (re : RetEntry) (body : FormBody) → IsMade body → IsMad
 returning-made Keep body h = h
 returning-made (New r) body h = ap (λ b. b && not (is_some (returning (New r) body).out)) (not-empty body.names [] (Ret body.fields body.out))
 
-pub returning-fields : (re : RetEntry) (c : RetConv) (body : FormBody) → (returning re body).fields ≡ body.fields + length (ret_fields re c)
-returning-fields Keep c body = sym (add-zero body.fields)
-returning-fields (New r) c body = refl
+pub returning-fields : (by : Rules) (re : RetEntry) (c : RetConv) (body : FormBody) → (returning re body).fields ≡ body.fields + length (ret_fields by re c)
+returning-fields by Keep c body = sym (add-zero body.fields)
+returning-fields by (New r) c body = refl
 
 pub returning-params : (re : RetEntry) (body : FormBody) → (returning re body).params ≡ body.params
 returning-params Keep body = refl

@@ -13,6 +13,7 @@ use Rattle.mh_values.specs.HasType.{has_type, HaveTypes}
 use Rattle.mh_convert.specs.declared.conv.Conv.{Conv}
 use Rattle.mh_convert.specs.declared.conv.RetConv.{RetConv}
 use Rattle.mh_convert.specs.declared.conv.RetConv.TheVariants as ret
+use Rattle.mh_convert.specs.declared.conv.Rules.{Rules}
 use Rattle.mh_convert.specs.Conversion.{can, conv, is_trivial, ret_conv, ret_conversion_of, value_conversion}
 use Rattle.mh_convert.proofs.Typed.{trivial-keeps}
 use Rattle.mh_leaf.specs.LeafTable.{LeafTable}
@@ -33,11 +34,11 @@ use Rattle.mh_handle.specs.Converting.{conversion_between, convs_of}
 
 -- one value
 pub converted-erased :
-    (classes : List Class) (s t : Ty) (v : Value) → can classes s t ≡ true → has_type classes v s ≡ true →
-    converted classes (conversion_between s t) (erased v) ≡ slot_or_throw (conv classes s t v)
-converted-erased classes s t v allowed have =
-    ap (λ b. if b then found (typed classes s (erased v)) (λ w. slot_or_throw (conv classes s t w)) else Stuck) allowed
-    ∙ ap (λ o. found o (λ w. slot_or_throw (conv classes s t w))) (erased-typed classes s v have)
+    (by : Rules) (classes : List Class) (s t : Ty) (v : Value) → can by classes s t ≡ true → has_type classes v s ≡ true →
+    converted by classes (conversion_between s t) (erased v) ≡ slot_or_throw (conv by classes s t v)
+converted-erased by classes s t v allowed have =
+    ap (λ b. if b then found (typed classes s (erased v)) (λ w. slot_or_throw (conv by classes s t w)) else Stuck) allowed
+    ∙ ap (λ o. found o (λ w. slot_or_throw (conv by classes s t w))) (erased-typed classes s v have)
 
 -- what goes on with values, with one in front
 in_front :
@@ -61,38 +62,38 @@ module _
 
 -- an argument, whether its conversion changes something or not, and then the others
 argument-converted :
-    {B : Type 0} (classes : List Class) → AreClasses classes → (s t : Ty) (v : Value) (trivial : Bool)
+    {B : Type 0} (by : Rules) (classes : List Class) → AreClasses classes → (s t : Ty) (v : Value) (trivial : Bool)
     (entries : List (Option Basic)) (convs : List Conv) (xs : List Slot) (n : ℕ) (others : Result (List Value) Exc) (next : List Slot → ℕ → Ran B) →
-    is_trivial classes s t ≡ trivial → can classes s t ≡ true → has_type classes v s ≡ true →
-    ((next : List Slot → ℕ → Ran B) → converting_slots entries (map (converted classes) convs) xs n next ≡ or_throw others (λ vs. next (map erased vs) n)) →
+    is_trivial classes s t ≡ trivial → can by classes s t ≡ true → has_type classes v s ≡ true →
+    ((next : List Slot → ℕ → Ran B) → converting_slots entries (map (converted by classes) convs) xs n next ≡ or_throw others (λ vs. next (map erased vs) n)) →
     converting_slots ((if trivial then None else Some (basic_of s)) ∷ entries)
-    (map (converted classes) (if trivial then convs else conversion_between s t ∷ convs)) (erased v ∷ xs) n next
-    ≡ or_throw (then_others (conv classes s t v) others) (λ vs. next (map erased vs) n)
-argument-converted classes are s t v true entries convs xs n others next is allowed have same =
+    (map (converted by classes) (if trivial then convs else conversion_between s t ∷ convs)) (erased v ∷ xs) n next
+    ≡ or_throw (then_others (conv by classes s t v) others) (λ vs. next (map erased vs) n)
+argument-converted by classes are s t v true entries convs xs n others next is allowed have same =
     same (λ ys m. next (erased v ∷ ys) m)
     ∙ (in_front v others (λ ys. next ys n)
-    ∙ ap (λ r. or_throw (then_others r others) (λ vs. next (map erased vs) n)) (sym (trivial-keeps classes are s t v is have)))
-argument-converted classes are s t v false entries convs xs n others next is allowed have same =
-    let funs = map (converted classes) convs in
-    ap (λ r. and_then r n (λ y k. converting_slots entries funs xs k (λ ys m. next (y ∷ ys) m))) (converted-erased classes s t v allowed have)
-    ∙ first-converted entries funs xs n others same (conv classes s t v) next
+    ∙ ap (λ r. or_throw (then_others r others) (λ vs. next (map erased vs) n)) (sym (trivial-keeps by classes are s t v is have)))
+argument-converted by classes are s t v false entries convs xs n others next is allowed have same =
+    let funs = map (converted by classes) convs in
+    ap (λ r. and_then r n (λ y k. converting_slots entries funs xs k (λ ys m. next (y ∷ ys) m))) (converted-erased by classes s t v allowed have)
+    ∙ first-converted entries funs xs n others same (conv by classes s t v) next
 
 -- arguments
 pub arguments-converted :
-    {B : Type 0} (classes : List Class) → AreClasses classes → (ss ts : List Ty) (args : List Value) (n : ℕ) (next : List Slot → ℕ → Ran B) →
-    can_all classes ss ts ≡ true → HaveTypes classes args ss →
-    converting_slots (entries_of classes ss ts) (map (converted classes) (convs_of classes ss ts)) (map erased args) n next
-    ≡ or_throw (conv_all classes ss ts args) (λ vs. next (map erased vs) n)
-arguments-converted classes are [] [] [] n next allowed have = refl
-arguments-converted classes are [] [] (v ∷ vs) n next allowed have = absurd have
-arguments-converted classes are [] (t ∷ ts) args n next allowed have = absurd cc
-arguments-converted classes are (s ∷ ss) [] args n next allowed have = absurd cc
-arguments-converted classes are (s ∷ ss) (t ∷ ts) [] n next allowed have = absurd have
-arguments-converted classes are (s ∷ ss) (t ∷ ts) (v ∷ vs) n next allowed have =
-    let q = and_parts (can classes s t) (can_all classes ss ts) allowed in
-    argument-converted classes are s t v (is_trivial classes s t) (entries_of classes ss ts) (convs_of classes ss ts) (map erased vs) n
-    (conv_all classes ss ts vs) next
-    refl q.0 have.0 (λ more. arguments-converted classes are ss ts vs n more q.1 have.1)
+    {B : Type 0} (by : Rules) (classes : List Class) → AreClasses classes → (ss ts : List Ty) (args : List Value) (n : ℕ) (next : List Slot → ℕ → Ran B) →
+    can_all by classes ss ts ≡ true → HaveTypes classes args ss →
+    converting_slots (entries_of classes ss ts) (map (converted by classes) (convs_of classes ss ts)) (map erased args) n next
+    ≡ or_throw (conv_all by classes ss ts args) (λ vs. next (map erased vs) n)
+arguments-converted by classes are [] [] [] n next allowed have = refl
+arguments-converted by classes are [] [] (v ∷ vs) n next allowed have = absurd have
+arguments-converted by classes are [] (t ∷ ts) args n next allowed have = absurd cc
+arguments-converted by classes are (s ∷ ss) [] args n next allowed have = absurd cc
+arguments-converted by classes are (s ∷ ss) (t ∷ ts) [] n next allowed have = absurd have
+arguments-converted by classes are (s ∷ ss) (t ∷ ts) (v ∷ vs) n next allowed have =
+    let q = and_parts (can by classes s t) (can_all by classes ss ts) allowed in
+    argument-converted by classes are s t v (is_trivial classes s t) (entries_of classes ss ts) (convs_of classes ss ts) (map erased vs) n
+    (conv_all by classes ss ts vs) next
+    refl q.0 have.0 (λ more. arguments-converted by classes are ss ts vs n more q.1 have.1)
 
 -- ---- results
 
@@ -113,32 +114,32 @@ returned-some b (Threw e calls) = refl
 returned-some b Stuck = refl
 
 value-converted :
-    (table : LeafTable) → AreClasses table.classes → (s t : Ty) (v : Value) (trivial : Bool) →
-    is_trivial table.classes s t ≡ trivial → can table.classes s t ≡ true → has_type table.classes v s ≡ true →
-    ret_entry_on table (if trivial then entry.Keep else entry.New (Is (basic_of t))) (ret.Value (conversion_between s t)) (Some (erased v))
-    ≡ erased_ran (shown (result_map_both (λ w. Some w) (λ e. e) (conv table.classes s t v)))
-value-converted table are s t v true is allowed have =
-    ap (λ r. erased_ran (shown (result_map_both (λ w. Some w) (λ e. e) r))) (sym (trivial-keeps table.classes are s t v is have))
-value-converted table are s t v false is allowed have =
-    returned-some (basic_of t) (converted table.classes (conversion_between s t) (erased v))
-    ∙ (ap (mapped Some) (converted-erased table.classes s t v allowed have) ∙ erased-shown (basic_of t) (conv table.classes s t v))
+    (by : Rules) (table : LeafTable) → AreClasses table.classes → (s t : Ty) (v : Value) (trivial : Bool) →
+    is_trivial table.classes s t ≡ trivial → can by table.classes s t ≡ true → has_type table.classes v s ≡ true →
+    ret_entry_on by table (if trivial then entry.Keep else entry.New (Is (basic_of t))) (ret.Value (conversion_between s t)) (Some (erased v))
+    ≡ erased_ran (shown (result_map_both (λ w. Some w) (λ e. e) (conv by table.classes s t v)))
+value-converted by table are s t v true is allowed have =
+    ap (λ r. erased_ran (shown (result_map_both (λ w. Some w) (λ e. e) r))) (sym (trivial-keeps by table.classes are s t v is have))
+value-converted by table are s t v false is allowed have =
+    returned-some (basic_of t) (converted by table.classes (conversion_between s t) (erased v))
+    ∙ (ap (mapped Some) (converted-erased by table.classes s t v allowed have) ∙ erased-shown (basic_of t) (conv by table.classes s t v))
 
 -- a result
 pub result-converted :
-    (table : LeafTable) → AreClasses table.classes → (s t : Option Ty) (c : RetConv) (r : Option Value) →
-    ret_conversion_of table.classes s t ≡ Some c → HaveTypes table.classes (option_to_list r) (option_to_list s) →
-    ret_entry_on table (ret_entry_of table.classes s t) c (erased_option r) ≡ erased_ran (conv_result table.classes s t r)
-result-converted table are None None c None is have = refl
-result-converted table are None None c (Some v) is have = absurd have
-result-converted table are (Some s) None c r is have =
-    let e : ret.Discard ≡ c = cc in ap (λ x. ret_entry_on table (entry.New V) x (erased_option r)) (sym e)
-result-converted table are None (Some t) c r is have =
-    let e : ret.Default t ≡ c = cc in ap (λ x. ret_entry_on table (entry.New (Is (basic_of t))) x (erased_option r)) (sym e)
-result-converted table are (Some s) (Some t) c None is have = absurd have
-result-converted table are (Some s) (Some t) c (Some v) is have =
-    let q = value-conversion-is (can table.classes s t) (conversion_between s t) c is in
-    let whole : erased_ran (conv_result table.classes (Some s) (Some t) (Some v)) ≡ erased_ran (shown (ret_conv table.classes c (Some v))) =
-    ap (λ o. erased_ran (found o (λ d. shown (ret_conv table.classes d (Some v))))) is in
-    let P : RetConv → Type 0 = λ d. ret_entry_on table (ret_entry_of table.classes (Some s) (Some t)) d (Some (erased v)) ≡ erased_ran
-    (shown (ret_conv table.classes d (Some v))) in
-    subst P (sym q.1) (value-converted table are s t v (is_trivial table.classes s t) refl q.0 have.0) ∙ sym whole
+    (by : Rules) (table : LeafTable) → AreClasses table.classes → (s t : Option Ty) (c : RetConv) (r : Option Value) →
+    ret_conversion_of by table.classes s t ≡ Some c → HaveTypes table.classes (option_to_list r) (option_to_list s) →
+    ret_entry_on by table (ret_entry_of table.classes s t) c (erased_option r) ≡ erased_ran (conv_result by table.classes s t r)
+result-converted by table are None None c None is have = refl
+result-converted by table are None None c (Some v) is have = absurd have
+result-converted by table are (Some s) None c r is have =
+    let e : ret.Discard ≡ c = cc in ap (λ x. ret_entry_on by table (entry.New V) x (erased_option r)) (sym e)
+result-converted by table are None (Some t) c r is have =
+    let e : ret.Default t ≡ c = cc in ap (λ x. ret_entry_on by table (entry.New (Is (basic_of t))) x (erased_option r)) (sym e)
+result-converted by table are (Some s) (Some t) c None is have = absurd have
+result-converted by table are (Some s) (Some t) c (Some v) is have =
+    let q = value-conversion-is (can by table.classes s t) (conversion_between s t) c is in
+    let whole : erased_ran (conv_result by table.classes (Some s) (Some t) (Some v)) ≡ erased_ran (shown (ret_conv by table.classes c (Some v))) =
+    ap (λ o. erased_ran (found o (λ d. shown (ret_conv by table.classes d (Some v))))) is in
+    let P : RetConv → Type 0 = λ d. ret_entry_on by table (ret_entry_of table.classes (Some s) (Some t)) d (Some (erased v)) ≡ erased_ran
+    (shown (ret_conv by table.classes d (Some v))) in
+    subst P (sym q.1) (value-converted by table are s t v (is_trivial table.classes s t) refl q.0 have.0) ∙ sym whole

@@ -11,8 +11,7 @@ use Rattle.mh_values.specs.HasType.{HaveTypes}
 use Rattle.mh_values.specs.Returns.{Returns}
 use Rattle.mh_form.specs.declared.slot.Slot.{Slot}
 use Rattle.mh_form.specs.Erasure.{erased, erased_ran, basic_ret_of}
-use Rattle.mh_form.specs.Slots.{filled}
-use Rattle.mh_edit.specs.Applied.{given}
+use Rattle.mh_form.specs.Slots.{filled, given}
 use Rattle.mh_edit.specs.Law.{returned, slots_of_result}
 
 -- an operation on a list's places is one on the mapped list

@@ -1,5 +1,5 @@
 -- Holds in another order, and calls on a seat after each other.
-use Rattle.std.proofs.Common.{◌≡◌, sym, subst, ℕ, ◌+◌, List, [], ◌++◌, length, length-append, append-nil, arith}
+use Rattle.std.proofs.Common.{◌≡◌, sym, subst, ℕ, List, [], ◌++◌, length, length-append, append-nil, arith}
 use Rattle.mh_values.specs.declared.types.MethodTy.{MethodTy}
 use Rattle.mh_intern.specs.Exchanges.{AreHeld, AreOf, Exchanges, entries_of}
 use Rattle.mh_intern.specs.Held.{has}

@@ -55,7 +55,10 @@ key_of kind ns =
     else (if kind == 13 then key.Convert (map entry_at (rest ns)) (ret_entry_at (first ns))
     else (if kind == 14 then key.Spread (first ns) (basic_at (first (rest ns)))
     else (if kind == 15 then key.Gather (first ns) (basic_at (first (rest ns)))
-    else key.ConcatRoot (shape_at ns)))))))))))))))
+    else (if kind == 16 then key.ConcatRoot (shape_at ns)
+    else (if kind == 17 then key.TryRoot (shape_at (rest ns)) (first ns)
+    else (if kind == 18 then key.SwitchRoot (shape_at (rest ns)) (first ns)
+    else key.LoopRoot (shape_at (rest (rest (rest ns)))) (first ns) (first (rest ns)) (first (rest (rest ns))))))))))))))))))))
 
 abbrev key_at : List ℕ → Key
 key_at ns = key_of (first ns) (rest ns)
@@ -111,6 +114,9 @@ key-told (key.IdentityRoot b) = ap key.IdentityRoot (basic-told b)
 key-told (key.ThrowRoot r) = ap key.ThrowRoot (ret-told r)
 key-told (key.GuardRoot s n) = ap (λ t. key.GuardRoot t n) (shape-told s)
 key-told (key.CatchRoot s n) = ap (λ t. key.CatchRoot t n) (shape-told s)
+key-told (key.TryRoot s n) = ap (λ t. key.TryRoot t n) (shape-told s)
+key-told (key.SwitchRoot s n) = ap (λ t. key.SwitchRoot t n) (shape-told s)
+key-told (key.LoopRoot s n m k) = ap (λ t. key.LoopRoot t n m k) (shape-told s)
 key-told (key.ConcatRoot s) = ap key.ConcatRoot (shape-told s)
 key-told (key.Bind n) = refl
 key-told (key.Add n bs) = ap (key.Add n) (basics-told bs)

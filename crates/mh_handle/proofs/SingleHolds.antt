@@ -1,5 +1,5 @@
 -- Single holds: one that is taken, one that is let go of, and those that stay.
-use Rattle.std.proofs.Common.{◌≡◌, sym, ◌∙◌, ap, subst, ◌+◌, ◌≤◌, List, [], ◌∷◌, ◌++◌, append-nil, arith, Result, Ok, Err, IfOk, OnErr}
+use Rattle.std.proofs.Common.{◌≡◌, sym, ◌∙◌, ap, subst, ◌≤◌, List, [], ◌∷◌, ◌++◌, append-nil, arith, Result, Ok, Err, IfOk, OnErr}
 use Rattle.mh_values.specs.declared.types.MethodTy.{MethodTy}
 use Rattle.mh_intern.specs.declared.error.InternError.{InternError}
 use Rattle.mh_intern.specs.declared.error.InternError.TheVariants as intern

@@ -1,5 +1,5 @@
 -- What is held after a handle was made, or was not.
-use Rattle.std.proofs.Common.{◌≡◌, sym, ap, subst, ◌+◌, ◌≤◌, List, [], ◌∷◌, ◌++◌, arith, Result, Ok, Err}
+use Rattle.std.proofs.Common.{◌≡◌, sym, ap, subst, ◌≤◌, List, [], ◌∷◌, ◌++◌, arith, Result, Ok, Err}
 use Rattle.mh_values.specs.declared.types.MethodTy.{MethodTy}
 use Rattle.mh_values.specs.Same.{is_same_method_type}
 use Rattle.mh_values.proofs.SameTypes.{same_method_type-itself}

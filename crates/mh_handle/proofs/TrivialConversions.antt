@@ -10,6 +10,7 @@ use Rattle.mh_values.specs.Classes.{AreClasses}
 use Rattle.mh_values.specs.Computation.{Gave, Threw, Stuck, and_then, after}
 use Rattle.mh_values.specs.HasType.{HaveTypes}
 use Rattle.mh_values.specs.Returns.{Returns}
+use Rattle.mh_convert.specs.declared.conv.Rules.{Rules}
 use Rattle.mh_convert.specs.Conversion.{can, is_trivial, is_trivial_ret}
 use Rattle.mh_convert.proofs.Typed.{trivial-keeps}
 use Rattle.mh_tree.specs.Rows.{can_all}
@@ -21,18 +22,18 @@ use Rattle.mh_handle.specs.Recipe.{are_trivial}
 use Rattle.mh_handle.specs.Converting.{conversion_between, convs_of}
 
 pub all-kept :
-    (classes : List Class) → AreClasses classes → (ss ts : List Ty) (args : List Value) →
-    can_all classes ss ts ≡ true → are_trivial classes ss ts ≡ true → HaveTypes classes args ss → conv_all classes ss ts args ≡ Ok args
-all-kept classes are [] [] [] allowed trivial have = refl
-all-kept classes are [] [] (v ∷ vs) allowed trivial have = absurd have
-all-kept classes are [] (t ∷ ts) args allowed trivial have = absurd cc
-all-kept classes are (s ∷ ss) [] args allowed trivial have = absurd cc
-all-kept classes are (s ∷ ss) (t ∷ ts) [] allowed trivial have = absurd have
-all-kept classes are (s ∷ ss) (t ∷ ts) (v ∷ vs) allowed trivial have =
-    let q = and_parts (can classes s t) (can_all classes ss ts) allowed in
+    (by : Rules) (classes : List Class) → AreClasses classes → (ss ts : List Ty) (args : List Value) →
+    can_all by classes ss ts ≡ true → are_trivial classes ss ts ≡ true → HaveTypes classes args ss → conv_all by classes ss ts args ≡ Ok args
+all-kept by classes are [] [] [] allowed trivial have = refl
+all-kept by classes are [] [] (v ∷ vs) allowed trivial have = absurd have
+all-kept by classes are [] (t ∷ ts) args allowed trivial have = absurd cc
+all-kept by classes are (s ∷ ss) [] args allowed trivial have = absurd cc
+all-kept by classes are (s ∷ ss) (t ∷ ts) [] allowed trivial have = absurd have
+all-kept by classes are (s ∷ ss) (t ∷ ts) (v ∷ vs) allowed trivial have =
+    let q = and_parts (can by classes s t) (can_all by classes ss ts) allowed in
     let p = and_parts (is_trivial classes s t) (are_trivial classes ss ts) trivial in
-    ap (λ r. then_others r (conv_all classes ss ts vs)) (trivial-keeps classes are s t v p.0 have.0)
-    ∙ ap (then_others (Ok v)) (all-kept classes are ss ts vs q.1 p.1 have.1)
+    ap (λ r. then_others r (conv_all by classes ss ts vs)) (trivial-keeps by classes are s t v p.0 have.0)
+    ∙ ap (then_others (Ok v)) (all-kept by classes are ss ts vs q.1 p.1 have.1)
 
 -- no conversion of them changes anything
 pub none-converted : (classes : List Class) (ss ts : List Ty) → are_trivial classes ss ts ≡ true → convs_of classes ss ts ≡ []
@@ -44,12 +45,12 @@ none-converted classes (s ∷ ss) (t ∷ ts) trivial =
 
 -- what runs is followed by nothing more
 pub run-kept :
-    (classes : List Class) → AreClasses classes → (s t : Option Ty) (m : Done) (n : ℕ) →
-    is_trivial_ret classes s t ≡ true → Returns classes m s → and_then m n (λ r k. conv_result classes s t r) ≡ m
-run-kept classes are s t (Gave r calls) n trivial returns =
-    ap (after calls) (trivial-result classes are s t r trivial (returned-typed classes r calls s returns)) ∙ ap (Gave r) (append-nil calls)
-run-kept classes are s t (Threw e calls) n trivial returns = refl
-run-kept classes are s t Stuck n trivial returns = absurd returns
+    (by : Rules) (classes : List Class) → AreClasses classes → (s t : Option Ty) (m : Done) (n : ℕ) →
+    is_trivial_ret classes s t ≡ true → Returns classes m s → and_then m n (λ r k. conv_result by classes s t r) ≡ m
+run-kept by classes are s t (Gave r calls) n trivial returns =
+    ap (after calls) (trivial-result by classes are s t r trivial (returned-typed classes r calls s returns)) ∙ ap (Gave r) (append-nil calls)
+run-kept by classes are s t (Threw e calls) n trivial returns = refl
+run-kept by classes are s t Stuck n trivial returns = absurd returns
 
 -- ---- what goes on with values that are known
 

@@ -6,9 +6,9 @@ use Rattle.mh_values.specs.declared.types.MethodTy.{MethodTy}
 use Rattle.mh_values.specs.Array.{item_type}
 use Rattle.mh_convert.specs.Conversion.{is_trivial, is_trivial_ret}
 use Rattle.mh_leaf.specs.LeafTable.{LeafTable}
-use Rattle.mh_tree.specs.Tree.{Tree}
+use Rattle.mh_tree.specs.Tree.{Tree, cases_count}
 use Rattle.mh_tree.specs.Tree as tree
-use Rattle.mh_tree.specs.Rows.{TypeOrRefusal, component_of}
+use Rattle.mh_tree.specs.Rows.{TypeOrRefusal, component_of, further, kept_by, loop_params, taking}
 use Rattle.mh_tree.specs.Typing.{type_of}
 use Rattle.mh_form.specs.declared.basic.Basic.{Basic}
 use Rattle.mh_form.specs.Erasure.{basic_of, basic_ret_of, shape_of}
@@ -51,7 +51,20 @@ convert_keys classes asked t =
 abbrev pub collect_keys : ℕ → MethodTy → List Key
 collect_keys place part = key.Collect place (map basic_of part.params) (basic_ret_of part.ret) ∷ []
 
--- The keys of a tree: those of its target, and then its own. A guard or catch has a root of its own, since its parts are side parts.
+-- the key of a part of this type with its cleanup
+abbrev pub try_key : MethodTy → MethodTy → Key
+try_key t cleanup = key.TryRoot (shape_of t) (kept_by cleanup t.ret)
+
+-- the key of a switch whose parts have this type
+abbrev pub switch_key : MethodTy → ℕ → Key
+switch_key t count = key.SwitchRoot (shape_of t) count
+
+-- the key of a loop whose parts have these types
+abbrev pub loop_key : MethodTy → MethodTy → MethodTy → Key
+loop_key iterations init body =
+    key.LoopRoot (shape_of (taking (loop_params iterations body) body)) (length iterations.params) (length init.params) (length (further body))
+
+-- The keys of a tree: those of its target, and then its own. If all parts are side parts, as those of a guard, the tree has a root of its own.
 abbrev pub recipe : LeafTable → Tree → List Key
 recipe table (tree.Leaf l) = at_type (type_of table (tree.Leaf l)) (λ ty. key.LeafRoot (shape_of ty) ∷ [])
 recipe table (tree.Constant ty v) = at_some ty (λ r. key.ConstRoot (basic_of r))
@@ -72,7 +85,14 @@ recipe table (tree.Spread target array count) =
 recipe table (tree.Gather target array count) =
     recipe table target ++ at_some (component_of array) (λ component. key.Gather count (basic_of (item_type component)))
 recipe table (tree.AsType target asked) = recipe table target ++ at_type (type_of table target) (convert_keys table.classes asked)
+recipe table (tree.Explicit target asked) = recipe table target ++ at_type (type_of table target) (convert_keys table.classes asked)
 recipe table (tree.Guard test target fallback) =
     at_type (type_of table target) (λ ty. at_type (type_of table test) (λ test_ty. key.GuardRoot (shape_of ty) (length test_ty.params) ∷ []))
 recipe table (tree.Catch target class handler) =
     at_type (type_of table target) (λ ty. at_type (type_of table handler) (λ handler_ty. key.CatchRoot (shape_of ty) (length handler_ty.params - 1) ∷ []))
+recipe table (tree.TryFinally target cleanup) =
+    at_type (type_of table target) (λ ty. at_type (type_of table cleanup) (λ part. try_key ty part ∷ []))
+recipe table (tree.Switch fallback cases) = at_type (type_of table fallback) (λ ty. switch_key ty (cases_count cases) ∷ [])
+recipe table (tree.Counted iterations init body) =
+    at_type (type_of table iterations) (λ counts. at_type (type_of table init) (λ starts. at_type (type_of table body) (λ turns.
+    loop_key counts starts turns ∷ [])))

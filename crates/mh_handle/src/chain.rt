@@ -15,7 +15,7 @@ pub(crate) const ROW_LEN: usize = 128;
 /// The number of a key's kind, from 1 on.
 fn kind(key: &Key) -> u32
     ensures kind { result ≡ kind_of key.now }
-    ensures small { result ≤ 16 }
+    ensures small { result ≤ 19 }
 {
     match key {
         Key::LeafRoot { .. } => 1,
@@ -25,6 +25,9 @@ fn kind(key: &Key) -> u32
         Key::GuardRoot { .. } => 5,
         Key::CatchRoot { .. } => 6,
         Key::ConcatRoot { .. } => 16,
+        Key::TryRoot { .. } => 17,
+        Key::SwitchRoot { .. } => 18,
+        Key::LoopRoot { .. } => 19,
         Key::Bind { .. } => 7,
         Key::Add { .. } => 8,
         Key::Permute { .. } => 9,

@@ -5,7 +5,7 @@ ghost use Rattle.mh_edit.specs.declared.key.Key.TheVariants as key;
 use mh_base::Seq;
 use mh_edit::Key::{
     Add, Bind, CatchRoot, Collect, ConcatRoot, ConstRoot, Convert, FilterReturn, Fold, Gather,
-    GuardRoot, IdentityRoot, LeafRoot, Permute, Spread, ThrowRoot,
+    GuardRoot, IdentityRoot, LeafRoot, LoopRoot, Permute, Spread, SwitchRoot, ThrowRoot, TryRoot,
 };
 use mh_edit::{Key, Places, RetEntry};
 use mh_form::{Basic, BasicRet, Basics, Shape};
@@ -85,6 +85,17 @@ impl Same for Key {
                 *test == *t && shape.is_same(s)
             }
             (CatchRoot { shape, handler }, _) => is_catch_root(shape, *handler, other),
+            (TryRoot { shape, cleanup }, _) => is_try_root(shape, *cleanup, other),
+            (SwitchRoot { shape, count }, _) => is_switch_root(shape, *count, other),
+            (
+                LoopRoot {
+                    shape,
+                    iterations,
+                    init,
+                    body,
+                },
+                _,
+            ) => is_loop_root(shape, *iterations, *init, *body, other),
             (ConcatRoot { shape }, ConcatRoot { shape: s }) => shape.is_same(s),
             (Bind { pos }, Bind { pos: p }) => *pos == *p,
             (Add { pos, basics }, Add { pos: p, basics: b }) => *pos == *p && basics.is_same(b),
@@ -114,6 +125,41 @@ fn is_catch_root(shape: &Shape, handler: u8, other: &Key) -> bool
             shape: s,
             handler: h,
         } => { handler == *h && shape.is_same(s) }
+        _ => false,
+    }
+}
+
+fn is_try_root(shape: &Shape, cleanup: u8, other: &Key) -> bool
+    ensures { IsTrue result ↔ (key.TryRoot shape.now cleanup ≡ other.now) }
+{
+    match other {
+        TryRoot {
+            shape: s,
+            cleanup: c,
+        } => { cleanup == *c && shape.is_same(s) }
+        _ => false,
+    }
+}
+
+fn is_switch_root(shape: &Shape, count: u8, other: &Key) -> bool
+    ensures { IsTrue result ↔ (key.SwitchRoot shape.now count ≡ other.now) }
+{
+    match other {
+        SwitchRoot { shape: s, count: c } => { count == *c && shape.is_same(s) }
+        _ => false,
+    }
+}
+
+fn is_loop_root(shape: &Shape, iterations: u8, init: u8, body: u8, other: &Key) -> bool
+    ensures { IsTrue result ↔ (key.LoopRoot shape.now iterations init body ≡ other.now) }
+{
+    match other {
+        LoopRoot {
+            shape: s,
+            iterations: n,
+            init: i,
+            body: b,
+        } => { iterations == *n && init == *i && body == *b && shape.is_same(s) }
         _ => false,
     }
 }

@@ -113,6 +113,17 @@ impl Hashed for Key {
             Key::ThrowRoot { ret } => mix(4, ret.hash()),
             Key::GuardRoot { shape, test } => mix_shape(mix(5, *test as u32), shape),
             Key::CatchRoot { shape, handler } => mix_shape(mix(6, *handler as u32), shape),
+            Key::TryRoot { shape, cleanup } => mix_shape(mix(17, *cleanup as u32), shape),
+            Key::SwitchRoot { shape, count } => mix_shape(mix(18, *count as u32), shape),
+            Key::LoopRoot {
+                shape,
+                iterations,
+                init,
+                body,
+            } => {
+                let parts = mix(mix(19, *iterations as u32), *init as u32);
+                mix_shape(mix(parts, *body as u32), shape)
+            }
             Key::ConcatRoot { shape } => mix_shape(16, shape),
             Key::Bind { pos } => mix(7, *pos as u32),
             Key::Add { pos, basics } => mix_all(mix(8, *pos as u32), basics.as_slice()),

@@ -16,9 +16,9 @@ use Rattle.mh_classfile.specs.Class as class_file
 use Rattle.mh_script.specs.declared.operand.Register.TheVariants as register
 use Rattle.mh_script.specs.declared.script.End.TheVariants as end
 use Rattle.mh_script.specs.declared.script.Script.{Script}
-use Rattle.mh_jobs.specs.declared.job.BootstrapCall.{BootstrapCall}
 use Rattle.mh_jobs.specs.declared.job.Job.{Job}
-use Rattle.mh_jobs.specs.Job.{site_job}
+use Rattle.mh_jobs.specs.declared.sites.Bootstrap.{Bootstrap}
+use Rattle.mh_jobs.specs.Sites.{site_job}
 use Rattle.mh_jobs.specs.Thrown.{OrThrown}
 
 -- ---- leaves
@@ -89,8 +89,8 @@ class_of site bootstrap = record { constants = []; dynamics = []; sites = site �
 
 -- the job of a site of a name and a type, which is the first of the run
 abbrev pub job_with : List ℕ → List ℕ → class_file.Bootstrap → Job
-job_with name descriptor bootstrap = site_job host (link ∷ []) (class_of (site_of name descriptor) bootstrap) 0 (site_of name descriptor)
+job_with name descriptor bootstrap = site_job host (link ∷ []) (class_of (site_of name descriptor) bootstrap) 0 0 (site_of name descriptor)
 
 -- what the site `f` of a type calls
-abbrev pub call_with : List ℕ → class_file.Bootstrap → OrThrown BootstrapCall
+abbrev pub call_with : List ℕ → class_file.Bootstrap → OrThrown Bootstrap
 call_with descriptor bootstrap = (job_with (codes "f") descriptor bootstrap).call

@@ -1,6 +1,5 @@
 pub mod Arguments
 pub mod Bootstraps
-pub mod Entries
 pub mod Host
 pub mod NumberedOn
 pub mod Numbering

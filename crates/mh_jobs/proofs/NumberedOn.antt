@@ -1,15 +1,14 @@
--- Jobs of dynamic constants that are made one after the other, and class by class.
+-- Jobs of dynamic constants that are made one after the other.
 use Rattle.std.proofs.Common.{◌≡◌, refl, sym, ◌∙◌, ap, ℕ, suc, ◌+◌, List, [], ◌∷◌, ◌++◌, length, drop, Some, add-one, arith}
 use Rattle.std.specs.Prelude.{slice_get}
 use Rattle.std.proofs.Math.Seq.{drop-length}
 use Rattle.std.proofs.lemmas.List.{append_assoc, append-nil, length-append}
-use Rattle.std.proofs.lemmas.List.Sums.{fold-append}
 use Rattle.mh_leaf.specs.LeafTable.{LeafTable}
 use Rattle.mh_classfile.specs.declared.constant.DynamicView.{DynamicView}
 use Rattle.mh_classfile.specs.Class as class_file
 use Rattle.mh_script.specs.declared.script.Script.{Script}
 use Rattle.mh_jobs.specs.declared.constants.ConstJob.{ConstJob}
-use Rattle.mh_jobs.specs.Constants.{const_job, const_jobs_from, with_constants, const_jobs_of}
+use Rattle.mh_jobs.specs.Constants.{const_job, const_jobs_from, with_constants}
 use Rattle.mh_jobs.proofs.Arguments.{drop-here}
 
 -- the jobs of the Dynamic entries before a place are made, after those that were there, and the others are what is left
@@ -44,15 +43,3 @@ pub all_made : (leaves : LeafTable) (scripts : List Script) (class : class_file.
 all_made leaves scripts class before all k are h =
     let none : drop k class.dynamics ≡ [] = ap (λ n. drop n class.dynamics) h ∙ drop-length class.dynamics in
     sym (are.made ∙ ap (λ ds. all ++ const_jobs_from leaves scripts class (length before) (length all) ds) none ∙ append-nil all)
-
--- the jobs of classes, and of one more class after them
-pub one_more_class : (leaves : LeafTable) (scripts : List Script) (classes : List class_file.Class) (class : class_file.Class) →
-    const_jobs_of leaves scripts (classes ++ class ∷ []) ≡ with_constants leaves scripts (const_jobs_of leaves scripts classes) class
-one_more_class leaves scripts classes class = fold-append (with_constants leaves scripts) [] classes (class ∷ [])
-
--- jobs of classes that become those of one more class
-pub more_classes : (leaves : LeafTable) (scripts : List Script) (class : class_file.Class) (before all : List ConstJob) →
-    all ≡ with_constants leaves scripts before class → (classes : List class_file.Class) → before ≡ const_jobs_of leaves scripts classes →
-    all ≡ const_jobs_of leaves scripts (classes ++ class ∷ [])
-more_classes leaves scripts class before all is classes are =
-    is ∙ ap (λ (jobs : List ConstJob). with_constants leaves scripts jobs class) are ∙ sym (one_more_class leaves scripts classes class)

@@ -1,5 +1,5 @@
 -- Worked examples of names and of static arguments of jobs: what the checker computes of the definitions.
-use Rattle.std.specs.Prelude.{◌≡◌, refl, pos, [], ◌∷◌, codes, replicate, None, Ok, Err}
+use Rattle.std.specs.Prelude.{◌≡◌, refl, pos, [], ◌∷◌, codes, replicate, Some, None, Ok, Err}
 use Rattle.mh_values.specs.declared.types.Comp.TheVariants as comp
 use Rattle.mh_values.specs.declared.types.Primitive.TheVariants as primitive
 use Rattle.mh_values.specs.declared.types.Ty.TheVariants as ty
@@ -9,6 +9,8 @@ use Rattle.mh_class_bytes.specs.Chars.{chars_from, units_from, shown}
 use Rattle.mh_class_bytes.specs.Mutf8.{sound_from, unit_len}
 use Rattle.mh_classfile.specs.declared.constant.Constant.TheVariants as constant
 use Rattle.mh_jobs.specs.declared.job.Argument.TheVariants as argument
+use Rattle.mh_jobs.specs.declared.job.Method.TheVariants as method
+use Rattle.mh_jobs.specs.declared.unresolved.Part.TheVariants as part
 use Rattle.mh_jobs.specs.Job.{text_of, argument_of}
 use Rattle.mh_jobs.specs.Thrown.{no_class_def_found_class, no_such_method_class, unsupported}
 use Rattle.mh_jobs.proofs.Host.{host, of, boxed_int, handle_to, booted, job_with, call_with, host_class}
@@ -139,8 +141,16 @@ a_float_is_left_out :
 unfolding chars_from units_from unit_len sound_from shown
 a_float_is_left_out = refl
 
-the_first_static_argument_that_is_none_is_thrown :
+what_the_first_static_argument_that_is_none_throws_is_kept :
     call_with (codes "()V") (booted (constant.Integer (pos 5) ∷ constant.Float ∷ constant.Class (codes "no/Such") ∷ []))
-    ≡ Err (unsupported (codes "constant"))
+    ≡ Ok (record {
+      method = method.Script (record { 0 = 0 });
+      name = codes "f";
+      ty = of [] None;
+      arguments = record {
+        parts = part.Known (argument.Value (boxed_int (pos 5))) ∷ [];
+        thrown = Some (unsupported (codes "constant"));
+      };
+    })
 unfolding chars_from units_from unit_len sound_from shown
-the_first_static_argument_that_is_none_is_thrown = refl
+what_the_first_static_argument_that_is_none_throws_is_kept = refl

@@ -14,7 +14,8 @@ use Rattle.mh_jobs.specs.declared.constants.ConstBootstrap.{ConstBootstrap}
 use Rattle.mh_jobs.specs.declared.constants.ConstJob.{ConstJob}
 use Rattle.mh_jobs.specs.declared.job.Argument.TheVariants as argument
 use Rattle.mh_jobs.specs.declared.unresolved.Part.TheVariants as part
-use Rattle.mh_jobs.specs.Constants.{const_type, const_job_of, const_jobs_of}
+use Rattle.mh_jobs.specs.Constants.{const_type, const_job_of}
+use Rattle.mh_jobs.specs.RunJobs.{jobs_of}
 use Rattle.mh_jobs.specs.Names.{concat_method}
 use Rattle.mh_jobs.specs.Parts.{static_arguments, names_of}
 use Rattle.mh_jobs.specs.Thrown.{OrThrown, no_class_def_found_class, no_such_method_class, unsupported}
@@ -122,12 +123,12 @@ unfolding chars_from units_from unit_len sound_from shown
 what_is_built_in_for_sites_is_not_for_constants = refl
 
 constants_are_numbered_over_the_classes :
-    map (λ (job : ConstJob). job.number) (const_jobs_of host (link ∷ []) (with_two (booted []) ∷ with_two (booted []) ∷ [])) ≡ 0 ∷ 1 ∷ 2 ∷ 3 ∷ []
+    map (λ (job : ConstJob). job.number) (jobs_of host (link ∷ []) (with_two (booted []) ∷ with_two (booted []) ∷ [])).constants ≡ 0 ∷ 1 ∷ 2 ∷ 3 ∷ []
 unfolding chars_from units_from unit_len sound_from shown
 constants_are_numbered_over_the_classes = refl
 
 so_are_those_that_they_name :
-    map (λ (job : ConstJob). job.names) (const_jobs_of host (link ∷ []) (with_two (booted []) ∷ with_two (booted some_arguments) ∷ []))
+    map (λ (job : ConstJob). job.names) (jobs_of host (link ∷ []) (with_two (booted []) ∷ with_two (booted some_arguments) ∷ [])).constants
     ≡ [] ∷ [] ∷ (3 ∷ 2 ∷ []) ∷ (3 ∷ 2 ∷ []) ∷ []
 unfolding chars_from units_from unit_len sound_from shown
 so_are_those_that_they_name = refl

@@ -11,9 +11,10 @@ use Rattle.mh_class_bytes.specs.Mutf8.{sound_from, unit_len}
 use Rattle.mh_classfile.specs.declared.constant.Constant.TheVariants as constant
 use Rattle.mh_jobs.specs.declared.job.Argument.TheVariants as argument
 use Rattle.mh_jobs.specs.declared.job.Method.TheVariants as method
-use Rattle.mh_jobs.specs.Job.{job_of}
-use Rattle.mh_jobs.specs.Jobs.{jobs_of}
+use Rattle.mh_jobs.specs.declared.unresolved.Part.TheVariants as part
+use Rattle.mh_jobs.specs.RunJobs.{jobs_of}
 use Rattle.mh_jobs.specs.Names.{concat_method}
+use Rattle.mh_jobs.specs.Sites.{job_of}
 use Rattle.mh_jobs.specs.Thrown.{bootstrap_method_error_class, no_class_def_found_class, no_such_method_class, recorded, unsupported}
 use Rattle.mh_jobs.proofs.Host.{host, of, boxed_int, bootstrap_descriptor, link, handle_to, site_of, booted, bare, class_of, job_with, call_with}
 
@@ -45,7 +46,7 @@ a_bootstrap_method_is_static = refl
 
 a_concatenation_has_a_bootstrap_method_of_its_own :
     call_with (codes "()V") (bare (handle_to 6 concat_method.owner concat_method.name concat_method.descriptor))
-    ≡ Ok (record { method = method.Concat; name = codes "f"; ty = of [] None; arguments = [] })
+    ≡ Ok (record { method = method.Concat; name = codes "f"; ty = of [] None; arguments = record { parts = []; thrown = None } })
 unfolding chars_from units_from unit_len sound_from shown
 a_concatenation_has_a_bootstrap_method_of_its_own = refl
 
@@ -113,24 +114,27 @@ the_call_of_a_bootstrap_method :
       method = method.Script (record { 0 = 0 });
       name = codes "f";
       ty = of (int_type ∷ []) None;
-      arguments = argument.Value (boxed_int (pos 5)) ∷ argument.Class (ty.Array (comp.Prim primitive.I)) ∷ [];
+      arguments = record {
+        parts = part.Known (argument.Value (boxed_int (pos 5))) ∷ part.Known (argument.Class (ty.Array (comp.Prim primitive.I))) ∷ [];
+        thrown = None;
+      };
     })
 unfolding chars_from units_from unit_len sound_from shown
 the_call_of_a_bootstrap_method = refl
 
 the_job_of_a_class_is_that_of_its_site :
-    job_of host (link ∷ []) (class_of (site_of (codes "f") (codes "(I)V")) (booted [])) 0 7
+    job_of host (link ∷ []) (class_of (site_of (codes "f") (codes "(I)V")) (booted [])) 0 7 0
     ≡ Some (record (job_with (codes "f") (codes "(I)V") (booted [])) { site = 7 })
 unfolding chars_from units_from unit_len sound_from shown
 the_job_of_a_class_is_that_of_its_site = refl
 
 past_its_sites_a_class_has_no_job :
-    job_of host [] (record { constants = []; dynamics = []; sites = []; bootstraps = [] }) 0 0
+    job_of host [] (record { constants = []; dynamics = []; sites = []; bootstraps = [] }) 0 0 0
     ≡ None
 past_its_sites_a_class_has_no_job = refl
 
 the_sites_of_two_classes_are_numbered_on :
-    jobs_of host (link ∷ []) (class_of (site_of (codes "f") (codes "(I)V")) (booted []) ∷ class_of (site_of (codes "g") (codes "()V")) (booted []) ∷ [])
+    (jobs_of host (link ∷ []) (class_of (site_of (codes "f") (codes "(I)V")) (booted []) ∷ class_of (site_of (codes "g") (codes "()V")) (booted []) ∷ [])).sites
     ≡ job_with (codes "f") (codes "(I)V") (booted []) ∷ record (job_with (codes "g") (codes "()V") (booted [])) { site = 1 } ∷ []
 unfolding chars_from units_from unit_len sound_from shown
 the_sites_of_two_classes_are_numbered_on = refl

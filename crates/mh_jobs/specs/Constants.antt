@@ -1,5 +1,5 @@
 -- The job of a dynamic constant: which script gives its value, and what the script is given (JVMS SE 17, 4.4.10, 5.1 and 5.4.3.6).
-use Rattle.std.specs.Prelude.{◌≡◌, ℕ, ◌+◌, ◌==◌, List, [], ◌∷◌, ◌++◌, codes, length, fold, Option, Some, option_map, slice_get, Result, Ok, Err}
+use Rattle.std.specs.Prelude.{◌≡◌, ℕ, ◌+◌, ◌==◌, List, [], ◌∷◌, ◌++◌, codes, length, Option, Some, option_map, slice_get, Result, Ok, Err}
 use Rattle.mh_values.specs.declared.class.Class.{Class}
 use Rattle.mh_values.specs.declared.descriptor.DescriptorError.{DescriptorError}
 use Rattle.mh_values.specs.declared.types.Ty.{Ty}
@@ -63,10 +63,6 @@ const_jobs_from leaves scripts class first number (d ∷ dynamics) =
 abbrev pub with_constants : LeafTable → List Script → List ConstJob → class_file.Class → List ConstJob
 with_constants leaves scripts before class =
     before ++ const_jobs_from leaves scripts class (length before) (length before) class.dynamics
-
--- the jobs of the dynamic constants of classes, in order
-abbrev pub const_jobs_of : LeafTable → List Script → List class_file.Class → List ConstJob
-const_jobs_of leaves scripts classes = fold (with_constants leaves scripts) [] classes
 
 -- the number of each constant is its place
 abbrev pub AreNumbered : List ConstJob → Type 0

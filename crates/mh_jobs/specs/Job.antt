@@ -1,9 +1,8 @@
 -- The job of a call site: which script links it, and what the script is given (JVMS SE 17, 5.1 and 5.4.3.6).
-use Rattle.std.specs.Prelude.{ℕ, ◌==◌, nat_le, nat_eq, if◌then◌else◌, List, [], ◌∷◌, codes, length, slice_get}
-use Rattle.std.specs.Prelude.{Option, Some, None, option_map, Result, Ok, Err, ok_or}
+use Rattle.std.specs.Prelude.{ℕ, ◌==◌, nat_le, nat_eq, if◌then◌else◌, List, [], codes, length, slice_get}
+use Rattle.std.specs.Prelude.{Option, Some, None, Result, Ok, Err, ok_or}
 use Rattle.std.specs.List.{starts_with}
 use Rattle.std.specs.Option.{option_map_or}
-use Rattle.std.specs.Result.{result_ok}
 use Rattle.mh_values.specs.declared.class.Class.{Class}
 use Rattle.mh_values.specs.declared.types.MethodTy.{MethodTy}
 use Rattle.mh_values.specs.declared.types.Ty.{Ty}
@@ -24,8 +23,6 @@ use Rattle.mh_script.specs.declared.script.MethodName.{MethodName}
 use Rattle.mh_script.specs.declared.script.Script.{Script}
 use Rattle.mh_jobs.specs.declared.job.Argument.{Argument}
 use Rattle.mh_jobs.specs.declared.job.Argument.TheVariants as argument
-use Rattle.mh_jobs.specs.declared.job.BootstrapCall.{BootstrapCall}
-use Rattle.mh_jobs.specs.declared.job.Job.{Job}
 use Rattle.mh_jobs.specs.declared.job.Method.{Method}
 use Rattle.mh_jobs.specs.declared.job.Method.TheVariants as method
 use Rattle.mh_jobs.specs.Names.{class_of, type_of_text, method_type_of_text, leaf_named, is_built_in, script_of}
@@ -88,15 +85,7 @@ argument_of leaves (constant.Class text) = do
 argument_of leaves (constant.Handle h) = handle_leaf leaves h
 argument_of leaves _ = Err (unsupported (codes "constant"))
 
--- static arguments from left to right; the first that is none ends all
-abbrev pub arguments_of : LeafTable → List Constant → OrThrown (List Argument)
-arguments_of leaves [] = Ok []
-arguments_of leaves (c ∷ constants) = do
-  first ← argument_of leaves c
-  others ← arguments_of leaves constants
-  Ok (first ∷ others)
-
--- ---- jobs
+-- ---- bootstrap methods
 
 -- the bootstrap method of a number; a class that was read has those that its call sites name (JVMS SE 17, 4.7.23), so no job of one has this exception
 abbrev pub bootstrap_at : class_file.Class → ℕ → OrThrown class_file.Bootstrap
@@ -123,30 +112,3 @@ bootstrap_method classes scripts h = do
 -- the type of a call site
 abbrev pub site_type : List Class → SiteView → OrThrown MethodTy
 site_type classes site = method_type_of_text as_shown classes site.descriptor
-
--- what a call site calls its bootstrap method with: the method first, then the site's type and name, then the static arguments
-abbrev pub call_of : LeafTable → List Script → SiteView → HandleRef → List Constant → OrThrown BootstrapCall
-call_of leaves scripts site handle constants = do
-  method ← bootstrap_method leaves.classes scripts handle
-  t ← site_type leaves.classes site
-  name ← text_of site.name
-  arguments ← arguments_of leaves constants
-  Ok (record { method = method; name = name; ty = t; arguments = arguments })
-
--- the call of the bootstrap method that a call site names
-abbrev pub bootstrap_call : LeafTable → List Script → class_file.Class → SiteView → OrThrown BootstrapCall
-bootstrap_call leaves scripts class site = do
-  bootstrap ← bootstrap_at class site.bootstrap
-  call_of leaves scripts site bootstrap.handle bootstrap.arguments
-
--- the job of a call site of a class, which has a number in the run
-abbrev pub site_job : LeafTable → List Script → class_file.Class → ℕ → SiteView → Job
-site_job leaves scripts class number site = record {
-  site = number;
-  ty = result_ok (site_type leaves.classes site);
-  call = bootstrap_call leaves scripts class site;
-}
-
--- the job of a class's site k, which has a number in the run
-abbrev pub job_of : LeafTable → List Script → class_file.Class → ℕ → ℕ → Option Job
-job_of leaves scripts class k number = option_map (site_job leaves scripts class number) (slice_get class.sites k)

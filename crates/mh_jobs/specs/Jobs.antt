@@ -1,5 +1,5 @@
--- The jobs of a run: a job for each call site of its classes, in order.
-use Rattle.std.specs.Prelude.{◌≡◌, ℕ, ◌+◌, List, [], ◌∷◌, ◌++◌, length, fold, Option, Some, slice_get, option_and_then}
+-- The jobs of call sites, in order.
+use Rattle.std.specs.Prelude.{◌≡◌, ℕ, ◌+◌, List, [], ◌∷◌, ◌++◌, length, Option, Some, slice_get, option_and_then}
 use Rattle.std.specs.Option.{option_map_or}
 use Rattle.mh_values.specs.declared.types.MethodTy.{MethodTy}
 use Rattle.mh_values.specs.declared.types.Ty.{Ty}
@@ -8,20 +8,17 @@ use Rattle.mh_classfile.specs.declared.constant.SiteView.{SiteView}
 use Rattle.mh_classfile.specs.Class as class_file
 use Rattle.mh_script.specs.declared.script.Script.{Script}
 use Rattle.mh_jobs.specs.declared.job.Job.{Job}
-use Rattle.mh_jobs.specs.Job.{site_job}
+use Rattle.mh_jobs.specs.Sites.{site_job}
 
--- the jobs of call sites of a class, numbered from a number on
-abbrev pub jobs_from : LeafTable → List Script → class_file.Class → ℕ → List SiteView → List Job
-jobs_from leaves scripts class number [] = []
-jobs_from leaves scripts class number (site ∷ sites) = site_job leaves scripts class number site ∷ jobs_from leaves scripts class (number + 1) sites
+-- the jobs of call sites of a class, numbered from a number on, where so many dynamic constants stand in the classes before
+abbrev pub jobs_from : LeafTable → List Script → class_file.Class → ℕ → ℕ → List SiteView → List Job
+jobs_from leaves scripts class first number [] = []
+jobs_from leaves scripts class first number (site ∷ sites) =
+    site_job leaves scripts class first number site ∷ jobs_from leaves scripts class first (number + 1) sites
 
 -- these jobs and those of a class's call sites, numbered on
-abbrev pub with_class : LeafTable → List Script → List Job → class_file.Class → List Job
-with_class leaves scripts jobs class = jobs ++ jobs_from leaves scripts class (length jobs) class.sites
-
--- the jobs of classes, in order
-abbrev pub jobs_of : LeafTable → List Script → List class_file.Class → List Job
-jobs_of leaves scripts classes = fold (with_class leaves scripts) [] classes
+abbrev pub with_sites : LeafTable → List Script → ℕ → List Job → class_file.Class → List Job
+with_sites leaves scripts first jobs class = jobs ++ jobs_from leaves scripts class first (length jobs) class.sites
 
 -- the jobs are these, and more after them
 abbrev pub HasMore : List Job → List Job → Type 0

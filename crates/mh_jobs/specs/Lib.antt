@@ -1,10 +1,10 @@
 pub mod Constants
-pub mod Entries
 pub mod Given
 pub mod Job
 pub mod Jobs
 pub mod Names
 pub mod Parts
+pub mod RunJobs
 pub mod Sites
 pub mod Thrown
 pub mod Told

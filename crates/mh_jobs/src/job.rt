@@ -1,14 +1,12 @@
-ghost use Rattle.std.specs.Prelude.{◌≡◌, ◌<◌, length, Some, IfOk};
+ghost use Rattle.std.specs.Prelude.{◌≡◌, ◌+◌, ◌<◌, ◌^◌, length, Some, IfOk};
 ghost use Rattle.std.specs.Option.{option_copied};
-ghost use Rattle.mh_jobs.specs.Entries.{AreEntries};
-ghost use Rattle.mh_jobs.specs.Job.{bootstrap_call, job_of, site_job, site_type};
+ghost use Rattle.mh_jobs.specs.Sites.{job_of};
 
-use crate::call::{Resolving, bootstrap_call};
-use crate::error::ResolutionError;
-use crate::statics::entries_of;
-use crate::types::{TypeOrThrown, read_type};
-use mh_base::{Frozen, NoMemory, Shared};
-use mh_classfile::{ClassView, SiteView};
+use crate::sites::{Bootstrap, SiteRead, site_job};
+use crate::types::read_type;
+use crate::unresolved::{Numbering, entry_at};
+use mh_base::{Copied, Frozen, NoMemory, Shared};
+use mh_classfile::ClassView;
 use mh_leaves::Leaves;
 use mh_script::{ScriptId, Scripts};
 use mh_values::{Exc, LeafId, MethodTy, Str, Ty, Value};
@@ -25,6 +23,17 @@ pub enum Argument {
     Leaf(LeafId),
 }
 
+impl Copied for Argument {
+    fn copy(&self, alloc: Global) -> Result<Argument, NoMemory> {
+        Ok(match self {
+            Argument::Value(value) => Argument::Value(value.copy(alloc)?),
+            Argument::MethodType(ty) => Argument::MethodType(ty.share()?),
+            Argument::Class(ty) => Argument::Class(*ty),
+            Argument::Leaf(leaf) => Argument::Leaf(*leaf),
+        })
+    }
+}
+
 /// A bootstrap method.
 #[derive(Clone, Copy, Debug)]
 pub enum Method {
@@ -34,8 +43,8 @@ pub enum Method {
     Concat,
 }
 
-/// A bootstrap method and what it is called with: the name and the type of the call site, and the
-/// static arguments, which all call sites of the bootstrap method share.
+/// A bootstrap method and what an attempt calls it with: the name and the type of the call site,
+/// and the static arguments, in which the dynamic constants are resolved.
 #[derive(Debug, Drop)]
 pub struct BootstrapCall {
     pub method: Method,
@@ -44,15 +53,15 @@ pub struct BootstrapCall {
     pub arguments: Frozen<Argument>,
 }
 
-/// A call site of a run, resolved as far as it can be.
+/// A call site of a run, resolved as far as it can be before an attempt.
 #[derive(Debug, Drop)]
 pub struct Job {
     /// The number of the site in the run.
     pub site: u32,
     /// The site's type, where it can be read, also where the rest cannot be resolved.
     pub ty: Option<Shared<MethodTy>>,
-    /// The call of the bootstrap method, or what is thrown in its place.
-    pub call: Result<BootstrapCall, Exc>,
+    /// The bootstrap method and its parts, or what is thrown in their place.
+    pub call: Result<Bootstrap, Exc>,
 }
 
 impl Job {
@@ -75,74 +84,44 @@ impl Job {
     }
 }
 
-/// What a call site of a type calls, or what is thrown in its place.
-fn call_or_thrown(
-    alloc: Global,
-    from: &Resolving<'_, '_>,
-    site: &SiteView<'_>,
-    ty: &TypeOrThrown,
-) -> Result<Result<BootstrapCall, Exc>, NoMemory>
-    requires entries { AreEntries from.now.leaves.now from.now.view.now from.now.entries.now }
-    requires ty { ty.now ≡ site_type from.now.leaves.now.classes site.now }
-    ensures { IfOk result (λ call. call ≡ bootstrap_call from.now.leaves.now from.now.scripts.now
-        from.now.view.now site.now) }
-{
-    match bootstrap_call(alloc, from, site, ty) {
-        Ok(call) => Ok(Ok(call)),
-        Err(ResolutionError::Thrown(exc)) => Ok(Err(exc)),
-        Err(ResolutionError::NoMemory) => Err(NoMemory),
-    }
-}
-
-/// The job of a call site of a type, which has a number in the run.
-pub(crate) fn site_job(
-    alloc: Global,
-    from: &Resolving<'_, '_>,
-    number: u32,
-    site: &SiteView<'_>,
-    ty: TypeOrThrown,
-) -> Result<Job, NoMemory>
-    requires entries { AreEntries from.now.leaves.now from.now.view.now from.now.entries.now }
-    requires ty { ty ≡ site_type from.now.leaves.now.classes site.now }
-    ensures { IfOk result (λ made. made ≡ site_job from.now.leaves.now from.now.scripts.now
-        from.now.view.now number site.now) }
-{
-    let call = call_or_thrown(alloc, from, site, &ty)?;
-    Ok(Job {
-        site: number,
-        ty: ty.ok(),
-        call,
-    })
-}
-
-/// The job of a class's site `k`, whose number in the run is `site`: the bootstrap method that links
-/// it with the name, the type and the static arguments, or the first of what is wrong, in that order
-/// (JVMS SE 17, 5.4.3.6). A script of the name of a built-in method does not count.
-/// `NoClassDefFoundError` names a class that is not there, or an owner that is
-/// neither a class nor that of a script; `NoSuchMethodError` a script or a leaf;
-/// `UnsupportedOperationException` has the message `constant` for a bootstrap method that is not
-/// called by `invokestatic`, and for static arguments that are other constants or handles than
-/// those that [`Argument`] has, `type` for a type that is left out, and for texts `lone surrogate`
+/// The job of a class's site `k`, whose number in the run is `site`, where the classes before it have
+/// `first` dynamic constants: the bootstrap method that links it with the name, the type and the
+/// static arguments, or the first of what is wrong, in that order (JVMS SE 17, 5.4.3.6). A script of
+/// the name of a built-in method does not count. `NoClassDefFoundError` names a class that is not
+/// there, or an owner that is neither a class nor that of a script; `NoSuchMethodError` a script or
+/// a leaf; `UnsupportedOperationException` has the message `constant` for a bootstrap method that is
+/// not called by `invokestatic`, `type` for a type that is left out, and for texts `lone surrogate`
 /// or `string too long` (above 4,096 characters).
+///
+/// Static arguments are read up to the first that is refused. What it throws is kept with them, since
+/// an attempt resolves the dynamic constants before it: the exceptions above, and the message
+/// `constant` for other constants or handles than those that [`Argument`] has.
 pub fn job_of(
     alloc: Global,
     view: &ClassView<'_>,
     k: u32,
     site: u32,
+    first: u32,
     scripts: &Scripts,
     leaves: &Leaves,
 ) -> Result<Job, NoMemory>
-    requires { k < length view.now.sites }
-    ensures { IfOk result (λ made. job_of leaves.now scripts.now view.now k site ≡ Some made) }
+    requires site { k < length view.now.sites }
+    requires few { first + length view.now.dynamics < 2 ^ 32 }
+    ensures { IfOk result
+        (λ made. job_of leaves.now scripts.now view.now k site first ≡ Some made) }
 {
-    let entries = entries_of(alloc, view, leaves)?;
-    let from = Resolving {
+    let from = Numbering {
         view,
         scripts,
         leaves,
-        entries: &entries,
+        first,
     };
     let at = view.site(k);
     let ty = read_type(alloc, leaves.classes(), at.descriptor.bytes())?;
-    site_job(alloc, &from, site, &at, ty)
+    let entry = entry_at(alloc, &from, at.bootstrap)?;
+    let read = SiteRead {
+        ty,
+        arguments: entry.arguments,
+    };
+    site_job(alloc, &from, site, &at, read)
 }

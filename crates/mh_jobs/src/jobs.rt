@@ -1,19 +1,15 @@
 ghost use Rattle.std.specs.Prelude.{◌≡◌, ◌<◌, List, [], ◌∷◌, ◌++◌, length, slice_get, Some, IfOk, OnErr, OnOk};
 ghost use Rattle.mh_leaf.specs.LeafTable.{LeafTable};
-ghost use Rattle.mh_classfile.specs.Class.{Class};
 ghost use Rattle.mh_script.specs.declared.script.Script.{Script};
 ghost use Rattle.mh_jobs.specs.Given.{AreJobsOf};
-ghost use Rattle.mh_jobs.specs.Jobs.{HasMore, jobs_of, with_class};
+ghost use Rattle.mh_jobs.specs.Jobs.{HasMore, with_sites};
+ghost use Rattle.mh_jobs.specs.Parts.{AreRead};
 
 use crate::Job;
-use crate::call::Resolving;
-use crate::job::site_job;
-use crate::statics::entries_of;
+use crate::sites::{SiteRead, site_job};
 use crate::types::{no_types, read_once};
+use crate::unresolved::{Entry, Numbering, entry_in};
 use mh_base::{NoMemory, Seq};
-use mh_classfile::ClassView;
-use mh_leaves::Leaves;
-use mh_script::Scripts;
 use std::alloc::Global;
 use std::marker::Model;
 
@@ -82,45 +78,32 @@ impl Jobs {
     }
 }
 
-/// Puts the jobs of the call sites of one more class after the others, numbered on. Equal descriptors
-/// of the class are read once, and so are the static arguments of each bootstrap method.
-///
-/// A call site that no `u32` can number is want of memory. If memory runs out, the jobs are those
-/// before, and some of the class's after them.
-#[tactic(auto, using(crate::proofs::Numbering::all_made, crate::proofs::Numbering::no_more, crate::proofs::Numbering::more_classes, crate::proofs::OfClasses::are_more))]
-pub fn push_jobs(
+/// Puts the jobs of the call sites of a class after the others, numbered on. Equal descriptors of
+/// the class are read once. What is read of the static arguments of each bootstrap method is at hand.
+#[tactic(auto, using(crate::proofs::Numbering::all_made, crate::proofs::Numbering::no_more))]
+pub(crate) fn push_sites(
     alloc: Global,
     jobs: &mut Jobs,
-    view: &ClassView<'_>,
-    scripts: &Scripts,
-    leaves: &Leaves,
+    from: &Numbering<'_, '_>,
+    entries: &Seq<Entry>,
 ) -> Result<(), NoMemory>
-    ensures more { OnOk result
-        (jobs.new ≡ with_class leaves.now scripts.now jobs.old view.now) }
+    requires { AreRead from.now.leaves.now from.now.view.now from.now.first entries.now }
+    ensures more { OnOk result (jobs.new ≡ with_sites from.now.leaves.now from.now.scripts.now
+        from.now.first jobs.old from.now.view.now) }
     ensures before { HasMore jobs.old jobs.new }
-
-    // The jobs of classes become those of the classes and this one.
-    ensures run { (classes : List Class) → jobs.old ≡ jobs_of leaves.now scripts.now classes
-        → OnOk result (jobs.new ≡ jobs_of leaves.now scripts.now (classes ++ view.now ∷ [])) }
-
-    // Jobs of call sites stay such jobs.
-    ensures are_jobs { AreJobsOf leaves.now scripts.now jobs.old
-        → OnOk result (AreJobsOf leaves.now scripts.now jobs.new) }
 {
-    let entries = entries_of(alloc, view, leaves)?;
-    let from = Resolving {
-        view,
-        scripts,
-        leaves,
-        entries: &entries,
-    };
     let mut types = no_types(alloc);
-    for k in 0..view.sites() {
+    for k in 0..from.view.sites() {
         let number = next_number(jobs.len())?;
-        let site = view.site(k);
-        let read = read_once(alloc, leaves.classes(), types, site.descriptor.bytes())?;
-        types = read.0;
-        let job = site_job(alloc, &from, number, &site, read.1)?;
+        let site = from.view.site(k);
+        let (others, ty) = read_once(alloc, from.leaves.classes(), types, site.descriptor.bytes())?;
+        types = others;
+        let entry = entry_in(alloc, from, entries, site.bootstrap)?;
+        let read = SiteRead {
+            ty,
+            arguments: entry.arguments,
+        };
+        let job = site_job(alloc, from, number, &site, read)?;
         jobs.push(job)?;
     }
     Ok(())

@@ -1,8 +1,8 @@
-//! Jobs of call sites: which bootstrap method links a site, and what it is given.
+//! Jobs of call sites and of dynamic constants: which bootstrap method links a site or gives a value,
+//! and what it is given.
 #![tactic(auto)]
 
 mod argument;
-mod call;
 mod const_jobs;
 mod constants;
 mod error;
@@ -10,16 +10,18 @@ mod job;
 mod jobs;
 mod names;
 mod run;
+mod run_jobs;
 mod sites;
 mod statics;
 mod thrown;
 mod types;
 mod unresolved;
 
-pub use const_jobs::{ConstJobs, push_constants};
+pub use const_jobs::ConstJobs;
 pub use constants::{ConstBootstrap, ConstJob, const_job_of};
 pub use job::{Argument, BootstrapCall, Job, Method, job_of};
-pub use jobs::{Jobs, push_jobs};
+pub use jobs::Jobs;
 pub use run::Run;
-pub use sites::{Bootstrap, bootstrap_of};
+pub use run_jobs::{RunJobs, push_class};
+pub use sites::Bootstrap;
 pub use unresolved::{Part, StaticArguments};

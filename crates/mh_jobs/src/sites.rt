@@ -1,18 +1,18 @@
-ghost use Rattle.std.specs.Prelude.{◌≡◌, ◌+◌, ◌<◌, ◌^◌, length, Some, IfOk};
-ghost use Rattle.mh_jobs.specs.Job.{constants_at};
+ghost use Rattle.std.specs.Prelude.{◌≡◌, IfOk};
+ghost use Rattle.mh_jobs.specs.Job.{bootstrap_method, constants_at, site_type};
 ghost use Rattle.mh_jobs.specs.Parts.{static_arguments};
-ghost use Rattle.mh_jobs.specs.Sites.{bootstrap_of, site_bootstrap};
+ghost use Rattle.mh_jobs.specs.Sites.{site_bootstrap, site_job};
 ghost use Rattle.mh_jobs.specs.Told.{TellsResolved};
 
-use crate::Method;
 use crate::argument::text_of;
-use crate::call::bootstrap_method;
 use crate::error::ResolutionError;
-use crate::names::method_type_of_text;
+use crate::names::{is_built_in, script_of};
 use crate::thrown::unsupported;
-use crate::unresolved::{Numbering, StaticArguments, entry_at};
-use mh_base::{NoMemory, Shared};
-use mh_classfile::{ClassView, SiteView};
+use crate::types::TypeOrThrown;
+use crate::unresolved::{Numbering, StaticArguments};
+use crate::{Job, Method};
+use mh_base::{Copied, NoMemory, Shared};
+use mh_classfile::{HandleRef, SiteView};
 use mh_leaves::Leaves;
 use mh_script::Scripts;
 use mh_values::{Exc, MethodTy, Str};
@@ -28,14 +28,54 @@ pub struct Bootstrap {
     pub arguments: StaticArguments,
 }
 
-/// What a call site calls, where what is read of its static arguments is at hand.
+/// What is read of a call site: its type, or what is thrown in its place, and the static arguments
+/// of its bootstrap method.
+#[derive(Drop)]
+pub(crate) struct SiteRead {
+    pub ty: TypeOrThrown,
+    pub arguments: StaticArguments,
+}
+
+/// The bootstrap method that a handle names: a built-in one, or else that of a script.
+fn bootstrap_method(
+    alloc: Global,
+    leaves: &Leaves,
+    scripts: &Scripts,
+    handle: &HandleRef<'_>,
+) -> Result<Method, ResolutionError>
+    ensures { TellsResolved result (bootstrap_method leaves.now.classes scripts.now handle.now) }
+{
+    if handle.kind != 6 {
+        return Err(unsupported(alloc, b"constant"));
+    }
+    if is_built_in(handle) {
+        return Ok(Method::Concat);
+    }
+    let script = script_of(alloc, leaves.classes(), scripts, handle)?;
+    Ok(Method::Script(script))
+}
+
+/// A type that was read, once more.
+fn shared(alloc: Global, ty: &TypeOrThrown) -> Result<Shared<MethodTy>, ResolutionError>
+    ensures { TellsResolved result ty.now }
+{
+    match ty {
+        Ok(ty) => Ok(ty.share()?),
+        Err(exc) => Err(ResolutionError::Thrown(exc.copy(alloc)?)),
+    }
+}
+
+/// What a call site of a type calls, where what is read of its static arguments is at hand.
 fn site_bootstrap(
     alloc: Global,
     from: &Numbering<'_, '_>,
     site: &SiteView<'_>,
+    ty: &TypeOrThrown,
     arguments: StaticArguments,
 ) -> Result<Bootstrap, ResolutionError>
-    requires { arguments ≡ static_arguments from.now.leaves.now from.now.view.now from.now.first
+    requires ty { ty.now ≡ site_type from.now.leaves.now.classes site.now }
+    requires arguments { arguments
+        ≡ static_arguments from.now.leaves.now from.now.view.now from.now.first
         (constants_at from.now.view.now site.now.bootstrap) }
     ensures { TellsResolved result (site_bootstrap from.now.leaves.now from.now.scripts.now
         from.now.view.now from.now.first site.now) }
@@ -45,7 +85,7 @@ fn site_bootstrap(
     }
     let handle = from.view.bootstrap(site.bootstrap);
     let method = bootstrap_method(alloc, from.leaves, from.scripts, &handle)?;
-    let ty = method_type_of_text(alloc, from.leaves.classes(), site.descriptor.bytes())?;
+    let ty = shared(alloc, ty)?;
     let name = text_of(alloc, &site.name)?;
     Ok(Bootstrap {
         method,
@@ -55,33 +95,48 @@ fn site_bootstrap(
     })
 }
 
-/// What a class's site `k` calls its bootstrap method with, where the classes before it have `first`
-/// dynamic constants; or what is thrown in its place. The errors are those of [`crate::job_of`],
-/// except that those of static arguments are kept with the arguments.
-pub fn bootstrap_of(
+/// What a call site of a type calls, or what is thrown in its place.
+fn bootstrap_or_thrown(
     alloc: Global,
-    view: &ClassView<'_>,
-    k: u32,
-    first: u32,
-    scripts: &Scripts,
-    leaves: &Leaves,
+    from: &Numbering<'_, '_>,
+    site: &SiteView<'_>,
+    ty: &TypeOrThrown,
+    arguments: StaticArguments,
 ) -> Result<Result<Bootstrap, Exc>, NoMemory>
-    requires site { k < length view.now.sites }
-    requires few { first + length view.now.dynamics < 2 ^ 32 }
-    ensures { IfOk result
-        (λ made. bootstrap_of leaves.now scripts.now view.now k first ≡ Some made) }
+    requires ty { ty.now ≡ site_type from.now.leaves.now.classes site.now }
+    requires arguments { arguments
+        ≡ static_arguments from.now.leaves.now from.now.view.now from.now.first
+        (constants_at from.now.view.now site.now.bootstrap) }
+    ensures { IfOk result (λ call. call ≡ site_bootstrap
+        from.now.leaves.now from.now.scripts.now from.now.view.now from.now.first site.now) }
 {
-    let from = Numbering {
-        view,
-        scripts,
-        leaves,
-        first,
-    };
-    let site = view.site(k);
-    let entry = entry_at(alloc, &from, site.bootstrap)?;
-    match site_bootstrap(alloc, &from, &site, entry.arguments) {
+    match site_bootstrap(alloc, from, site, ty, arguments) {
         Ok(call) => Ok(Ok(call)),
         Err(ResolutionError::Thrown(exc)) => Ok(Err(exc)),
         Err(ResolutionError::NoMemory) => Err(NoMemory),
     }
+}
+
+/// The job of a call site, which has a number in the run.
+pub(crate) fn site_job(
+    alloc: Global,
+    from: &Numbering<'_, '_>,
+    number: u32,
+    site: &SiteView<'_>,
+    read: SiteRead,
+) -> Result<Job, NoMemory>
+    requires ty { read.ty ≡ site_type from.now.leaves.now.classes site.now }
+    requires arguments { read.arguments
+        ≡ static_arguments from.now.leaves.now from.now.view.now from.now.first
+        (constants_at from.now.view.now site.now.bootstrap) }
+    ensures { IfOk result (λ made. made ≡ site_job from.now.leaves.now from.now.scripts.now
+        from.now.view.now from.now.first number site.now) }
+{
+    let SiteRead { ty, arguments } = read;
+    let call = bootstrap_or_thrown(alloc, from, site, &ty, arguments)?;
+    Ok(Job {
+        site: number,
+        ty: ty.ok(),
+        call,
+    })
 }

@@ -1,7 +1,7 @@
 ghost use Rattle.std.specs.Prelude.{◌≡◌, ◌+◌, ◌<◌, ◌≤◌, ◌^◌, [], length, None, IfOk};
 ghost use Rattle.mh_classfile.specs.Class.{number_of};
 ghost use Rattle.mh_jobs.specs.Job.{constants_at};
-ghost use Rattle.mh_jobs.specs.Parts.{entry_of, named_constant, names_of, part_of, static_arguments};
+ghost use Rattle.mh_jobs.specs.Parts.{AreRead, entry_of, named_constant, names_of, part_of, static_arguments};
 ghost use Rattle.mh_jobs.specs.Told.{TellsResolved};
 
 use crate::Argument;
@@ -40,7 +40,7 @@ pub(crate) struct Entry {
     pub names: Frozen<u32>,
 }
 
-/// What the dynamic constants of a class are resolved with.
+/// What the call sites and the dynamic constants of a class are resolved with.
 #[derive(Clone, Copy)]
 pub(crate) struct Numbering<'a, 'b> {
     pub view: &'a ClassView<'b>,
@@ -133,11 +133,7 @@ fn names_of(alloc: Global, from: &Numbering<'_, '_>, bootstrap: u16) -> Result<S
 }
 
 /// What is read of the static arguments of a bootstrap method.
-pub(crate) fn entry_of(
-    alloc: Global,
-    from: &Numbering<'_, '_>,
-    bootstrap: u16,
-) -> Result<Entry, NoMemory>
+fn entry_of(alloc: Global, from: &Numbering<'_, '_>, bootstrap: u16) -> Result<Entry, NoMemory>
     requires few { from.now.first + length from.now.view.now.dynamics < 2 ^ 32 }
     requires bootstrap { bootstrap < length from.now.view.now.bootstraps }
     ensures { IfOk result (λ entry. entry
@@ -156,7 +152,7 @@ pub(crate) fn entry_of(
 }
 
 /// What is read where there are no static arguments.
-pub(crate) fn no_entry() -> Entry
+fn no_entry() -> Entry
     ensures { result ≡ record { arguments = record { parts = []; thrown = None }; names = [] } }
 {
     Entry {
@@ -169,7 +165,7 @@ pub(crate) fn no_entry() -> Entry
 }
 
 /// What was read, which is not read again.
-pub(crate) fn shared(alloc: Global, entry: &Entry) -> Result<Entry, NoMemory>
+fn shared(alloc: Global, entry: &Entry) -> Result<Entry, NoMemory>
     ensures { IfOk result (λ copy. copy ≡ entry.now) }
 {
     let thrown = match &entry.arguments.thrown {
@@ -200,4 +196,36 @@ pub(crate) fn entry_at(
         return Ok(no_entry());
     }
     entry_of(alloc, from, bootstrap)
+}
+
+/// What is read of the static arguments of each bootstrap method of a class, by its number.
+#[tactic(auto, using(crate::proofs::Parted::one_more))]
+pub(crate) fn entries_of(alloc: Global, from: &Numbering<'_, '_>) -> Result<Seq<Entry>, NoMemory>
+    requires { from.now.first + length from.now.view.now.dynamics < 2 ^ 32 }
+    ensures { IfOk result (AreRead from.now.leaves.now from.now.view.now from.now.first) }
+{
+    let mut entries = Seq::new(alloc);
+    for bootstrap in 0..from.view.bootstraps() {
+        let entry = entry_of(alloc, from, bootstrap)?;
+        entries.push(entry)?;
+    }
+    Ok(entries)
+}
+
+/// What is read of the static arguments of a bootstrap method; nothing, where it is not there.
+pub(crate) fn entry_in(
+    alloc: Global,
+    from: &Numbering<'_, '_>,
+    entries: &Seq<Entry>,
+    bootstrap: u16,
+) -> Result<Entry, NoMemory>
+    requires { AreRead from.now.leaves.now from.now.view.now from.now.first entries.now }
+    ensures { IfOk result (λ entry. entry
+        ≡ entry_of from.now.leaves.now from.now.view.now from.now.first
+        (constants_at from.now.view.now bootstrap)) }
+{
+    if bootstrap >= from.view.bootstraps() {
+        return Ok(no_entry());
+    }
+    shared(alloc, entries.get(bootstrap as usize))
 }

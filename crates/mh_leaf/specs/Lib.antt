@@ -1,3 +1,4 @@
+pub mod Ending
 pub mod LeafTable
 pub mod Limits
 pub mod Outcome

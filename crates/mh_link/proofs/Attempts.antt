@@ -5,7 +5,6 @@ use Rattle.std.proofs.lemmas.List.Elements.{All-cons, All-nil}
 use Rattle.mh_base.proofs.Inversion.{ok_is}
 use Rattle.mh_values.specs.declared.value.Exc.{Exc}
 use Rattle.mh_leaf.specs.LeafTable.{LeafTable}
-use Rattle.mh_classfile.specs.declared.constant.Constant.{Constant}
 use Rattle.mh_classfile.specs.declared.constant.HandleRef.{HandleRef}
 use Rattle.mh_classfile.specs.declared.constant.SiteView.{SiteView}
 use Rattle.mh_classfile.specs.Class as class_file
@@ -17,16 +16,19 @@ use Rattle.mh_script.proofs.Places.{script_named-within}
 use Rattle.mh_jobs.specs.declared.job.BootstrapCall.{BootstrapCall}
 use Rattle.mh_jobs.specs.declared.job.Method.{Method}
 use Rattle.mh_jobs.specs.declared.job.Method.TheVariants as method
-use Rattle.mh_jobs.specs.Job.{text_of, method_of, method_named, arguments_of, bootstrap_at, bootstrap_method, site_type, call_of, bootstrap_call, site_job}
+use Rattle.mh_jobs.specs.Job.{method_of, method_named, bootstrap_method}
 use Rattle.mh_jobs.specs.Names.{is_built_in, is_known_owner, script_of}
-use Rattle.mh_jobs.specs.Thrown.{OrThrown, ◌>>=◌, as_shown, no_class, no_method, unsupported}
+use Rattle.mh_jobs.specs.Sites.{site_bootstrap, site_job}
+use Rattle.mh_jobs.specs.Thrown.{◌>>=◌, as_shown, no_class, no_method, unsupported}
 use Rattle.mh_jobs.proofs.Parts.{bound-parts, require-parts}
 use Rattle.mh_link.specs.Concatenation.{concat_of}
 use Rattle.mh_link.specs.Linked.{IsThere, called_script, at_start}
 use Rattle.mh_link.specs.Made.{nodes, nodes_from, nodes_of_call, nodes_of_method}
+use Rattle.mh_link.specs.Resolved.{Found, call_under, nothing_known}
 use Rattle.mh_link.proofs.Concatenations.{concat-typed}
 use Rattle.mh_link.proofs.Leaves.{call-typed}
 use Rattle.mh_link.proofs.Nodes.{AreTyped, IsTyped, thrown-typed, from-typed}
+use Rattle.mh_link.proofs.SiteCalls.{call-made}
 
 method-typed : (leaves : LeafTable) (scripts : List Script) (serial : ℕ) (call : BootstrapCall) (m : Method) → AreTyped leaves call →
     All (IsTyped leaves) (nodes_of_method leaves scripts serial call m)
@@ -38,11 +40,11 @@ method-typed leaves scripts serial call method.Concat are =
     (λ t h. All-cons (IsTyped leaves) t [] (call.ty, concat-typed leaves call t h) (All-nil (IsTyped leaves)))
 
 -- every node that the attempt for a call site makes has a type
-pub made-typed : (leaves : LeafTable) (scripts : List Script) (class : class_file.Class) (number : ℕ) (site : SiteView) (serial : ℕ) →
-    All (IsTyped leaves) (nodes leaves scripts (site_job leaves scripts class number site) serial)
-made-typed leaves scripts class number site serial =
-    thrown-typed leaves (bootstrap_call leaves scripts class site) (nodes_of_call leaves scripts serial)
-    (λ call h. method-typed leaves scripts serial call call.method (call-typed leaves scripts class site call h))
+pub made-typed : (leaves : LeafTable) (scripts : List Script) (class : class_file.Class) (first number : ℕ) (site : SiteView) (serial : ℕ) →
+    All (IsTyped leaves) (nodes leaves scripts (site_job leaves scripts class first number site) serial)
+made-typed leaves scripts class first number site serial =
+    thrown-typed leaves (call_under nothing_known (site_bootstrap leaves scripts class first site)) (nodes_of_call leaves scripts serial)
+    (λ call h. method-typed leaves scripts serial call call.method (call-typed leaves scripts class first site nothing_known call h))
 
 found : (o : Option ScriptId) (e : Exc) (id : ScriptId) → ok_or o e ≡ Ok id → o ≡ Some id
 found (Some other) e id h = cc
@@ -69,21 +71,8 @@ handle-there classes scripts h named is =
     let static = require-parts (h.kind == 6) (unsupported (codes "constant")) (method_named classes scripts m) named is in
     named-there classes scripts m (is_built_in m) named static.1
 
-same_method : (a b : BootstrapCall) → ◌≡◌ {A = OrThrown BootstrapCall} (Ok a) (Ok b) → a.method ≡ b.method
-same_method a b h = cc
-
-called-there : (leaves : LeafTable) (scripts : List Script) (site : SiteView) (handle : HandleRef) (constants : List Constant) (call : BootstrapCall) →
-    call_of leaves scripts site handle constants ≡ Ok call → IsThere scripts call.method
-called-there leaves scripts site handle constants call h =
-    let first = bound-parts (bootstrap_method leaves.classes scripts handle) _ call h in
-    let second = bound-parts (site_type leaves.classes site) _ call first.2 in
-    let third = bound-parts (text_of site.name) _ call second.2 in
-    let fourth = bound-parts (arguments_of leaves constants) _ call third.2 in
-    subst (IsThere scripts) (same_method _ call fourth.2) (handle-there leaves.classes scripts handle first.0 first.1)
-
--- the script that the call of a job names, if it names one, is there
-pub method-there : (leaves : LeafTable) (scripts : List Script) (class : class_file.Class) (site : SiteView) (call : BootstrapCall) →
-    bootstrap_call leaves scripts class site ≡ Ok call → IsThere scripts call.method
-method-there leaves scripts class site call h =
-    let bootstrap = bound-parts (bootstrap_at class site.bootstrap) (λ b. call_of leaves scripts site b.handle b.arguments) call h in
-    called-there leaves scripts site bootstrap.0.handle bootstrap.0.arguments call bootstrap.2
+-- the script that the call of a site names, if it names one, is there
+pub method-there : (leaves : LeafTable) (scripts : List Script) (class : class_file.Class) (first : ℕ) (site : SiteView) (known : Found) (call : BootstrapCall) →
+    call_under known (site_bootstrap leaves scripts class first site) ≡ Ok call → IsThere scripts call.method
+method-there leaves scripts class first site known call h =
+    let made = call-made leaves scripts class first site known call h in handle-there leaves.classes scripts made.handle call.method made.method

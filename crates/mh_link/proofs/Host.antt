@@ -15,7 +15,7 @@ use Rattle.mh_script.specs.declared.script.Operation.TheVariants as operation
 use Rattle.mh_script.specs.declared.script.Script.{Script}
 use Rattle.mh_script.specs.declared.script.Step.{Step}
 use Rattle.mh_jobs.specs.declared.job.Job.{Job}
-use Rattle.mh_jobs.specs.Job.{site_job}
+use Rattle.mh_jobs.specs.Sites.{site_job}
 use Rattle.mh_jobs.specs.Thrown.{caused}
 use Rattle.mh_jobs.proofs.Host.{bootstrap_descriptor, site_of, booted, class_of}
 use Rattle.mh_link.specs.Linked.{Linked, Target, Error, linked}
@@ -69,7 +69,7 @@ script steps e = record { method = method (codes "made/Boot") (codes "link") boo
 -- the job of the site `f` of a type, with static arguments and a script
 abbrev pub job_with : List ℕ → List Constant → Script → Job
 job_with descriptor arguments s =
-    let site = site_of (codes "f") descriptor in site_job host (s ∷ []) (class_of site (booted arguments)) 0 site
+    let site = site_of (codes "f") descriptor in site_job host (s ∷ []) (class_of site (booted arguments)) 0 0 site
 
 -- what the attempt of a serial number links at such a site
 abbrev pub attempt_with : ℕ → List ℕ → List Constant → List Step → End → Linked

@@ -1,11 +1,11 @@
 -- The static arguments of a job that are leaves are leaves of the table.
-use Rattle.std.proofs.Common.{◌≡◌, refl, sym, subst, ℕ, zero, suc, ◌<◌, List, [], ◌∷◌, length, Option, Some, None, Result, Ok, Err, codes}
+use Rattle.std.proofs.Common.{◌≡◌, refl, sym, subst, ap, ℕ, zero, suc, ◌<◌, List, [], ◌∷◌, length, Option, Some, None, Result, Ok, Err, codes}
 use Rattle.std.specs.Prelude.{position, slice_get, IfSome, ok_or}
 use Rattle.mh_base.proofs.Inversion.{ok_is, some_is}
 use Rattle.mh_base.proofs.Slices.{slice_get-within}
 use Rattle.mh_values.specs.declared.class.ClassId.{ClassId}
-use Rattle.mh_values.specs.declared.types.MethodTy.{MethodTy}
 use Rattle.mh_values.specs.declared.value.LeafId.{LeafId}
+use Rattle.mh_values.specs.declared.value.Value.{Value}
 use Rattle.mh_values.specs.declared.value.Value.TheVariants as value
 use Rattle.mh_values.specs.Classes.{class_named}
 use Rattle.mh_leaf.specs.declared.leaf.Leaf.{Leaf}
@@ -18,19 +18,22 @@ use Rattle.mh_tree.specs.Tree as tree
 use Rattle.mh_tree.specs.Rows.{leaf_row}
 use Rattle.mh_classfile.specs.declared.constant.Constant.{Constant}
 use Rattle.mh_classfile.specs.declared.constant.Constant.TheVariants as constant
-use Rattle.mh_classfile.specs.declared.constant.HandleRef.{HandleRef}
 use Rattle.mh_classfile.specs.declared.constant.SiteView.{SiteView}
 use Rattle.mh_classfile.specs.Class as class_file
 use Rattle.mh_jobs.specs.declared.job.Argument.{Argument}
 use Rattle.mh_jobs.specs.declared.job.Argument.TheVariants as argument
 use Rattle.mh_jobs.specs.declared.job.BootstrapCall.{BootstrapCall}
-use Rattle.mh_jobs.specs.declared.job.Method.{Method}
 use Rattle.mh_script.specs.declared.script.MethodName.{MethodName}
 use Rattle.mh_script.specs.declared.script.Script.{Script}
-use Rattle.mh_jobs.specs.Job.{text_of, method_of, way_of, class_argument, argument_of, arguments_of, bootstrap_at, bootstrap_method, site_type, call_of, bootstrap_call}
+use Rattle.mh_jobs.specs.declared.unresolved.StaticArguments.{StaticArguments}
+use Rattle.mh_jobs.specs.Job.{text_of, method_of, way_of, class_argument, argument_of}
+use Rattle.mh_jobs.specs.Parts.{constant_or, named_constant, static_arguments, with_part}
+use Rattle.mh_jobs.specs.Sites.{site_bootstrap}
 use Rattle.mh_jobs.specs.Names.{unless_missing, leaf_named, method_type_of_text}
 use Rattle.mh_jobs.specs.Thrown.{Says, OrThrown, ◌>>=◌, as_shown, unsupported}
+use Rattle.mh_link.specs.Resolved.{Found, taken, resolved, call_under}
 use Rattle.mh_link.proofs.Nodes.{IsTyped, AreTyped}
+use Rattle.mh_link.proofs.SiteCalls.{call-made}
 use Rattle.mh_jobs.proofs.Parts.{bound-parts}
 
 at-within : (n : ℕ) (o : Option ℕ) (l : LeafId) → IfSome o (λ i. i < n) → leaf_numbered o ≡ Ok l → l.0 < n
@@ -73,46 +76,49 @@ argument-within leaves c l h = absurd cc
 none_there : (a : Argument) → ◌≡◌ {A = Option Argument} None (Some a) → ⊥
 none_there a h = absurd cc
 
-next-within : (leaves : LeafTable) (c : Constant) (a : Argument) (others : List Argument) → argument_of leaves c ≡ Ok a →
-    ((n : ℕ) (l : LeafId) → slice_get others n ≡ Some (argument.Leaf l) → l.0 < length leaves.leaves) → (n : ℕ) (l : LeafId) → slice_get
-    (a ∷ others) n ≡ Some (argument.Leaf l) → l.0 < length leaves.leaves
-next-within leaves c a others h more zero l k = argument-within leaves c l (subst (λ b. argument_of leaves c ≡ Ok b) (some_is a (argument.Leaf l) k) h)
-next-within leaves c a others h more (suc n) l k = more n l k
+-- the leaves among these arguments are leaves of the table
+abbrev AreWithin : LeafTable → List Argument → Type 0
+AreWithin leaves given = (n : ℕ) (l : LeafId) → slice_get given n ≡ Some (argument.Leaf l) → l.0 < length leaves.leaves
 
-arguments-within : (leaves : LeafTable) (cs : List Constant) (given : List Argument) → arguments_of leaves cs ≡ Ok given → (n : ℕ) (l : LeafId) →
-    slice_get given n ≡ Some (argument.Leaf l) → l.0 < length leaves.leaves
-arguments-within leaves [] given h n l k =
-    absurd (none_there (argument.Leaf l) (subst (λ (xs : List Argument). slice_get xs n ≡ Some (argument.Leaf l)) (sym (ok_is [] given h)) k))
-arguments-within leaves (c ∷ cs) given h n l k =
-    let first = bound-parts (argument_of leaves c) (λ a. arguments_of leaves cs >>= (λ others. Ok (a ∷ others))) given h in
-    let rest = bound-parts (arguments_of leaves cs) (λ others. Ok (first.0 ∷ others)) given first.2 in
-    next-within leaves c first.0 rest.0 first.1 (arguments-within leaves cs rest.0 rest.1) n l
-    (subst (λ (xs : List Argument). slice_get xs n ≡ Some (argument.Leaf l)) (sym (ok_is (first.0 ∷ rest.0) given rest.2)) k)
+next-within : (leaves : LeafTable) (a : Argument) (others : List Argument) → ((l : LeafId) → a ≡ argument.Leaf l → l.0 < length leaves.leaves) →
+    AreWithin leaves others → AreWithin leaves (a ∷ others)
+next-within leaves a others first more zero l k = first l (some_is a (argument.Leaf l) k)
+next-within leaves a others first more (suc n) l k = more n l k
+
+no_leaf : (v : Value) (l : LeafId) → argument.Value v ≡ argument.Leaf l → ⊥
+no_leaf v l h = absurd cc
+
+module _ (leaves : LeafTable) (known : Found) where
+  -- so are those of one argument and the others
+  first-within : (o : Option ℕ) (m : OrThrown Argument) → ((l : LeafId) → m ≡ Ok (argument.Leaf l) → l.0 < length leaves.leaves) → (rest : StaticArguments) →
+      ((others : List Argument) → resolved known rest ≡ Ok others → AreWithin leaves others) → (given : List Argument) →
+      resolved known (with_part (constant_or o m) rest) ≡ Ok given → AreWithin leaves given
+  first-within (Some c) m own rest more given h =
+      let value = bound-parts (taken (known c)) _ given h in
+      let others = bound-parts (resolved known rest) (λ others. Ok (argument.Value value.0 ∷ others)) given value.2 in
+      subst (AreWithin leaves) (ok_is (argument.Value value.0 ∷ others.0) given others.2)
+      (next-within leaves (argument.Value value.0) others.0 (λ l is. absurd (no_leaf value.0 l is)) (more others.0 others.1))
+  first-within None (Ok a) own rest more given h =
+      let others = bound-parts (resolved known rest) (λ others. Ok (a ∷ others)) given h in
+      subst (AreWithin leaves) (ok_is (a ∷ others.0) given others.2)
+      (next-within leaves a others.0 (λ l is. own l (ap (λ (b : Argument). Ok b) is)) (more others.0 others.1))
+  first-within None (Err e) own rest more given h = absurd cc
+
+  arguments-within : (class : class_file.Class) (first : ℕ) (cs : List Constant) (given : List Argument) →
+      resolved known (static_arguments leaves class first cs) ≡ Ok given → AreWithin leaves given
+  arguments-within class first [] given h = λ n l k.
+      absurd (none_there (argument.Leaf l) (subst (λ (xs : List Argument). slice_get xs n ≡ Some (argument.Leaf l)) (sym (ok_is [] given h)) k))
+  arguments-within class first (c ∷ cs) given h =
+      first-within (named_constant class first c) (argument_of leaves c) (argument-within leaves c) (static_arguments leaves class first cs)
+      (arguments-within class first cs) given h
 
 -- a leaf of the table has a type
 pub leaf-typed : (leaves : LeafTable) (l : LeafId) → l.0 < length leaves.leaves → IsTyped leaves (tree.Leaf l)
 leaf-typed leaves l h = let there = slice_get-within leaves.leaves l.0 h in (there.0.ty, subst (λ o. leaf_row o ≡ Ok there.0.ty) (sym there.1) refl)
 
--- the static arguments of a call that are leaves have types
-called-typed : (leaves : LeafTable) (scripts : List Script) (site : SiteView) (handle : HandleRef) (constants : List Constant) (call : BootstrapCall) →
-    call_of leaves scripts site handle constants ≡ Ok call → AreTyped leaves call
-called-typed leaves scripts site handle constants call h n l k =
-    let Made : Method → MethodTy → List ℕ → List Argument → BootstrapCall = λ m t name given.
-    record { method = m; name = name; ty = t; arguments = given } in
-    let arguments : OrThrown (List Argument) = arguments_of leaves constants in
-    let method = bound-parts (bootstrap_method leaves.classes scripts handle)
-    (λ m. site_type leaves.classes site >>= (λ t. text_of site.name >>= (λ name. arguments >>= (λ given. Ok (Made m t name given))))) call h in
-    let ty = bound-parts (site_type leaves.classes site)
-    (λ t. text_of site.name >>= (λ name. arguments >>= (λ given. Ok (Made method.0 t name given)))) call method.2 in
-    let name = bound-parts (text_of site.name) (λ name. arguments >>= (λ given. Ok (Made method.0 ty.0 name given))) call ty.2 in
-    let given = bound-parts arguments (λ given. Ok (Made method.0 ty.0 name.0 given)) call name.2 in
-    let is = ok_is (Made method.0 ty.0 name.0 given.0) call given.2 in
-    leaf-typed leaves l (arguments-within leaves constants given.0 given.1 n l
-    (subst (λ (c : BootstrapCall). slice_get c.arguments n ≡ Some (argument.Leaf l)) (sym is) k))
-
--- the call of a job has leaves of the table alone, and they have types
-pub call-typed : (leaves : LeafTable) (scripts : List Script) (class : class_file.Class) (site : SiteView) (call : BootstrapCall) →
-    bootstrap_call leaves scripts class site ≡ Ok call → AreTyped leaves call
-call-typed leaves scripts class site call h =
-    let bootstrap = bound-parts (bootstrap_at class site.bootstrap) (λ b. call_of leaves scripts site b.handle b.arguments) call h in
-    called-typed leaves scripts site bootstrap.0.handle bootstrap.0.arguments call bootstrap.2
+-- the call of a site has leaves of the table alone, and they have types
+pub call-typed : (leaves : LeafTable) (scripts : List Script) (class : class_file.Class) (first : ℕ) (site : SiteView) (known : Found) (call : BootstrapCall) →
+    call_under known (site_bootstrap leaves scripts class first site) ≡ Ok call → AreTyped leaves call
+call-typed leaves scripts class first site known call h n l k =
+    let made = call-made leaves scripts class first site known call h in
+    leaf-typed leaves l (arguments-within leaves known class first made.constants call.arguments made.given n l k)

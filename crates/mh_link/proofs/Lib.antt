@@ -5,13 +5,13 @@ pub mod Host
 pub mod HostLeaves
 pub mod Leaves
 pub mod Nodes
+pub mod SiteCalls
 pub mod Targets
 pub mod Uses
 pub mod Places
 pub mod Depths
 pub mod DepthIs
 pub mod Resolving
-pub mod NothingKnown
 pub mod NamedOwn
 pub mod Asked
 pub mod FixedPoint
@@ -23,6 +23,7 @@ mod WorkedBranchCalls
 mod WorkedCalls
 mod WorkedConcatenations
 mod WorkedConstants
+mod WorkedEndings
 mod WorkedEnds
 mod WorkedLines
 mod WorkedNodes

@@ -1,5 +1,5 @@
 -- The jobs of constants that are made of class files name the constants that their calls have.
-use Rattle.std.proofs.Common.{◌≡◌, refl, sym, subst, ◌∙◌, ap, inl, inr, ℕ, zero, suc, ◌+◌, List, [], ◌∷◌, ◌++◌, length, Option, None, Some, Ok, Err}
+use Rattle.std.proofs.Common.{◌≡◌, sym, subst, ap, inl, inr, ℕ, zero, suc, ◌+◌, List, [], ◌∷◌, ◌++◌, length, Option, None, Some, Ok, Err}
 use Rattle.std.specs.Prelude.{fold, option_to_list, ok_or, slice_get, codes}
 use Rattle.std.specs.Option.{option_map_or}
 use Rattle.mh_base.proofs.Inversion.{ok_is}
@@ -14,14 +14,15 @@ use Rattle.mh_jobs.specs.declared.job.Argument.{Argument}
 use Rattle.mh_jobs.specs.declared.unresolved.Part.{Part}
 use Rattle.mh_jobs.specs.declared.unresolved.Part.TheVariants.{Known, Constant as OfConstant}
 use Rattle.mh_jobs.specs.declared.unresolved.StaticArguments.{StaticArguments}
-use Rattle.mh_jobs.specs.Constants.{const_call, const_job, const_jobs_from, const_jobs_of, const_script, const_type, with_constants}
+use Rattle.mh_jobs.specs.declared.run_jobs.RunJobs.{RunJobs}
+use Rattle.mh_jobs.specs.Constants.{const_call, const_job, const_jobs_from, const_script, const_type, with_constants}
 use Rattle.mh_jobs.specs.Job.{argument_of, constants_at, text_of}
-use Rattle.mh_jobs.specs.Parts.{named_constant, constant_or, part_of, with_part, static_arguments, names_of}
+use Rattle.mh_jobs.specs.RunJobs.{jobs_of, no_jobs, with_class}
+use Rattle.mh_jobs.specs.Parts.{named_constant, constant_or, with_part, static_arguments, names_of}
 use Rattle.mh_jobs.specs.Thrown.{OrThrown, ◌>>=◌, unsupported}
 use Rattle.mh_jobs.proofs.OfClasses.{either}
 use Rattle.mh_jobs.proofs.Parts.{bound-parts}
-use Rattle.mh_link.specs.Named.{Constants, Name, NamesItsOwn, AreConstJobs}
-use Rattle.mh_link.specs.Places.{Has}
+use Rattle.mh_link.specs.Named.{Name, NamesItsOwn, AreConstJobs}
 use Rattle.mh_link.proofs.Places.{has-here, has-right, Within}
 
 -- more names name the same parts
@@ -92,13 +93,13 @@ with-names leaves scripts before class are c job h =
       | inr new ↦ from-names leaves scripts class (length before) (length before) class.dynamics new.0 job new.1
     ]
 
-all-name : (leaves : LeafTable) (scripts : List Script) (before : List ConstJob) (classes : List class_file.Class) → AllName before →
-    AllName (fold (with_constants leaves scripts) before classes)
+all-name : (leaves : LeafTable) (scripts : List Script) (before : RunJobs) (classes : List class_file.Class) → AllName before.constants →
+    AllName (fold (with_class leaves scripts) before classes).constants
 all-name leaves scripts before [] are = are
 all-name leaves scripts before (class ∷ classes) are =
-    all-name leaves scripts (with_constants leaves scripts before class) classes (with-names leaves scripts before class are)
+    all-name leaves scripts (with_class leaves scripts before class) classes (with-names leaves scripts before.constants class are)
 
 -- the jobs of the constants of classes are jobs of constants
 pub are-const-jobs : (leaves : LeafTable) (scripts : List Script) (classes : List class_file.Class) →
-    AreConstJobs (record { leaves = leaves; scripts = scripts; jobs = const_jobs_of leaves scripts classes })
-are-const-jobs leaves scripts classes = all-name leaves scripts [] classes (λ c job h. absurd cc)
+    AreConstJobs (record { leaves = leaves; scripts = scripts; jobs = (jobs_of leaves scripts classes).constants })
+are-const-jobs leaves scripts classes = all-name leaves scripts no_jobs classes (λ c job h. absurd cc)

@@ -1,5 +1,5 @@
 -- What is recorded, each under what its maker found, is what constants are by the serials.
-use Rattle.std.proofs.Common.{◌≡◌, ◌∙◌, ap, ℕ, List, Option, Some, None}
+use Rattle.std.proofs.Common.{◌≡◌, ◌∙◌, ap, ℕ, Option, Some, None}
 use Rattle.std.specs.Prelude.{option_map, MatchOption}
 use Rattle.mh_link.specs.Resolved.{Found}
 use Rattle.mh_link.specs.Named.{Constants, AreConstJobs}

@@ -6,21 +6,22 @@ use Rattle.mh_values.specs.declared.types.Comp.{Comp}
 use Rattle.mh_values.specs.declared.types.Ty.{Ty}
 use Rattle.mh_values.specs.declared.types.MethodTy.{MethodTy}
 use Rattle.mh_values.specs.declared.value.Exc.{Exc}
+use Rattle.mh_convert.specs.declared.conv.Rules.{Rules}
 use Rattle.mh_leaf.specs.LeafTable.{LeafTable}
 use Rattle.mh_tree.specs.Rows.{TypeOrRefusal, component_of, illegal, spread_row}
 use Rattle.mh_tree.specs.Tree.{Tree, weight}
 use Rattle.mh_tree.specs.Tree as tree
 use Rattle.mh_tree.specs.Typing.{type_of, with_type}
-use Rattle.mh_tree.specs.Use.{used_as, use_row, use_weight, taking_items, items_used_as, spread_use_row}
-use Rattle.mh_tree.proofs.Uses.{use-type, spread-type}
+use Rattle.mh_tree.specs.Use.{used_by, use_row, use_row_by, use_weight, taking_items, items_used_as, spread_use_row}
+use Rattle.mh_tree.proofs.Uses.{use-type-by, spread-type}
 use Rattle.mh_jobs.specs.Thrown.{OrThrown, ◌>>=◌, ◌>>◌, require}
 use Rattle.mh_link.specs.Operations.{use_of, spread_of}
 
--- a use as a type has the type that the rule says, or is refused as it says
-pub use_of-type : (leaves : LeafTable) (t : Tree) (own asked : MethodTy) → type_of leaves t ≡ Ok own →
-    (use_of leaves t asked >>= type_of leaves) ≡ use_row leaves.classes own (weight t) asked
-use_of-type leaves t own asked h =
-    ap (λ (m : TypeOrRefusal). (m >>= (λ o. Ok (used_as o asked t))) >>= type_of leaves) h ∙ use-type leaves t own h asked
+-- a conversion to a type has the type that the rule says, or is refused as it says
+pub use_of-type : (by : Rules) (leaves : LeafTable) (t : Tree) (own asked : MethodTy) → type_of leaves t ≡ Ok own →
+    (use_of by leaves t asked >>= type_of leaves) ≡ use_row_by by leaves.classes own (weight t) asked
+use_of-type by leaves t own asked h =
+    ap (λ (m : TypeOrRefusal). (m >>= (λ o. Ok (used_by by o asked t))) >>= type_of leaves) h ∙ use-type-by leaves t own h by asked
 
 -- what asks for a component and for a condition
 cases : (o : Option Comp) (b : Bool) (word : Exc) (m : OrThrown Tree) (typed : Tree → TypeOrRefusal) (row : Comp → TypeOrRefusal) →

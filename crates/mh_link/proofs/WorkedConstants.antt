@@ -11,7 +11,6 @@ use Rattle.mh_values.specs.Class.{class_at, class_cast_class, null_pointer_class
 use Rattle.mh_values.specs.Exception.{saying}
 use Rattle.mh_script.specs.declared.operand.Register.TheVariants as register
 use Rattle.mh_script.specs.declared.operand.TypeOperand.TheVariants as of_type
-use Rattle.mh_script.specs.declared.operand.ValueOperand.{ValueOperand}
 use Rattle.mh_script.specs.declared.operand.ValueOperand.TheVariants as of_value
 use Rattle.mh_script.specs.declared.script.End.{End}
 use Rattle.mh_script.specs.declared.script.End.TheVariants as end

@@ -29,6 +29,7 @@ use Rattle.mh_jobs.specs.Names.{class_of}
 use Rattle.mh_link.specs.Concatenation.{concat_of}
 use Rattle.mh_link.specs.Operands.{Content, handle, value, Frame, handle_in}
 use Rattle.mh_link.specs.Operations.{node_of}
+use Rattle.mh_link.specs.Resolved.{job_call}
 use Rattle.mh_jobs.specs.Thrown.{OrThrown, ◌>>=◌, ◌>>◌, require, plainly, recorded, runtime_class}
 
 -- ---- lines
@@ -97,7 +98,7 @@ call_outcome leaves scripts call serial = call >>= target_of leaves scripts seri
 
 -- the target of an attempt to link a job's site, or the exception that it throws
 abbrev pub outcome : LeafTable → List Script → Job → ℕ → OrThrown Tree
-outcome leaves scripts job serial = call_outcome leaves scripts job.call serial
+outcome leaves scripts job serial = call_outcome leaves scripts (job_call job) serial
 
 -- what is recorded at a site: the target of all calls, or the error that all throw
 pub data Linked : Type 0 where
@@ -115,7 +116,7 @@ call_linked leaves scripts call serial = linkage leaves.classes (call_outcome le
 
 -- what the attempt with a serial number links at a job's site
 abbrev pub linked : LeafTable → List Script → Job → ℕ → Linked
-linked leaves scripts job serial = call_linked leaves scripts job.call serial
+linked leaves scripts job serial = call_linked leaves scripts (job_call job) serial
 
 -- a call of a site: it calls the target, or throws the recorded error without a leaf call
 abbrev pub site_call : LeafTable → Linked → List Value → Done

@@ -25,6 +25,7 @@ use Rattle.mh_link.specs.Concatenation.{concat_of}
 use Rattle.mh_link.specs.Linked.{stepped, ended, called_script, at_start}
 use Rattle.mh_link.specs.Operands.{Frame}
 use Rattle.mh_link.specs.Operations.{node_of}
+use Rattle.mh_link.specs.Resolved.{job_call}
 use Rattle.mh_jobs.specs.Thrown.{OrThrown}
 
 -- ---- the nodes of a line
@@ -41,9 +42,16 @@ handles_of (operation.Collect h place f) = h ∷ f ∷ []
 handles_of (operation.Spread h ty count) = h ∷ []
 handles_of (operation.Gather h ty count) = h ∷ []
 handles_of (operation.AsType h ty) = h ∷ []
+handles_of (operation.Explicit h ty) = h ∷ []
 handles_of (operation.Guard c h e) = c ∷ h ∷ e ∷ []
 handles_of (operation.Catch h class f) = h ∷ f ∷ []
-handles_of _ = []
+handles_of (operation.TryFinally h f) = h ∷ f ∷ []
+handles_of (operation.Switch f cases) = f ∷ cases
+handles_of (operation.Counted n i b) = n ∷ i ∷ b ∷ []
+handles_of (operation.Leaf method) = []
+handles_of (operation.Constant ty v) = []
+handles_of (operation.Identity ty) = []
+handles_of (operation.Throw ret class) = []
 
 -- the node of a static argument that is a leaf
 abbrev pub leaf_among : Option Argument → List Tree
@@ -107,7 +115,7 @@ call_nodes leaves scripts call serial = unless_thrown call (nodes_of_call leaves
 
 -- the nodes that the attempt with a serial number makes at a job's site
 abbrev pub nodes : LeafTable → List Script → Job → ℕ → List Tree
-nodes leaves scripts job serial = call_nodes leaves scripts job.call serial
+nodes leaves scripts job serial = call_nodes leaves scripts (job_call job) serial
 
 -- ---- what is asked for
 
@@ -127,4 +135,4 @@ call_edits recipe leaves scripts call serial = flat_map (λ t. beginnings (recip
 
 -- likewise of an attempt at a job's site
 abbrev pub edits : {K : Type 0} → (Tree → List K) → LeafTable → List Script → Job → ℕ → List (List K)
-edits recipe leaves scripts job serial = call_edits recipe leaves scripts job.call serial
+edits recipe leaves scripts job serial = call_edits recipe leaves scripts (job_call job) serial

@@ -1,5 +1,5 @@
 -- What is recorded of constants, each by a maker of its own.
-use Rattle.std.specs.Prelude.{◌≡◌, ℕ, List, Some, None, MatchOption}
+use Rattle.std.specs.Prelude.{◌≡◌, ℕ, Some, None, MatchOption}
 use Rattle.mh_link.specs.Resolved.{Found, Agree}
 use Rattle.mh_link.specs.Named.{Constants}
 use Rattle.mh_link.specs.Constants.{Serials, serial_at, const_under}

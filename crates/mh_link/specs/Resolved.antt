@@ -2,6 +2,7 @@
 use Rattle.mh_jobs.specs.declared.job.Argument.TheVariants as argument
 use Rattle.mh_jobs.specs.declared.job.Argument.{Argument}
 use Rattle.mh_jobs.specs.declared.job.BootstrapCall.{BootstrapCall}
+use Rattle.mh_jobs.specs.declared.job.Job.{Job}
 use Rattle.mh_jobs.specs.declared.sites.Bootstrap.{Bootstrap}
 use Rattle.mh_jobs.specs.declared.unresolved.Part.TheVariants.{Known, Constant}
 use Rattle.mh_jobs.specs.declared.unresolved.Part.{Part}
@@ -50,6 +51,10 @@ call_under known call = do
 -- nothing is known of any constant
 abbrev pub nothing_known : Found
 nothing_known c = None
+
+-- the call of the bootstrap method at a job's site; its dynamic constants are unsupported
+abbrev pub job_call : Job → OrThrown BootstrapCall
+job_call job = call_under nothing_known job.call
 
 -- the constants that are looked at to resolve parts, in order: up to the first that is an error
 abbrev pub asked : Found → List Part → List ℕ

@@ -3,7 +3,7 @@ use Rattle.std.proofs.Common.{◌≡◌, ◌∙◌, refl, ap, subst, ℕ, List, 
 use Rattle.mh_leaves.specs.Manifest.{manifest, kind_word as manifest_word}
 use Rattle.mh_script.specs.Kinds.{kind_word as script_word}
 use Rattle.mh_script.specs.Scripts.{scripts}
-use Rattle.mh_jobs.specs.Jobs.{jobs_of}
+use Rattle.mh_jobs.specs.RunJobs.{jobs_of}
 use Rattle.mh_plan.specs.Plan.{plan, kind_word as plan_word}
 use Rattle.mh_words.specs.Words.{Named}
 use Rattle.mh_generated.specs.Files.{files_of}
@@ -32,7 +32,7 @@ generated_accepted number =
     let leaves = manifest_made.0 in
     let all = scripts_made.0 in
     let class = class-made number in
-    let jobs = jobs_of leaves all (class.0 ∷ []) in
+    let jobs = (jobs_of leaves all (class.0 ∷ [])).sites in
     let threads = plan-made number leaves jobs (jobs-made leaves all class.0 number class.2) in
     let p : Program = record { leaves = leaves; scripts = all; jobs = jobs; plan = threads.0; workers = 0; output = Line number } in
     let Q : Input → Type 0 = λ i. i ≡ accepted (program p) in (

@@ -7,7 +7,8 @@ use Rattle.mh_classfile.specs.Class as class_file
 use Rattle.mh_made_class.specs.ReadBack.{HasSites, sites_of as sites_read}
 use Rattle.mh_made_class.proofs.Counting.{counted}
 use Rattle.mh_script.specs.declared.script.Script.{Script}
-use Rattle.mh_jobs.specs.Jobs.{jobs_from, jobs_of, params_at}
+use Rattle.mh_jobs.specs.Jobs.{jobs_from, params_at}
+use Rattle.mh_jobs.specs.RunJobs.{jobs_of, no_jobs}
 use Rattle.mh_jobs.proofs.OfClasses.{with_class-length}
 use Rattle.mh_generated.specs.Counts.{site_count}
 use Rattle.mh_generated.specs.Sites.{site_of, sites_of}
@@ -15,7 +16,7 @@ use Rattle.mh_main.proofs.GeneratedCalls.{TakeInts, int_type}
 
 -- each of them takes an int
 take-int : (leaves : LeafTable) (all : List Script) (c : class_file.Class) (number first count at from k : ℕ) → k < count →
-    params_at (jobs_from leaves all c at (sites_read from (map (site_of number) (range_with_len first count)))) k ≡ int_type ∷ []
+    params_at (jobs_from leaves all c 0 at (sites_read from (map (site_of number) (range_with_len first count)))) k ≡ int_type ∷ []
 take-int leaves all c number first zero at from k low = absurd (omega arith)
 take-int leaves all c number first (suc count) at from zero low = refl
 take-int leaves all c number first (suc count) at from (suc k) low =
@@ -24,16 +25,16 @@ take-int leaves all c number first (suc count) at from (suc k) low =
 
 -- and there is one for each call site
 pub jobs-made : (leaves : LeafTable) (all : List Script) (c : class_file.Class) (number : ℕ) → HasSites (sites_of number) c →
-    TakeInts (jobs_of leaves all (c ∷ [])) (site_count number)
+    TakeInts (jobs_of leaves all (c ∷ [])).sites (site_count number)
 jobs-made leaves all c number has = record {
   count =
       omega (
         arith,
-        with_class-length leaves all [] c,
+        with_class-length leaves all no_jobs c,
         ap length has.sites,
         counted 0 (sites_of number),
         length-map-range_with_len (site_of number) 0 (site_count number),
       );
   params = λ k low.
-      ap (λ sites. params_at (jobs_from leaves all c 0 sites) k) has.sites ∙ take-int leaves all c number 0 (site_count number) 0 0 k low;
+      ap (λ sites. params_at (jobs_from leaves all c 0 0 sites) k) has.sites ∙ take-int leaves all c number 0 (site_count number) 0 0 k low;
 }

@@ -10,7 +10,7 @@ use Rattle.mh_script.specs.Kinds.{kind_word as script_word}
 use Rattle.mh_script.specs.Scripts.{scripts}
 use Rattle.mh_jobs.specs.declared.job.Job.{Job}
 use Rattle.mh_jobs.specs.Given.{AreJobs}
-use Rattle.mh_jobs.specs.Jobs.{jobs_of}
+use Rattle.mh_jobs.specs.RunJobs.{jobs_of}
 use Rattle.mh_jobs.proofs.OfClasses.{are_jobs}
 use Rattle.mh_plan.specs.declared.call.Call.{Call}
 use Rattle.mh_plan.specs.declared.kinds.PlanKind.{PlanKind}
@@ -30,7 +30,7 @@ use Rattle.mh_main.proofs.Reaching.{stops-at, stops-later}
 texts-read : (Q : Input → Type 0) (output : Output) (names : Named) (files : List ℕ → Contents) (leaves : LeafTable) (all : List Script) → Q unseen →
     TextsMean names files leaves all →
     Q (classes_input most_sites names.classes files (λ classes.
-    plan_input output names.workers (record { leaves = leaves; scripts = all; jobs = jobs_of leaves all classes }) names.plan files)) →
+    plan_input output names.workers (record { leaves = leaves; scripts = all; jobs = (jobs_of leaves all classes).sites }) names.plan files)) →
     Q (named_input output names files)
 texts-read Q output names files leaves all free mean h =
     text-read Q leaves_limit names.leaves manifest_word manifest (files names.leaves) leaves _ free mean.0
@@ -44,7 +44,7 @@ given-read : (Q : Input → Type 0) (output : Output) (names : Named) (files : L
 given-read Q output names files leaves all jobs free mean has h =
     texts-read Q output names files leaves all free mean
     (classes-read Q most_sites names.classes files has.0
-    (λ classes. plan_input output names.workers (record { leaves = leaves; scripts = all; jobs = jobs_of leaves all classes }) names.plan files) free has.1
+    (λ classes. plan_input output names.workers (record { leaves = leaves; scripts = all; jobs = (jobs_of leaves all classes).sites }) names.plan files) free has.1
     (subst (λ (js : List Job). Q (plan_input output names.workers (record { leaves = leaves; scripts = all; jobs = js }) names.plan files)) has.2 h))
 
 -- the scripts that were read after the manifest

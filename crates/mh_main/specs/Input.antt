@@ -12,7 +12,7 @@ use Rattle.mh_handle.specs.Form.{most_forms}
 use Rattle.mh_script.specs.Kinds.{kind_word as script_word}
 use Rattle.mh_script.specs.Scripts.{scripts}
 use Rattle.mh_jobs.specs.Given.{Given}
-use Rattle.mh_jobs.specs.Jobs.{jobs_of}
+use Rattle.mh_jobs.specs.RunJobs.{jobs_of}
 use Rattle.mh_plan.specs.Plan.{plan, kind_word as plan_word}
 use Rattle.mh_report.specs.Prelinked.{draws_by, types_by}
 use Rattle.mh_report.specs.Types.{FitBuckets}
@@ -106,7 +106,7 @@ named_input output names files =
     within names.leaves leaves_limit (files names.leaves) (λ leaves_bytes. meant names.leaves manifest_word (manifest leaves_bytes) (λ leaves.
     within names.scripts leaves_limit (files names.scripts) (λ scripts_bytes. meant names.scripts script_word (scripts scripts_bytes) (λ scripts.
     classes_input most_sites names.classes files (λ classes.
-    plan_input output names.workers (record { leaves = leaves; scripts = scripts; jobs = jobs_of leaves scripts classes }) names.plan files)))))
+    plan_input output names.workers (record { leaves = leaves; scripts = scripts; jobs = (jobs_of leaves scripts classes).sites }) names.plan files)))))
 
 -- these classes are accepted as ones to list
 abbrev pub to_list : List Class → Input

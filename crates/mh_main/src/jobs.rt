@@ -1,5 +1,5 @@
 ghost use Rattle.std.specs.Prelude.{◌≡◌, ◌≤◌, ◌+◌, ◌-◌, List, ℕ, IfOk, IfErr, OnOk, length};
-ghost use Rattle.mh_jobs.specs.Jobs.{jobs_of};
+ghost use Rattle.mh_jobs.specs.RunJobs.{jobs_of};
 ghost use Rattle.mh_outside.specs.Causes.{AreSame};
 ghost use Rattle.mh_outside.specs.Kept.{KeepsInputs};
 ghost use Rattle.mh_outside.specs.Reach.{ReadsOnce};
@@ -12,7 +12,7 @@ ghost use Rattle.mh_main.specs.Stops.{IsStopAmong, IsStopOf, ReachesClass, Stops
 use crate::classes::{CLASS_LIMIT, class_of};
 use crate::reading::read_input;
 use crate::stop::Stop;
-use mh_jobs::{Jobs, push_jobs};
+use mh_jobs::{Jobs, RunJobs, push_class};
 use mh_leaves::Leaves;
 use mh_outside::Inputs;
 use mh_runtime::MOST_SITES;
@@ -26,61 +26,61 @@ struct Methods<'p> {
     scripts: &'p Scripts,
 }
 
-// Reads a class file, and puts the jobs of its call sites after the others.
+// Reads a class file, and puts its jobs after the others.
 #[tactic(auto, using(crate::proofs::ClassJobs::few_jobs))]
 fn read_class<'a, I: Inputs>(
     alloc: Global,
     inputs: &mut I,
     name: &'a str,
     methods: &Methods<'_>,
-    jobs: Jobs,
-) -> Result<Jobs, Stop<'a>>
-    requires { length jobs ≤ most_sites }
+    jobs: RunJobs,
+) -> Result<RunJobs, Stop<'a>>
+    requires { length jobs.sites ≤ most_sites }
     ensures keeps { KeepsInputs (I.contents inputs.old) (I.contents inputs.new)
         (I.faults inputs.old) (I.faults inputs.new) }
     ensures no_fault { OnOk result (AreSame (I.faults inputs.old) (I.faults inputs.new)) }
     ensures stop { IfErr result
         (λ stop. IsStopOf name.now (I.faults inputs.old) (I.faults inputs.new) stop) }
     ensures refuses { IfErr result
-        (λ stop. StopsClass (most_sites - length jobs) (I.contents inputs.old name.now) stop) }
+        (λ stop. StopsClass (most_sites - length jobs.sites) (I.contents inputs.old name.now) stop) }
     ensures ok { IfOk result
-        (MakesJobs methods.now.leaves.now methods.now.scripts.now (most_sites - length jobs)
+        (MakesJobs methods.now.leaves.now methods.now.scripts.now (most_sites - length jobs.sites)
         (I.contents inputs.old name.now) jobs) }
-    ensures few { IfOk result (λ all. length all ≤ most_sites) }
+    ensures few { IfOk result (λ all. length all.sites ≤ most_sites) }
     ensures reads { ReadsOnce (class_limit + 1) 1 (I.reached inputs.old) (I.reached inputs.new)
         (I.starts inputs.old) (I.starts inputs.new) }
 {
-    let room = MOST_SITES - jobs.len() as u32;
+    let room = MOST_SITES - jobs.sites.len() as u32;
     let bytes = read_input(alloc, inputs, name, CLASS_LIMIT)?;
     let view = class_of(alloc, name, &bytes, room)?;
     let mut jobs = jobs;
-    push_jobs(alloc, &mut jobs, &view, methods.scripts, methods.leaves)?;
+    push_class(alloc, &mut jobs, &view, methods.scripts, methods.leaves)?;
     Ok(jobs)
 }
 
-// Reads class files in order, and puts the jobs of their call sites after the others.
+// Reads class files in order, and puts their jobs after the others.
 fn read_classes<'a, I: Inputs>(
     alloc: Global,
     inputs: &mut I,
     names: &[&'a str],
     methods: &Methods<'_>,
-    jobs: Jobs,
-) -> Result<Jobs, Stop<'a>>
-    requires { length jobs ≤ most_sites }
+    jobs: RunJobs,
+) -> Result<RunJobs, Stop<'a>>
+    requires { length jobs.sites ≤ most_sites }
     ensures keeps { KeepsInputs (I.contents inputs.old) (I.contents inputs.new)
         (I.faults inputs.old) (I.faults inputs.new) }
     ensures no_fault { OnOk result (AreSame (I.faults inputs.old) (I.faults inputs.new)) }
     ensures stop { IfErr result
         (λ stop. IsStopAmong
-        (ReachesClass (most_sites - length jobs) (said names.now) (I.contents inputs.old))
+        (ReachesClass (most_sites - length jobs.sites) (said names.now) (I.contents inputs.old))
         (I.faults inputs.old) (I.faults inputs.new) stop) }
     ensures refuses { IfErr result
-        (λ stop. StopsClasses (most_sites - length jobs) (said names.now)
+        (λ stop. StopsClasses (most_sites - length jobs.sites) (said names.now)
         (I.contents inputs.old) stop) }
     ensures ok { IfOk result
-        (MakesAllJobs methods.now.leaves.now methods.now.scripts.now (most_sites - length jobs)
+        (MakesAllJobs methods.now.leaves.now methods.now.scripts.now (most_sites - length jobs.sites)
         (said names.now) (I.contents inputs.old) jobs) }
-    ensures few { IfOk result (λ all. length all ≤ most_sites) }
+    ensures few { IfOk result (λ all. length all.sites ≤ most_sites) }
     ensures reads { ReadsOnce (class_limit + 1) (length (said names.now))
         (I.reached inputs.old) (I.reached inputs.new)
         (I.starts inputs.old) (I.starts inputs.new) }
@@ -117,5 +117,8 @@ pub fn read_jobs<'a, I: Inputs>(
         (I.starts inputs.old) (I.starts inputs.new) }
 {
     let methods = Methods { leaves, scripts };
-    read_classes(alloc, inputs, names, &methods, Jobs::new(alloc))
+    match read_classes(alloc, inputs, names, &methods, RunJobs::new(alloc)) {
+        Ok(jobs) => Ok(jobs.sites),
+        Err(stop) => Err(stop),
+    }
 }

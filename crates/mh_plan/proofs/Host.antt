@@ -9,7 +9,7 @@ use Rattle.mh_leaf.specs.Outcome.{int_type}
 use Rattle.mh_classfile.specs.Class as class_file
 use Rattle.mh_script.specs.declared.script.Script.{Script}
 use Rattle.mh_jobs.specs.Given.{Given}
-use Rattle.mh_jobs.specs.Jobs.{jobs_of}
+use Rattle.mh_jobs.specs.RunJobs.{jobs_of}
 use Rattle.mh_jobs.proofs.Host.{of, host, site_of, booted}
 
 -- a class whose sites have these types
@@ -18,7 +18,7 @@ class_with types = record { constants = []; dynamics = []; sites = map (site_of 
 
 -- a run whose sites have these types, and are linked by a script
 abbrev pub given_with : Script → List (List ℕ) → Given
-given_with s types = record { leaves = host; scripts = s ∷ []; jobs = jobs_of host (s ∷ []) (class_with types ∷ []) }
+given_with s types = record { leaves = host; scripts = s ∷ []; jobs = (jobs_of host (s ∷ []) (class_with types ∷ [])).sites }
 
 -- an int
 abbrev pub int : ℕ → Value

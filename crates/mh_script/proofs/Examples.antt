@@ -100,9 +100,25 @@ an_as_type : said (codes "let x astype a0 type") ≡ assigns (operation.AsType f
 unfolding digits
 an_as_type = refl
 
+an_explicit_conversion : said (codes "let x explicit a0 type") ≡ assigns (operation.Explicit first (of_method_type.Register register.SiteType))
+unfolding digits
+an_explicit_conversion = refl
+
 a_guard : said (codes "let x guard y a0 a1") ≡ assigns (operation.Guard (register.Assigned (codes "y")) first second)
 unfolding digits
 a_guard = refl
+
+a_cleanup : said (codes "let x tryfinally a0 a1") ≡ assigns (operation.TryFinally first second)
+unfolding digits
+a_cleanup = refl
+
+a_switch : said (codes "let x switch a0 a1 a0") ≡ assigns (operation.Switch first (second ∷ first ∷ []))
+unfolding digits
+a_switch = refl
+
+a_loop : said (codes "let x counted a0 a1 a0") ≡ assigns (operation.Counted first second first)
+unfolding digits
+a_loop = refl
 
 a_catch : said (codes "let x catch a0 a a1") ≡ assigns (operation.Catch first (codes "a") second)
 unfolding digits

@@ -12,13 +12,14 @@ use Rattle.mh_script.specs.declared.kinds.ScriptKind.TheVariants.{BadLine, BadLi
 use Rattle.mh_script.specs.declared.line.Line.TheVariants as line
 use Rattle.mh_script.specs.declared.script.End.TheVariants as end
 use Rattle.mh_script.specs.declared.script.Step.{Step}
-use Rattle.mh_script.specs.Faults.{handle_fault, value_fault, fault_in, two_fault, three_fault, let_fault, pair_fault, body_fault}
+use Rattle.mh_script.specs.declared.script.Step.TheVariants as step
+use Rattle.mh_script.specs.Faults.{handle_fault, value_fault, fault_in, two_fault, three_fault, fixed_fault, switch_fault, let_fault, pair_fault, body_fault}
 use Rattle.mh_script.specs.Forms.{one_form, two_form, three_form, one_place}
 use Rattle.mh_script.specs.Kinds.{fault_unless, lower}
-use Rattle.mh_script.specs.Lines.{said_then, value_operand, one_operation, two_operation, three_operation, operation_of, let_line, pair_line, line_of}
+use Rattle.mh_script.specs.Lines.{said_then, value_operand, one_operation, two_operation, three_operation, fixed_operation, switch_operation, operation_of, let_line, pair_line, line_of}
 use Rattle.mh_script.specs.Numbers.{fail_of}
 use Rattle.mh_script.specs.Tokens.{register_of, text_literal}
-use Rattle.mh_script.proofs.FaultlessOperations.{no_fault, lower-none, unless-none, some-then, ok-then, value-said, one-said, two-said, three-said}
+use Rattle.mh_script.proofs.FaultlessOperations.{no_fault, lower-none, unless-none, some-then, ok-then, value-said, one-said, two-said, three-said, switch-said}
 
 -- ---- words
 
@@ -40,18 +41,33 @@ three-choice : (classes : List Class) (steps : List Step) (o : Option Three) (a 
 three-choice classes steps (Some form) a b c h = three-said classes steps form a b c h
 three-choice classes steps None a b c h = cc
 
+-- an operation whose word takes a number of operands
+fixed-said : (classes : List Class) (steps : List Step) (word a : List ℕ) (rest : List (List ℕ)) →
+    fixed_fault classes steps word (a ∷ rest) ≡ None → is_ok (fixed_operation classes word (a ∷ rest)) ≡ true
+fixed-said classes steps word a [] h = one-choice classes steps (one_form word) a h
+fixed-said classes steps word a (b ∷ []) h = two-choice classes steps (two_form word) a b h
+fixed-said classes steps word a (b ∷ c ∷ []) h = three-choice classes steps (three_form word) a b c h
+fixed-said classes steps word a (b ∷ c ∷ d ∷ rest) h = no_fault BadLine h
+
 -- ---- lines
 
 let-said : (classes : List Class) (steps : List Step) (target word : List ℕ) (operands : List (List ℕ)) →
     let_fault classes steps target word operands ≡ None → is_ok (let_line classes target word operands) ≡ true
 let-said classes steps target word [] h = refl
-let-said classes steps target word (a ∷ []) h =
-    ok-then (operation_of classes word (a ∷ [])) _ (one-choice classes steps (one_form word) a (lower-none _ _ h).1) (λ op. refl)
-let-said classes steps target word (a ∷ b ∷ []) h =
-    ok-then (operation_of classes word (a ∷ b ∷ [])) _ (two-choice classes steps (two_form word) a b (lower-none _ _ h).1) (λ op. refl)
-let-said classes steps target word (a ∷ b ∷ c ∷ []) h =
-    ok-then (operation_of classes word (a ∷ b ∷ c ∷ [])) _ (three-choice classes steps (three_form word) a b c (lower-none _ _ h).1) (λ op. refl)
-let-said classes steps target word (a ∷ b ∷ c ∷ d ∷ rest) h = no_fault BadLine (lower-none _ _ h).1
+let-said classes steps target word (a ∷ rest) h = by-count (length (a ∷ rest) == 0)
+  where
+    by-word : (b : Bool) → (if b then switch_fault steps (a ∷ rest) else fixed_fault classes steps word (a ∷ rest)) ≡ None →
+        is_ok (if b then switch_operation (a ∷ rest) else fixed_operation classes word (a ∷ rest)) ≡ true
+    by-word true k = switch-said steps a rest k
+    by-word false k = fixed-said classes steps word a rest k
+
+    by-count : (none : Bool) →
+        is_ok (if none then Ok (line.Step (step.Serial target))
+        else said_then (operation_of classes word (a ∷ rest)) (λ op. Ok (line.Step (step.Let target op)))) ≡ true
+    by-count true = refl
+    by-count false =
+        ok-then (operation_of classes word (a ∷ rest)) (λ op. Ok (line.Step (step.Let target op)))
+        (by-word (bytes_eq word (codes "switch")) (lower-none _ _ h).1) (λ op. refl)
 
 pair-choice : (fails raises : Bool) (step : Option Step) (class : Bool) (text : Option (List ℕ)) (first : List ℕ) →
     (if fails then fault_unless (is_some step) BadLine

@@ -1,5 +1,5 @@
 -- The operands of an operation that have no fault say something.
-use Rattle.std.proofs.Common.{◌≡◌, refl, ℕ, Bool, true, false, if◌then◌else◌, List, Option, None, Some, is_some, Result, Ok, Err}
+use Rattle.std.proofs.Common.{◌≡◌, refl, ℕ, Bool, true, false, if◌then◌else◌, List, [], ◌∷◌, length, map, nat_le, Option, None, Some, is_some, Result, Ok, Err}
 use Rattle.std.specs.Option.{option_map_or}
 use Rattle.std.specs.Result.{is_ok}
 use Rattle.mh_values.specs.declared.class.Class.{Class}
@@ -20,10 +20,10 @@ use Rattle.mh_script.specs.declared.operand.ValueOperand.TheVariants as of_value
 use Rattle.mh_script.specs.declared.script.Operation.TheVariants as operation
 use Rattle.mh_script.specs.declared.script.Step.{Step}
 use Rattle.mh_script.specs.declared.token.Sort.TheVariants as sort
-use Rattle.mh_script.specs.Faults.{bad_descriptor, sort_fault, value_fault, fault_in, two_fault, three_fault}
+use Rattle.mh_script.specs.Faults.{bad_descriptor, sort_fault, value_fault, fault_in, two_fault, three_fault, handles_fault, switch_fault}
 use Rattle.mh_script.specs.Forms.{one_place}
 use Rattle.mh_script.specs.Kinds.{fault_unless, lower}
-use Rattle.mh_script.specs.Lines.{said_then, method_name, value_operand, numbered, counted, one_operation, two_operation, three_operation}
+use Rattle.mh_script.specs.Lines.{said_then, method_name, value_operand, numbered, with_count, one_operation, two_operation, three_operation, switch_operation}
 use Rattle.mh_script.specs.Numbers.{small_of, order_of}
 use Rattle.mh_script.specs.Tokens.{is_register, register_of, operand_literal, has_colon}
 
@@ -86,13 +86,15 @@ two-said classes steps two.Constant a b h = ok-then (value_operand classes b) _ 
 two-said classes steps two.Throw a b h = refl
 two-said classes steps two.FilterReturn a b h = refl
 two-said classes steps two.AsType a b h = refl
+two-said classes steps two.Explicit a b h = refl
+two-said classes steps two.TryFinally a b h = refl
 
 -- where a number stands second, and where it stands third
 numbered-said : (a b c : List ℕ) (k : ScriptKind) → fault_unless (is_some (small_of b)) k ≡ None → is_ok (numbered a b c) ≡ true
 numbered-said a b c k h = some-then (small_of b) BadLine _ (unless-none _ k h) (λ n. refl)
 
-counted-said : (a b c : List ℕ) (k : ScriptKind) → fault_unless (is_some (small_of c)) k ≡ None → is_ok (counted a b c) ≡ true
-counted-said a b c k h = some-then (small_of c) BadLine _ (unless-none _ k h) (λ n. refl)
+with_count-said : (a b c : List ℕ) (k : ScriptKind) → fault_unless (is_some (small_of c)) k ≡ None → is_ok (with_count a b c) ≡ true
+with_count-said a b c k h = some-then (small_of c) BadLine _ (unless-none _ k h) (λ n. refl)
 
 pub three-said : (classes : List Class) (steps : List Step) (form : Three) (a b c : List ℕ) → three_fault classes steps form a b c ≡ None →
     is_ok (three_operation classes form a b c) ≡ true
@@ -111,8 +113,20 @@ three-said classes steps three.Fold a b c h =
 three-said classes steps three.Collect a b c h =
     ok-then (numbered a b c) _ (numbered-said a b c BadLine (lower-none _ _ (lower-none _ _ h).1).0) (λ x. refl)
 three-said classes steps three.Spread a b c h =
-    ok-then (counted a b c) _ (counted-said a b c BadLine (lower-none _ _ (lower-none _ _ h).1).1) (λ x. refl)
+    ok-then (with_count a b c) _ (with_count-said a b c BadLine (lower-none _ _ (lower-none _ _ h).1).1) (λ x. refl)
 three-said classes steps three.Gather a b c h =
-    ok-then (counted a b c) _ (counted-said a b c BadLine (lower-none _ _ (lower-none _ _ h).1).1) (λ x. refl)
+    ok-then (with_count a b c) _ (with_count-said a b c BadLine (lower-none _ _ (lower-none _ _ h).1).1) (λ x. refl)
 three-said classes steps three.Guard a b c h = refl
 three-said classes steps three.Catch a b c h = refl
+three-said classes steps three.Counted a b c h = refl
+
+-- a fallback and cases
+pub switch-said : (steps : List Step) (fallback : List ℕ) (cases : List (List ℕ)) → switch_fault steps (fallback ∷ cases) ≡ None →
+    is_ok (switch_operation (fallback ∷ cases)) ≡ true
+switch-said steps fallback [] h = no_fault BadLine h
+switch-said steps fallback (first ∷ others) h = few (nat_le (length others) 15) h
+  where
+    few : (b : Bool) → (if b then handles_fault steps (fallback ∷ first ∷ others) else Some BadLine) ≡ None →
+        is_ok (if b then Ok (operation.Switch (register_of fallback) (map register_of (first ∷ others))) else Err BadLine) ≡ true
+    few true k = refl
+    few false k = no_fault BadLine k

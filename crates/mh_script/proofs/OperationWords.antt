@@ -21,6 +21,8 @@ two_word two.Constant = codes "constant"
 two_word two.Throw = codes "throw"
 two_word two.FilterReturn = codes "filterret"
 two_word two.AsType = codes "astype"
+two_word two.Explicit = codes "explicit"
+two_word two.TryFinally = codes "tryfinally"
 
 abbrev pub three_word : Three → List ℕ
 three_word three.Bind = codes "bind"
@@ -33,6 +35,7 @@ three_word three.Spread = codes "spread"
 three_word three.Gather = codes "gather"
 three_word three.Guard = codes "guard"
 three_word three.Catch = codes "catch"
+three_word three.Counted = codes "counted"
 
 -- ---- the word of a form
 
@@ -54,7 +57,8 @@ one_form-word word form h = first_or one_word word one.Leaf form _ (first_or one
 pub two_form-word : (word : List ℕ) (form : Two) → two_form word ≡ Some form → word ≡ two_word form
 two_form-word word form h =
     first_or two_word word two.Constant form _ (first_or two_word word two.Throw form _
-    (first_or two_word word two.FilterReturn form _ (first_or two_word word two.AsType form _ (no_form two_word word form)))) h
+    (first_or two_word word two.FilterReturn form _ (first_or two_word word two.AsType form _
+    (first_or two_word word two.Explicit form _ (first_or two_word word two.TryFinally form _ (no_form two_word word form)))))) h
 
 argument_form-word : (word : List ℕ) (form : Three) → argument_form word ≡ Some form → word ≡ three_word form
 argument_form-word word form h =
@@ -65,7 +69,8 @@ argument_form-word word form h =
 other_form-word : (word : List ℕ) (form : Three) → other_form word ≡ Some form → word ≡ three_word form
 other_form-word word form h =
     first_or three_word word three.Spread form _ (first_or three_word word three.Gather form _
-    (first_or three_word word three.Guard form _ (first_or three_word word three.Catch form _ (no_form three_word word form)))) h
+    (first_or three_word word three.Guard form _ (first_or three_word word three.Catch form _
+    (first_or three_word word three.Counted form _ (no_form three_word word form))))) h
 
 pub three_form-word : (word : List ℕ) (form : Three) → three_form word ≡ Some form → word ≡ three_word form
 three_form-word word form h = cases (argument_form word) refl h

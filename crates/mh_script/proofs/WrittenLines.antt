@@ -1,5 +1,5 @@
 -- Any line within a script that was read: what is written of it is read as it.
-use Rattle.std.proofs.Common.{◌≡◌, refl, sym, ap, ap₂, subst, ◌∙◌, ℕ, ◌==◌, Bool, true, false, if◌then◌else◌, List, [], ◌∷◌, codes, length, Option, None, Some, Result, Ok, arith}
+use Rattle.std.proofs.Common.{◌≡◌, refl, sym, ap, ap₂, subst, ◌∙◌, ℕ, ◌==◌, Bool, true, false, if◌then◌else◌, List, [], ◌∷◌, codes, length, None, Some, Result, Ok, arith}
 use Rattle.std.proofs.lemmas.Bool.{eqb-true, false_from_ne_true}
 use Rattle.std.specs.Str.{bytes_eq}
 use Rattle.mh_base.proofs.Inversion.{ok_is}
@@ -65,10 +65,16 @@ ending-again classes steps word operand l are none said = cases (bytes_eq word (
 
 -- ---- `let R OP`
 
+-- a word without operands is `serial`
+serial-only : (switches serial : Bool) → (if switches then Some BadLine else fault_unless serial BadLine) ≡ None → serial ≡ true
+serial-only true serial h = absurd cc
+serial-only false serial h = unless-none serial BadLine h
+
 serial-again : (classes : List Class) (steps : List Step) (target word : List ℕ) (l : Line) → AreFullTokens (codes "let" ∷ target ∷ word ∷ []) →
     let_fault classes steps target word [] ≡ None → let_line classes target word [] ≡ Ok l → StandsAfter classes steps l
 serial-again classes steps target word l are none said =
-    let is : word ≡ codes "serial" = same_text word (codes "serial") (unless-none (bytes_eq word (codes "serial")) BadLine (lower-none _ _ none).1) in
+    let is : word ≡ codes "serial" = same_text word (codes "serial") (serial-only (bytes_eq word (codes "switch")) (bytes_eq word (codes "serial"))
+    (lower-none _ _ none).1) in
     of_tokens classes steps (codes "let" ∷ target ∷ word ∷ []) l (ap (line_tokens classes) (sym (ok_is (line.Step (step.Serial target)) l said))
     ∙ ap (λ w. codes "let" ∷ target ∷ w ∷ []) (sym is)) are none said
 

@@ -11,7 +11,7 @@ use Rattle.mh_script.specs.declared.operand.Register.{Register}
 use Rattle.mh_script.specs.declared.operand.TypeOperand.{TypeOperand}
 use Rattle.mh_script.specs.declared.script.Operation.{Operation}
 use Rattle.mh_script.specs.declared.script.Operation.TheVariants as operation
-use Rattle.mh_script.specs.Lines.{said_then, method_name, type_operand, method_type_operand, numbered, counted, dropped, permuted, one_operation}
+use Rattle.mh_script.specs.Lines.{said_then, method_name, type_operand, method_type_operand, numbered, with_count, dropped, permuted, one_operation}
 use Rattle.mh_script.specs.Numbers.{small_of, order_of}
 use Rattle.mh_script.specs.Tokens.{register_of}
 use Rattle.mh_script.specs.Written.{register_text, type_operand_text, operation_tokens}
@@ -58,9 +58,9 @@ numbered-tokens classes word a b c make op tokens h =
 
 pub counted-tokens : (classes : List Class) (word a b c : List ℕ) (make : Register × TypeOperand × ℕ → Operation) (op : Operation) →
     ((x : Register × TypeOperand × ℕ) → operation_tokens classes (make x) ≡ word ∷ register_text x.0 ∷ type_operand_text x.1 ∷ decimal x.2 ∷ []) →
-    said_then (counted a b c) (λ x. Ok (make x)) ≡ Ok op → operation_tokens classes op ≡ word ∷ a ∷ b ∷ c ∷ []
+    said_then (with_count a b c) (λ x. Ok (make x)) ≡ Ok op → operation_tokens classes op ≡ word ∷ a ∷ b ∷ c ∷ []
 counted-tokens classes word a b c make op tokens h =
-    let said = said-parts (counted a b c) (λ x. Ok (make x)) op h in
+    let said = said-parts (with_count a b c) (λ x. Ok (make x)) op h in
     let read = provided_some-parts (small_of c) BadLine (λ n. Ok (register_of a, type_operand b, n)) said.0 said.1 in
     let parts : (register_of a, type_operand b, read.0) ≡ said.0 =
     ok_is {A = Register × TypeOperand × ℕ} (register_of a, type_operand b, read.0) said.0 read.2 in

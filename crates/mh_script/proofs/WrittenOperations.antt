@@ -1,15 +1,20 @@
 -- Any operation that was read: what is written of it is read as it.
-use Rattle.std.proofs.Common.{◌≡◌, refl, sym, ap, ap₂, subst, ◌∙◌, ℕ, List, [], ◌∷◌, codes, Ok}
+use Rattle.std.proofs.Common.{◌≡◌, refl, sym, ap, ap₂, subst, ◌∙◌, ℕ, suc, arith, Bool, true, false, if◌then◌else◌, nat_le, List, [], ◌∷◌, length, map, codes, Result, Ok, Err}
+use Rattle.std.specs.Prelude.{◌==◌}
+use Rattle.std.proofs.lemmas.Bool.Decides.{nat_tests}
+use Rattle.std.specs.Str.{bytes_eq}
+use Rattle.mh_base.proofs.Tests.{same_text}
 use Rattle.mh_values.specs.declared.class.Class.{Class}
 use Rattle.mh_script.specs.declared.form.Two.{Two}
 use Rattle.mh_script.specs.declared.form.Two.TheVariants as two
 use Rattle.mh_script.specs.declared.form.Three.{Three}
 use Rattle.mh_script.specs.declared.form.Three.TheVariants as three
+use Rattle.mh_script.specs.declared.kinds.ScriptKind.{ScriptKind}
 use Rattle.mh_script.specs.declared.kinds.ScriptKind.TheVariants.{BadLine}
 use Rattle.mh_script.specs.declared.script.Operation.{Operation}
 use Rattle.mh_script.specs.declared.script.Operation.TheVariants as operation
 use Rattle.mh_script.specs.Forms.{one_form, two_form, three_form}
-use Rattle.mh_script.specs.Lines.{type_operand, method_type_operand, one_operation, two_operation, three_operation, operation_of}
+use Rattle.mh_script.specs.Lines.{type_operand, method_type_operand, one_operation, two_operation, three_operation, fixed_operation, switch_operation, operation_of}
 use Rattle.mh_script.specs.Tokens.{register_of}
 use Rattle.mh_script.specs.Written.{register_text, operation_tokens}
 use Rattle.mh_base.proofs.Conditions.{provided_some-parts}
@@ -36,6 +41,14 @@ two-again classes two.AsType a b op said h =
     as_read classes (codes "astype") (a ∷ b ∷ []) op refl said
     (made_tokens classes (operation.AsType (register_of a) (method_type_operand b)) op (codes "astype" ∷ a ∷ b ∷ []) h
     (ap₂ (λ s t. codes "astype" ∷ s ∷ t ∷ []) (register-text a) (method_type_operand-text b)))
+two-again classes two.Explicit a b op said h =
+    as_read classes (codes "explicit") (a ∷ b ∷ []) op refl said
+    (made_tokens classes (operation.Explicit (register_of a) (method_type_operand b)) op (codes "explicit" ∷ a ∷ b ∷ []) h
+    (ap₂ (λ s t. codes "explicit" ∷ s ∷ t ∷ []) (register-text a) (method_type_operand-text b)))
+two-again classes two.TryFinally a b op said h =
+    as_read classes (codes "tryfinally") (a ∷ b ∷ []) op refl said
+    (made_tokens classes (operation.TryFinally (register_of a) (register_of b)) op (codes "tryfinally" ∷ a ∷ b ∷ []) h
+    (ap₂ (λ s t. codes "tryfinally" ∷ s ∷ t ∷ []) (register-text a) (register-text b)))
 
 -- the tokens of an operation with three operands of which none is a value
 three-tokens : (classes : List Class) (form : Three) (a b c : List ℕ) (op : Operation) → (form ≡ three.Bind → ⊥) →
@@ -58,6 +71,9 @@ three-tokens classes three.Guard a b c op other h =
 three-tokens classes three.Catch a b c op other h =
     made_tokens classes (operation.Catch (register_of a) b (register_of c)) op (codes "catch" ∷ a ∷ b ∷ c ∷ []) h
     (after_word (codes "catch") (register_text (register_of a)) b (register_text (register_of c)) a b c (register-text a) refl (register-text c))
+three-tokens classes three.Counted a b c op other h =
+    made_tokens classes (operation.Counted (register_of a) (register_of b) (register_of c)) op (codes "counted" ∷ a ∷ b ∷ c ∷ []) h
+    (after_word (codes "counted") _ _ _ a b c (register-text a) (register-text b) (register-text c))
 
 three-again : (classes : List Class) (form : Three) (a b c : List ℕ) (op : Operation) →
     operation_of classes (three_word form) (a ∷ b ∷ c ∷ []) ≡ Ok op → three_operation classes form a b c ≡ Ok op →
@@ -68,21 +84,59 @@ three-again classes form a b c op said h =
 
 -- ---- any operation
 
-pub operation-again : (classes : List Class) (word : List ℕ) (operands : List (List ℕ)) (op : Operation) →
-    operation_of classes word operands ≡ Ok op → OperationAgain classes word operands op
-operation-again classes word [] op h = absurd cc
-operation-again classes word (a ∷ []) op h =
+fixed-again : (classes : List Class) (word : List ℕ) (operands : List (List ℕ)) (op : Operation) →
+    operation_of classes word operands ≡ Ok op → fixed_operation classes word operands ≡ Ok op → OperationAgain classes word operands op
+fixed-again classes word [] op said h = absurd cc
+fixed-again classes word (a ∷ []) op said h =
     let named = provided_some-parts (one_form word) BadLine (λ form. one_operation form a) op h in
-    as_read classes word (a ∷ []) op refl h
+    as_read classes word (a ∷ []) op refl said
     (one-tokens classes named.0 a op named.2 ∙ ap (λ w. w ∷ a ∷ []) (sym (one_form-word word named.0 named.1)))
-operation-again classes word (a ∷ b ∷ []) op h =
+fixed-again classes word (a ∷ b ∷ []) op said h =
     let named = provided_some-parts (two_form word) BadLine (λ form. two_operation classes form a b) op h in
     let is : word ≡ two_word named.0 = two_form-word word named.0 named.1 in
     subst (λ w. OperationAgain classes w (a ∷ b ∷ []) op) (sym is)
-    (two-again classes named.0 a b op (subst (λ w. operation_of classes w (a ∷ b ∷ []) ≡ Ok op) is h) named.2)
-operation-again classes word (a ∷ b ∷ c ∷ []) op h =
+    (two-again classes named.0 a b op (subst (λ w. operation_of classes w (a ∷ b ∷ []) ≡ Ok op) is said) named.2)
+fixed-again classes word (a ∷ b ∷ c ∷ []) op said h =
     let named = provided_some-parts (three_form word) BadLine (λ form. three_operation classes form a b c) op h in
     let is : word ≡ three_word named.0 = three_form-word word named.0 named.1 in
     subst (λ w. OperationAgain classes w (a ∷ b ∷ c ∷ []) op) (sym is)
-    (three-again classes named.0 a b c op (subst (λ w. operation_of classes w (a ∷ b ∷ c ∷ []) ≡ Ok op) is h) named.2)
-operation-again classes word (a ∷ b ∷ c ∷ d ∷ rest) op h = absurd cc
+    (three-again classes named.0 a b c op (subst (λ w. operation_of classes w (a ∷ b ∷ c ∷ []) ≡ Ok op) is said) named.2)
+fixed-again classes word (a ∷ b ∷ c ∷ d ∷ rest) op said h = absurd cc
+
+registers-text : (tokens : List (List ℕ)) → map register_text (map register_of tokens) ≡ tokens
+registers-text [] = refl
+registers-text (t ∷ ts) = ap₂ (λ s ss. s ∷ ss) (register-text t) (registers-text ts)
+
+-- a list with an item is not empty
+some-tokens : (n : ℕ) → (suc n == 0) ≡ false
+some-tokens n = grind (arith, nat_tests)
+
+-- what was read of no more tokens than there may be
+few-read : (few : Bool) (read : Result Operation ScriptKind) (op : Operation) → (if few then read else Err BadLine) ≡ Ok op → read ≡ Ok op
+few-read true read op h = h
+few-read false read op h = absurd cc
+
+switch-again : (classes : List Class) (operands : List (List ℕ)) (op : Operation) →
+    operation_of classes (codes "switch") operands ≡ Ok op → switch_operation operands ≡ Ok op → OperationAgain classes (codes "switch") operands op
+switch-again classes [] op said h = absurd cc
+switch-again classes (f ∷ []) op said h = absurd cc
+switch-again classes (f ∷ c ∷ cs) op said h =
+    as_read classes (codes "switch") (f ∷ c ∷ cs) op (some-tokens (length (c ∷ cs))) said
+    (made_tokens classes (operation.Switch (register_of f) (map register_of (c ∷ cs))) op (codes "switch" ∷ f ∷ c ∷ cs)
+    (few-read (nat_le (length cs) 15) (Ok (operation.Switch (register_of f) (map register_of (c ∷ cs)))) op h)
+    (ap₂ (λ s ss. codes "switch" ∷ s ∷ ss) (register-text f) (registers-text (c ∷ cs))))
+
+pub operation-again : (classes : List Class) (word : List ℕ) (operands : List (List ℕ)) (op : Operation) →
+    operation_of classes word operands ≡ Ok op → OperationAgain classes word operands op
+operation-again classes word operands op h = by-word (bytes_eq word (codes "switch")) refl
+  where
+    by-word : (b : Bool) → bytes_eq word (codes "switch") ≡ b → OperationAgain classes word operands op
+    by-word true is =
+        let same : word ≡ codes "switch" = same_text word (codes "switch") is in
+        let read : switch_operation operands ≡ Ok op =
+        sym (ap (λ b. if b then switch_operation operands else fixed_operation classes word operands) is) ∙ h in
+        subst (λ w. OperationAgain classes w operands op) (sym same)
+        (switch-again classes operands op (subst (λ w. operation_of classes w operands ≡ Ok op) same h) read)
+    by-word false is =
+        fixed-again classes word operands op h
+        (sym (ap (λ b. if b then switch_operation operands else fixed_operation classes word operands) is) ∙ h)

@@ -1,5 +1,5 @@
 -- What is wrong with the tokens of a line within a script, by the lines before it.
-use Rattle.std.specs.Prelude.{ℕ, ◌==◌, if◌then◌else◌, List, [], ◌∷◌, codes, length, Option, None, Some, is_some, option_map}
+use Rattle.std.specs.Prelude.{ℕ, ◌==◌, nat_le, if◌then◌else◌, List, [], ◌∷◌, codes, length, Option, None, Some, is_some, option_map}
 use Rattle.std.specs.Option.{option_map_or}
 use Rattle.std.specs.Str.{bytes_eq}
 use Rattle.mh_values.specs.declared.class.Class.{Class}
@@ -82,16 +82,32 @@ three_fault classes steps form first second third =
     lower (fault_in classes steps (three_places form).0 first)
     (lower (fault_in classes steps (three_places form).1 second) (fault_in classes steps (three_places form).2 third))
 
--- an operation and its operands: `serial` has none, and each other word as many as stand after it
-abbrev pub operands_fault : List Class → List Step → List ℕ → List (List ℕ) → Option ScriptKind
-operands_fault classes steps word [] = fault_unless (bytes_eq word (codes "serial")) BadLine
-operands_fault classes steps word (first ∷ []) =
+-- an operation whose word takes a number of operands: `serial` none, and each other word as many as stand after it
+abbrev pub fixed_fault : List Class → List Step → List ℕ → List (List ℕ) → Option ScriptKind
+fixed_fault classes steps word [] = fault_unless (bytes_eq word (codes "serial")) BadLine
+fixed_fault classes steps word (first ∷ []) =
     option_map_or (λ form. fault_in classes steps (one_place form) first) (one_form word) (Some BadLine)
-operands_fault classes steps word (first ∷ second ∷ []) =
+fixed_fault classes steps word (first ∷ second ∷ []) =
     option_map_or (λ form. two_fault classes steps form first second) (two_form word) (Some BadLine)
-operands_fault classes steps word (first ∷ second ∷ third ∷ []) =
+fixed_fault classes steps word (first ∷ second ∷ third ∷ []) =
     option_map_or (λ form. three_fault classes steps form first second third) (three_form word) (Some BadLine)
-operands_fault classes steps word _ = Some BadLine
+fixed_fault classes steps word _ = Some BadLine
+
+-- registers with method handles
+abbrev pub handles_fault : List Step → List (List ℕ) → Option ScriptKind
+handles_fault steps [] = None
+handles_fault steps (token ∷ tokens) = lower (handle_fault steps token) (handles_fault steps tokens)
+
+-- a fallback, and 1 to 16 cases after it
+abbrev pub switch_fault : List Step → List (List ℕ) → Option ScriptKind
+switch_fault steps (fallback ∷ first ∷ others) =
+    if nat_le (length others) 15 then handles_fault steps (fallback ∷ first ∷ others) else Some BadLine
+switch_fault steps _ = Some BadLine
+
+-- an operation and its operands
+abbrev pub operands_fault : List Class → List Step → List ℕ → List (List ℕ) → Option ScriptKind
+operands_fault classes steps word operands =
+    if bytes_eq word (codes "switch") then switch_fault steps operands else fixed_fault classes steps word operands
 
 -- ---- lines
 

@@ -25,7 +25,9 @@ two_form word =
     if bytes_eq word (codes "constant") then Some two.Constant
     else (if bytes_eq word (codes "throw") then Some two.Throw
     else (if bytes_eq word (codes "filterret") then Some two.FilterReturn
-    else (if bytes_eq word (codes "astype") then Some two.AsType else None)))
+    else (if bytes_eq word (codes "astype") then Some two.AsType
+    else (if bytes_eq word (codes "explicit") then Some two.Explicit
+    else (if bytes_eq word (codes "tryfinally") then Some two.TryFinally else None)))))
 
 -- the operations with three operands that change single arguments
 abbrev pub argument_form : List ℕ → Option Three
@@ -43,7 +45,8 @@ other_form word =
     if bytes_eq word (codes "spread") then Some three.Spread
     else (if bytes_eq word (codes "gather") then Some three.Gather
     else (if bytes_eq word (codes "guard") then Some three.Guard
-    else (if bytes_eq word (codes "catch") then Some three.Catch else None)))
+    else (if bytes_eq word (codes "catch") then Some three.Catch
+    else (if bytes_eq word (codes "counted") then Some three.Counted else None))))
 
 -- the operations with three operands
 abbrev pub three_form : List ℕ → Option Three
@@ -56,15 +59,17 @@ abbrev pub one_place : One → Place
 one_place one.Leaf = place.Reference
 one_place one.Identity = place.Type
 
--- `constant T V`, `throw T C`, `filterret H F`, `astype H M`
+-- `constant T V`, `throw T C`, `filterret H F`, `astype H M`, `explicit H M`, `tryfinally H F`
 abbrev pub two_places : Two → Place × Place
 two_places two.Constant = (place.Type, place.Value)
 two_places two.Throw = (place.Type, place.Class)
 two_places two.FilterReturn = (place.Handle, place.Handle)
 two_places two.AsType = (place.Handle, place.MethodType)
+two_places two.Explicit = (place.Handle, place.MethodType)
+two_places two.TryFinally = (place.Handle, place.Handle)
 
 -- `bind H P V`, `drop H P TYPES`, `permute H M ORDER`, `filter H P F`, `fold H P F`, `collect H P F`, `spread H T N`, `gather H T N`,
--- `guard F H H`, `catch H C F`
+-- `guard F H H`, `catch H C F`, `counted H H H`
 abbrev pub three_places : Three → Place × Place × Place
 three_places three.Bind = (place.Handle, place.Number, place.Value)
 three_places three.Drop = (place.Handle, place.Number, place.Types)
@@ -76,3 +81,4 @@ three_places three.Spread = (place.Handle, place.Type, place.Number)
 three_places three.Gather = (place.Handle, place.Type, place.Number)
 three_places three.Guard = (place.Handle, place.Handle, place.Handle)
 three_places three.Catch = (place.Handle, place.Class, place.Handle)
+three_places three.Counted = (place.Handle, place.Handle, place.Handle)

@@ -1,5 +1,5 @@
 -- What the tokens of a line within a script say, where nothing is wrong with them.
-use Rattle.std.specs.Prelude.{ℕ, ◌==◌, if◌then◌else◌, List, [], ◌∷◌, codes, length, Result, Ok, Err}
+use Rattle.std.specs.Prelude.{ℕ, ◌==◌, nat_le, if◌then◌else◌, List, [], ◌∷◌, codes, length, map, Result, Ok, Err}
 use Rattle.std.specs.Str.{bytes_eq}
 use Rattle.mh_values.specs.declared.class.Class.{Class}
 use Rattle.mh_base.specs.Provided.{provided_some}
@@ -62,8 +62,8 @@ abbrev pub numbered : List ℕ → List ℕ → List ℕ → Result (Register ×
 numbered target number other = provided_some (small_of number) BadLine (λ n. Ok (register_of target, n, register_of other))
 
 -- H T N
-abbrev pub counted : List ℕ → List ℕ → List ℕ → Result (Register × TypeOperand × ℕ) ScriptKind
-counted target array count = provided_some (small_of count) BadLine (λ n. Ok (register_of target, type_operand array, n))
+abbrev pub with_count : List ℕ → List ℕ → List ℕ → Result (Register × TypeOperand × ℕ) ScriptKind
+with_count target array count = provided_some (small_of count) BadLine (λ n. Ok (register_of target, type_operand array, n))
 
 -- ---- operations
 
@@ -93,6 +93,8 @@ two_operation classes two.Constant first second = said_then (value_operand class
 two_operation classes two.Throw first second = Ok (operation.Throw (type_operand first) second)
 two_operation classes two.FilterReturn first second = Ok (operation.FilterReturn (register_of first) (register_of second))
 two_operation classes two.AsType first second = Ok (operation.AsType (register_of first) (method_type_operand second))
+two_operation classes two.Explicit first second = Ok (operation.Explicit (register_of first) (method_type_operand second))
+two_operation classes two.TryFinally first second = Ok (operation.TryFinally (register_of first) (register_of second))
 
 -- an operation with three operands
 abbrev pub three_operation : List Class → Three → List ℕ → List ℕ → List ℕ → Result Operation ScriptKind
@@ -102,17 +104,29 @@ three_operation classes three.Permute first second third = permuted first second
 three_operation classes three.Filter first second third = said_then (numbered first second third) (λ x. Ok (operation.Filter x.0 x.1 x.2))
 three_operation classes three.Fold first second third = said_then (numbered first second third) (λ x. Ok (operation.Fold x.0 x.1 x.2))
 three_operation classes three.Collect first second third = said_then (numbered first second third) (λ x. Ok (operation.Collect x.0 x.1 x.2))
-three_operation classes three.Spread first second third = said_then (counted first second third) (λ x. Ok (operation.Spread x.0 x.1 x.2))
-three_operation classes three.Gather first second third = said_then (counted first second third) (λ x. Ok (operation.Gather x.0 x.1 x.2))
+three_operation classes three.Spread first second third = said_then (with_count first second third) (λ x. Ok (operation.Spread x.0 x.1 x.2))
+three_operation classes three.Gather first second third = said_then (with_count first second third) (λ x. Ok (operation.Gather x.0 x.1 x.2))
 three_operation classes three.Guard first second third = Ok (operation.Guard (register_of first) (register_of second) (register_of third))
 three_operation classes three.Catch first second third = Ok (operation.Catch (register_of first) second (register_of third))
+three_operation classes three.Counted first second third = Ok (operation.Counted (register_of first) (register_of second) (register_of third))
+
+-- an operation whose word takes a number of operands
+abbrev pub fixed_operation : List Class → List ℕ → List (List ℕ) → Result Operation ScriptKind
+fixed_operation classes word (first ∷ []) = provided_some (one_form word) BadLine (λ form. one_operation form first)
+fixed_operation classes word (first ∷ second ∷ []) = provided_some (two_form word) BadLine (λ form. two_operation classes form first second)
+fixed_operation classes word (first ∷ second ∷ third ∷ []) = provided_some (three_form word) BadLine (λ form. three_operation classes form first second third)
+fixed_operation classes word _ = Err BadLine
+
+-- `switch H H ..`, with 1 to 16 cases after the fallback
+abbrev pub switch_operation : List (List ℕ) → Result Operation ScriptKind
+switch_operation (fallback ∷ first ∷ others) =
+    if nat_le (length others) 15 then Ok (operation.Switch (register_of fallback) (map register_of (first ∷ others))) else Err BadLine
+switch_operation _ = Err BadLine
 
 -- an operation and its operands
 abbrev pub operation_of : List Class → List ℕ → List (List ℕ) → Result Operation ScriptKind
-operation_of classes word (first ∷ []) = provided_some (one_form word) BadLine (λ form. one_operation form first)
-operation_of classes word (first ∷ second ∷ []) = provided_some (two_form word) BadLine (λ form. two_operation classes form first second)
-operation_of classes word (first ∷ second ∷ third ∷ []) = provided_some (three_form word) BadLine (λ form. three_operation classes form first second third)
-operation_of classes word _ = Err BadLine
+operation_of classes word operands =
+    if bytes_eq word (codes "switch") then switch_operation operands else fixed_operation classes word operands
 
 -- ---- lines
 

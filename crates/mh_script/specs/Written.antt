@@ -78,6 +78,10 @@ operation_tokens classes (operation.Collect h at f) = codes "collect" ∷ regist
 operation_tokens classes (operation.Spread h t n) = codes "spread" ∷ register_text h ∷ type_operand_text t ∷ decimal n ∷ []
 operation_tokens classes (operation.Gather h t n) = codes "gather" ∷ register_text h ∷ type_operand_text t ∷ decimal n ∷ []
 operation_tokens classes (operation.AsType h t) = codes "astype" ∷ register_text h ∷ method_type_operand_text t ∷ []
+operation_tokens classes (operation.Explicit h t) = codes "explicit" ∷ register_text h ∷ method_type_operand_text t ∷ []
+operation_tokens classes (operation.TryFinally h f) = codes "tryfinally" ∷ register_text h ∷ register_text f ∷ []
+operation_tokens classes (operation.Switch fallback cases) = codes "switch" ∷ register_text fallback ∷ map register_text cases
+operation_tokens classes (operation.Counted n i b) = codes "counted" ∷ register_text n ∷ register_text i ∷ register_text b ∷ []
 operation_tokens classes (operation.Guard f h other) = codes "guard" ∷ register_text f ∷ register_text h ∷ register_text other ∷ []
 operation_tokens classes (operation.Catch h class f) = codes "catch" ∷ register_text h ∷ class ∷ register_text f ∷ []
 

@@ -1,10 +1,11 @@
 ghost use Rattle.std.specs.Prelude.{◌≡◌, map, IfOk};
 ghost use Rattle.mh_values.specs.Grammar.{descriptor_fault, type_fault, types_fault};
 ghost use Rattle.mh_script.specs.Kinds.{fault_unless};
-ghost use Rattle.mh_script.specs.Faults.{bad_descriptor, sort_fault, handle_fault, value_fault, type_operand_fault, method_type_fault, reference_fault, fault_in, two_fault, three_fault, operands_fault, let_fault, pair_fault, ending_fault, body_fault};
+ghost use Rattle.mh_script.specs.Faults.{bad_descriptor, sort_fault, handle_fault, value_fault, type_operand_fault, method_type_fault, reference_fault, fault_in, two_fault, three_fault, fixed_fault, handles_fault, switch_fault, operands_fault, let_fault, pair_fault, ending_fault, body_fault};
 
 use crate::form::{Place, Three, Two, one_form, three_form, two_form};
 use crate::kinds::{fault_unless, lower};
+use crate::line::MOST_OTHER_CASES;
 use crate::number::{read_fail, read_order, read_small};
 use crate::token::{
     Sort, has_colon, is_argument, is_assignable, is_register, operand_literal, sort_in,
@@ -183,15 +184,15 @@ fn three_fault(
     Ok(lower(one, lower(two, three)))
 }
 
-// What is wrong with an operation and its operands.
-fn operands_fault(
+// What is wrong with an operation whose word takes a number of operands.
+fn fixed_fault(
     alloc: Global,
     classes: &Classes,
     steps: &[Step],
     word: &[u8],
     operands: &[&[u8]],
 ) -> Result<Option<ScriptKind>, NoMemory>
-    ensures { IfOk result (λ kind. kind ≡ operands_fault classes.now steps.now word.now
+    ensures { IfOk result (λ kind. kind ≡ fixed_fault classes.now steps.now word.now
         (map (λ t. t.now) operands.now)) }
 {
     match operands {
@@ -209,6 +210,50 @@ fn operands_fault(
             None => Ok(Some(ScriptKind::BadLine)),
         },
         _ => Ok(Some(ScriptKind::BadLine)),
+    }
+}
+
+// What is wrong with these, which are to be registers with method handles.
+fn handles_fault(steps: &[Step], tokens: &[&[u8]]) -> Option<ScriptKind>
+    ensures { result ≡ handles_fault steps.now (map (λ t. t.now) tokens.now) }
+{
+    match tokens {
+        [] => None,
+        [token, tokens @ ..] => lower(handle_fault(steps, token), handles_fault(steps, tokens)),
+    }
+}
+
+// What is wrong with a fallback and cases.
+fn switch_fault(steps: &[Step], operands: &[&[u8]]) -> Option<ScriptKind>
+    ensures { result ≡ switch_fault steps.now (map (λ t. t.now) operands.now) }
+{
+    let [_, cases @ ..] = operands else {
+        return Some(ScriptKind::BadLine);
+    };
+    let [_, others @ ..] = cases else {
+        return Some(ScriptKind::BadLine);
+    };
+    if others.len() > MOST_OTHER_CASES {
+        return Some(ScriptKind::BadLine);
+    }
+    handles_fault(steps, operands)
+}
+
+// What is wrong with an operation and its operands.
+fn operands_fault(
+    alloc: Global,
+    classes: &Classes,
+    steps: &[Step],
+    word: &[u8],
+    operands: &[&[u8]],
+) -> Result<Option<ScriptKind>, NoMemory>
+    ensures { IfOk result (λ kind. kind ≡ operands_fault classes.now steps.now word.now
+        (map (λ t. t.now) operands.now)) }
+{
+    if word == b"switch".as_slice() {
+        Ok(switch_fault(steps, operands))
+    } else {
+        fixed_fault(alloc, classes, steps, word, operands)
     }
 }
 

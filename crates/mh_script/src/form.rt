@@ -38,6 +38,8 @@ pub(crate) enum Two {
     Throw,
     FilterReturn,
     AsType,
+    Explicit,
+    TryFinally,
 }
 
 /// The operations with three operands.
@@ -53,6 +55,7 @@ pub(crate) enum Three {
     Gather,
     Guard,
     Catch,
+    Counted,
 }
 
 /// The operation of one operand that a word names.
@@ -80,6 +83,10 @@ pub(crate) fn two_form(word: &[u8]) -> Option<Two>
         Some(Two::FilterReturn)
     } else if word == b"astype".as_slice() {
         Some(Two::AsType)
+    } else if word == b"explicit".as_slice() {
+        Some(Two::Explicit)
+    } else if word == b"tryfinally".as_slice() {
+        Some(Two::TryFinally)
     } else {
         None
     }
@@ -118,6 +125,8 @@ fn other_form(word: &[u8]) -> Option<Three>
         Some(Three::Guard)
     } else if word == b"catch".as_slice() {
         Some(Three::Catch)
+    } else if word == b"counted".as_slice() {
+        Some(Three::Counted)
     } else {
         None
     }
@@ -153,8 +162,8 @@ impl Two {
         match self {
             Two::Constant => (Place::Type, Place::Value),
             Two::Throw => (Place::Type, Place::Class),
-            Two::FilterReturn => (Place::Handle, Place::Handle),
-            Two::AsType => (Place::Handle, Place::MethodType),
+            Two::FilterReturn | Two::TryFinally => (Place::Handle, Place::Handle),
+            Two::AsType | Two::Explicit => (Place::Handle, Place::MethodType),
         }
     }
 }
@@ -173,7 +182,7 @@ impl Three {
             Three::Collect => (Place::Handle, Place::Number, Place::Handle),
             Three::Spread => (Place::Handle, Place::Type, Place::Number),
             Three::Gather => (Place::Handle, Place::Type, Place::Number),
-            Three::Guard => (Place::Handle, Place::Handle, Place::Handle),
+            Three::Guard | Three::Counted => (Place::Handle, Place::Handle, Place::Handle),
             Three::Catch => (Place::Handle, Place::Class, Place::Handle),
         }
     }

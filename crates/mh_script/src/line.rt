@@ -1,7 +1,9 @@
 ghost use Rattle.std.specs.Prelude.{◌≡◌, map, IfOk};
 ghost use Rattle.mh_base.specs.Lines.{TellsLine};
 ghost use Rattle.mh_leaves.specs.Reference.{texts_of};
-ghost use Rattle.mh_script.specs.Lines.{method_name, type_operand, method_type_operand, value_operand, numbered, counted, bound, dropped, permuted, one_operation, two_operation, three_operation, operation_of, let_line, pair_line, ending_line, line_of};
+ghost use Rattle.mh_script.specs.Lines.{method_name, type_operand, method_type_operand, value_operand, numbered, with_count, bound, dropped, permuted, one_operation, two_operation, three_operation, fixed_operation, switch_operation, operation_of};
+ghost use Rattle.mh_script.specs.Lines.{let_line, pair_line, ending_line, line_of};
+ghost use Rattle.mh_script.specs.Tokens.{register_of};
 
 use crate::form::{One, Three, Two, one_form, three_form, two_form};
 use crate::number::{read_fail, read_order, read_small};
@@ -23,6 +25,9 @@ pub(crate) enum Line {
     /// The last line.
     End(End),
 }
+
+/// The most cases of a switch beside its first.
+pub(crate) const MOST_OTHER_CASES: usize = 15;
 
 /// What tokens say, or what is wrong with them.
 type Said<T> = Result<T, LineError<ScriptKind>>;
@@ -96,13 +101,13 @@ fn numbered(
 }
 
 // H T N
-fn counted(
+fn with_count(
     alloc: Global,
     target: &[u8],
     array: &[u8],
     count: &[u8],
 ) -> Said<(Register, TypeOperand, u8)>
-    ensures { TellsLine result (counted target.now array.now count.now) }
+    ensures { TellsLine result (with_count target.now array.now count.now) }
 {
     let target = register_of(alloc, target)?;
     let array = type_operand(alloc, array)?;
@@ -199,6 +204,16 @@ fn two_operation(
             let ty = method_type_operand(alloc, second)?;
             Ok(Operation::AsType(target, ty))
         }
+        Two::Explicit => {
+            let target = register_of(alloc, first)?;
+            let ty = method_type_operand(alloc, second)?;
+            Ok(Operation::Explicit(target, ty))
+        }
+        Two::TryFinally => {
+            let target = register_of(alloc, first)?;
+            let cleanup = register_of(alloc, second)?;
+            Ok(Operation::TryFinally(target, cleanup))
+        }
     }
 }
 
@@ -230,11 +245,11 @@ fn three_operation(
             Ok(Operation::Collect(target, position, filter))
         }
         Three::Spread => {
-            let (target, array, count) = counted(alloc, first, second, third)?;
+            let (target, array, count) = with_count(alloc, first, second, third)?;
             Ok(Operation::Spread(target, array, count))
         }
         Three::Gather => {
-            let (target, array, count) = counted(alloc, first, second, third)?;
+            let (target, array, count) = with_count(alloc, first, second, third)?;
             Ok(Operation::Gather(target, array, count))
         }
         Three::Guard => {
@@ -249,18 +264,24 @@ fn three_operation(
             let handler = register_of(alloc, third)?;
             Ok(Operation::Catch(target, class, handler))
         }
+        Three::Counted => {
+            let iterations = register_of(alloc, first)?;
+            let init = register_of(alloc, second)?;
+            let body = register_of(alloc, third)?;
+            Ok(Operation::Counted(iterations, init, body))
+        }
     }
 }
 
-// The operation of a word and its operands.
-fn operation_of(
+// The operation of a word that takes a number of operands.
+fn fixed_operation(
     alloc: Global,
     classes: &Classes,
     word: &[u8],
     operands: &[&[u8]],
 ) -> Said<Operation>
     ensures { TellsLine result
-        (operation_of classes.now word.now (map (λ t. t.now) operands.now)) }
+        (fixed_operation classes.now word.now (map (λ t. t.now) operands.now)) }
 {
     match operands {
         [first] => match one_form(word) {
@@ -276,6 +297,52 @@ fn operation_of(
             None => Err(LineError::Kind(ScriptKind::BadLine)),
         },
         _ => Err(LineError::Kind(ScriptKind::BadLine)),
+    }
+}
+
+// The registers of these tokens.
+fn registers_of(alloc: Global, tokens: &[&[u8]]) -> Result<Seq<Register>, NoMemory>
+    ensures { IfOk result (λ registers. registers ≡ map register_of (map (λ t. t.now) tokens.now)) }
+{
+    let mut registers = Seq::new(alloc);
+    for token in tokens {
+        registers.push(register_of(alloc, token)?)?;
+    }
+    Ok(registers)
+}
+
+// `switch H H ..`
+fn switch_operation(alloc: Global, operands: &[&[u8]]) -> Said<Operation>
+    ensures { TellsLine result (switch_operation (map (λ t. t.now) operands.now)) }
+{
+    let [fallback, cases @ ..] = operands else {
+        return Err(LineError::Kind(ScriptKind::BadLine));
+    };
+    let [_, others @ ..] = cases else {
+        return Err(LineError::Kind(ScriptKind::BadLine));
+    };
+    if others.len() > MOST_OTHER_CASES {
+        return Err(LineError::Kind(ScriptKind::BadLine));
+    }
+    let fallback = register_of(alloc, fallback)?;
+    let cases = registers_of(alloc, cases)?;
+    Ok(Operation::Switch(fallback, cases))
+}
+
+// The operation of a word and its operands.
+fn operation_of(
+    alloc: Global,
+    classes: &Classes,
+    word: &[u8],
+    operands: &[&[u8]],
+) -> Said<Operation>
+    ensures { TellsLine result
+        (operation_of classes.now word.now (map (λ t. t.now) operands.now)) }
+{
+    if word == b"switch".as_slice() {
+        switch_operation(alloc, operands)
+    } else {
+        fixed_operation(alloc, classes, word, operands)
     }
 }
 

@@ -42,6 +42,14 @@ pub enum Operation {
     Gather(Register, TypeOperand, u8),
     /// `astype H M`
     AsType(Register, MethodTypeOperand),
+    /// `explicit H M`
+    Explicit(Register, MethodTypeOperand),
+    /// `tryfinally H F`: the target and its cleanup.
+    TryFinally(Register, Register),
+    /// `switch H H ..`: the fallback, and 1 to 16 cases.
+    Switch(Register, Seq<Register>),
+    /// `counted H H H`: what gives the end, what gives the start, and the body.
+    Counted(Register, Register, Register),
     /// `guard F H H`: the test, the target and the fallback.
     Guard(Register, Register, Register),
     /// `catch H C F`: the target, the class of the exceptions and their handler.

@@ -10,6 +10,7 @@ use Rattle.mh_values.specs.declared.types.MethodTy.{MethodTy}
 use Rattle.mh_values.specs.Array.{item_type}
 use Rattle.mh_values.specs.Classes.{AreClasses}
 use Rattle.mh_values.specs.Computation.{spliced}
+use Rattle.mh_convert.specs.declared.conv.Rules.TheVariants as rules
 use Rattle.mh_leaf.specs.LeafTable.{LeafTable}
 use Rattle.mh_tree.specs.Rows.{TypeOrRefusal, component_of, ends_with, illegal, limited, spread_row, taking}
 use Rattle.mh_tree.specs.Tree.{Tree}
@@ -53,7 +54,7 @@ spread-light t weight array count u row =
 
 module _
     (classes : List Class) (t used : HandleView) (array : Option Ty) (count : ℕ) (s : Spreading) (found : IsSpreading classes t.ty t.weight array count s)
-    (obeys : Obeys (use_row classes t.ty t.weight s.asked) (Ok used)) (made_by : IsUse classes s.asked t used)
+    (obeys : Obeys (use_row classes t.ty t.weight s.asked) (Ok used)) (made_by : IsUse rules.AsType classes s.asked t used)
   where
     row : spread_row used.ty used.weight array count ≡ Ok s.own
     row =

@@ -14,7 +14,7 @@ ghost use Rattle.mh_runtime.specs.Passes.{most_sites};
 use mh_base::{NoMemory, Seq};
 use mh_class_tests::sites::text;
 use mh_classfile::{ClassView, read};
-use mh_jobs::{Jobs, Run, push_jobs};
+use mh_jobs::{Jobs, Run, RunJobs, push_class};
 use mh_leaves::{Leaves, read_manifest};
 use mh_made_class::{MadeSite, make_class};
 use mh_outside::OpenGate;
@@ -135,9 +135,9 @@ fn jobs_of(
 ) -> Result<Jobs, NoMemory>
     ensures { IfOk result (AreJobsOf leaves.now scripts.now) }
 {
-    let mut jobs = Jobs::new(alloc);
-    push_jobs(alloc, &mut jobs, view, scripts, leaves)?;
-    Ok(jobs)
+    let mut jobs = RunJobs::new(alloc);
+    push_class(alloc, &mut jobs, view, scripts, leaves)?;
+    Ok(jobs.sites)
 }
 
 /// The same of the call site of the class.

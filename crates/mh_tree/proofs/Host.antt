@@ -10,7 +10,7 @@ use Rattle.mh_values.specs.declared.value.LeafId.{LeafId}
 use Rattle.mh_values.specs.declared.calls.LeafCall.{LeafCall}
 use Rattle.mh_values.specs.declared.value.Value.{Value}
 use Rattle.mh_values.specs.declared.value.Value.TheVariants as value
-use Rattle.mh_values.specs.Class.{builtin_classes, class_at, class_below, object_class}
+use Rattle.mh_values.specs.Class.{builtin_classes, class_at, class_below, object_class, throwable_class}
 pub use Rattle.mh_values.proofs.SameTypes.{method_type as of}
 use Rattle.mh_leaf.specs.declared.leaf.Kind.{Kind}
 use Rattle.mh_leaf.specs.declared.leaf.Kind.TheVariants as kind
@@ -76,6 +76,7 @@ host = record {
       ∷ static_leaf (codes "put") (object ∷ []) None kind.Note
       ∷ static_leaf (codes "items") (ty.Array (comp.Class object_class) ∷ []) None kind.Note
       ∷ virtual_leaf (codes "me") [] None kind.Note
+      ∷ static_leaf (codes "fin") (ty.Class throwable_class ∷ int_type ∷ []) (Some int_type) kind.Tick
       ∷ [];
 }
 

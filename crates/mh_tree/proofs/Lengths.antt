@@ -5,15 +5,16 @@ use Rattle.std.proofs.lemmas.Bool.{and_right}
 use Rattle.mh_values.specs.declared.class.Class.{Class}
 use Rattle.mh_values.specs.declared.types.Ty.{Ty}
 use Rattle.mh_values.specs.Same.{is_same_return}
+use Rattle.mh_convert.specs.declared.conv.Rules.{Rules}
 use Rattle.mh_convert.specs.Conversion.{can}
 use Rattle.mh_tree.specs.Rows.{can_all, names_types}
 
-pub can_all-lengths : (classes : List Class) (ss ts : List Ty) → (length ss ≡ length ts → ⊥) → can_all classes ss ts ≡ false
-can_all-lengths classes [] [] h = absurd (h refl)
-can_all-lengths classes [] (t ∷ ts) h = refl
-can_all-lengths classes (s ∷ ss) [] h = refl
-can_all-lengths classes (s ∷ ss) (t ∷ ts) h = ap (λ b. can classes s t && b) (can_all-lengths classes ss ts (λ e. h (ap suc e))) ∙
-    and_right (can classes s t) false refl
+pub can_all-lengths : (by : Rules) (classes : List Class) (ss ts : List Ty) → (length ss ≡ length ts → ⊥) → can_all by classes ss ts ≡ false
+can_all-lengths by classes [] [] h = absurd (h refl)
+can_all-lengths by classes [] (t ∷ ts) h = refl
+can_all-lengths by classes (s ∷ ss) [] h = refl
+can_all-lengths by classes (s ∷ ss) (t ∷ ts) h = ap (λ b. can by classes s t && b) (can_all-lengths by classes ss ts (λ e. h (ap suc e))) ∙
+    and_right (can by classes s t) false refl
 
 pub names_types-lengths : (params : List Ty) (reorder : List ℕ) (types : List Ty) → (length reorder ≡ length types → ⊥) →
     names_types params reorder types ≡ false

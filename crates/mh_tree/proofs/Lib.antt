@@ -1,7 +1,9 @@
 pub mod Calls
 pub mod Concatenated
+pub mod Converted
 pub mod Host
 mod Lengths
+pub mod LimitedEndings
 pub mod LimitedLists
 pub mod LimitedMeaning
 pub mod LimitedNodes
@@ -17,7 +19,9 @@ pub mod RowPartsAdapters
 pub mod SoundAdapters
 pub mod SoundBranches
 pub mod SoundConversions
+pub mod SoundFinally
 pub mod SoundGather
+pub mod SoundLoops
 pub mod SoundRoots
 pub mod SoundSpread
 pub mod Soundness
@@ -27,4 +31,6 @@ pub mod Uses
 mod WorkedAdapters
 mod WorkedBranches
 mod WorkedConcatenations
+mod WorkedConversions
+mod WorkedEndings
 mod WorkedWeights

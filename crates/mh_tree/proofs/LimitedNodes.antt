@@ -12,6 +12,7 @@ use Rattle.mh_values.specs.declared.value.Value.TheVariants as value
 use Rattle.mh_values.specs.Array.{array_of, spread_values}
 use Rattle.mh_values.specs.Computation.{found, and_then, guarded, spliced}
 use Rattle.mh_values.specs.ValueLimits.{most_items}
+use Rattle.mh_convert.specs.declared.conv.Rules.{Rules}
 use Rattle.mh_convert.specs.Conversion.{fit}
 use Rattle.mh_convert.proofs.Limits.{fit-limits}
 use Rattle.mh_tree.specs.Limited.{KeepsLimits}
@@ -77,15 +78,15 @@ gather-keeps body o place count few keeps args n have =
     throw-limits (array_of c own) run (array-limits c own (few-taken count (drop place args) few) (part-limits place count args have)) (λ v h.
     keeps (spliced place count (v ∷ []) args) n (splice-limits place count (v ∷ []) args (h, tt) have)))
 
-pub astype-keeps : (classes : List Class) (body : Body) (c : TypeOrRefusal) (asked : MethodTy) → KeepsLimits body →
-    KeepsLimits (λ args n. known c (λ ty. or_throw (conv_all classes asked.params ty.params args)
-    (λ converted. and_then (body converted n) n (λ r k. conv_result classes ty.ret asked.ret r))))
-astype-keeps classes body c asked keeps args n have =
-    let run : MethodTy → List Value → Done = λ ty converted. and_then (body converted n) n (λ r k. conv_result classes ty.ret asked.ret r) in
-    known-limits c (λ ty. or_throw (conv_all classes asked.params ty.params args) (run ty)) (λ ty is.
-    conv_all-limits classes asked.params ty.params args (run ty) have (λ converted h.
-    then-limits (body converted n) n (λ r k. conv_result classes ty.ret asked.ret r) (keeps converted n h) (λ r k given.
-    conv_result-limits classes ty.ret asked.ret r given)))
+pub convert-keeps : (by : Rules) (classes : List Class) (body : Body) (c : TypeOrRefusal) (asked : MethodTy) → KeepsLimits body →
+    KeepsLimits (λ args n. known c (λ ty. or_throw (conv_all by classes asked.params ty.params args)
+    (λ converted. and_then (body converted n) n (λ r k. conv_result by classes ty.ret asked.ret r))))
+convert-keeps by classes body c asked keeps args n have =
+    let run : MethodTy → List Value → Done = λ ty converted. and_then (body converted n) n (λ r k. conv_result by classes ty.ret asked.ret r) in
+    known-limits c (λ ty. or_throw (conv_all by classes asked.params ty.params args) (run ty)) (λ ty is.
+    conv_all-limits by classes asked.params ty.params args (run ty) have (λ converted h.
+    then-limits (body converted n) n (λ r k. conv_result by classes ty.ret asked.ret r) (keeps converted n h) (λ r k given.
+    conv_result-limits by classes ty.ret asked.ret r given)))
 
 pub guard-keeps : (test body other : Body) (count : ℕ) → KeepsLimits test → KeepsLimits body → KeepsLimits other →
     KeepsLimits (λ args n. and_then (test (take count args) n) n (λ r k. decided r (body args k) (other args k)))

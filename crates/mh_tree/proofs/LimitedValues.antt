@@ -17,6 +17,7 @@ use Rattle.mh_values.specs.ValueLimits.{IsItemWithinLimits, AreItemsWithinLimits
 use Rattle.mh_leaf.specs.Limits.{IsResultWithinLimits, IsRunWithinLimits}
 use Rattle.mh_convert.specs.declared.conv.RetConv.{RetConv}
 use Rattle.mh_convert.specs.declared.conv.RetConv.TheVariants as ret
+use Rattle.mh_convert.specs.declared.conv.Rules.{Rules}
 use Rattle.mh_convert.specs.Conversion.{conv, ret_conversion_of, ret_conv}
 use Rattle.mh_convert.proofs.Limits.{ConvertsWithinLimits, conv-limits, default-limits}
 use Rattle.mh_tree.specs.Meaning.{Done, or_throw, then_others, conv_all, conv_result}
@@ -100,10 +101,10 @@ in_front (Ok v) (Ok vs) h k = (h, k)
 in_front (Ok v) (Err e) h k = tt
 in_front (Err e) rs h k = tt
 
-all-limits : (classes : List Class) (ss ts : List Ty) (vs : List Value) → AreValuesWithinLimits vs → ConvertAllWithinLimits (conv_all classes ss ts vs)
-all-limits classes (s ∷ ss) (t ∷ ts) (v ∷ vs) h =
-    in_front (conv classes s t v) (conv_all classes ss ts vs) (conv-limits classes s t v h.0) (all-limits classes ss ts vs h.1)
-all-limits classes ss ts vs h = tt
+all-limits : (by : Rules) (classes : List Class) (ss ts : List Ty) (vs : List Value) → AreValuesWithinLimits vs → ConvertAllWithinLimits (conv_all by classes ss ts vs)
+all-limits by classes (s ∷ ss) (t ∷ ts) (v ∷ vs) h =
+    in_front (conv by classes s t v) (conv_all by classes ss ts vs) (conv-limits by classes s t v h.0) (all-limits by classes ss ts vs h.1)
+all-limits by classes ss ts vs h = tt
 
 on_all : (r : Result (List Value) Exc) (next : List Value → Done) → ConvertAllWithinLimits r →
     ((vs : List Value) → AreValuesWithinLimits vs → IsRunWithinLimits (next vs)) → IsRunWithinLimits (or_throw r next)
@@ -111,23 +112,23 @@ on_all (Ok vs) next h more = more vs h
 on_all (Err e) next h more = tt
 
 -- what runs on converted arguments
-pub conv_all-limits : (classes : List Class) (ss ts : List Ty) (vs : List Value) (next : List Value → Done) → AreValuesWithinLimits vs →
-    ((ws : List Value) → AreValuesWithinLimits ws → IsRunWithinLimits (next ws)) → IsRunWithinLimits (or_throw (conv_all classes ss ts vs) next)
-conv_all-limits classes ss ts vs next h more = on_all (conv_all classes ss ts vs) next (all-limits classes ss ts vs h) more
+pub conv_all-limits : (by : Rules) (classes : List Class) (ss ts : List Ty) (vs : List Value) (next : List Value → Done) → AreValuesWithinLimits vs →
+    ((ws : List Value) → AreValuesWithinLimits ws → IsRunWithinLimits (next ws)) → IsRunWithinLimits (or_throw (conv_all by classes ss ts vs) next)
+conv_all-limits by classes ss ts vs next h more = on_all (conv_all by classes ss ts vs) next (all-limits by classes ss ts vs h) more
 
 value-shown : (r : Result Value Exc) → ConvertsWithinLimits r → IsRunWithinLimits (or_throw (result_map_both (λ w. Some w) (λ e. e) r) (λ v. Gave v []))
 value-shown (Ok v) h = (h, tt)
 value-shown (Err e) h = tt
 
-ret-limits : (classes : List Class) (c : RetConv) (r : Option Value) → IsResultWithinLimits r →
-    IsRunWithinLimits (or_throw (ret_conv classes c r) (λ v. Gave v []))
-ret-limits classes ret.Keep r h = (h, tt)
-ret-limits classes ret.Discard r h = (tt, tt)
-ret-limits classes (ret.Default t) r h = (default-limits t, tt)
-ret-limits classes (ret.Value c) (Some v) h = value-shown (conv classes c.from c.to v) (conv-limits classes c.from c.to v h)
-ret-limits classes (ret.Value c) None h = (tt, tt)
+ret-limits : (by : Rules) (classes : List Class) (c : RetConv) (r : Option Value) → IsResultWithinLimits r →
+    IsRunWithinLimits (or_throw (ret_conv by classes c r) (λ v. Gave v []))
+ret-limits by classes ret.Keep r h = (h, tt)
+ret-limits by classes ret.Discard r h = (tt, tt)
+ret-limits by classes (ret.Default t) r h = (default-limits t, tt)
+ret-limits by classes (ret.Value c) (Some v) h = value-shown (conv by classes c.from c.to v) (conv-limits by classes c.from c.to v h)
+ret-limits by classes (ret.Value c) None h = (tt, tt)
 
 -- a converted result
-pub conv_result-limits : (classes : List Class) (s t : Option Ty) (r : Option Value) → IsResultWithinLimits r → IsRunWithinLimits (conv_result classes s t r)
-conv_result-limits classes s t r h =
-    found-limits (ret_conversion_of classes s t) (λ c. or_throw (ret_conv classes c r) (λ v. Gave v [])) (λ c is. ret-limits classes c r h)
+pub conv_result-limits : (by : Rules) (classes : List Class) (s t : Option Ty) (r : Option Value) → IsResultWithinLimits r → IsRunWithinLimits (conv_result by classes s t r)
+conv_result-limits by classes s t r h =
+    found-limits (ret_conversion_of by classes s t) (λ c. or_throw (ret_conv by classes c r) (λ v. Gave v [])) (λ c is. ret-limits by classes c r h)

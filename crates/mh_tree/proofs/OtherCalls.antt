@@ -9,26 +9,28 @@ use Rattle.mh_values.specs.declared.value.Value.{Value}
 use Rattle.mh_values.specs.Array.{spread_values}
 use Rattle.mh_values.specs.Computation.{Gave, Threw, Stuck, raised, after, and_then, found, spliced}
 use Rattle.mh_convert.specs.declared.conv.RetConv.{RetConv}
+use Rattle.mh_convert.specs.declared.conv.Rules.{Rules}
 use Rattle.mh_convert.specs.Conversion.{ret_conversion_of, ret_conv}
 use Rattle.mh_leaf.specs.LeafTable.{LeafTable}
-use Rattle.mh_tree.specs.Tree.{Tree}
+use Rattle.mh_tree.specs.Tree.{Tree, converted}
 use Rattle.mh_tree.specs.Tree as tree
 use Rattle.mh_tree.specs.Typing.{type_of, arity}
 use Rattle.mh_tree.specs.Meaning.{Done, mean, known, or_throw, conv_all, conv_result}
+use Rattle.mh_tree.proofs.Converted.{mean-converted}
 use Rattle.mh_tree.proofs.Calls.{calls_made, next_run, Ends, calls-in-order}
 
 no-calls : (r : Result (Option Value) Exc) → calls_made (or_throw r (λ v. Gave v [])) ≡ []
 no-calls (Ok v) = refl
 no-calls (Err e) = refl
 
-no-calls-found : (classes : List Class) (c : Option RetConv) (r : Option Value) →
-    calls_made (found c (λ d. or_throw (ret_conv classes d r) (λ v. Gave v []))) ≡ []
-no-calls-found classes None r = refl
-no-calls-found classes (Some c) r = no-calls (ret_conv classes c r)
+no-calls-found : (by : Rules) (classes : List Class) (c : Option RetConv) (r : Option Value) →
+    calls_made (found c (λ d. or_throw (ret_conv by classes d r) (λ v. Gave v []))) ≡ []
+no-calls-found by classes None r = refl
+no-calls-found by classes (Some c) r = no-calls (ret_conv by classes c r)
 
 -- the conversion of a result makes no leaf calls
-pub conv_result-calls : (classes : List Class) (s t : Option Ty) (r : Option Value) → calls_made (conv_result classes s t r) ≡ []
-conv_result-calls classes s t r = no-calls-found classes (ret_conversion_of classes s t) r
+pub conv_result-calls : (by : Rules) (classes : List Class) (s t : Option Ty) (r : Option Value) → calls_made (conv_result by classes s t r) ≡ []
+conv_result-calls by classes s t r = no-calls-found by classes (ret_conversion_of by classes s t) r
 
 silent : (r : Done) (n : ℕ) (next : Option Value → ℕ → Done) → ((v : Option Value) (k : ℕ) → calls_made (next v k) ≡ []) → calls_made (next_run r n next) ≡ []
 silent (Gave v calls) n next h = h v (raised n calls)
@@ -40,24 +42,25 @@ after-none (Gave v calls) = refl
 after-none (Threw e calls) = refl
 after-none Stuck = refl
 
--- AsType: its calls are those of its tree on the converted arguments
-pub astype-calls :
-    (table : LeafTable) (t : Tree) (ty asked : MethodTy) (args converted : List Value) (n : ℕ) →
+-- AsType and Explicit: its calls are those of its tree on the converted arguments
+pub converted-calls :
+    (by : Rules) (table : LeafTable) (t : Tree) (ty asked : MethodTy) (args xs : List Value) (n : ℕ) →
     type_of table t ≡ Ok ty →
-    conv_all table.classes asked.params ty.params args ≡ Ok converted →
-    Ends (mean table (tree.AsType t asked) args n) →
-    calls_made (mean table (tree.AsType t asked) args n) ≡ calls_made (mean table t converted n)
-astype-calls table t ty asked args converted n typed conv ends =
+    conv_all by table.classes asked.params ty.params args ≡ Ok xs →
+    Ends (mean table (converted by t asked) args n) →
+    calls_made (mean table (converted by t asked) args n) ≡ calls_made (mean table t xs n)
+converted-calls by table t ty asked args xs n typed conv ends =
     let classes = table.classes in
-    let run : MethodTy → Done = λ own. or_throw (conv_all classes asked.params own.params args)
-    (λ xs. and_then (mean table t xs n) n (λ r k. conv_result classes own.ret asked.ret r)) in
-    let next : Option Value → ℕ → Done = λ r k. conv_result classes ty.ret asked.ret r in
-    let is : mean table (tree.AsType t asked) args n ≡ and_then (mean table t converted n) n next =
-    ap (λ o. known o run) typed ∙ ap (λ x. or_throw x (λ xs. and_then (mean table t xs n) n next)) conv in
+    let run : MethodTy → Done = λ own. or_throw (conv_all by classes asked.params own.params args)
+    (λ ys. and_then (mean table t ys n) n (λ r k. conv_result by classes own.ret asked.ret r)) in
+    let next : Option Value → ℕ → Done = λ r k. conv_result by classes ty.ret asked.ret r in
+    let is : mean table (converted by t asked) args n ≡ and_then (mean table t xs n) n next =
+    mean-converted by table t asked args n
+    ∙ (ap (λ o. known o run) typed ∙ ap (λ x. or_throw x (λ ys. and_then (mean table t ys n) n next)) conv) in
     ap calls_made is
-    ∙ (calls-in-order (mean table t converted n) n next (subst Ends is ends)
-    ∙ (ap (λ cs. calls_made (mean table t converted n) ++ cs) (silent (mean table t converted n) n next (λ v k. conv_result-calls classes ty.ret asked.ret v))
-    ∙ append-nil (calls_made (mean table t converted n))))
+    ∙ (calls-in-order (mean table t xs n) n next (subst Ends is ends)
+    ∙ (ap (λ cs. calls_made (mean table t xs n) ++ cs) (silent (mean table t xs n) n next (λ v k. conv_result-calls by classes ty.ret asked.ret v))
+    ∙ append-nil (calls_made (mean table t xs n))))
 
 -- Spread: its calls are those of its tree on the items of the array
 pub spread-calls :

@@ -1,5 +1,5 @@
 -- What conditions and limits tell where a type is given.
-use Rattle.std.proofs.Common.{◌≡◌, refl, sym, Bool, true, false, ℕ, List, Option, Some, None, Result, Ok, Err, nat_le, codes}
+use Rattle.std.proofs.Common.{◌≡◌, refl, sym, Bool, true, false, ℕ, List, ◌∷◌, Option, Some, None, Result, Ok, Err, nat_le, codes}
 use Rattle.mh_base.specs.Provided.{provided, provided_some}
 use Rattle.mh_base.proofs.Inversion.{ok_is}
 use Rattle.mh_values.specs.declared.types.MethodTy.{MethodTy}
@@ -9,12 +9,26 @@ use Rattle.mh_values.specs.Class.{internal_error_class}
 use Rattle.mh_values.specs.Exception.{saying}
 use Rattle.mh_values.specs.Slots.{slots_of_all}
 use Rattle.mh_tree.specs.Rows.{TypeOrRefusal, illegal, provided_fit, limited}
-use Rattle.mh_tree.specs.Typing.{with_type}
+use Rattle.mh_tree.specs.Typing.{TypesOrRefusal, and_types, with_type, with_types}
 
 pub with_type-parts : (c : TypeOrRefusal) (next : MethodTy → TypeOrRefusal) (t : MethodTy) → with_type c next ≡ Ok t → (u : MethodTy) × (c ≡ Ok u)
     × (next u ≡ Ok t)
 with_type-parts (Ok u) next t h = (u, refl, h)
 with_type-parts (Err e) next t h = absurd cc
+
+pub with_types-parts : (c : TypesOrRefusal) (next : List MethodTy → TypeOrRefusal) (t : MethodTy) → with_types c next ≡ Ok t →
+    (us : List MethodTy) × (c ≡ Ok us)
+    × (next us ≡ Ok t)
+with_types-parts (Ok us) next t h = (us, refl, h)
+with_types-parts (Err e) next t h = absurd cc
+
+pub and_types-parts : (c : TypeOrRefusal) (cs : TypesOrRefusal) (ts : List MethodTy) → and_types c cs ≡ Ok ts → (u : MethodTy) × (us : List MethodTy)
+    × (c ≡ Ok u)
+    × (cs ≡ Ok us)
+    × (u ∷ us ≡ ts)
+and_types-parts (Ok u) (Ok us) ts h = (u, us, refl, refl, cc)
+and_types-parts (Ok u) (Err e) ts h = absurd cc
+and_types-parts (Err e) cs ts h = absurd cc
 
 pub provided-parts : (b : Bool) (e : Exc) (next : TypeOrRefusal) (t : MethodTy) → provided b e next ≡ Ok t → (b ≡ true) × (next ≡ Ok t)
 provided-parts true e next t h = (refl, h)

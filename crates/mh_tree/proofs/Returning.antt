@@ -1,12 +1,14 @@
 -- Calls that end as their return types say, one after the other.
-use Rattle.std.proofs.Common.{◌≡◌, refl, ℕ, Bool, true, false, cond, List, Option, Some, None}
+use Rattle.std.proofs.Common.{◌≡◌, refl, ℕ, Bool, true, false, cond, List, [], Option, Some, None}
 use Rattle.std.specs.Prelude.{option_to_list}
 use Rattle.mh_values.specs.declared.class.Class.{Class}
 use Rattle.mh_values.specs.declared.types.Ty.{Ty}
 use Rattle.mh_values.specs.declared.value.Exc.{Exc}
 use Rattle.mh_values.specs.declared.calls.LeafCall.{LeafCall}
 use Rattle.mh_values.specs.declared.value.Value.{Value}
+use Rattle.mh_values.specs.Class.{is_subclass, throwable_class}
 use Rattle.mh_values.specs.Computation.{Gave, Threw, Stuck, raised, after, and_then, guarded}
+use Rattle.mh_leaf.specs.Ending.{ended_by, rethrown}
 use Rattle.mh_values.specs.HasType.{HaveTypes}
 use Rattle.mh_values.specs.Returns.{Returns}
 use Rattle.mh_tree.specs.Meaning.{Done}
@@ -49,3 +51,30 @@ returns-guarded classes (Threw e calls) ret test n handler h more =
     caught classes (test e) (after calls (handler e (raised n calls))) (Threw e calls) ret
     (λ is. returns-after classes calls (handler e (raised n calls)) ret (more e (raised n calls) is)) h
 returns-guarded classes Stuck ret test n handler h more = absurd h
+
+-- a result that was given
+pub given-returns : (classes : List Class) (v : Option Value) (ret : Option Ty) → HaveTypes classes (option_to_list v) (option_to_list ret) →
+    Returns classes (Gave v []) ret
+given-returns classes (Some v) (Some t) h = h.0
+given-returns classes None None h = tt
+given-returns classes (Some v) None h = absurd h
+given-returns classes None (Some t) h = absurd h
+
+rethrown-returns : (classes : List Class) (e : Exc) (r : Done) (ret : Option Ty) → is_subclass classes e.class throwable_class ≡ true →
+    Returns classes r ret → Returns classes (rethrown e r) ret
+rethrown-returns classes e (Gave v calls) ret below h = below
+rethrown-returns classes e (Threw d calls) ret below h = h
+rethrown-returns classes e Stuck ret below h = absurd h
+
+pub returns-ended :
+    (classes : List Class) (r : Done) (ty ret : Option Ty) (n : ℕ) (on_result : Option Value → ℕ → Done) (on_exception : Exc → ℕ → Done) →
+    Returns classes r ty →
+    ((v : Option Value) (k : ℕ) → HaveTypes classes (option_to_list v) (option_to_list ty) → Returns classes (on_result v k) ret) →
+    ((e : Exc) (k : ℕ) → is_subclass classes e.class throwable_class ≡ true → Returns classes (on_exception e k) ret) →
+    Returns classes (ended_by r n on_result on_exception) ret
+returns-ended classes (Gave v calls) ty ret n on_result on_exception h results exceptions =
+    returns-after classes calls (on_result v (raised n calls)) ret (results v (raised n calls) (returned-typed classes v calls ty h))
+returns-ended classes (Threw e calls) ty ret n on_result on_exception h results exceptions =
+    returns-after classes calls (rethrown e (on_exception e (raised n calls))) ret
+    (rethrown-returns classes e (on_exception e (raised n calls)) ret h (exceptions e (raised n calls) h))
+returns-ended classes Stuck ty ret n on_result on_exception h results exceptions = absurd h

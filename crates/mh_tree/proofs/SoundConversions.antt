@@ -16,12 +16,13 @@ use Rattle.mh_values.specs.HasType.{has_type, HaveTypes}
 use Rattle.mh_values.specs.Returns.{Returns}
 use Rattle.mh_values.proofs.PrimitiveNumbers.{number-is, zero-lies}
 use Rattle.mh_convert.specs.declared.conv.Conv.{Conv}
+use Rattle.mh_convert.specs.declared.conv.Rules.{Rules}
 use Rattle.mh_convert.specs.Conversion.{can, conv, default_of, value_conversion, ret_conversion_of, ret_conv}
 use Rattle.mh_convert.proofs.Typed.{conv-typed, conv-throws}
-use Rattle.mh_tree.specs.Rows.{can_all, astype_row}
+use Rattle.mh_tree.specs.Rows.{can_all, convert_row}
 use Rattle.mh_tree.specs.Meaning.{Done, or_throw, then_others, conv_all, conv_result}
 use Rattle.mh_tree.specs.Sound.{Body, IsSound}
-use Rattle.mh_tree.proofs.RowParts.{astype_row-parts}
+use Rattle.mh_tree.proofs.RowParts.{convert_row-parts}
 use Rattle.mh_tree.proofs.Returning.{returns-then}
 
 -- a value of the type, or an exception
@@ -34,14 +35,14 @@ abbrev pub ConvertAll : List Class → Result (List Value) Exc → List Ty → T
 ConvertAll classes (Ok vs) ts = HaveTypes classes vs ts
 ConvertAll classes (Err e) ts = is_subclass classes e.class throwable_class ≡ true
 
-converts-is : (classes : List Class) → AreClasses classes → (s t : Ty) (v : Value) (r : Result Value Exc) → can classes s t ≡ true → has_type classes v s ≡ true
-    → conv classes s t v ≡ r → Converts classes r t
-converts-is classes are s t v (Ok w) allowed typed is = conv-typed classes s t v w allowed typed is
-converts-is classes are s t v (Err e) allowed typed is = conv-throws classes are s t v e is
+converts-is : (by : Rules) (classes : List Class) → AreClasses classes → (s t : Ty) (v : Value) (r : Result Value Exc) → can by classes s t ≡ true → has_type classes v s ≡ true
+    → conv by classes s t v ≡ r → Converts classes r t
+converts-is by classes are s t v (Ok w) allowed typed is = conv-typed by classes s t v w allowed typed is
+converts-is by classes are s t v (Err e) allowed typed is = conv-throws by classes are s t v e is
 
-pub conv-converts : (classes : List Class) → AreClasses classes → (s t : Ty) (v : Value) → can classes s t ≡ true → has_type classes v s ≡ true →
-    Converts classes (conv classes s t v) t
-conv-converts classes are s t v allowed typed = converts-is classes are s t v (conv classes s t v) allowed typed refl
+pub conv-converts : (by : Rules) (classes : List Class) → AreClasses classes → (s t : Ty) (v : Value) → can by classes s t ≡ true → has_type classes v s ≡ true →
+    Converts classes (conv by classes s t v) t
+conv-converts by classes are s t v allowed typed = converts-is by classes are s t v (conv by classes s t v) allowed typed refl
 
 in_front : (classes : List Class) (r : Result Value Exc) (rs : Result (List Value) Exc) (t : Ty) (ts : List Ty) → Converts classes r t →
     ConvertAll classes rs ts → ConvertAll classes (then_others r rs) (t ∷ ts)
@@ -49,16 +50,16 @@ in_front classes (Ok v) (Ok vs) t ts h k = (h, k)
 in_front classes (Ok v) (Err e) t ts h k = k
 in_front classes (Err e) rs t ts h k = h
 
-pub conv_all-converts : (classes : List Class) → AreClasses classes → (ss ts : List Ty) (vs : List Value) → can_all classes ss ts ≡ true →
-    HaveTypes classes vs ss → ConvertAll classes (conv_all classes ss ts vs) ts
-conv_all-converts classes are [] [] vs allowed have = tt
-conv_all-converts classes are (s ∷ ss) (t ∷ ts) [] allowed have = absurd have
-conv_all-converts classes are (s ∷ ss) (t ∷ ts) (v ∷ vs) allowed have =
-    let q = and_parts (can classes s t) (can_all classes ss ts) allowed in
-    in_front classes (conv classes s t v) (conv_all classes ss ts vs) t ts (conv-converts classes are s t v q.0 have.0)
-    (conv_all-converts classes are ss ts vs q.1 have.1)
-conv_all-converts classes are [] (t ∷ ts) vs allowed have = absurd cc
-conv_all-converts classes are (s ∷ ss) [] vs allowed have = absurd cc
+pub conv_all-converts : (by : Rules) (classes : List Class) → AreClasses classes → (ss ts : List Ty) (vs : List Value) → can_all by classes ss ts ≡ true →
+    HaveTypes classes vs ss → ConvertAll classes (conv_all by classes ss ts vs) ts
+conv_all-converts by classes are [] [] vs allowed have = tt
+conv_all-converts by classes are (s ∷ ss) (t ∷ ts) [] allowed have = absurd have
+conv_all-converts by classes are (s ∷ ss) (t ∷ ts) (v ∷ vs) allowed have =
+    let q = and_parts (can by classes s t) (can_all by classes ss ts) allowed in
+    in_front classes (conv by classes s t v) (conv_all by classes ss ts vs) t ts (conv-converts by classes are s t v q.0 have.0)
+    (conv_all-converts by classes are ss ts vs q.1 have.1)
+conv_all-converts by classes are [] (t ∷ ts) vs allowed have = absurd cc
+conv_all-converts by classes are (s ∷ ss) [] vs allowed have = absurd cc
 
 pub throw-returns : (classes : List Class) (r : Result (List Value) Exc) (ts : List Ty) (ret : Option Ty) (next : List Value → Done) → ConvertAll classes r ts →
     ((vs : List Value) → HaveTypes classes vs ts → Returns classes (next vs) ret) → Returns classes (or_throw r next) ret
@@ -67,7 +68,7 @@ throw-returns classes (Err e) ts ret next h more = h
 
 -- ---- results
 
-default-typed : (classes : List Class) (t : Ty) → has_type classes (default_of t) t ≡ true
+pub default-typed : (classes : List Class) (t : Ty) → has_type classes (default_of t) t ≡ true
 default-typed classes (ty.Prim p) = number-is p (pos 0) (zero-lies p)
 default-typed classes (ty.Class c) = refl
 default-typed classes (ty.Array c) = refl
@@ -85,32 +86,32 @@ abbrev pair : Ty → Ty → Conv
 pair s t = record { from = s; to = t }
 
 -- a result that is converted as an argument is
-value-result : (classes : List Class) → AreClasses classes → (s t : Ty) (v : Value) (b : Bool) → can classes s t ≡ b →
+value-result : (by : Rules) (classes : List Class) → AreClasses classes → (s t : Ty) (v : Value) (b : Bool) → can by classes s t ≡ b →
     is_some (value_conversion (cond b (Some (pair s t)) None)) ≡ true → has_type classes v s ≡ true →
-    Returns classes (found (value_conversion (cond b (Some (pair s t)) None)) (λ c. shown (ret_conv classes c (Some v)))) (Some t)
-value-result classes are s t v true allowed there typed = value-shown classes (conv classes s t v) t (conv-converts classes are s t v allowed typed)
-value-result classes are s t v false allowed there typed = absurd cc
+    Returns classes (found (value_conversion (cond b (Some (pair s t)) None)) (λ c. shown (ret_conv by classes c (Some v)))) (Some t)
+value-result by classes are s t v true allowed there typed = value-shown classes (conv by classes s t v) t (conv-converts by classes are s t v allowed typed)
+value-result by classes are s t v false allowed there typed = absurd cc
 
-pub conv_result-returns : (classes : List Class) → AreClasses classes → (s t : Option Ty) (r : Option Value) → is_some (ret_conversion_of classes s t) ≡ true →
-    HaveTypes classes (option_to_list r) (option_to_list s) → Returns classes (conv_result classes s t r) t
-conv_result-returns classes are None None None there have = tt
-conv_result-returns classes are None None (Some v) there have = absurd have
-conv_result-returns classes are (Some s) None r there have = tt
-conv_result-returns classes are None (Some t) r there have = default-typed classes t
-conv_result-returns classes are (Some s) (Some t) (Some v) there have = value-result classes are s t v (can classes s t) refl there have.0
-conv_result-returns classes are (Some s) (Some t) None there have = absurd have
+pub conv_result-returns : (by : Rules) (classes : List Class) → AreClasses classes → (s t : Option Ty) (r : Option Value) → is_some (ret_conversion_of by classes s t) ≡ true →
+    HaveTypes classes (option_to_list r) (option_to_list s) → Returns classes (conv_result by classes s t r) t
+conv_result-returns by classes are None None None there have = tt
+conv_result-returns by classes are None None (Some v) there have = absurd have
+conv_result-returns by classes are (Some s) None r there have = tt
+conv_result-returns by classes are None (Some t) r there have = default-typed classes t
+conv_result-returns by classes are (Some s) (Some t) (Some v) there have = value-result by classes are s t v (can by classes s t) refl there have.0
+conv_result-returns by classes are (Some s) (Some t) None there have = absurd have
 
-pub astype-sound : (classes : List Class) → AreClasses classes → (body : Body) (t : MethodTy) (weight : ℕ) (asked u : MethodTy) → IsSound classes body t →
-    astype_row classes t weight asked ≡ Ok u →
-    IsSound classes (λ args n. or_throw (conv_all classes asked.params t.params args) (λ converted. and_then (body converted n) n
-    (λ r k. conv_result classes t.ret asked.ret r))) u
-astype-sound classes are body t weight asked u sound typed =
-    let q = astype_row-parts classes t weight asked u typed in
-    subst (IsSound classes (λ args n. or_throw (conv_all classes asked.params t.params args) (λ converted. and_then (body converted n) n
-    (λ r k. conv_result classes t.ret asked.ret r)))) (sym q.2)
+pub convert-sound : (by : Rules) (classes : List Class) → AreClasses classes → (body : Body) (t : MethodTy) (weight : ℕ) (asked u : MethodTy) → IsSound classes body t →
+    convert_row by classes t weight asked ≡ Ok u →
+    IsSound classes (λ args n. or_throw (conv_all by classes asked.params t.params args) (λ converted. and_then (body converted n) n
+    (λ r k. conv_result by classes t.ret asked.ret r))) u
+convert-sound by classes are body t weight asked u sound typed =
+    let q = convert_row-parts by classes t weight asked u typed in
+    subst (IsSound classes (λ args n. or_throw (conv_all by classes asked.params t.params args) (λ converted. and_then (body converted n) n
+    (λ r k. conv_result by classes t.ret asked.ret r)))) (sym q.2)
     (λ args n have.
-    throw-returns classes (conv_all classes asked.params t.params args) t.params asked.ret (λ converted. and_then (body converted n) n
-    (λ r k. conv_result classes t.ret asked.ret r))
-    (conv_all-converts classes are asked.params t.params args q.0 have) (λ converted have'.
-    returns-then classes (body converted n) t.ret asked.ret n (λ r k. conv_result classes t.ret asked.ret r) (sound converted n have')
-    (λ r k given. conv_result-returns classes are t.ret asked.ret r q.1 given)))
+    throw-returns classes (conv_all by classes asked.params t.params args) t.params asked.ret (λ converted. and_then (body converted n) n
+    (λ r k. conv_result by classes t.ret asked.ret r))
+    (conv_all-converts by classes are asked.params t.params args q.0 have) (λ converted have'.
+    returns-then classes (body converted n) t.ret asked.ret n (λ r k. conv_result by classes t.ret asked.ret r) (sound converted n have')
+    (λ r k given. conv_result-returns by classes are t.ret asked.ret r q.1 given)))

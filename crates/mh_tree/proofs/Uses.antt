@@ -6,30 +6,41 @@ use Rattle.mh_values.specs.declared.types.Comp.{Comp}
 use Rattle.mh_values.specs.declared.types.Ty.{Ty}
 use Rattle.mh_values.specs.declared.types.MethodTy.{MethodTy}
 use Rattle.mh_values.specs.Same.{is_same_method_type}
+use Rattle.mh_convert.specs.declared.conv.Rules.{Rules}
+use Rattle.mh_convert.specs.declared.conv.Rules.TheVariants as rules
 use Rattle.mh_leaf.specs.LeafTable.{LeafTable}
-use Rattle.mh_tree.specs.Rows.{TypeOrRefusal, component_of, illegal, astype_row, spread_row}
-use Rattle.mh_tree.specs.Tree.{Tree, weight}
+use Rattle.mh_tree.specs.Rows.{TypeOrRefusal, component_of, convert_row, illegal, spread_row}
+use Rattle.mh_tree.specs.Tree.{Tree, converted, weight}
 use Rattle.mh_tree.specs.Tree as tree
 use Rattle.mh_tree.specs.Typing.{type_of, with_type}
-use Rattle.mh_tree.specs.Use.{used_as, use_row, use_weight, taking_items, items_used_as, spread_use_row}
+use Rattle.mh_tree.specs.Use.{used_as, used_by, use_row, use_row_by, use_weight, taking_items, items_used_as, spread_use_row}
+use Rattle.mh_tree.proofs.Converted.{type-converted, weight-converted}
 
 module _ (leaves : LeafTable) (t : Tree) (own : MethodTy) (typed : type_of leaves t ≡ Ok own) where
-  used-type : (asked : MethodTy) (b : Bool) →
-      type_of leaves (cond b t (tree.AsType t asked)) ≡ cond b (Ok own) (astype_row leaves.classes own (weight t) asked)
-  used-type asked true = typed
-  used-type asked false = ap (λ m. with_type m (λ ty. astype_row leaves.classes ty (weight t) asked)) typed
+  used-type : (by : Rules) (asked : MethodTy) (b : Bool) →
+      type_of leaves (cond b t (converted by t asked)) ≡ cond b (Ok own) (convert_row by leaves.classes own (weight t) asked)
+  used-type by asked true = typed
+  used-type by asked false = type-converted by leaves t asked ∙ ap (λ m. with_type m (λ ty. convert_row by leaves.classes ty (weight t) asked)) typed
 
-  -- the type of a tree that is used as a type, or its refusal
+  -- the type of a tree that is converted by the rules to a type, or its refusal
+  pub use-type-by : (by : Rules) (asked : MethodTy) → type_of leaves (used_by by own asked t) ≡ use_row_by by leaves.classes own (weight t) asked
+  use-type-by by asked = used-type by asked (is_same_method_type own asked)
+
+  -- the same of a tree that is used as a type
   pub use-type : (asked : MethodTy) → type_of leaves (used_as own asked t) ≡ use_row leaves.classes own (weight t) asked
-  use-type asked = used-type asked (is_same_method_type own asked)
+  use-type asked = use-type-by rules.AsType asked
 
-  used-weight : (asked : MethodTy) (b : Bool) → weight (cond b t (tree.AsType t asked)) ≡ cond b (weight t) (1 + weight t)
-  used-weight asked true = refl
-  used-weight asked false = refl
+  used-weight : (by : Rules) (asked : MethodTy) (b : Bool) → weight (cond b t (converted by t asked)) ≡ cond b (weight t) (1 + weight t)
+  used-weight by asked true = refl
+  used-weight by asked false = weight-converted by t asked
 
-  -- the weight of a tree that is used as a type
+  -- the weight of a tree that is converted by the rules to a type
+  pub use-weight-by : (by : Rules) (asked : MethodTy) → weight (used_by by own asked t) ≡ use_weight own (weight t) asked
+  use-weight-by by asked = used-weight by asked (is_same_method_type own asked)
+
+  -- the same of a tree that is used as a type
   pub use-weight : (asked : MethodTy) → weight (used_as own asked t) ≡ use_weight own (weight t) asked
-  use-weight asked = used-weight asked (is_same_method_type own asked)
+  use-weight asked = use-weight-by rules.AsType asked
 
   -- the type of a spread, or its refusal, where the type is an array's and there are so many parameters
   pub spread-type : (c : Comp) (array : Option Ty) (count : ℕ) → component_of array ≡ Some c → nat_le count (length own.params) ≡ true →

@@ -1,5 +1,5 @@
 -- What a tree does with arguments of its types: a result or an exception, with the leaf calls that it makes in order.
-use Rattle.std.specs.Prelude.{ℕ, ◌-◌, true, false, List, [], ◌∷◌, ◌++◌, length, take, drop, if◌then◌else◌, Option, Some, slice_get, option_to_list, Result, Ok, Err}
+use Rattle.std.specs.Prelude.{ℕ, zero, suc, pos, ◌-◌, true, false, List, [], ◌∷◌, ◌++◌, length, take, drop, if◌then◌else◌, Option, Some, slice_get, option_to_list, Result, Ok, Err}
 use Rattle.mh_values.specs.declared.class.Class.{Class}
 use Rattle.mh_values.specs.declared.types.Ty.{Ty}
 use Rattle.mh_values.specs.declared.types.MethodTy.{MethodTy}
@@ -10,15 +10,19 @@ use Rattle.mh_values.specs.declared.value.Value.TheVariants as value
 use Rattle.mh_values.specs.Array.{array_of, spread_values}
 use Rattle.mh_values.specs.Class.{class_cast_class, null_pointer_class}
 use Rattle.mh_values.specs.Computation.{Ran, Gave, Threw, Stuck, and_then, guarded, found, spliced, is_caught}
+use Rattle.mh_leaf.specs.Ending.{bounded, ended_by, picked_by, turned}
 use Rattle.mh_values.specs.Exception.{bare}
 use Rattle.mh_values.specs.Same.{is_same_method_type}
-use Rattle.mh_convert.specs.Conversion.{conv, fit, ret_conversion_of, ret_conv}
+use Rattle.std.specs.Option.{option_map}
+use Rattle.mh_convert.specs.declared.conv.Rules.{Rules}
+use Rattle.mh_convert.specs.declared.conv.Rules.TheVariants as rules
+use Rattle.mh_convert.specs.Conversion.{conv, default_of, fit, ret_conversion_of, ret_conv}
 use Rattle.mh_leaf.specs.LeafTable.{LeafTable}
 use Rattle.mh_leaf.specs.Outcome.{leaf_mean, ran_of}
 use Rattle.mh_pieces.specs.Joined.{joined}
-use Rattle.mh_tree.specs.Tree.{Tree}
+use Rattle.mh_tree.specs.Tree.{Tree, Cases}
 use Rattle.mh_tree.specs.Tree as tree
-use Rattle.mh_tree.specs.Rows.{TypeOrRefusal, component_of, mismatch}
+use Rattle.mh_tree.specs.Rows.{TypeOrRefusal, component_of, further, kept_by, mismatch}
 use Rattle.mh_tree.specs.Typing.{type_of, arity}
 
 -- how a call of a tree ends; a call whose return type is void returns no value
@@ -69,14 +73,14 @@ abbrev pub then_others : Result Value Exc → Result (List Value) Exc → Result
 then_others (Ok v) others = value_and_more v others
 then_others (Err e) others = Err e
 
--- arguments converted from left to right
-abbrev pub conv_all : List Class → List Ty → List Ty → List Value → Result (List Value) Exc
-conv_all classes (s ∷ ss) (t ∷ ts) (v ∷ vs) = then_others (conv classes s t v) (conv_all classes ss ts vs)
-conv_all classes _ _ _ = Ok []
+-- arguments converted by the rules from left to right
+abbrev pub conv_all : Rules → List Class → List Ty → List Ty → List Value → Result (List Value) Exc
+conv_all by classes (s ∷ ss) (t ∷ ts) (v ∷ vs) = then_others (conv by classes s t v) (conv_all by classes ss ts vs)
+conv_all by classes _ _ _ = Ok []
 
--- a result converted to what is asked for
-abbrev pub conv_result : List Class → Option Ty → Option Ty → Option Value → Done
-conv_result classes s t r = found (ret_conversion_of classes s t) (λ c. or_throw (ret_conv classes c r) (λ v. Gave v []))
+-- a result converted by the rules to what is asked for
+abbrev pub conv_result : Rules → List Class → Option Ty → Option Ty → Option Value → Done
+conv_result by classes s t r = found (ret_conversion_of by classes s t) (λ c. or_throw (ret_conv by classes c r) (λ v. Gave v []))
 
 -- the first call if the test gave true, the second if it gave false
 abbrev pub decided : Option Value → Done → Done → Done
@@ -84,42 +88,78 @@ decided (Some (value.Prim (num.Z true))) a b = a
 decided (Some (value.Prim (num.Z false))) a b = b
 decided _ a b = Stuck
 
--- What a tree does with these arguments, after `n` earlier leaf calls. The number matters because a leaf of kind `tick` returns it.
-abbrev pub mean : LeafTable → Tree → List Value → ℕ → Done
-mean table (tree.Leaf leaf) args n = leaf_mean table leaf args n
-mean table (tree.Constant ty v) args n = found ty (λ ret. fitted (fit table.classes v ret) giving)
-mean table (tree.Identity ty) args n = found (slice_get args 0) giving
-mean table (tree.Throw ret class) args n = found (slice_get args 0) thrown
-mean table (tree.Concat asked pieces) args n = ran_of (joined table.classes pieces args) []
-mean table (tree.Bind target place v) args n =
-    known (type_of table target) (λ ty. found (slice_get ty.params place) (λ parameter. fitted (fit table.classes v parameter) (λ bound.
-    mean table target (spliced place 0 (bound ∷ []) args) n)))
-mean table (tree.Drop target place types) args n = mean table target (spliced place (length types) [] args) n
-mean table (tree.Permute target asked reorder) args n = mean table target (picked args reorder) n
-mean table (tree.FilterArg target place filter) args n =
-    and_then (mean table filter (part_of place 1 args) n) n (λ r k. mean table target (spliced place 1 (option_to_list r) args) k)
-mean table (tree.FilterRet target filter) args n = and_then (mean table target args n) n (λ r k. mean table filter (option_to_list r) k)
-mean table (tree.Fold target place combiner) args n =
-    and_then (mean table combiner (part_of place (arity table combiner) args) n) n (λ r k. mean table target (spliced place 0 (option_to_list r) args) k)
-mean table (tree.Collect target place filter) args n =
-    and_then (mean table filter (part_of place (arity table filter) args) n) n
-    (λ r k. mean table target (spliced place (arity table filter) (option_to_list r) args) k)
-mean table (tree.Spread target array count) args n =
-    found (slice_get args (arity table target - count)) (λ v.
-    and_then (spread_values count v) n (λ items k. mean table target (spliced (arity table target - count) 1 items args) k))
-mean table (tree.Gather target array count) args n =
-    found (component_of array) (λ c.
-    or_throw (array_of c (part_of (arity table target - 1) count args)) (λ v.
-    mean table target (spliced (arity table target - 1) count (v ∷ []) args) n))
-mean table (tree.AsType target asked) args n =
-    known (type_of table target) (λ ty.
-    or_throw (conv_all table.classes asked.params ty.params args) (λ converted.
-    and_then (mean table target converted n) n (λ r k. conv_result table.classes ty.ret asked.ret r)))
-mean table (tree.Guard test target fallback) args n =
-    and_then (mean table test (take (arity table test) args) n) n (λ r k. decided r (mean table target args k) (mean table fallback args k))
-mean table (tree.Catch target class handler) args n =
-    guarded (mean table target args n) (is_caught table.classes class) n
-    (λ e k. mean table handler (value.Thrown e ∷ take (arity table handler - 1) args) k)
+-- what a number picks of a switch; anything but an int picks nothing
+abbrev pub switched : Value → (ℕ → Done) → Done → Done
+switched (value.Prim (num.I z)) pick other = picked_by z pick other
+switched v pick other = Stuck
+
+-- goes on with the turns of a loop, if the iterations gave an int that is no more than there may be
+abbrev pub bounded_by : Option Value → (ℕ → Done) → Done
+bounded_by (Some (value.Prim (num.I z))) next = bounded z next
+bounded_by r next = Stuck
+
+-- how many of the loop's arguments its body takes
+abbrev pub further_count : TypeOrRefusal → ℕ
+further_count (Ok ty) = length (further ty)
+further_count (Err e) = 0
+
+abbrev mutual
+  -- What a tree does with these arguments, after `n` earlier leaf calls. The number matters because a leaf of kind `tick` returns it.
+  pub mean : LeafTable → Tree → List Value → ℕ → Done
+  mean table (tree.Leaf leaf) args n = leaf_mean table leaf args n
+  mean table (tree.Constant ty v) args n = found ty (λ ret. fitted (fit table.classes v ret) giving)
+  mean table (tree.Identity ty) args n = found (slice_get args 0) giving
+  mean table (tree.Throw ret class) args n = found (slice_get args 0) thrown
+  mean table (tree.Concat asked pieces) args n = ran_of (joined table.classes pieces args) []
+  mean table (tree.Bind target place v) args n =
+      known (type_of table target) (λ ty. found (slice_get ty.params place) (λ parameter. fitted (fit table.classes v parameter) (λ bound.
+      mean table target (spliced place 0 (bound ∷ []) args) n)))
+  mean table (tree.Drop target place types) args n = mean table target (spliced place (length types) [] args) n
+  mean table (tree.Permute target asked reorder) args n = mean table target (picked args reorder) n
+  mean table (tree.FilterArg target place filter) args n =
+      and_then (mean table filter (part_of place 1 args) n) n (λ r k. mean table target (spliced place 1 (option_to_list r) args) k)
+  mean table (tree.FilterRet target filter) args n = and_then (mean table target args n) n (λ r k. mean table filter (option_to_list r) k)
+  mean table (tree.Fold target place combiner) args n =
+      and_then (mean table combiner (part_of place (arity table combiner) args) n) n (λ r k. mean table target (spliced place 0 (option_to_list r) args) k)
+  mean table (tree.Collect target place filter) args n =
+      and_then (mean table filter (part_of place (arity table filter) args) n) n
+      (λ r k. mean table target (spliced place (arity table filter) (option_to_list r) args) k)
+  mean table (tree.Spread target array count) args n =
+      found (slice_get args (arity table target - count)) (λ v.
+      and_then (spread_values count v) n (λ items k. mean table target (spliced (arity table target - count) 1 items args) k))
+  mean table (tree.Gather target array count) args n =
+      found (component_of array) (λ c.
+      or_throw (array_of c (part_of (arity table target - 1) count args)) (λ v.
+      mean table target (spliced (arity table target - 1) count (v ∷ []) args) n))
+  mean table (tree.AsType target asked) args n =
+      known (type_of table target) (λ ty.
+      or_throw (conv_all rules.AsType table.classes asked.params ty.params args) (λ converted.
+      and_then (mean table target converted n) n (λ r k. conv_result rules.AsType table.classes ty.ret asked.ret r)))
+  mean table (tree.Explicit target asked) args n =
+      known (type_of table target) (λ ty.
+      or_throw (conv_all rules.Explicit table.classes asked.params ty.params args) (λ converted.
+      and_then (mean table target converted n) n (λ r k. conv_result rules.Explicit table.classes ty.ret asked.ret r)))
+  mean table (tree.Guard test target fallback) args n =
+      and_then (mean table test (take (arity table test) args) n) n (λ r k. decided r (mean table target args k) (mean table fallback args k))
+  mean table (tree.Catch target class handler) args n =
+      guarded (mean table target args n) (is_caught table.classes class) n
+      (λ e k. mean table handler (value.Thrown e ∷ take (arity table handler - 1) args) k)
+  mean table (tree.TryFinally target cleanup) args n =
+      known (type_of table target) (λ ty. known (type_of table cleanup) (λ part. ended_by (mean table target args n) n
+      (λ r k. mean table cleanup (value.Null ∷ (option_to_list r ++ take (kept_by part ty.ret) args)) k)
+      (λ e k. mean table cleanup (value.Thrown e ∷ (option_to_list (option_map default_of ty.ret) ++ take (kept_by part ty.ret) args)) k)))
+  mean table (tree.Switch fallback cases) args n =
+      found (slice_get args 0) (λ s. switched s (λ k. mean_case table cases k (mean table fallback args n) args n) (mean table fallback args n))
+  mean table (tree.Counted iterations init body) args n =
+      and_then (mean table iterations (take (arity table iterations) args) n) n (λ r k. bounded_by r (λ turns.
+      and_then (mean table init (take (arity table init) args) k) k (λ v m.
+      turned (λ j w l. mean table body (option_to_list w ++ (value.Prim (num.I (pos j)) ∷ take (further_count (type_of table body)) args)) l) 0 turns v m)))
+
+  -- the case of a number, or something else if there is none
+  pub mean_case : LeafTable → Cases → ℕ → Done → List Value → ℕ → Done
+  mean_case table tree.no_cases number other args n = other
+  mean_case table (tree.one_case first others) zero other args n = mean table first args n
+  mean_case table (tree.one_case first others) (suc number) other args n = mean_case table others number other args n
 
 -- a call, by the type `asked`, of a tree of type `ty`
 abbrev pub exact_at : LeafTable → Tree → MethodTy → MethodTy → List Value → ℕ → Done

@@ -19,9 +19,11 @@ use Rattle.mh_values.specs.Same.{is_same_type, is_same_return, are_same_types, b
 use Rattle.mh_values.specs.Slots.{slots_of_all}
 use Rattle.mh_values.specs.TypeText.{method_type_text}
 use Rattle.mh_values.specs.ValueLimits.{most_items}
+use Rattle.mh_convert.specs.declared.conv.Rules.{Rules}
+use Rattle.mh_convert.specs.declared.conv.Rules.TheVariants as rules
 use Rattle.mh_convert.specs.Conversion.{can, fit, ret_conversion_of}
 use Rattle.mh_leaf.specs.declared.leaf.Leaf.{Leaf}
-use Rattle.mh_leaf.specs.Outcome.{boolean_type}
+use Rattle.mh_leaf.specs.Outcome.{boolean_type, int_type}
 use Rattle.mh_pieces.specs.declared.piece.Piece.{Piece}
 use Rattle.mh_pieces.specs.Joined.{arg_types}
 use Rattle.mh_pieces.specs.Recipe.{most_concat_slots, returns_text}
@@ -171,25 +173,38 @@ gather_row classes target target_weight array count =
     (illegal (codes "gather"))
     (limited (codes "gather") (1 + target_weight) (taking (spliced (length target.params - 1) 1 (replicate count (item_type component)) target.params) target)))
 
--- each of these types can be converted to the type at the same place of the other list
-abbrev pub can_all : List Class → List Ty → List Ty → Bool
-can_all classes [] [] = true
-can_all classes (s ∷ ss) (t ∷ ts) = can classes s t && can_all classes ss ts
-can_all classes _ _ = false
+-- each of these types can be converted by the rules to the type at the same place of the other list
+abbrev pub can_all : Rules → List Class → List Ty → List Ty → Bool
+can_all by classes [] [] = true
+can_all by classes (s ∷ ss) (t ∷ ts) = can by classes s t && can_all by classes ss ts
+can_all by classes _ _ = false
 
--- a method type can be converted to another: each argument that is asked for to a parameter, and the result to the one asked for
-abbrev pub can_be_used_as : List Class → MethodTy → MethodTy → Bool
-can_be_used_as classes own asked = can_all classes asked.params own.params && is_some (ret_conversion_of classes own.ret asked.ret)
+-- a method type can be converted by the rules to another: each argument that is asked for to a parameter, and the result to the one asked for
+abbrev pub can_be_used_as : Rules → List Class → MethodTy → MethodTy → Bool
+can_be_used_as by classes own asked = can_all by classes asked.params own.params && is_some (ret_conversion_of by classes own.ret asked.ret)
 
 -- the exception of two types that do not agree
 abbrev pub mismatch : List Class → MethodTy → MethodTy → Exc
 mismatch classes own asked =
     saying wrong_method_type_class (codes "have " ++ method_type_text classes own ++ codes " want " ++ method_type_text classes asked)
 
--- AsType has the type that is asked for, if the part's type can be converted to it
+-- the word of a conversion by the rules
+abbrev pub word_of : Rules → List ℕ
+word_of rules.AsType = codes "astype"
+word_of rules.Explicit = codes "explicit"
+
+-- what is converted by the rules has the type that is asked for, if the part's type can be converted to it
+abbrev pub convert_row : Rules → List Class → MethodTy → ℕ → MethodTy → TypeOrRefusal
+convert_row by classes target target_weight asked =
+    provided (can_be_used_as by classes target asked) (mismatch classes target asked) (limited (word_of by) (1 + target_weight) asked)
+
+-- AsType converts by its own rules
 abbrev pub astype_row : List Class → MethodTy → ℕ → MethodTy → TypeOrRefusal
-astype_row classes target target_weight asked =
-    provided (can_be_used_as classes target asked) (mismatch classes target asked) (limited (codes "astype") (1 + target_weight) asked)
+astype_row classes target target_weight asked = convert_row rules.AsType classes target target_weight asked
+
+-- Explicit converts by those of explicit conversions
+abbrev pub explicit_row : List Class → MethodTy → ℕ → MethodTy → TypeOrRefusal
+explicit_row classes target target_weight asked = convert_row rules.Explicit classes target target_weight asked
 
 -- Guard has the type of both branches; the test gives a boolean, and takes the first parameters of that type
 abbrev pub guard_row : MethodTy → ℕ → MethodTy → ℕ → MethodTy → ℕ → TypeOrRefusal
@@ -212,3 +227,68 @@ abbrev pub catch_row : List Class → MethodTy → ℕ → ClassId → MethodTy 
 catch_row classes target target_weight class handler handler_weight =
     provided (is_subclass classes class throwable_class && handles classes class handler target) (illegal (codes "catch"))
     (limited (codes "catch") (1 + target_weight + handler_weight) target)
+
+-- what a cleanup takes first: an exception or null, and the result if there is one
+abbrev pub end_types : Option Ty → List Ty
+end_types ret = ty.Class throwable_class ∷ option_to_list ret
+
+-- how many of the target's arguments a cleanup takes
+abbrev pub kept_by : MethodTy → Option Ty → ℕ
+kept_by cleanup ret = length cleanup.params - length (end_types ret)
+
+-- a cleanup takes how the target ended, then the first parameters of the target, and returns what the target returns
+abbrev pub cleans_up : MethodTy → MethodTy → Bool
+cleans_up cleanup target =
+    is_same_return cleanup.ret target.ret && begins_with_types cleanup.params (end_types target.ret)
+    && begins_with_types target.params (drop (length (end_types target.ret)) cleanup.params)
+
+-- TryFinally has the type of its target
+abbrev pub tryfinally_row : MethodTy → ℕ → MethodTy → ℕ → TypeOrRefusal
+tryfinally_row target target_weight cleanup cleanup_weight =
+    provided (cleans_up cleanup target) (illegal (codes "tryfinally"))
+    (limited (codes "tryfinally") (1 + target_weight + cleanup_weight) target)
+
+-- the most cases of a switch
+abbrev pub most_cases : ℕ
+most_cases = 16
+
+-- a switch has 1 to 16 cases, each of the fallback's type, whose first parameter is an int
+abbrev pub may_switch : MethodTy → List MethodTy → Bool
+may_switch fallback cases =
+    nat_lt 0 (length cases) && nat_le (length cases) most_cases && list_all (λ c. is_same_method_type c fallback) cases
+    && is_same_return (slice_get fallback.params 0) (Some int_type)
+
+-- Switch has the type of its fallback
+abbrev pub switch_row : MethodTy → ℕ → List MethodTy → ℕ → TypeOrRefusal
+switch_row fallback fallback_weight cases cases_weight =
+    provided (may_switch fallback cases) (illegal (codes "switch")) (limited (codes "switch") (1 + fallback_weight + cases_weight) fallback)
+
+-- what the body of a loop takes first: its own result if there is one, and the number of the turn
+abbrev pub turn_types : Option Ty → List Ty
+turn_types ret = option_to_list ret ++ int_type ∷ []
+
+-- the further parameters of the body of a loop
+abbrev pub further : MethodTy → List Ty
+further body = drop (length (turn_types body.ret)) body.params
+
+-- the first list, or the second if the first is empty
+abbrev pub unless_empty : List Ty → List Ty → List Ty
+unless_empty [] others = others
+unless_empty (t ∷ ts) others = t ∷ ts
+
+-- the parameters of a loop: the further ones of its body, or those of the iterations if there are none
+abbrev pub loop_params : MethodTy → MethodTy → List Ty
+loop_params iterations body = unless_empty (further body) iterations.params
+
+-- The iterations give an int. The body takes its own result and the number of the turn first. The start gives that result.
+-- Iterations and start take the first parameters of the loop.
+abbrev pub may_loop : MethodTy → MethodTy → MethodTy → Bool
+may_loop iterations init body =
+    is_same_return iterations.ret (Some int_type) && begins_with_types body.params (turn_types body.ret) && is_same_return init.ret body.ret
+    && begins_with_types (loop_params iterations body) iterations.params && begins_with_types (loop_params iterations body) init.params
+
+-- Counted takes the parameters of the loop, and returns what its body returns
+abbrev pub counted_row : MethodTy → ℕ → MethodTy → ℕ → MethodTy → ℕ → TypeOrRefusal
+counted_row iterations iterations_weight init init_weight body body_weight =
+    provided (may_loop iterations init body) (illegal (codes "counted"))
+    (limited (codes "counted") (126 + iterations_weight + init_weight + body_weight) (taking (loop_params iterations body) body))

@@ -1,4 +1,5 @@
--- Trees that are converted to another type before use (`MethodHandle.asType` and `MethodHandle.asSpreader`, SE 17).
+-- Trees that are converted to another type before use (`MethodHandle.asType`, `MethodHandles.explicitCastArguments` and `MethodHandle.asSpreader`,
+-- SE 17).
 use Rattle.std.specs.Prelude.{ℕ, ◌+◌, ◌-◌, nat_le, List, ◌++◌, take, length, replicate, codes, if◌then◌else◌, Option, Ok}
 use Rattle.std.specs.Option.{option_map_or}
 use Rattle.mh_base.specs.Provided.{provided, provided_some}
@@ -8,17 +9,27 @@ use Rattle.mh_values.specs.declared.types.Ty.{Ty}
 use Rattle.mh_values.specs.declared.types.MethodTy.{MethodTy}
 use Rattle.mh_values.specs.Array.{item_type}
 use Rattle.mh_values.specs.Same.{is_same_method_type}
-use Rattle.mh_tree.specs.Rows.{TypeOrRefusal, component_of, illegal, astype_row, spread_row}
-use Rattle.mh_tree.specs.Tree.{Tree, AsType}
+use Rattle.mh_convert.specs.declared.conv.Rules.{Rules}
+use Rattle.mh_convert.specs.declared.conv.Rules.TheVariants as rules
+use Rattle.mh_tree.specs.Rows.{TypeOrRefusal, component_of, illegal, convert_row, spread_row}
+use Rattle.mh_tree.specs.Tree.{Tree, converted}
 use Rattle.mh_tree.specs.Typing.{with_type}
 
--- a tree converted to a type: the tree itself if it has that type
-abbrev pub used_as : MethodTy → MethodTy → Tree → Tree
-used_as own asked t = if is_same_method_type own asked then t else AsType t asked
+-- a tree converted by the rules to a type: the tree itself if it has that type
+abbrev pub used_by : Rules → MethodTy → MethodTy → Tree → Tree
+used_by by own asked t = if is_same_method_type own asked then t else converted by t asked
 
 -- the type of a tree after this conversion, or the exception that refuses it
+abbrev pub use_row_by : Rules → List Class → MethodTy → ℕ → MethodTy → TypeOrRefusal
+use_row_by by classes own weight asked = if is_same_method_type own asked then Ok own else convert_row by classes own weight asked
+
+-- a tree converted to a type as `asType` does
+abbrev pub used_as : MethodTy → MethodTy → Tree → Tree
+used_as own asked t = used_by rules.AsType own asked t
+
+-- the type of a tree after that, or the exception that refuses it
 abbrev pub use_row : List Class → MethodTy → ℕ → MethodTy → TypeOrRefusal
-use_row classes own weight asked = if is_same_method_type own asked then Ok own else astype_row classes own weight asked
+use_row classes own weight asked = use_row_by rules.AsType classes own weight asked
 
 -- the weight of a tree after this conversion: one more if its type changes
 abbrev pub use_weight : MethodTy → ℕ → MethodTy → ℕ

@@ -5,6 +5,7 @@ mod adapters;
 mod arrays;
 mod branches;
 mod conversions;
+mod endings;
 mod error;
 mod inserting;
 mod joints;
@@ -18,7 +19,8 @@ pub use adapters::{
 };
 pub use arrays::{check_gather, check_spread};
 pub use branches::{check_catch, check_guard};
-pub use conversions::check_astype;
+pub use conversions::{check_astype, check_convert, check_explicit};
+pub use endings::{check_counted, check_switch, check_tryfinally};
 pub use error::CheckError;
 pub use inserting::{Adapter, check_adapter};
 pub use joints::{Joint, Typed, check_joint};

@@ -3,12 +3,13 @@
 ghost use Rattle.std.specs.Prelude.{◌≡◌, IfOk, Ok};
 ghost use Rattle.mh_values.specs.Descriptor.{desc};
 
-use mh_base::NoMemory;
+use mh_base::{NoMemory, Seq};
 use mh_leaves::{How, Leaves};
 use mh_tree::{
-    CheckError, check_astype, check_bind, check_catch, check_collect, check_constant, check_drop,
-    check_filter, check_filterret, check_fold, check_gather, check_guard, check_identity,
-    check_leaf, check_permute, check_spread, check_throw,
+    CheckError, check_astype, check_bind, check_catch, check_collect, check_constant,
+    check_counted, check_drop, check_filter, check_filterret, check_fold, check_gather,
+    check_guard, check_identity, check_leaf, check_permute, check_spread, check_switch,
+    check_throw, check_tryfinally,
 };
 use mh_values::{
     ClassId, Classes, MethodTy, Num, Ty, Tys, Value, read_descriptor, read_type, read_types,
@@ -42,6 +43,7 @@ pub enum Joint {
     Fold(u8),
     Collect(u8),
     Catch(ClassId),
+    TryFinally,
 }
 
 /// A node: the types of its parts, each a descriptor, and what it adds.
@@ -54,6 +56,10 @@ pub enum Node {
     One(&'static str, Adapter),
     Two(&'static str, &'static str, Joint),
     Guard(&'static str, &'static str, &'static str),
+    /// The fallback, and the cases.
+    Switch(&'static str, &'static [&'static str]),
+    /// What gives the end of a loop, what gives its start, and its body.
+    Counted(&'static str, &'static str, &'static str),
 }
 
 fn value(given: Given) -> Value {
@@ -183,6 +189,7 @@ fn checked_two(
         Joint::Fold(pos) => check_fold(alloc, t, weight, pos, part, weight, classes),
         Joint::Collect(pos) => check_collect(alloc, t, weight, pos, part, weight, classes),
         Joint::Catch(class) => check_catch(alloc, t, weight, class, part, weight, classes),
+        Joint::TryFinally => check_tryfinally(alloc, t, weight, part, weight, classes),
     }
 }
 
@@ -201,7 +208,39 @@ fn checked_guard(
     check_guard(alloc, &c, weight, &t, weight, &e, weight, classes)
 }
 
-/// The type of a node whose parts each have this weight, or its refusal.
+/// The type of a switch whose fallback has this weight, and whose cases have it together.
+fn checked_switch(
+    alloc: Global,
+    classes: &Classes,
+    fallback: &str,
+    cases: &[&str],
+    weight: u32,
+) -> Result<MethodTy, CheckError> {
+    let fallback = method_type(alloc, fallback, classes)?;
+    let mut types = Seq::new(alloc);
+    for case in cases.iter().copied() {
+        types.push(method_type(alloc, case, classes)?)?;
+    }
+    check_switch(alloc, &fallback, weight, types.as_slice(), weight, classes)
+}
+
+/// The type of a loop whose parts each have this weight.
+fn checked_counted(
+    alloc: Global,
+    classes: &Classes,
+    iterations: &str,
+    init: &str,
+    body: &str,
+    weight: u32,
+) -> Result<MethodTy, CheckError> {
+    let n = method_type(alloc, iterations, classes)?;
+    let i = method_type(alloc, init, classes)?;
+    let b = method_type(alloc, body, classes)?;
+    check_counted(alloc, &n, weight, &i, weight, &b, weight, classes)
+}
+
+/// The type of a node whose parts each have this weight, or its refusal. The cases of a switch have
+/// it together.
 pub(crate) fn checked(
     alloc: Global,
     leaves: &Leaves,
@@ -227,6 +266,10 @@ pub(crate) fn checked(
         }
         Node::Guard(test, target, fallback) => {
             checked_guard(alloc, classes, test, target, fallback, weight)
+        }
+        Node::Switch(fallback, cases) => checked_switch(alloc, classes, fallback, cases, weight),
+        Node::Counted(iterations, init, body) => {
+            checked_counted(alloc, classes, iterations, init, body, weight)
         }
     }
 }

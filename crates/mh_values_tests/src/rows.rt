@@ -1,7 +1,7 @@
 use crate::nodes::Adapter::{AsType, Bind, Drop, Gather, Permute, Spread};
 use crate::nodes::Given::{Int, Long, Null};
-use crate::nodes::Joint::{Catch, Collect, Filter, FilterReturn, Fold};
-use crate::nodes::Node::{Constant, Guard, Identity, Leaf, One, Throw, Two};
+use crate::nodes::Joint::{Catch, Collect, Filter, FilterReturn, Fold, TryFinally};
+use crate::nodes::Node::{Constant, Counted, Guard, Identity, Leaf, One, Switch, Throw, Two};
 use crate::nodes::{Node, checked, method_type};
 use Want::{Illegal, Refused, TooHeavy, Type};
 use mh_base::NoMemory;
@@ -303,6 +303,93 @@ static MORE_PARTS: [Row; 47] = [
     ),
 ];
 
+static ENDINGS: [Row; 36] = [
+    (
+        Two("(II)I", "(Ljava/lang/Throwable;II)I", TryFinally),
+        127,
+        Type("(II)I"),
+    ),
+    (
+        Two("(II)I", "(Ljava/lang/Throwable;II)I", TryFinally),
+        128,
+        TooHeavy,
+    ),
+    (
+        Two("(II)I", "(Ljava/lang/Throwable;III)I", TryFinally),
+        1,
+        Type("(II)I"),
+    ),
+    (
+        Two("(IJ)V", "(Ljava/lang/Throwable;I)V", TryFinally),
+        1,
+        Type("(IJ)V"),
+    ),
+    (
+        Two("(II)I", "(Ljava/lang/Throwable;IIII)I", TryFinally),
+        1,
+        Illegal("tryfinally"),
+    ),
+    (
+        Two("(II)I", "(Ljava/lang/Throwable;)I", TryFinally),
+        1,
+        Illegal("tryfinally"),
+    ),
+    (
+        Two("(II)I", "(Ljava/lang/Error;I)I", TryFinally),
+        1,
+        Illegal("tryfinally"),
+    ),
+    (Two("(II)I", "()I", TryFinally), 1, Illegal("tryfinally")),
+    (
+        Two("(II)I", "(Ljava/lang/Throwable;J)I", TryFinally),
+        1,
+        Illegal("tryfinally"),
+    ),
+    (
+        Two("(II)I", "(Ljava/lang/Throwable;IJ)I", TryFinally),
+        1,
+        Illegal("tryfinally"),
+    ),
+    (
+        Two("(II)I", "(Ljava/lang/Throwable;I)J", TryFinally),
+        1,
+        Illegal("tryfinally"),
+    ),
+    (
+        Two("(IJ)V", "(Ljava/lang/Throwable;J)V", TryFinally),
+        1,
+        Illegal("tryfinally"),
+    ),
+    (
+        Two(LONGS_AND_ONE, "(Ljava/lang/Throwable;)V", TryFinally),
+        1,
+        Illegal("tryfinally"),
+    ),
+    (Switch("(IJ)I", &["(IJ)I"]), 127, Type("(IJ)I")),
+    (Switch("(IJ)I", &["(IJ)I"]), 128, TooHeavy),
+    (Switch("(I)V", &["(I)V"; 16]), 1, Type("(I)V")),
+    (Switch("(I)V", &["(I)V"; 17]), 1, Illegal("switch")),
+    (Switch("(I)V", &[]), 1, Illegal("switch")),
+    (Switch("(I)V", &["(I)V", "(I)I"]), 1, Illegal("switch")),
+    (Switch("(IJ)V", &["(II)V"]), 1, Illegal("switch")),
+    (Switch("(J)V", &["(J)V"]), 1, Illegal("switch")),
+    (Switch("(Z)V", &["(Z)V"]), 1, Illegal("switch")),
+    (Switch("()V", &["()V"]), 1, Illegal("switch")),
+    (Counted("()I", "()J", "(JI)J"), 43, Type("()J")),
+    (Counted("()I", "()J", "(JI)J"), 44, TooHeavy),
+    (Counted("(I)I", "(IJ)V", "(IIJ)V"), 1, Type("(IJ)V")),
+    (Counted("(J)I", "()I", "(II)I"), 1, Type("(J)I")),
+    (Counted("()J", "()I", "(II)I"), 1, Illegal("counted")),
+    (Counted("()I", "()J", "(II)I"), 1, Illegal("counted")),
+    (Counted("()I", "()I", "(I)I"), 1, Illegal("counted")),
+    (Counted("()I", "()V", "()V"), 1, Illegal("counted")),
+    (Counted("()I", "()I", "(IJ)I"), 1, Illegal("counted")),
+    (Counted("(J)I", "()I", "(III)I"), 1, Illegal("counted")),
+    (Counted("(II)I", "()I", "(III)I"), 1, Illegal("counted")),
+    (Counted("()I", "(J)I", "(III)I"), 1, Illegal("counted")),
+    (Counted("()I", "(I)I", "(II)I"), 1, Illegal("counted")),
+];
+
 /// Whether a check of a node answers what is wanted.
 fn is_told(alloc: Global, leaves: &Leaves, (node, weight, want): Row) -> Result<bool, NoMemory> {
     match checked(alloc, leaves, node, weight) {
@@ -347,6 +434,14 @@ fn nodes_of_one_part(rt: HostRuntime) -> Result<(), Fail> {
 fn nodes_of_more_parts(rt: HostRuntime) -> Result<(), Fail> {
     let leaves = host(rt.alloc())?;
     let wrong = first_wrong(rt.alloc(), &leaves, &MORE_PARTS)?;
+    assert!(rt; wrong.is_none(), "{wrong:?}");
+    Ok(())
+}
+
+#[test]
+fn cleanups_switches_and_loops(rt: HostRuntime) -> Result<(), Fail> {
+    let leaves = host(rt.alloc())?;
+    let wrong = first_wrong(rt.alloc(), &leaves, &ENDINGS)?;
     assert!(rt; wrong.is_none(), "{wrong:?}");
     Ok(())
 }

@@ -20,8 +20,12 @@ fn operation_word(operation: &Operation) -> &'static str {
         Operation::Spread(_, _, _) => "spread",
         Operation::Gather(_, _, _) => "gather",
         Operation::AsType(_, _) => "astype",
+        Operation::Explicit(_, _) => "explicit",
         Operation::Guard(_, _, _) => "guard",
         Operation::Catch(_, _, _) => "catch",
+        Operation::TryFinally(_, _) => "tryfinally",
+        Operation::Switch(_, _) => "switch",
+        Operation::Counted(_, _, _) => "counted",
     }
 }
 
@@ -35,7 +39,7 @@ fn step_word(step: &Step) -> &'static str {
 }
 
 /// Lines, and the word of what each is read to.
-static LINES: [(&str, &str); 18] = [
+static LINES: [(&str, &str); 23] = [
     ("let x leaf a.f:()V", "leaf"),
     ("let x constant I I:5", "constant"),
     ("let x identity I", "identity"),
@@ -50,8 +54,13 @@ static LINES: [(&str, &str); 18] = [
     ("let x spread a0 [I 1", "spread"),
     ("let x gather a0 [I 1", "gather"),
     ("let x astype a0 type", "astype"),
+    ("let x explicit a0 type", "explicit"),
     ("let x guard a0 a1 a2", "guard"),
     ("let x catch a0 a a1", "catch"),
+    ("let x tryfinally a0 a1", "tryfinally"),
+    ("let x switch a0 a1", "switch"),
+    ("let x switch a0 a1 a2 a1", "switch"),
+    ("let x counted a0 a1 a2", "counted"),
     ("let x serial", "serial"),
     ("failmod 2 1", "failmod"),
 ];

@@ -12,9 +12,10 @@ use crate::lines::nodes::{OfOne, OfTwo};
 use mh_adapt::{Pair, adapt, join};
 use mh_branch::{Caught, Gathered, catch_of, gather_of};
 use mh_handle::{Handle, HandleError, Work};
+use mh_more::tryfinally_of;
 use mh_tree::{
     Adapter, CheckError, Typed, check_bind, check_catch, check_drop, check_gather, check_joint,
-    check_permute,
+    check_permute, check_tryfinally,
 };
 use mh_values::{Classes, MethodTy};
 use std::alloc::Global;
@@ -58,6 +59,7 @@ pub(crate) fn check_two(
         OfTwo::Catch(class) => {
             check_catch(alloc, ty, weight, class, part.ty, part.weight, classes)
         }
+        OfTwo::TryFinally => check_tryfinally(alloc, ty, weight, part.ty, part.weight, classes),
     }
 }
 
@@ -126,5 +128,6 @@ pub(crate) fn of_two<'t, R: Wait>(
             };
             catch_of(w, rt, caught, ty)
         }
+        OfTwo::TryFinally => tryfinally_of(w, rt, target, part, ty),
     }
 }

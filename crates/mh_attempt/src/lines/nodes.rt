@@ -1,20 +1,23 @@
 //! What the operation of a line asks for: a combinator with its operands.
 
-ghost use Rattle.std.specs.Prelude.{[], ◌∷◌};
+ghost use Rattle.std.specs.Prelude.{◌≡◌, [], ◌∷◌, IfOk, flat_map};
+ghost use Rattle.mh_intern.specs.Views.{SeatView};
 ghost use Rattle.mh_leaf.specs.LeafTable.{LeafTable};
 ghost use Rattle.mh_script.specs.declared.script.Operation.TheVariants as operation;
-ghost use Rattle.mh_link.specs.Made.{handles_of};
+ghost use Rattle.mh_link.specs.Made.{handles_of, nodes_of_uses};
 ghost use Rattle.mh_link.specs.Operands.{Frame};
-ghost use Rattle.mh_link.specs.Operations.{asked_by};
+ghost use Rattle.mh_link.specs.Operations.{asked_by, handles_in};
+ghost use Rattle.mh_attempt.specs.Cases.{AreAllHeldIn, TellsCases};
 ghost use Rattle.mh_attempt.specs.Nodes.{KeepsTypes, MakesUses, TellsAlone, TellsNode};
 ghost use Rattle.mh_attempt.specs.Nodes.{asked_of, joint_asked};
 ghost use Rattle.mh_attempt.specs.Recipes.{asked_itself};
-ghost use Rattle.mh_attempt.specs.Registers.{Hold};
+ghost use Rattle.mh_attempt.specs.Registers.{AreHeldBy, Hold, node_made};
 
 use crate::handle::HandleOperand;
 use crate::names::{class_of, leaf_named, types_of_text};
 use crate::registers::Registers;
-use mh_base::{Seq, Shared};
+use mh_base::{NoMemory, Seq, Shared};
+use mh_convert::Rules;
 use mh_leaves::Leaves;
 use mh_script::{Operation, Register};
 use mh_tree::{CheckError, Joint};
@@ -34,9 +37,10 @@ pub(crate) enum OfOne<'a> {
 pub(crate) enum OfTwo {
     Joint(Joint),
     Catch(ClassId),
+    TryFinally,
 }
 
-/// A combinator with its operands, by the number of its handles. `Spread` and `AsType` are
+/// A combinator with its operands, by the number of its handles. `Spread` and `Use` are
 /// cases of their own because they may ask for other forms than that of their node.
 #[derive(Drop)]
 pub(crate) enum Node<'a, 't> {
@@ -48,8 +52,13 @@ pub(crate) enum Node<'a, 't> {
     Two(HandleOperand<'a, 't>, OfTwo, HandleOperand<'a, 't>),
     /// The test, the target and the fallback.
     Guard(HandleOperand<'a, 't>, HandleOperand<'a, 't>, HandleOperand<'a, 't>),
+    /// What gives the end of a loop, what gives its start, and its body.
+    Counted(HandleOperand<'a, 't>, HandleOperand<'a, 't>, HandleOperand<'a, 't>),
+    /// The fallback and the cases.
+    Switch(HandleOperand<'a, 't>, Seq<HandleOperand<'a, 't>>),
     Spread(HandleOperand<'a, 't>, Option<Ty>, u8),
-    AsType(HandleOperand<'a, 't>, Shared<MethodTy>),
+    /// A conversion by the rules to a type.
+    Use(HandleOperand<'a, 't>, Rules, Shared<MethodTy>),
 }
 
 /// A target, and the types of dropped arguments at a position.
@@ -127,6 +136,91 @@ fn guarded<'a, 't>(
     Ok(Node::Guard(test, target, fallback))
 }
 
+/// A target and its cleanup.
+fn cleaned_up<'a, 't>(
+    registers: &'a Registers<'_, 't>,
+    target: &Register,
+    cleanup: &Register,
+) -> Result<Node<'a, 't>, CheckError>
+    ensures asked { (leaves : LeafTable) → TellsAlone
+        (asked_of leaves (operation.TryFinally target.now cleanup.now))
+        leaves registers.now result }
+    ensures makes { MakesUses (target.now ∷ cleanup.now ∷ []) registers.now result }
+    ensures kept { KeepsTypes registers.now result }
+{
+    let target = registers.handle(target)?;
+    let cleanup = registers.handle(cleanup)?;
+    Ok(Node::Two(target, OfTwo::TryFinally, cleanup))
+}
+
+/// The parts of a loop: what gives its end, what gives its start, and its body.
+fn looped<'a, 't>(
+    registers: &'a Registers<'_, 't>,
+    iterations: &Register,
+    init: &Register,
+    body: &Register,
+) -> Result<Node<'a, 't>, CheckError>
+    ensures asked { (leaves : LeafTable) → TellsAlone
+        (asked_of leaves (operation.Counted iterations.now init.now body.now))
+        leaves registers.now result }
+    ensures makes { MakesUses (iterations.now ∷ init.now ∷ body.now ∷ []) registers.now result }
+    ensures kept { KeepsTypes registers.now result }
+{
+    let iterations = registers.handle(iterations)?;
+    let init = registers.handle(init)?;
+    let body = registers.handle(body)?;
+    Ok(Node::Counted(iterations, init, body))
+}
+
+/// An operand before others.
+fn with_first<'a, 't>(
+    first: HandleOperand<'a, 't>,
+    others: Seq<HandleOperand<'a, 't>>,
+) -> Result<Seq<HandleOperand<'a, 't>>, NoMemory>
+    ensures { IfOk result (λ all. all ≡ first.entry ∷ others.entry) }
+{
+    let mut all = others.into_vec();
+    all.insert(0, first)?;
+    Ok(Seq::from_vec(all))
+}
+
+/// The cases of a switch, from left to right.
+fn cases_of<'a, 't>(
+    registers: &'a Registers<'_, 't>,
+    cases: &[Register],
+) -> Result<Seq<HandleOperand<'a, 't>>, CheckError>
+    ensures asked { (leaves : LeafTable) (frame : Frame) → Hold leaves registers.now frame
+        → TellsCases leaves result (handles_in frame cases.now) }
+    ensures makes { (leaves : LeafTable) (frame : Frame) → Hold leaves registers.now frame
+        → IfOk result (λ all. flat_map node_made all ≡ nodes_of_uses frame cases.now) }
+    ensures kept { (seat : SeatView) → AreHeldBy seat registers.now
+        → IfOk result (AreAllHeldIn seat) }
+{
+    let Some((first, others)) = cases.split_first() else {
+        return Ok(Seq::new(registers.alloc));
+    };
+    let first = registers.handle(first)?;
+    let others = cases_of(registers, others)?;
+    Ok(with_first(first, others)?)
+}
+
+/// A fallback and the cases of a switch.
+fn switched<'a, 't>(
+    registers: &'a Registers<'_, 't>,
+    fallback: &Register,
+    cases: &Seq<Register>,
+) -> Result<Node<'a, 't>, CheckError>
+    ensures asked { (leaves : LeafTable) → TellsAlone
+        (asked_of leaves (operation.Switch fallback.now cases.now))
+        leaves registers.now result }
+    ensures makes { MakesUses (fallback.now ∷ cases.now) registers.now result }
+    ensures kept { KeepsTypes registers.now result }
+{
+    let fallback = registers.handle(fallback)?;
+    let cases = cases_of(registers, cases.as_slice())?;
+    Ok(Node::Switch(fallback, cases))
+}
+
 /// The node that an operation asks for. Its operands are resolved from left to right.
 pub(crate) fn operands<'a, 't>(
     leaves: &Leaves,
@@ -174,9 +268,18 @@ pub(crate) fn operands<'a, 't>(
         }
         Operation::AsType(target, asked) => {
             let target = registers.handle(target)?;
-            Ok(Node::AsType(target, registers.method_type(classes, asked)?))
+            let asked = registers.method_type(classes, asked)?;
+            Ok(Node::Use(target, Rules::AsType, asked))
+        }
+        Operation::Explicit(target, asked) => {
+            let target = registers.handle(target)?;
+            let asked = registers.method_type(classes, asked)?;
+            Ok(Node::Use(target, Rules::Explicit, asked))
         }
         Operation::Guard(test, target, fallback) => guarded(registers, test, target, fallback),
         Operation::Catch(target, class, part) => caught(leaves, registers, target, class, part),
+        Operation::TryFinally(target, cleanup) => cleaned_up(registers, target, cleanup),
+        Operation::Switch(fallback, cases) => switched(registers, fallback, cases),
+        Operation::Counted(iterations, init, body) => looped(registers, iterations, init, body),
     }
 }

@@ -1,25 +1,37 @@
 //! The handle of a node, by the number of its operands. A rule is checked once, before any handle
 //! is made. If a node has no operand that is a handle, the call that makes it checks the rule.
 
-ghost use Rattle.std.specs.Prelude.{List, [], ◌∷◌};
-ghost use Rattle.mh_tree.specs.Tree.{Tree};
+ghost use Rattle.std.specs.Prelude.{◌≡◌, ◌≤◌, ◌*◌, List, [], ◌∷◌, IfOk, Ok, length};
+ghost use Rattle.mh_tree.specs.Check.{TellsRow};
+ghost use Rattle.mh_tree.specs.Rows.{most_cases};
+ghost use Rattle.mh_tree.specs.Tree.{Cases, Tree};
+ghost use Rattle.mh_tree.specs.Typing.{type_of, types_of_cases};
 ghost use Rattle.mh_tree.specs.Tree as tree;
 ghost use Rattle.mh_handle.specs.Works.{IsReady, leaves_of};
 ghost use Rattle.mh_jobs.specs.Thrown.{OrThrown};
-ghost use Rattle.mh_attempt.specs.Nodes.{AreOperands, IsAsked, IsOperand, parts_of};
+ghost use Rattle.mh_attempt.specs.Cases.{StandForEach, StandForSome, own_weights};
+ghost use Rattle.mh_attempt.specs.Nodes.{AreAllOperands, AreOperands, IsAsked, IsOperand, parts_of};
 ghost use Rattle.mh_attempt.specs.Nodes.{one_tree, two_tree};
 ghost use Rattle.mh_attempt.specs.Operations.{MakesAsked, MakesOf};
-ghost use Rattle.mh_attempt.specs.Registers.{StandsFor};
+ghost use Rattle.mh_attempt.specs.Registers.{StandsFor, StandsForSome};
 
 use crate::handle::HandleOperand;
 use crate::lines::combining::{check_one, check_two, of_one, of_two};
 use crate::lines::nodes::{Node, OfOne, OfTwo};
-use crate::lines::several::{both_made, three_made};
+use crate::lines::several::{both_made, switch_made, three_made};
 use crate::lines::uses::{spread_out, used};
+use mh_base::{Copied, NoMemory, Seq};
 use mh_branch::{Branches, constant, guard_of, identity, throw};
 use mh_handle::{Handle, HandleError, Work, leaf};
-use mh_tree::check_guard;
+use mh_leaves::Leaves;
+use mh_more::{Looped, counted_of, switch_of};
+use mh_tree::{CheckError, check_counted, check_guard, check_switch};
+use mh_values::MethodTy;
+use std::alloc::Global;
 use std::sync::Wait;
+
+/// The most cases of a switch.
+const MOST_CASES: usize = 16;
 
 /// The handle of a node that an operation asks for. Refused by the rule of its combinator.
 pub(crate) fn made<'t, R: Wait>(
@@ -41,8 +53,10 @@ pub(crate) fn made<'t, R: Wait>(
         Node::One(target, by) => made_of_one(w, rt, &target, by),
         Node::Two(target, by, part) => made_of_two(w, rt, &target, by, &part),
         Node::Guard(test, target, fallback) => guarded(w, rt, &test, &target, &fallback),
+        Node::Counted(iterations, init, body) => looped(w, rt, &iterations, &init, &body),
+        Node::Switch(fallback, cases) => switched(w, rt, &fallback, cases.as_slice()),
         Node::Spread(target, array, count) => spread_out(w, rt, &target, array, count),
-        Node::AsType(target, asked) => used(w, rt, &target, asked.get()),
+        Node::Use(target, rules, asked) => used(w, rt, &target, rules, asked.get()),
     }
 }
 
@@ -124,4 +138,129 @@ fn guarded<'t, R: Wait>(
         fallback: made.2,
     };
     guard_of(w, rt, branches, ty)
+}
+
+// The handle of a loop: what gives its end, what gives its start, and its body.
+fn looped<'t, R: Wait>(
+    w: &mut Work<'_, 't>,
+    rt: &R,
+    iterations: &HandleOperand<'_, 't>,
+    init: &HandleOperand<'_, 't>,
+    body: &HandleOperand<'_, 't>,
+) -> Result<Handle<'t>, HandleError>
+    requires ready { IsReady w.old 4 }
+    requires iterations { IsOperand (leaves_of w.old) w.old.seat.now iterations.now }
+    requires init { IsOperand (leaves_of w.old) w.old.seat.now init.now }
+    requires body { IsOperand (leaves_of w.old) w.old.seat.now body.now }
+    ensures { (c t e : Tree) → StandsFor (leaves_of w.old) iterations.now c
+        → StandsFor (leaves_of w.old) init.now t
+        → StandsFor (leaves_of w.old) body.now e
+        → MakesOf (iterations.now ∷ init.now ∷ body.now ∷ []) (tree.Counted c t e)
+        w.old w.new result }
+{
+    let first = iterations.typed(w.leaves);
+    let own = init.typed(w.leaves);
+    let last = body.typed(w.leaves);
+    let ty = check_counted(
+        w.alloc,
+        first.ty,
+        first.weight,
+        own.ty,
+        own.weight,
+        last.ty,
+        last.weight,
+        w.classes(),
+    )?;
+    let made = three_made(w, rt, iterations, init, body)?;
+    let looped = Looped {
+        iterations: made.0,
+        init: made.1,
+        body: made.2,
+    };
+    counted_of(w, rt, looped, ty)
+}
+
+// The types of operands.
+fn types_of(
+    alloc: Global,
+    leaves: &Leaves,
+    operands: &[HandleOperand<'_, '_>],
+) -> Result<Seq<MethodTy>, NoMemory>
+    requires { StandForSome leaves.now operands.now }
+    ensures { (ts : Cases) → StandForEach leaves.now operands.now ts
+        → IfOk result (λ types. types_of_cases leaves.now ts ≡ Ok types) }
+{
+    let Some((first, others)) = operands.split_first() else {
+        return Ok(Seq::new(alloc));
+    };
+    let first = first.ty(leaves).copy(alloc)?;
+    let mut types = types_of(alloc, leaves, others)?.into_vec();
+    types.insert(0, first)?;
+    Ok(Seq::from_vec(types))
+}
+
+// What a few operands weigh together.
+fn weight_of(operands: &[HandleOperand<'_, '_>]) -> u32
+    requires few { length operands.now ≤ most_cases }
+    ensures weight { result ≡ own_weights operands.now }
+    ensures light { result ≤ 256 * length operands.now }
+{
+    match operands {
+        [] => 0,
+        [first, others @ ..] => first.weight() + weight_of(others),
+    }
+}
+
+// What the cases weigh together. Nothing is said of more cases than a switch may have.
+fn cases_weight(cases: &[HandleOperand<'_, '_>]) -> u32
+    ensures { length cases.now ≤ most_cases → result ≡ own_weights cases.now }
+{
+    if cases.len() > MOST_CASES {
+        return 0;
+    }
+    weight_of(cases)
+}
+
+// The type of a switch of operands.
+fn switch_type(
+    w: &Work<'_, '_>,
+    fallback: &HandleOperand<'_, '_>,
+    cases: &[HandleOperand<'_, '_>],
+) -> Result<MethodTy, CheckError>
+    requires fallback { StandsForSome (leaves_of w.now) fallback.now }
+    requires cases { StandForSome (leaves_of w.now) cases.now }
+    ensures { (t : Tree) (ts : Cases) → StandsFor (leaves_of w.now) fallback.now t
+        → StandForEach (leaves_of w.now) cases.now ts
+        → TellsRow result (type_of (leaves_of w.now) (tree.Switch t ts)) }
+{
+    let own = fallback.typed(w.leaves);
+    let types = types_of(w.alloc, w.leaves, cases)?;
+    let weight = cases_weight(cases);
+    check_switch(
+        w.alloc,
+        own.ty,
+        own.weight,
+        types.as_slice(),
+        weight,
+        w.classes(),
+    )
+}
+
+// The handle of a switch: a fallback and its cases.
+fn switched<'t, R: Wait>(
+    w: &mut Work<'_, 't>,
+    rt: &R,
+    fallback: &HandleOperand<'_, 't>,
+    cases: &[HandleOperand<'_, 't>],
+) -> Result<Handle<'t>, HandleError>
+    requires ready { IsReady w.old 4 }
+    requires fallback { IsOperand (leaves_of w.old) w.old.seat.now fallback.now }
+    requires cases { AreAllOperands (leaves_of w.old) w.old.seat.now cases.now }
+    ensures { (t : Tree) (ts : Cases) → StandsFor (leaves_of w.old) fallback.now t
+        → StandForEach (leaves_of w.old) cases.now ts
+        → MakesOf (fallback.now ∷ cases.now) (tree.Switch t ts) w.old w.new result }
+{
+    let ty = switch_type(w, fallback, cases)?;
+    let made = switch_made(w, rt, fallback, cases, &ty)?;
+    switch_of(w, rt, made, ty)
 }

@@ -1,15 +1,21 @@
 //! Handles of several operands: all of them, or none.
 
-ghost use Rattle.std.specs.Prelude.{[], ◌∷◌, IfOk};
-ghost use Rattle.mh_tree.specs.Tree.{Tree};
+ghost use Rattle.std.specs.Prelude.{◌+◌, ◌≤◌, [], ◌∷◌, IfOk};
+ghost use Rattle.mh_tree.specs.Tree.{Cases, Tree};
 ghost use Rattle.mh_handle.specs.Works.{GoesOn, IsReady, StandsIn, leaves_of};
-ghost use Rattle.mh_attempt.specs.Nodes.{IsOperand};
+ghost use Rattle.mh_more.specs.Several.{StandForCases};
+ghost use Rattle.mh_attempt.specs.Cases.{AreLeavesOfType, StandForEach, leaf_recipe};
+ghost use Rattle.mh_attempt.specs.Cases.{own_weight, own_weights};
+ghost use Rattle.mh_attempt.specs.Nodes.{AreAllOperands, IsOperand};
 ghost use Rattle.mh_attempt.specs.Registers.{StandsFor};
-ghost use Rattle.mh_attempt.specs.Several.{AddsBoth, AddsThree, AsksForms, AsksTheirTypes};
-ghost use Rattle.mh_attempt.specs.Several.{NothingRefused};
+ghost use Rattle.mh_attempt.specs.Several.{AddsAll, AddsBoth, AddsSwitched, AddsThree, AsksForms};
+ghost use Rattle.mh_attempt.specs.Several.{AsksTheirTypes, GoesOnOnce, IsReadyOnce, NothingRefused};
 
 use crate::handle::HandleOperand;
+use mh_base::Seq;
 use mh_handle::{Handle, HandleError, Work};
+use mh_more::{Handles, Switched, with_first};
+use mh_values::MethodTy;
 use std::sync::Wait;
 
 /// Handles of two operands.
@@ -72,6 +78,71 @@ pub(crate) fn three_made<'t, R: Wait>(
         Err(error) => {
             first.give_back(w);
             second.give_back(w);
+            Err(error)
+        }
+    }
+}
+
+/// Handles of operands of one type. The leaves among them have one form, so at most one number is
+/// drawn.
+fn all_made<'t, R: Wait>(
+    w: &mut Work<'_, 't>,
+    rt: &R,
+    operands: &[HandleOperand<'_, 't>],
+    ty: &MethodTy,
+) -> Result<Handles<'t>, HandleError>
+    requires ready { IsReadyOnce (leaf_recipe ty.now) (own_weights operands.now) w.old }
+    requires operands { AreAllOperands (leaves_of w.old) w.old.seat.now operands.now }
+    requires alike { AreLeavesOfType (leaves_of w.old) ty.now operands.now }
+    ensures goes_on { GoesOnOnce (leaf_recipe ty.now) (own_weights operands.now) w.old w.new }
+    ensures accepted { NothingRefused result }
+    ensures types { AddsAll w.old w.new result }
+    ensures asks { AsksForms operands.now w.old w.new result }
+    ensures asked { AsksTheirTypes operands.now w.old w.new result }
+    ensures stands { (ts : Cases) → StandForEach (leaves_of w.old) operands.now ts
+        → IfOk result (λ made. StandForCases (leaves_of w.old) made ts) }
+{
+    let Some((first, others)) = operands.split_first() else {
+        return Ok(Seq::new(w.alloc));
+    };
+    let first = first.made(w, rt)?;
+    match all_made(w, rt, others, ty) {
+        Ok(others) => Ok(with_first(w, first, others)?),
+        Err(error) => {
+            first.give_back(w);
+            Err(error)
+        }
+    }
+}
+
+/// The handles of a switch of this type.
+pub(crate) fn switch_made<'t, R: Wait>(
+    w: &mut Work<'_, 't>,
+    rt: &R,
+    fallback: &HandleOperand<'_, 't>,
+    cases: &[HandleOperand<'_, 't>],
+    ty: &MethodTy,
+) -> Result<Switched<'t>, HandleError>
+    requires ready { IsReady w.old 3 }
+    requires fallback { IsOperand (leaves_of w.old) w.old.seat.now fallback.now }
+    requires cases { AreAllOperands (leaves_of w.old) w.old.seat.now cases.now }
+    requires alike { AreLeavesOfType (leaves_of w.old) ty.now (fallback.now ∷ cases.now) }
+    requires light { own_weight fallback.now + own_weights cases.now ≤ 256 }
+    ensures goes_on { GoesOn 1 w.old w.new }
+    ensures accepted { NothingRefused result }
+    ensures types { AddsSwitched w.old w.new result }
+    ensures asks { AsksForms (fallback.now ∷ cases.now) w.old w.new result }
+    ensures asked { AsksTheirTypes (fallback.now ∷ cases.now) w.old w.new result }
+    ensures fallback { (t : Tree) → StandsFor (leaves_of w.old) fallback.now t
+        → IfOk result (λ made. StandsIn w.old made.fallback t) }
+    ensures cases { (ts : Cases) → StandForEach (leaves_of w.old) cases.now ts
+        → IfOk result (λ made. StandForCases (leaves_of w.old) made.cases ts) }
+{
+    let fallback = fallback.made(w, rt)?;
+    match all_made(w, rt, cases, ty) {
+        Ok(cases) => Ok(Switched { fallback, cases }),
+        Err(error) => {
+            fallback.give_back(w);
             Err(error)
         }
     }

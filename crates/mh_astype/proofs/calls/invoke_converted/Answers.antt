@@ -1,6 +1,7 @@
 use Rattle.std.proofs.Common.{◌≡◌, ap, ap₂, ◌∙◌, subst, sym, true, List, [], ◌∷◌, ◌++◌, Ok, Err}
 use Rattle.mh_values.specs.declared.class.Class.{Class}
 use Rattle.mh_values.specs.declared.types.MethodTy.{MethodTy}
+use Rattle.mh_convert.specs.declared.conv.Rules.TheVariants as rules
 use Rattle.mh_edit.specs.declared.key.Key.{Key}
 use Rattle.mh_edit.specs.Fit.{fits}
 use Rattle.mh_handle.specs.Converting.{convert_fields}
@@ -21,7 +22,7 @@ edit-requires-clause-fits g c =
     let Q : FormView → Type 0 = λ f. fits c.in_ok-key.key (body_of f.recipe) ≡ true in
     subst Q (sym c.form.ensures)
     (subst P (sym key)
-    (convert-fits c.args.w.now.leaves.now.classes c.args.handle.now c.args.call.now c.args.call.now
+    (convert-fits rules.AsType c.args.w.now.leaves.now.classes c.args.handle.now c.args.call.now c.args.call.now
     (ret_entry_of c.args.w.now.leaves.now.classes c.args.handle.now.ty.ret c.args.call.now.ret) c.ty.ensures.shaped c.requires.row))
 
 pub returns-in_err-form-clause-asks : goal.returns-in_err-form-clause-asks
@@ -37,8 +38,8 @@ pub invoke_edited_with-requires : goal.invoke_edited_with-requires
 invoke_edited_with-requires g c =
     let key : c.in_ok-key.key ≡ convert_key c.args.w.now.leaves.now.classes c.args.call.now c.args.handle.now.ty =
     c.in_ok-key.ensures ∙ ap₂ (λ (cs : List Class) (own : MethodTy). convert_key cs c.args.call.now own) c.classes-classes.ensures.classes c.ty.ensures.ty in
-    let fields : c.in_ok-more.more.items ≡ convert_fields c.args.w.now.leaves.now.classes c.args.call.now c.args.handle.now.ty =
-    c.in_ok-more.ensures ∙ ap₂ (λ (cs : List Class) (own : MethodTy). convert_fields cs c.args.call.now own) c.classes-classes.ensures.classes c.ty-2.ensures.ty
+    let fields : c.in_ok-more.more.items ≡ convert_fields rules.AsType c.args.w.now.leaves.now.classes c.args.call.now c.args.handle.now.ty =
+    c.in_ok-more.ensures ∙ ap₂ (λ (cs : List Class) (own : MethodTy). convert_fields rules.AsType cs c.args.call.now own) c.classes-classes.ensures.classes c.ty-2.ensures.ty
     in
     let made : c.in_ok-form.form.now.recipe ≡ c.args.handle.now.form.recipe ++ c.in_ok-key.key ∷ [] =
     c.in_ok-form.ensures.edits.0 ∙ ap (λ (f : FormView). f.recipe ++ c.in_ok-key.key ∷ []) c.form.ensures in
@@ -71,8 +72,8 @@ pub returns-clause-answer : goal.returns-clause-answer
 returns-clause-answer g c t st =
     let key : c.in_ok-key.key ≡ convert_key c.args.w.now.leaves.now.classes c.args.call.now c.args.handle.now.ty =
     c.in_ok-key.ensures ∙ ap₂ (λ (cs : List Class) (own : MethodTy). convert_key cs c.args.call.now own) c.classes-classes.ensures.classes c.ty.ensures.ty in
-    let fields : c.in_ok-more.more.items ≡ convert_fields c.args.w.now.leaves.now.classes c.args.call.now c.args.handle.now.ty =
-    c.in_ok-more.ensures ∙ ap₂ (λ (cs : List Class) (own : MethodTy). convert_fields cs c.args.call.now own) c.classes-classes.ensures.classes c.ty-2.ensures.ty
+    let fields : c.in_ok-more.more.items ≡ convert_fields rules.AsType c.args.w.now.leaves.now.classes c.args.call.now c.args.handle.now.ty =
+    c.in_ok-more.ensures ∙ ap₂ (λ (cs : List Class) (own : MethodTy). convert_fields rules.AsType cs c.args.call.now own) c.classes-classes.ensures.classes c.ty-2.ensures.ty
     in
     let made : c.in_ok-form.form.now.recipe ≡ c.args.handle.now.form.recipe ++ c.in_ok-key.key ∷ [] =
     c.in_ok-form.ensures.edits.0 ∙ ap (λ (f : FormView). f.recipe ++ c.in_ok-key.key ∷ []) c.form.ensures in

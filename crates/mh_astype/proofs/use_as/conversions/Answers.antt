@@ -13,5 +13,5 @@ returns-clause-adds c = record {
   weight = ap (λ n. 1 + n) c.weight.ensures.weight;
   key = c.in_ok-key.ensures ∙ ap₂ (λ (cs : List Class) (own : MethodTy). convert_key cs c.args.ty own) c.classes-classes.ensures.classes c.ty.ensures.ty;
   parts = c.of_fields.ensures ∙ ap (λ (fs : List Field). record no_parts { fields = fs }) (c.in_ok-fields.ensures
-      ∙ ap₂ (λ (cs : List Class) (own : MethodTy). convert_fields cs c.args.ty own) c.classes-classes.ensures.classes c.ty-2.ensures.ty);
+      ∙ ap₂ (λ (cs : List Class) (own : MethodTy). convert_fields c.args.rules cs c.args.ty own) c.classes-classes.ensures.classes c.ty-2.ensures.ty);
 }

@@ -8,16 +8,16 @@ use Rattle.mh_astype.proofs.use_as.kept.Goals as goal
 pub retyped-requires-clause-light : goal.retyped-requires-clause-light
 retyped-requires-clause-light g c =
     let most : 1 + c.args.target.weight ≤ 256 =
-    light c.args.w.now.leaves.now.classes c.args.target.ty c.args.target.weight c.args.ty c.args.ty c.requires.row in
+    light c.args.rules c.args.w.now.leaves.now.classes c.args.target.ty c.args.target.weight c.args.ty c.args.ty c.requires.row in
     omega (arith, c.weight-weight.ensures.weight)
 
 pub retyped-requires-clause-shaped : goal.retyped-requires-clause-shaped
 retyped-requires-clause-shaped g c =
     let params = and_parts (are_trivial c.args.w.now.leaves.now.classes c.args.ty.params c.args.target.ty.params)
     (is_trivial_ret c.args.w.now.leaves.now.classes c.args.target.ty.ret c.args.ty.ret) c.requires.keeps in
-    kept-shaped c.args.w.now.leaves.now.classes c.args.target c.args.ty c.args.ty c.requires.shaped c.requires.row params.0
+    kept-shaped c.args.rules c.args.w.now.leaves.now.classes c.args.target c.args.ty c.args.ty c.requires.shaped c.requires.row params.0
 
 pub returns-in-Ok-clause-used : goal.returns-in-Ok-clause-used
 returns-in-Ok-clause-used g c =
-    used-kept c.args.w.now.leaves.now.classes c.args.ty c.args.target c.in-Ok.made c.requires.keeps c.in-Ok.ensures.ty
+    used-kept c.args.rules c.args.w.now.leaves.now.classes c.args.ty c.args.target c.in-Ok.made c.requires.keeps c.in-Ok.ensures.ty
     (c.in-Ok.ensures.weight ∙ ap (λ n. 1 + n) c.weight-weight.ensures.weight) c.in-Ok.ensures.sides c.in-Ok.ensures.form c.in-Ok.ensures.fields

@@ -25,6 +25,14 @@ returns-then-not-is_same_method_type-clause-node g c frame hold =
     (sym c.is_same_method_type.ensures ∙ c.if-not-is_same_method_type.true)
     (c.in_ok-mismatch.ensures ∙ ap (λ classes. mismatch classes own asked) c.classes.ensures.classes)
 
+pub returns-clause-node : goal.returns-clause-node
+returns-clause-node g c frame hold =
+    let w = c.args.w.now in
+    let target = c.in_ok-target.ensures.stands w.leaves.now frame hold in
+    returned-node w c.made.new.w c.args.register.now frame target.0 c.ty-own.result.now c.get-asked.result.now c.made.result target.1
+    (c.ty-own.ensures target.0 target.2) (ap (λ (call : BootstrapCall). call.ty) hold.call ∙ sym c.get-asked.ensures)
+    (sym c.is_same_method_type.ensures ∙ c.if-not-is_same_method_type.false) c.made.ensures.accepted (c.made.ensures.stands target.0 target.2)
+
 -- ---- what is asked for
 
 pub returns-clause-asks : goal.returns-clause-asks

@@ -7,4 +7,4 @@ use Rattle.mh_form.proofs.lookup.ret_in.Goals as goal
 pub returns-in_default : goal.returns-in_default
 returns-in_default c =
     sym (field_of-found ret_of c.args.leaves.now c.args.bound.now.fields.items c.args.field c.in_ok-found.field-0.now (sym c.in_ok-found.ensures)
-    ∙ no_ret c.args.leaves.now c.in_ok-found.field-0.now c.in_default.not-Ret)
+    ∙ no_ret c.args.leaves.now c.in_ok-found.field-0.now c.in_default.not-Ret c.in_default.not-ExplicitRet)

@@ -1,10 +1,9 @@
-use Rattle.std.proofs.Common.{◌≡◌, sym, ap, ap₂, ◌∙◌, subst, IfOk}
+use Rattle.std.proofs.Common.{◌≡◌, sym, ap₂, ◌∙◌, subst, IfOk}
 use Rattle.mh_values.specs.Computation.{raised}
 use Rattle.mh_form.specs.Run.{senses_in}
 use Rattle.mh_form.specs.Slots.{joined_at}
-use Rattle.mh_form.specs.Stack.{done, on_stack, step_on}
+use Rattle.mh_form.specs.Stack.{done, on_stack}
 use Rattle.mh_form.proofs.CalledAt.{step-joined}
-use Rattle.mh_form.specs.declared.name.Name.TheVariants.{Join}
 use Rattle.mh_form.proofs.plain.join.Goals as goal
 
 pub join_at-requires : goal.join_at-requires

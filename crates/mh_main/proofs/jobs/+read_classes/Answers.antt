@@ -16,7 +16,7 @@ pub returns-clause-refuses : goal.returns-clause-refuses
 returns-clause-refuses g t c =
     let made = c.in_ok-jobs.ensures.ok in
     rw c.in-Some.ensures.cases.0
-    (others-stop c.read_classes.result (most_sites - length c.args.jobs) (most_sites - length c.in_ok-jobs.jobs)
+    (others-stop c.read_classes.result (most_sites - length c.args.jobs.sites) (most_sites - length c.in_ok-jobs.jobs.sites)
     c.in-Some.name.now.now (said c.in-Some.others.now) (g.I.Inputs.contents c.args.inputs.now) (g.I.Inputs.contents c.read_class.new.inputs) made.0
     c.in_ok-jobs.ensures.keeps.contents made.1
     (jobs-left c.args.methods.now.leaves.now c.args.methods.now.scripts.now c.args.jobs c.in_ok-jobs.jobs made.0 made.2) c.read_classes.ensures.refuses)
@@ -25,7 +25,7 @@ pub returns-clause-stop : goal.returns-clause-stop
 returns-clause-stop g t c =
     let made = c.in_ok-jobs.ensures.ok in
     rw c.in-Some.ensures.cases.0
-    (others-among c.read_classes.result (most_sites - length c.args.jobs) (most_sites - length c.in_ok-jobs.jobs)
+    (others-among c.read_classes.result (most_sites - length c.args.jobs.sites) (most_sites - length c.in_ok-jobs.jobs.sites)
     c.in-Some.name.now.now (said c.in-Some.others.now) (g.I.Inputs.contents c.args.inputs.now) (g.I.Inputs.contents c.read_class.new.inputs)
     (g.I.Inputs.faults c.args.inputs.now) (g.I.Inputs.faults c.read_class.new.inputs) (g.I.Inputs.faults c.read_classes.new.inputs) made.0
     c.in_ok-jobs.ensures.keeps.contents c.in_ok-jobs.ensures.no_fault made.1

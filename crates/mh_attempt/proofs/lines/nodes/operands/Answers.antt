@@ -1,6 +1,7 @@
 use Rattle.std.proofs.Common.{ap, sym, ◌∙◌, Ok}
 use Rattle.mh_jobs.specs.Names.{class_of}
 use Rattle.mh_jobs.specs.Thrown.{◌>>=◌, plainly}
+use Rattle.mh_convert.specs.declared.conv.Rules.TheVariants as rules
 use Rattle.mh_tree.specs.Tree as tree
 use Rattle.mh_link.specs.Made.{unless_thrown}
 use Rattle.mh_link.specs.Operands.{method_type_in, type_in}
@@ -75,14 +76,23 @@ returns-in_ok-ty-in-Gather-clause-asked c frame hold =
     let read = ap (asked_by leaves frame) c.in-Gather.is ∙ (λ i. a.1 i >>= (λ t. b i >>= (λ x. Ok (tree.Gather t x c.in-Gather.count)))) in
     (a.0, a.2, record { asked = read; forms = ap (asked_itself leaves frame) c.in-Gather.is })
 
-pub returns-in_ok-method_type-in-AsType-clause-asked : goal.returns-in_ok-method_type-in-AsType-clause-asked
-returns-in_ok-method_type-in-AsType-clause-asked c frame hold =
+pub returns-in_ok-asked-in-AsType-clause-asked : goal.returns-in_ok-asked-in-AsType-clause-asked
+returns-in_ok-asked-in-AsType-clause-asked c frame hold =
     let leaves = c.args.leaves.now in
     let a = c.in_ok-target-in-AsType.ensures.stands leaves frame hold in
     let b = ap (λ classes. method_type_in classes frame c.in-AsType.asked) (sym c.classes-classes.ensures)
-    ∙ c.in_ok-method_type-in-AsType.ensures leaves frame hold in
-    let read = ap (asked_by leaves frame) c.in-AsType.is ∙ (λ i. a.1 i >>= (λ t. b i >>= (λ x. use_of leaves t x))) in
+    ∙ c.in_ok-asked-in-AsType.ensures leaves frame hold in
+    let read = ap (asked_by leaves frame) c.in-AsType.is ∙ (λ i. a.1 i >>= (λ t. b i >>= (λ x. use_of rules.AsType leaves t x))) in
     (a.0, a.2, read, ap (asked_itself leaves frame) c.in-AsType.is ∙ (λ i u. unless_thrown (a.1 i) (λ t. use_asked leaves t u)))
+
+pub returns-in_ok-asked-in-Explicit-clause-asked : goal.returns-in_ok-asked-in-Explicit-clause-asked
+returns-in_ok-asked-in-Explicit-clause-asked c frame hold =
+    let leaves = c.args.leaves.now in
+    let a = c.in_ok-target-in-Explicit.ensures.stands leaves frame hold in
+    let b = ap (λ classes. method_type_in classes frame c.in-Explicit.asked) (sym c.classes-classes.ensures)
+    ∙ c.in_ok-asked-in-Explicit.ensures leaves frame hold in
+    let read = ap (asked_by leaves frame) c.in-Explicit.is ∙ (λ i. a.1 i >>= (λ t. b i >>= (λ x. use_of rules.Explicit leaves t x))) in
+    (a.0, a.2, read, ap (asked_itself leaves frame) c.in-Explicit.is ∙ (λ i u. unless_thrown (a.1 i) (λ t. use_asked leaves t u)))
 
 -- ---- by a function of their own
 
@@ -106,3 +116,12 @@ returns-in-Guard-clause-asked c frame hold = rw c.in-Guard.is (c.guarded.ensures
 
 pub returns-in-Catch-clause-asked : goal.returns-in-Catch-clause-asked
 returns-in-Catch-clause-asked c frame hold = rw c.in-Catch.is (c.caught.ensures.asked frame hold)
+
+pub returns-in-TryFinally-clause-asked : goal.returns-in-TryFinally-clause-asked
+returns-in-TryFinally-clause-asked c frame hold = rw c.in-TryFinally.is (c.cleaned_up.ensures.asked c.args.leaves.now frame hold)
+
+pub returns-in-Switch-clause-asked : goal.returns-in-Switch-clause-asked
+returns-in-Switch-clause-asked c frame hold = rw c.in-Switch.is (c.switched.ensures.asked c.args.leaves.now frame hold)
+
+pub returns-in-Counted-clause-asked : goal.returns-in-Counted-clause-asked
+returns-in-Counted-clause-asked c frame hold = rw c.in-Counted.is (c.looped.ensures.asked c.args.leaves.now frame hold)

@@ -1,8 +1,10 @@
-use Rattle.std.proofs.Common.{ap, refl, sym, ◌∙◌, subst, []}
+use Rattle.std.proofs.Common.{ap, refl, sym, ◌∙◌, subst, [], ◌∷◌}
 use Rattle.mh_tree.specs.Tree as tree
 use Rattle.mh_link.proofs.Leaves.{leaf-typed}
 use Rattle.mh_link.specs.Operations.{use_of}
-use Rattle.mh_attempt.specs.Nodes.{AreOperands}
+use Rattle.mh_attempt.specs.Cases.{StandForEach}
+use Rattle.mh_attempt.specs.Nodes.{AreAllOperands, AreOperands}
+use Rattle.mh_attempt.specs.Operations.{MakesOf}
 use Rattle.mh_attempt.proofs.MadeNodes.{for-asked, of-leaf, of-root}
 use Rattle.mh_attempt.proofs.NodeOperands.{made-for}
 use Rattle.mh_attempt.proofs.lines.parts.made.Goals as goal
@@ -68,6 +70,23 @@ returns-in-Guard g c m itself asked =
     made-for w new r c.args.node _ m itself c.in-Guard.is (λ is. for-asked _ m _ itself _ w new r is.6.asked is.6.forms
     (c.guarded.ensures is.0 is.1 is.2 is.3 is.4 is.5)) asked
 
+pub returns-in-Counted : goal.returns-in-Counted
+returns-in-Counted g c m itself asked =
+    let w = c.args.w.now in
+    let new = c.looped.new.w in
+    let r = c.looped.result in
+    made-for w new r c.args.node _ m itself c.in-Counted.is (λ is. for-asked _ m _ itself _ w new r is.6.asked is.6.forms
+    (c.looped.ensures is.0 is.1 is.2 is.3 is.4 is.5)) asked
+
+pub returns-in-Switch : goal.returns-in-Switch
+returns-in-Switch g c m itself asked =
+    let w = c.args.w.now in
+    let new = c.switched.new.w in
+    let r = c.switched.result in
+    made-for w new r c.args.node _ m itself c.in-Switch.is (λ is. for-asked _ m _ itself _ w new r is.4.asked is.4.forms
+    (subst (λ os. MakesOf (c.in-Switch.fallback ∷ os) (tree.Switch is.0 is.1) w new r) c.as_slice.ensures
+    (c.switched.ensures is.0 is.1 is.2 (subst (λ os. StandForEach w.leaves.now os is.1) (sym c.as_slice.ensures) is.3)))) asked
+
 pub returns-in-Spread : goal.returns-in-Spread
 returns-in-Spread g c m itself asked =
     let w = c.args.w.now in
@@ -76,13 +95,13 @@ returns-in-Spread g c m itself asked =
     made-for w new r c.args.node _ m itself c.in-Spread.is (λ is. for-asked _ m _ itself _ w new r is.2 is.3
     (c.spread_out.ensures is.0 is.1)) asked
 
-pub returns-in-AsType : goal.returns-in-AsType
-returns-in-AsType g c m itself asked =
+pub returns-in-Use : goal.returns-in-Use
+returns-in-Use g c m itself asked =
     let w = c.args.w.now in
     let new = c.used.new.w in
     let r = c.used.result in
-    made-for w new r c.args.node _ m itself c.in-AsType.is (λ is. for-asked _ m _ itself _ w new r
-    (is.2 ∙ ap (use_of w.leaves.now is.0) (sym c.get.ensures)) is.3 (c.used.ensures is.0 is.1)) asked
+    made-for w new r c.args.node _ m itself c.in-Use.is (λ is. for-asked _ m _ itself _ w new r
+    (is.2 ∙ ap (use_of c.in-Use.rules w.leaves.now is.0) (sym c.get.ensures)) is.3 (c.used.ensures is.0 is.1)) asked
 
 pub leaf-requires-clause-leaf : goal.leaf-requires-clause-leaf
 leaf-requires-clause-leaf g c = subst (AreOperands c.args.w.now.leaves.now c.args.w.now.seat.now) c.in-Leaf.is c.requires.operands
@@ -105,8 +124,25 @@ guarded-requires-clause-target g c = (subst (AreOperands c.args.w.now.leaves.now
 pub guarded-requires-clause-fallback : goal.guarded-requires-clause-fallback
 guarded-requires-clause-fallback g c = (subst (AreOperands c.args.w.now.leaves.now c.args.w.now.seat.now) c.in-Guard.is c.requires.operands).2
 
+pub looped-requires-clause-iterations : goal.looped-requires-clause-iterations
+looped-requires-clause-iterations g c = (subst (AreOperands c.args.w.now.leaves.now c.args.w.now.seat.now) c.in-Counted.is c.requires.operands).0
+
+pub looped-requires-clause-init : goal.looped-requires-clause-init
+looped-requires-clause-init g c = (subst (AreOperands c.args.w.now.leaves.now c.args.w.now.seat.now) c.in-Counted.is c.requires.operands).1
+
+pub looped-requires-clause-body : goal.looped-requires-clause-body
+looped-requires-clause-body g c = (subst (AreOperands c.args.w.now.leaves.now c.args.w.now.seat.now) c.in-Counted.is c.requires.operands).2
+
 pub spread_out-requires-clause-target : goal.spread_out-requires-clause-target
 spread_out-requires-clause-target g c = subst (AreOperands c.args.w.now.leaves.now c.args.w.now.seat.now) c.in-Spread.is c.requires.operands
 
 pub used-requires-clause-target : goal.used-requires-clause-target
-used-requires-clause-target g c = subst (AreOperands c.args.w.now.leaves.now c.args.w.now.seat.now) c.in-AsType.is c.requires.operands
+used-requires-clause-target g c = subst (AreOperands c.args.w.now.leaves.now c.args.w.now.seat.now) c.in-Use.is c.requires.operands
+
+pub switched-requires-clause-fallback : goal.switched-requires-clause-fallback
+switched-requires-clause-fallback g c = (subst (AreOperands c.args.w.now.leaves.now c.args.w.now.seat.now) c.in-Switch.is c.requires.operands).0
+
+pub switched-requires-clause-cases : goal.switched-requires-clause-cases
+switched-requires-clause-cases g c =
+    subst (AreAllOperands c.args.w.now.leaves.now c.args.w.now.seat.now) (sym c.as_slice.ensures)
+    (subst (AreOperands c.args.w.now.leaves.now c.args.w.now.seat.now) c.in-Switch.is c.requires.operands).1

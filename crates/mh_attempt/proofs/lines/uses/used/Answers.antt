@@ -1,6 +1,6 @@
 use Rattle.std.proofs.Common.{◌∙◌, ap, arith, [], ◌∷◌}
 use Rattle.mh_tree.specs.Typing.{type_of}
-use Rattle.mh_tree.specs.Use.{used_as}
+use Rattle.mh_tree.specs.Use.{used_by}
 use Rattle.mh_handle.specs.declared.handle.Handle.{Handle}
 use Rattle.mh_handle.proofs.Going.{goes_on-more}
 use Rattle.mh_handle.proofs.Rooms.{goes_on-sum, ready-after}
@@ -19,10 +19,10 @@ returns-in_err-check_use g c t stands =
     let w = c.args.w.now in
     let own = c.typed-own.ensures.typed t stands in
     let ty = c.typed-own.result.ty.now in
-    of-refused (c.args.target.now ∷ []) w (use_of w.leaves.now t c.args.asked.now) (use_asked w.leaves.now t) _ c.in_err-check_use.field-0.0
+    of-refused (c.args.target.now ∷ []) w (use_of c.args.rules w.leaves.now t c.args.asked.now) (use_asked w.leaves.now t) _ c.in_err-check_use.field-0.0
     c.from_residual.result c.from_residual.ensures.1
-    (ap (λ m. m >>= type_of w.leaves.now) (use-given w.leaves.now t ty c.args.asked.now own.typed)
-    ∙ use-rule w.leaves.now _ t ty c.args.asked.now _ c.classes.ensures.classes own.typed own.weighed) c.in_err-check_use.ensures
+    (ap (λ m. m >>= type_of w.leaves.now) (use-given c.args.rules w.leaves.now t ty c.args.asked.now own.typed)
+    ∙ use-rule c.args.rules w.leaves.now _ t ty c.args.asked.now _ c.classes.ensures.classes own.typed own.weighed) c.in_err-check_use.ensures
 
 pub returns-in_err-target : goal.returns-in_err-target
 returns-in_err-target g c t stands =
@@ -30,10 +30,11 @@ returns-in_err-target g c t stands =
     let mid = c.made.new.w in
     let own = c.typed-own.ensures.typed t stands in
     let ty = c.typed-own.result.ty.now in
-    of-unmade (c.args.target.now ∷ []) w (use_of w.leaves.now t c.args.asked.now) (use_asked w.leaves.now t) Handle mid (used_as ty c.args.asked.now t) _
+    of-unmade (c.args.target.now ∷ []) w (use_of c.args.rules w.leaves.now t c.args.asked.now) (use_asked w.leaves.now t) Handle mid (used_by
+    c.args.rules ty c.args.asked.now t) _
     c.in_err-target.field-0.0 c.from_residual-in_err-target.result c.from_residual-in_err-target.ensures.1
-    (use-given w.leaves.now t ty c.args.asked.now own.typed)
-    (use-rule w.leaves.now _ t ty c.args.asked.now _ c.classes.ensures.classes own.typed own.weighed ∙ c.in_ok-check_use.ensures)
+    (use-given c.args.rules w.leaves.now t ty c.args.asked.now own.typed)
+    (use-rule c.args.rules w.leaves.now _ t ty c.args.asked.now _ c.classes.ensures.classes own.typed own.weighed ∙ c.in_ok-check_use.ensures)
     (goes_on-more 1 4 w mid (omega arith) c.made.ensures.goes_on) c.in_err-target.ensures.types c.in_err-target.ensures.accepted
     c.in_err-target.ensures.asks c.in_err-target.ensures.asked
 
@@ -41,27 +42,29 @@ pub returns : goal.returns
 returns g c t stands =
     let w = c.args.w.now in
     let mid = c.made.new.w in
-    let new = c.as_type.new.w in
+    let new = c.use_by.new.w in
     let h = c.in_ok-target.target in
     let same = c.made.ensures.goes_on.leaves in
     let there = c.in_ok-target.ensures.stands t stands in
     let own = c.typed-own.ensures.typed t stands in
     let ty = c.typed-own.result.ty.now in
-    let rule = use-rule w.leaves.now _ t ty c.args.asked.now _ c.classes.ensures.classes own.typed own.weighed ∙ c.in_ok-check_use.ensures in
+    let rule = use-rule c.args.rules w.leaves.now _ t ty c.args.asked.now _ c.classes.ensures.classes own.typed own.weighed ∙ c.in_ok-check_use.ensures in
     record {
-      goes_on = goes_on-sum 1 1 4 w mid new (omega arith) c.made.ensures.goes_on c.as_type.ensures.goes_on;
-      types = adds-then _ h.held w mid new c.as_type.result c.in_ok-target.ensures.types c.as_type.ensures.types;
-      node = node-of-use w mid new t h ty c.args.asked.now _ c.as_type.result same there own.typed rule c.as_type.ensures.obeys (c.as_type.ensures.stands t);
+      goes_on = goes_on-sum 1 1 4 w mid new (omega arith) c.made.ensures.goes_on c.use_by.ensures.goes_on;
+      types = adds-then _ h.held w mid new c.use_by.result c.in_ok-target.ensures.types c.use_by.ensures.types;
+      node = node-of-use c.args.rules w mid new t h ty c.args.asked.now _ c.use_by.result same there own.typed rule c.use_by.ensures.obeys
+          (c.use_by.ensures.stands t);
       asks =
-          λ u is. asks-use (c.args.target.now ∷ []) w mid new t h c.as_type.result same c.in_ok-target.ensures.asks there c.args.asked.now u is
-          (c.as_type.ensures.makes t);
+          λ u is. asks-use (c.args.target.now ∷ []) w mid new t h c.use_by.result same c.in_ok-target.ensures.asks there c.args.rules c.args.asked.now u is
+          (c.use_by.ensures.makes t);
       asked =
-          types-use (c.args.target.now ∷ []) w mid new t h _ c.as_type.result same there c.in_ok-target.ensures.asked ty c.args.asked.now _ own.typed rule
-          c.as_type.ensures.types;
+          types-use (c.args.target.now ∷ []) w mid new t h _ c.use_by.result same there c.in_ok-target.ensures.asked c.args.rules ty c.args.asked.now
+          _ own.typed rule
+          c.use_by.ensures.types;
     }
 
-pub as_type-requires-clause-ready : goal.as_type-requires-clause-ready
-as_type-requires-clause-ready g c = ready-after 1 1 4 c.args.w.now c.made.new.w (omega arith) c.made.ensures.goes_on c.requires.ready
+pub use_by-requires-clause-ready : goal.use_by-requires-clause-ready
+use_by-requires-clause-ready g c = ready-after 1 1 4 c.args.w.now c.made.new.w (omega arith) c.made.ensures.goes_on c.requires.ready
 
-pub as_type-requires-clause-held : goal.as_type-requires-clause-held
-as_type-requires-clause-held g c = holds-came c.in_ok-target.target.held c.args.w.now c.made.new.w c.in_ok-target.ensures.types
+pub use_by-requires-clause-held : goal.use_by-requires-clause-held
+use_by-requires-clause-held g c = holds-came c.in_ok-target.target.held c.args.w.now c.made.new.w c.in_ok-target.ensures.types

@@ -1,0 +1,9 @@
+pub mod ErasedEndings
+pub mod Lists
+pub mod LoopAnswers
+pub mod LoopStands
+pub mod Rooting
+pub mod SwitchAnswers
+pub mod SwitchStands
+pub mod TryAnswers
+pub mod TryStands
