@@ -4,6 +4,7 @@
 
 mod cells;
 mod concats;
+mod constants;
 mod forms;
 mod measures;
 mod rows;

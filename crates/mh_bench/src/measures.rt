@@ -1,6 +1,6 @@
 //! The rows by their names.
 
-use crate::{cells, concats, forms, rows, scripts, types};
+use crate::{cells, concats, constants, forms, rows, scripts, types};
 use mh_base::NoMemory;
 use mh_handle::{EditError, HandleError};
 use mh_intern::InternError;
@@ -18,9 +18,10 @@ pub(crate) enum Measure {
     Scripts(scripts::Row),
     /// What is learnt of 4,096 cells split in two, and joined.
     Cells,
+    Constants(constants::Row),
 }
 
-pub(crate) static MEASURES: [(&str, Measure); 29] = [
+pub(crate) static MEASURES: [(&str, Measure); 32] = [
     (
         "run-three-names",
         Measure::Handles(rows::Row::RunThreeNames),
@@ -77,6 +78,15 @@ pub(crate) static MEASURES: [(&str, Measure); 29] = [
     ("scripts", Measure::Scripts(scripts::Row::Plain)),
     ("scripts-alike", Measure::Scripts(scripts::Row::Alike)),
     ("cells-joined", Measure::Cells),
+    (
+        "constants-ladder",
+        Measure::Constants(constants::Row::Ladder),
+    ),
+    ("constants-wide", Measure::Constants(constants::Row::Wide)),
+    (
+        "constants-passes",
+        Measure::Constants(constants::Row::Passes),
+    ),
 ];
 
 /// A row was not done to its end.
@@ -120,5 +130,6 @@ pub(crate) fn measured<R: Threads + Wait + Sync>(
         Measure::Types(row) => Ok(types::measured(rt, alloc, row, turns)?),
         Measure::Scripts(row) => Ok(scripts::measured(alloc, row, turns)?),
         Measure::Cells => Ok(cells::measured(rt, alloc, turns)?),
+        Measure::Constants(row) => Ok(constants::measured(rt, alloc, row, turns)?),
     }
 }

@@ -1,0 +1,158 @@
+//! Two threads that resolve the same constants.
+
+ghost use Rattle.std.specs.Prelude.{◌≡◌, IfOk, OnOk};
+ghost use Rattle.mh_condy.specs.Runs.{AreResolvable};
+ghost use Rattle.mh_condy_tests.specs.Built.{CanResolve, run_of};
+
+use crate::asking::{Answer, resolve, two_passes};
+use crate::built::{Built, ladder, wide};
+use mh_base::NoMemory;
+use mh_condy::{ConstAttempt, ConstPass, ConstRun, ConstTable};
+use std::alloc::Global;
+use std::marker::Brand;
+use std::sync::Wait;
+use std::sync::atomic::{AtomicU32, Ordering};
+use std::test::Fail;
+use std::thread::{self, Threads, join_mut};
+
+/// How often a thread looks whether the other has come.
+const LOOKS: u32 = 10_000;
+
+/// Where two threads wait for each other, so that both set out at once.
+#[derive(Drop)]
+struct Meeting {
+    came: AtomicU32,
+}
+
+impl Meeting {
+    /// Holds the caller until two threads have come, or it has looked often. Each look lets another
+    /// thread run, so that both come soon on one processor too.
+    fn come(&self) {
+        self.came.fetch_add(1, Ordering::SeqCst);
+        for _ in 0..LOOKS {
+            if self.came.load(Ordering::SeqCst) >= 2 {
+                return;
+            }
+            thread::yield_now();
+        }
+    }
+}
+
+/// Resolves each constant of a table, from the first on, once another thread has come to do so too.
+fn resolve_all<'s, 't, J: ConstRun, R: Wait>(
+    rt: &R,
+    alloc: Global,
+    table: &'s ConstTable<'t, J>,
+    pass: &mut ConstPass<'s, 't, J>,
+    meeting: &Meeting,
+) -> Result<Vec<Answer>, NoMemory>
+    requires { CanResolve table.now pass.old }
+    ensures { pass.new.table ≡ pass.old.table }
+{
+    meeting.come();
+    let mut answers = Vec::new(alloc);
+    for constant in 0..table.len() {
+        let constant = u32::try_from(constant).or(Err(NoMemory))?;
+        answers.push(resolve(rt, table, pass, constant)?)?;
+    }
+    Ok(answers)
+}
+
+/// How often a constant is among attempts.
+fn count_of(attempts: &[ConstAttempt], constant: u32) -> usize {
+    attempts.iter().filter(|it| it.constant == constant).count()
+}
+
+/// Whether these attempts have recorded each constant once, the answers are what they have recorded,
+/// and no constant was attempted more than twice.
+fn are_those(answers: &[Answer], recorded: &[ConstAttempt], attempts: &[ConstAttempt]) -> bool {
+    for attempt in recorded {
+        let at = attempt.constant as usize;
+        if at >= answers.len()
+            || answers[at].0 != attempt.serial
+            || !attempts.contains(attempt)
+            || count_of(recorded, attempt.constant) != 1
+            || count_of(attempts, attempt.constant) > 2
+        {
+            return false;
+        }
+    }
+    recorded.len() == answers.len()
+}
+
+/// Whether two threads that resolve the same constants get the same of each, which one of them has
+/// recorded.
+fn agree<'s, 't, J: ConstRun + Send + Sync, R: Threads + Wait + Sync>(
+    rt: &R,
+    alloc: Global,
+    table: &'s ConstTable<'t, J>,
+    mut one: ConstPass<'s, 't, J>,
+    mut two: ConstPass<'s, 't, J>,
+) -> Result<bool, NoMemory>
+    requires one { CanResolve table.now one }
+    requires two { CanResolve table.now two }
+{
+    let meeting = Meeting {
+        came: AtomicU32::new(0),
+    };
+    let (a, b) = join_mut(
+        rt,
+        &mut || resolve_all(rt, alloc, table, &mut two, &meeting),
+        &mut || resolve_all(rt, alloc, table, &mut one, &meeting),
+    );
+    let (a, b) = (a?, b?);
+    table.join(&mut one, two)?;
+    Ok(a.as_slice() == b.as_slice() && are_those(a.as_slice(), one.recorded(), one.attempts()))
+}
+
+/// The same over a new table.
+fn agree_on<J: ConstRun + Send + Sync, R: Threads + Wait + Sync>(
+    rt: &R,
+    alloc: Global,
+    built: &Built,
+) -> Result<bool, NoMemory>
+    requires run { run_of built.now ≡ J.run }
+    requires are { AreResolvable J.run }
+{
+    let (table, seat) = ConstTable::<J>::new(alloc, &built.jobs, &built.scripts, &built.leaves)?;
+    let (one, two) = two_passes(&table, seat)?;
+    agree(rt, alloc, &table, one, two)
+}
+
+/// The same of these constants.
+fn race<R: Threads + Wait + Sync>(rt: &R, alloc: Global, built: &Built) -> Result<bool, NoMemory>
+    requires { AreResolvable (run_of built.now) }
+{
+    agree_on::<Brand, R>(rt, alloc, built)
+}
+
+/// How often two threads race for the same constants.
+const RACES: u32 = 10;
+
+/// Whether two threads agree in each race for these constants.
+fn race_often<R: Threads + Wait + Sync>(
+    rt: &R,
+    alloc: Global,
+    built: &Built,
+) -> Result<bool, NoMemory>
+    requires { AreResolvable (run_of built.now) }
+{
+    for _ in 0..RACES {
+        if !race(rt, alloc, built)? {
+            return Ok(false);
+        }
+    }
+    Ok(true)
+}
+
+#[test]
+fn threads_that_race_for_a_constant_get_the_same(rt: HostRuntime) -> Result<(), Fail> {
+    let alloc = rt.alloc();
+    assert!(rt; race_often(&rt, alloc, &wide(alloc, 0)?)?, "one constant");
+    assert!(rt; race_often(&rt, alloc, &ladder(alloc, 64)?)?, "a ladder");
+    assert!(rt;
+        race_often(&rt, alloc, &wide(alloc, 255)?)?,
+        "one constant over others"
+    );
+    Ok(())
+}
