@@ -1,0 +1,4 @@
+mod Origins
+mod Parts
+mod Pieces
+mod PlacesMore

@@ -1,0 +1,10 @@
+mod Answered
+mod Attempts
+mod Full
+mod MoreSites
+mod ReadOn
+mod Requests
+mod SaidWords
+mod Shown
+mod Statuses
+mod Stops

@@ -1,0 +1,10 @@
+use Rattle.mh_drawn.specs.Linked.{AreLinkages, HasLinked, IsOf, StaysLent}
+use Rattle.mh_drawn.proofs.linking.link_all.Given as goal
+
+abbrev pub invariant-loop-number : goal.invariant-loop-number
+invariant-loop-number g l = record {
+  of : IsOf g.J.Run.given l.w;
+  lent : StaysLent l.initial.w l.w;
+  linked : HasLinked g.J.Run.given l.number l.w.pass.now l.w.seat.now;
+  linkages : AreLinkages l.number l.linkages;
+}

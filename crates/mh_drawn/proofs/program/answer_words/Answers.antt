@@ -1,0 +1,15 @@
+use Rattle.std.proofs.Common.{inl, inr, List, ℕ, Some}
+use Rattle.std.proofs.lemmas.Result.{IfOk-weaker}
+use Rattle.mh_words.specs.Options.{said}
+use Rattle.mh_words.specs.Words.{held_names}
+use Rattle.mh_drawn.specs.Answer.{AnswersRequest, IsAnswerTo, SaysUsage}
+use Rattle.mh_drawn.specs.Words.{held_asked}
+use Rattle.mh_drawn.proofs.Requests.{no-asked, no-names, of-names, request}
+use Rattle.mh_drawn.proofs.program.answer_words.Goals as goal
+
+pub returns-in_default : goal.returns-in_default
+returns-in_default g c =
+    let words = said c.args.words.now in
+    IfOk-weaker c.usage.result (λ answer. SaysUsage answer.status answer.text.items)
+    (λ answer. IsAnswerTo words (g.I.Inputs.contents c.args.inputs.now) (g.I.Inputs.faults c.args.inputs.now) (g.I.Inputs.faults c.args.inputs.now)
+    answer.status answer.text.items) (λ answer says. inl (no-asked words c.in_default.ensures, says)) c.usage.ensures

@@ -1,0 +1,14 @@
+use Rattle.std.proofs.Common.{refl}
+use Rattle.mh_words.specs.Options.{said}
+use Rattle.mh_drawn.proofs.Statuses.{of-answer}
+use Rattle.mh_drawn.proofs.program.draw.Goals as goal
+
+pub returns-in-Ok-write_whole-clause-answers : goal.returns-in-Ok-write_whole-clause-answers
+returns-in-Ok-write_whole-clause-answers g c in_memory in_full =
+    (c.in-Ok.answer.text.items, c.in-Ok.ensures, rw c.deref.ensures.value at c.in-Ok-write_whole.ensures.all)
+
+pub returns-in-Ok-write_whole-clause-failed : goal.returns-in-Ok-write_whole-clause-failed
+returns-in-Ok-write_whole-clause-failed g c failed =
+    absurd
+    (of-answer (g.I.Inputs.contents c.args.inputs.now) (g.I.Inputs.faults c.args.inputs.now) (g.I.Inputs.faults c.answer_words.new.inputs)
+    c.in-Ok.answer.status c.in-Ok.answer.text.items failed (said c.args.words.now) c.in-Ok.ensures)

@@ -1,0 +1,6 @@
+pub mod Answer
+pub mod Lines
+pub mod Linked
+pub mod Reading
+pub mod Status
+pub mod Words

@@ -1,0 +1,4 @@
+pub mod Cuts
+pub mod Letters
+pub mod Pushed
+pub mod KeyTexts
