@@ -163,28 +163,28 @@ module _ (slots : List Slot) (places : List ℕ) (n : ℕ) where
   pick-gives args picks o s calls told given = absurd cc
 
   kind-gives : (k : Kind) (args : List Value) → picked slots places ≡ Some (map erased args) → gives (kind_on k args n) (on_slots k slots places n)
-  kind-gives kind.Iadd args picks =
+  kind-gives kind.Iadd args picks o s calls told given =
       pair-gives (λ p. int (int_wrap w32 (p.0 +ℤ p.1))) (λ p. slot.I (int_wrap w32 (p.0 +ℤ p.1))) (two_ints args) (ints_at slots places)
-      (λ p e. ints-found slots places args p picks e) (λ p calls. refl)
-  kind-gives kind.Isub args picks =
+      (λ p e. ints-found slots places args p picks e) (λ p calls. refl) o s calls told given
+  kind-gives kind.Isub args picks o s calls told given =
       pair-gives (λ p. int (int_wrap w32 (p.0 -ℤ p.1))) (λ p. slot.I (int_wrap w32 (p.0 -ℤ p.1))) (two_ints args) (ints_at slots places)
-      (λ p e. ints-found slots places args p picks e) (λ p calls. refl)
-  kind-gives kind.Imul args picks =
+      (λ p e. ints-found slots places args p picks e) (λ p calls. refl) o s calls told given
+  kind-gives kind.Imul args picks o s calls told given =
       pair-gives (λ p. int (int_wrap w32 (p.0 *ℤ p.1))) (λ p. slot.I (int_wrap w32 (p.0 *ℤ p.1))) (two_ints args) (ints_at slots places)
-      (λ p e. ints-found slots places args p picks e) (λ p calls. refl)
-  kind-gives kind.Ladd args picks =
+      (λ p e. ints-found slots places args p picks e) (λ p calls. refl) o s calls told given
+  kind-gives kind.Ladd args picks o s calls told given =
       pair-gives (λ p. long (int_wrap w64 (p.0 +ℤ p.1))) (λ p. slot.J (int_wrap w64 (p.0 +ℤ p.1))) (two_longs args) (longs_at slots places)
-      (λ p e. longs-found slots places args p picks e) (λ p calls. refl)
-  kind-gives kind.Ieq args picks =
+      (λ p e. longs-found slots places args p picks e) (λ p calls. refl) o s calls told given
+  kind-gives kind.Ieq args picks o s calls told given =
       pair-gives (λ p. boolean (is_same_int p.0 p.1)) (λ p. truth (is_same_int p.0 p.1)) (two_ints args) (ints_at slots places)
-      (λ p e. ints-found slots places args p picks e) (λ p calls. truth-filled (is_same_int p.0 p.1) calls)
-  kind-gives kind.Ilt args picks =
+      (λ p e. ints-found slots places args p picks e) (λ p calls. truth-filled (is_same_int p.0 p.1) calls) o s calls told given
+  kind-gives kind.Ilt args picks o s calls told given =
       pair-gives (λ p. boolean (int_lt p.0 p.1)) (λ p. truth (int_lt p.0 p.1)) (two_ints args) (ints_at slots places)
-      (λ p e. ints-found slots places args p picks e) (λ p calls. truth-filled (int_lt p.0 p.1) calls)
-  kind-gives kind.Not args picks = not-gives args picks
-  kind-gives kind.Same args picks = same-gives args picks
-  kind-gives kind.First args picks = first-gives args picks
-  kind-gives kind.Pick args picks = pick-gives args picks
+      (λ p e. ints-found slots places args p picks e) (λ p calls. truth-filled (int_lt p.0 p.1) calls) o s calls told given
+  kind-gives kind.Not args picks o s calls told given = not-gives args picks o s calls told given
+  kind-gives kind.Same args picks o s calls told given = same-gives args picks o s calls told given
+  kind-gives kind.First args picks o s calls told given = first-gives args picks o s calls told given
+  kind-gives kind.Pick args picks o s calls told given = pick-gives args picks o s calls told given
   kind-gives kind.Tick args picks o s calls told given =
       fills-both (int (cast_signed w32 n)) o (slot.I (cast_signed w32 n)) s calls refl (some_is (int (cast_signed w32 n)) o told)
       (some_is (slot.I (cast_signed w32 n)) s given)

@@ -182,13 +182,13 @@ pub(crate) fn call_at(
     if leaf.is_virtual {
         return call_on_values(stack, call, id, places);
     }
-    let n = raised(call.n, stack.calls());
+    let before = raised(call.n, stack.calls());
     match on_slots(
         stack.alloc(),
         leaf.kind,
         stack.frame(),
         places.as_slice(),
-        n,
+        before,
     )? {
         Some(slot) => give_called(stack, call, id, places, slot),
         None => call_on_values(stack, call, id, places),
