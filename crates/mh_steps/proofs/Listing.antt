@@ -1,6 +1,8 @@
 -- Handles that are made one after the other and listed: what they leave of the seat of types, and what they stand for.
 use Rattle.std.proofs.Common.{◌≡◌, sym, subst, ℕ, List, [], ◌∷◌, ◌++◌, Result, Ok, Err}
 use Rattle.std.specs.Result.{IsErrAnd}
+use Rattle.mh_intern.specs.Exchanges.{Exchanges}
+use Rattle.mh_intern.proofs.Exchanging.{exchanges-still}
 use Rattle.mh_leaf.specs.LeafTable.{LeafTable}
 use Rattle.mh_tree.specs.Tree as tree
 use Rattle.mh_handle.specs.declared.error.HandleError.{HandleError}
@@ -36,7 +38,7 @@ unlisted P old new (Err e) is x = x
 -- the seat stayed
 pub goes_on-listed : (numbers : ℕ) (a b c : Work) → GoesOn numbers a b → IsUnchanged b c → c.seat.now ≡ b.seat.now → GoesOn numbers a c
 goes_on-listed numbers a b c x still same =
-    goes_on-before numbers a b c x still (seated-back [] [] b c (subst (λ s. ExchangesAny [] [] b.seat.now s) (sym same) (adds-none b.seat.now)).1)
+    goes_on-before numbers a b c x still (seated-back [] [] b c (subst (λ s. Exchanges [] [] [] b.seat.now s) (sym same) (exchanges-still b.seat.now)))
 
 -- ---- what they stand for
 

@@ -1,4 +1,4 @@
-use Rattle.std.proofs.Common.{ap, arith, length, subst, [], ◌++◌}
+use Rattle.std.proofs.Common.{◌+◌, ap, arith, length, subst, [], ◌++◌}
 use Rattle.mh_handle.proofs.Going.{goes_on-before, goes_on-both, goes_on-more, seated-back}
 use Rattle.mh_handle.proofs.Rooms.{goes_on-none, ready-after, ready-less}
 use Rattle.mh_more.specs.Several.{holds_of}
@@ -10,10 +10,10 @@ use Rattle.mh_steps.proofs.leaves.+leaves_at.Goals as goal
 
 -- ---- what the calls need
 
-pub leaf_at-requires-clause-ready : goal.leaf_at-requires-clause-ready
-leaf_at-requires-clause-ready g t c =
+pub leaf_at-requires : goal.leaf_at-requires
+leaf_at-requires g t c =
     let some = ap length c.in-Some.ensures.cases.0 in
-    ready-less c.args.w.now (length c.args.ids.now) 1 (omega (arith, some)) c.requires.ready
+    record { ready = ready-less c.args.w.now (length c.args.ids.now) 1 (omega (arith, some)) c.requires.ready }
 
 pub leaves_at-requires : goal.leaves_at-requires
 leaves_at-requires g t c =

@@ -1,4 +1,4 @@
-use Rattle.std.proofs.Common.{ap, ◌∙◌, length, [], ◌++◌, arith}
+use Rattle.std.proofs.Common.{◌+◌, ap, ◌∙◌, length, [], ◌++◌, arith}
 use Rattle.mh_tree.specs.Tree as tree
 use Rattle.mh_more.specs.Several.{holds_of}
 use Rattle.mh_handle.proofs.Going.{goes_on-before, goes_on-both, goes_on-more, seated-back}
@@ -8,10 +8,13 @@ use Rattle.mh_steps.proofs.Listing.{stand-over}
 use Rattle.mh_steps.proofs.Rooms.{some-over, stands-over}
 use Rattle.mh_steps.proofs.roots.switched.Goals as goal
 
-pub leaves_at-requires-clause-ready : goal.leaves_at-requires-clause-ready
-leaves_at-requires-clause-ready g c =
-    ready-less c.leaf_at.new.w 18 (length c.args.cases.now) (omega (arith, c.else.false))
-    (ready-after 1 18 19 c.args.w.now c.leaf_at.new.w (omega arith) c.leaf_at.ensures.goes_on c.requires.ready)
+pub leaves_at-requires : goal.leaves_at-requires
+leaves_at-requires g c =
+    record {
+      ready =
+          ready-less c.leaf_at.new.w 18 (length c.args.cases.now) (omega (arith, c.if-cases-gt-MOST_CASES.false))
+          (ready-after 1 18 19 c.args.w.now c.leaf_at.new.w (omega arith) c.leaf_at.ensures.goes_on c.requires.ready);
+    }
 
 pub switch-requires : goal.switch-requires
 switch-requires g c =
@@ -21,7 +24,7 @@ switch-requires g c =
     let late = c.leaves_at.new.w.seat.now in
     record {
       ready =
-          ready-after (length c.args.cases.now) 1 18 c.leaf_at.new.w c.leaves_at.new.w (omega (arith, c.else.false)) c.in-Ok.ensures.goes_on
+          ready-after (length c.args.cases.now) 1 18 c.leaf_at.new.w c.leaves_at.new.w (omega (arith, c.if-cases-gt-MOST_CASES.false)) c.in-Ok.ensures.goes_on
           (ready-after 1 18 19 c.args.w.now c.leaf_at.new.w (omega arith) c.leaf_at.ensures.goes_on c.requires.ready);
       held =
           adds-held (f ++ cs) seat late (adds-both f cs seat c.leaf_at.new.w.seat.now late c.in_ok-fallback.ensures.types c.in-Ok.ensures.types);
@@ -35,14 +38,14 @@ give_back-requires-clause-held g c =
 pub returns-in-Ok-clause-goes_on : goal.returns-in-Ok-clause-goes_on
 returns-in-Ok-clause-goes_on g c =
     let n = length c.args.cases.now in
-    goes_on-more (1 + (n + 1)) 19 c.args.w.now c.switch.new.w (omega (arith, c.else.false))
+    goes_on-more (1 + (n + 1)) 19 c.args.w.now c.switch.new.w (omega (arith, c.if-cases-gt-MOST_CASES.false))
     (goes_on-both 1 (n + 1) c.args.w.now c.leaf_at.new.w c.switch.new.w c.leaf_at.ensures.goes_on
     (goes_on-both n 1 c.leaf_at.new.w c.leaves_at.new.w c.switch.new.w c.leaves_at.ensures.goes_on c.switch.ensures.goes_on))
 
 pub returns-in-Err-clause-goes_on : goal.returns-in-Err-clause-goes_on
 returns-in-Err-clause-goes_on g c =
     let n = length c.args.cases.now in
-    goes_on-more (1 + n) 19 c.args.w.now c.give_back.new.w (omega (arith, c.else.false))
+    goes_on-more (1 + n) 19 c.args.w.now c.give_back.new.w (omega (arith, c.if-cases-gt-MOST_CASES.false))
     (goes_on-before (1 + n) c.args.w.now c.leaves_at.new.w c.give_back.new.w
     (goes_on-both 1 n c.args.w.now c.leaf_at.new.w c.leaves_at.new.w c.leaf_at.ensures.goes_on c.leaves_at.ensures.goes_on)
     c.give_back.ensures.unchanged (seated-back [] c.in_ok-fallback.fallback.held c.leaves_at.new.w c.give_back.new.w c.give_back.ensures.types))
