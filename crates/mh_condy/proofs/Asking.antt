@@ -20,7 +20,8 @@ use Rattle.mh_jobs.proofs.Parts.{bound-parts}
 use Rattle.mh_link.specs.Named.{Constants}
 use Rattle.mh_link.specs.Depth.{rank}
 use Rattle.mh_link.specs.Places.{is_in, Has}
-use Rattle.mh_link.specs.Resolved.{Found, asked, resolved_parts, taken}
+use Rattle.mh_jobs.specs.Given.{Found}
+use Rattle.mh_link.specs.Resolved.{asked, resolved_parts, taken}
 use Rattle.mh_link.proofs.Asked.{agree-each}
 use Rattle.mh_link.proofs.Places.{has-cons}
 use Rattle.mh_link.proofs.Resolving.{parts-same}

@@ -15,10 +15,10 @@ use Rattle.mh_link.proofs.Places.{has-cons}
 use Rattle.mh_condy.specs.declared.pass.ConstAttempt.{ConstAttempt}
 use Rattle.mh_condy.specs.Recorded.{ConstView, IsConst, constants_of}
 use Rattle.mh_condy.specs.Given.{HasMade}
-use Rattle.mh_condy.specs.Nodes.{IsNodeOf, Keeps, Knows, found_in, is_known, node_in, unknown}
+use Rattle.mh_condy.specs.Nodes.{AreNodes, IsNodeOf, Keeps, Knows, found_in, is_known, node_in, unknown}
 use Rattle.mh_condy.specs.Passes.{Begins, IsPass, IsRecorded, Learns, Looks, PassView, Records, attempt_of}
 use Rattle.mh_condy.specs.Resolving.{GoesOnResolving, Resolves}
-use Rattle.mh_condy.specs.Trails.{AreOwnNodes, GoesBeside, trail_of}
+use Rattle.mh_condy.specs.Trails.{AreOwnNodes, GoesBeside, HasPutAll, trail_of}
 use Rattle.mh_condy.proofs.Trails.{known-at}
 use Rattle.mh_condy.proofs.Beside.{beside-found, beside-known, beside-new, still-unknown}
 use Rattle.mh_condy.proofs.Founds.{const-asked, const-node, const-value}
@@ -54,6 +54,10 @@ own-nodes run pass is = record {
       let r = of-constant run pass pass.recorded is.attempts.recorded_are c h in
       ap (is_known pass.known) (sym r.of) ∙ known-at pass.known r.attempt.constant r.is.node r.is.at;
 }
+
+-- a pass that has put all that it knows knows what each constant is
+pub all-put : (run : Constants) (pass : PassView) → IsPass run pass → HasPutAll (trail_of pass) → AreNodes run pass.known
+all-put run pass is all = record { each = λ c node at. (own-nodes run pass is).each c node at (all c (known-at pass.known c node at)) }
 
 -- ---- the ends of a call
 

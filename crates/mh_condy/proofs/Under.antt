@@ -12,7 +12,8 @@ use Rattle.mh_jobs.specs.declared.unresolved.Part.TheVariants.{Known, Constant}
 use Rattle.mh_jobs.specs.Thrown.{OrThrown, ◌>>=◌, ◌>>◌, require}
 use Rattle.mh_link.specs.Named.{Constants, Name, arguments_of_call}
 use Rattle.mh_link.specs.Depth.{depth, most_depth, rank}
-use Rattle.mh_link.specs.Resolved.{Found, resolved}
+use Rattle.mh_jobs.specs.Given.{Found}
+use Rattle.mh_link.specs.Resolved.{resolved}
 use Rattle.mh_link.specs.Constants.{call_value, const_outcome, too_deep}
 use Rattle.mh_link.specs.Asking.{asked_by, asked_of_call, asked_of_job}
 use Rattle.mh_link.specs.Places.{Has}

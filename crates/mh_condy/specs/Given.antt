@@ -13,7 +13,8 @@ use Rattle.mh_link.specs.Named.{Constants}
 use Rattle.mh_link.specs.Asking.{asked_by}
 use Rattle.mh_link.specs.Constants.{call_value, const_outcome}
 use Rattle.mh_link.specs.Depth.{rank}
-use Rattle.mh_link.specs.Resolved.{Found, asked, resolved, resolved_parts}
+use Rattle.mh_jobs.specs.Given.{Found}
+use Rattle.mh_link.specs.Resolved.{asked, resolved, resolved_parts}
 use Rattle.mh_condy.specs.declared.attempt.Asked.{Asked}
 use Rattle.mh_condy.specs.declared.thrown.Failure.{Failure}
 use Rattle.mh_condy.specs.Nodes.{Knows, Nodes, found_in, unknown}

@@ -69,7 +69,7 @@ fn given(
 /// Resolves the constants among static arguments in order, up to the first that is an error. They have
 /// ranks below `under`.
 #[cycle(resolve)]
-fn arguments<'s, 't, J: ConstRun, R: Wait>(
+pub(crate) fn arguments<'s, 't, J: ConstRun, R: Wait>(
     table: &'s ConstTable<'t, J>,
     rt: &R,
     pass: &mut ConstPass<'s, 't, J>,

@@ -1,5 +1,7 @@
 pub mod UsedRecipes
+pub mod Agreeing
 pub mod Answering
+pub mod AttemptValues
 pub mod CallRoom
 pub mod Calling
 pub mod Counted
@@ -13,6 +15,7 @@ pub mod Items
 pub mod KeptPasses
 pub mod JoinedForms
 pub mod JoinedTypes
+pub mod JoinedValues
 pub mod JoiningEnds
 pub mod JoiningSteps
 pub mod LaneEnds

@@ -1,5 +1,5 @@
 -- What a lane of a run has: the passes of one thread, its calls, and what they gave. Its pass is split off another one, the base.
-use Rattle.std.specs.Prelude.{◌≡◌, ℕ, ◌+◌, ◌≤◌, List, ◌++◌, length, All, Option, None, Some}
+use Rattle.std.specs.Prelude.{◌≡◌, ◌≢◌, ℕ, ◌+◌, ◌≤◌, List, ◌++◌, length, All, Option, None, Some}
 use Rattle.std.specs.List.{flat_map}
 use Rattle.mh_edit.specs.declared.key.Key.{Key}
 use Rattle.mh_handle.specs.declared.answer.Answer.{Answer}
@@ -24,12 +24,15 @@ use Rattle.mh_runtime.specs.declared.lane.Lane.{Lane}
 use Rattle.mh_runtime.specs.declared.pass.Pass.{Pass}
 use Rattle.mh_runtime.specs.declared.stops.ThreadRun.{ThreadRun}
 use Rattle.mh_runtime.specs.Asking.{WasAsked, run_edits, run_types}
-use Rattle.mh_runtime.specs.Attempts.{IsThreadRun}
+use Rattle.mh_cells.specs.Values.{Keeps}
+use Rattle.mh_condy.specs.Resolving.{GoesOnResolving}
+use Rattle.mh_runtime.specs.Attempts.{AsksMore, IsThreadRun}
 use Rattle.mh_runtime.specs.Joined.{IsDoneBy, ThreadPasses}
 use Rattle.mh_runtime.specs.Keys.{thread_keys}
 use Rattle.mh_runtime.specs.Linking.{HoldsJust}
 use Rattle.mh_runtime.specs.Passes.{HasSerials, LinkPass, split_pass, split_room}
 use Rattle.mh_runtime.specs.Stops.{end_in}
+use Rattle.mh_runtime.specs.Values.{At}
 
 -- the passes of a lane
 abbrev pub passes_of : {J : Type 0} → Lane J → ThreadPasses
@@ -60,18 +63,23 @@ AsksForms given base calls passes =
     (before : List (List Key)) → HasAsked before base
     → HasAsked (run_edits given passes.links.attempts (before ++ thread_edits given.leaves calls)) passes.forms
 
--- what is known of the passes by how the calls ended: for want of memory nothing
+-- what is known of the passes by how the calls ended, where constants have values that they have seen: for want of memory nothing
 abbrev pub EndsBy : Given → PassView → List Call → ThreadPasses → List Answer → Option WorkError → Type 0
 EndsBy given base calls passes answers None =
-    DrawsFew given base calls passes × AsksForms given base calls passes × IsDoneBy calls passes × HasAnswered given calls passes.links answers
+    DrawsFew given base calls passes × AsksForms given base calls passes × HasAnswered given calls passes.links answers
 EndsBy given base calls passes answers (Some (FormsFull drawn)) = DrawsFew given base calls passes × IsOver drawn passes.forms
 EndsBy given base calls passes answers (Some (TypesFull bucket)) = DrawsFew given base calls passes
 EndsBy given base calls passes answers (Some NoMemory) = Unit {0}
 
 -- the same of a lane, which has run
 abbrev pub EndsAs : Given → PassView → List Call → ThreadPasses → Option ThreadRun → Type 0
-EndsAs given base calls passes None = ⊥
+EndsAs given base calls passes None = Unit {0}
 EndsAs given base calls passes (Some run) = EndsBy given base calls passes run.answers run.stop
+
+-- where the calls were made to their end, each site that they name is linked, and the constants that the attempts' calls look at were gone through
+abbrev pub EndsDone : Given → LinkPass → List Call → ThreadPasses → Option WorkError → Type 0
+EndsDone given base calls passes None = IsDoneBy calls passes × AsksMore given base passes.links
+EndsDone given base calls passes (Some stop) = Unit {0}
 
 -- where the calls have stopped for want of a slot, a type that the seat was asked for has none
 abbrev pub EndsWithoutSlot : Option WorkError → SeatView → Type 0
@@ -95,7 +103,11 @@ pub record HasRun {J : Type 0} (given : Given) (base : Pass J) (thread : ℕ) (c
   pub run : IsThreadRun (flat_map sites_named calls) lane.pass.links
   pub whole : lane.pass.links.seat.room + length lane.pass.links.seat.numbers ≡ split_room
   pub types_whole : lane.pass.types.room + length lane.pass.types.holds ≡ split_room
-  pub types_held : HoldsJust given lane.pass.links.recorded lane.pass.types
-  pub types_asked : WasAsked (run_types given lane.pass.links.attempts (thread_types given.leaves calls)) lane.pass.types
+  pub types_held : At given lane.pass (λ g. HoldsJust g lane.pass.links.recorded lane.pass.types)
+  pub types_asked : At given lane.pass (λ g. WasAsked (run_types g lane.pass.links.attempts (thread_types given.leaves calls)) lane.pass.types)
   pub no_slot : EndsWithoutSlot (end_in lane.ran) lane.pass.types
-  pub ends : EndsAs given base.forms calls (passes_of lane) lane.ran
+  pub has_ended : lane.ran ≢ None
+  pub linkages : Keeps base.links.linkages lane.pass.links.linkages
+  pub constants : GoesOnResolving (split_pass thread base.links).constants lane.pass.links.constants
+  pub done : EndsDone given (split_pass thread base.links) calls (passes_of lane) (end_in lane.ran)
+  pub ends : At given lane.pass (λ g. EndsAs g base.forms calls (passes_of lane) lane.ran)

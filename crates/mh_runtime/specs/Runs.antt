@@ -1,6 +1,7 @@
 -- What the calls of a plan leave whose threads' passes are split off one pass: the first one, or the one that workers have left.
 use Rattle.std.specs.Prelude.{◌≡◌, ◌⊎◌, ℕ, zero, suc, List, None, Some}
 use Rattle.mh_intern.specs.Views.{SeatView}
+use Rattle.mh_condy.specs.Passes.{TableView}
 use Rattle.mh_jobs.specs.Given.{Given}
 use Rattle.mh_plan.specs.declared.call.Call.{Call}
 use Rattle.mh_runtime.specs.declared.joining.Joined.{Joined}
@@ -30,6 +31,6 @@ abbrev pub IsStopOn : {J : Type 0} → Given → Pass J → List (List Call) →
 IsStopOn given base plan stop = (stop ≡ outside) ⊎ HasStoppedOn given base plan stop
 
 -- the pass is the first one, or the one that so many workers have left, none of which stopped
-abbrev pub IsBaseBy : {J : Type 0} → Given → Linker J → ℕ → ℕ → Pass J → Type 0
-IsBaseBy given linker threads zero pass = IsUnused given linker pass
-IsBaseBy given linker threads (suc more) pass = IsPrelinked given linker threads (suc more) (record { pass = pass; stop = None })
+abbrev pub IsBaseBy : {J : Type 0} → Given → Linker J → TableView → ℕ → ℕ → Pass J → Type 0
+IsBaseBy given linker table threads zero pass = IsUnused given linker table pass
+IsBaseBy given linker table threads (suc more) pass = IsPrelinked given linker table threads (suc more) (record { pass = pass; stop = None })

@@ -1,10 +1,10 @@
-ghost use Rattle.std.specs.Prelude.{◌≡◌, ◌*◌, ◌<◌, ◌≤◌, length, IfErr, IfOk};
+ghost use Rattle.std.specs.Prelude.{◌≡◌, ◌*◌, ◌<◌, ◌≤◌, length, map, IfErr, IfOk};
 ghost use Rattle.mh_jobs.specs.Given.{AreJobs};
 ghost use Rattle.mh_report.specs.Forms.{forms};
 ghost use Rattle.mh_report.specs.Prelinked.{draws_by, types_by};
 ghost use Rattle.mh_plan.specs.Limits.{IsWithinLimits};
 ghost use Rattle.mh_report.specs.Types.{Overfill};
-ghost use Rattle.mh_report.specs.Recorded.{recorded, serials_of, types};
+ghost use Rattle.mh_report.specs.Recorded.{recorded, row_serials, rows, serials_of, types};
 ghost use Rattle.mh_plan.specs.Calls.{AreCallsOf};
 ghost use Rattle.mh_report.specs.Results.{keys_said, results_of, results_said};
 ghost use Rattle.mh_handle.specs.Form.{most_forms};
@@ -14,13 +14,13 @@ ghost use Rattle.mh_tickets.specs.Seats as serials_seat;
 ghost use Rattle.mh_seats.specs.Room.{limit};
 ghost use Rattle.mh_runtime.specs.Bases.{base_of, pass_of};
 ghost use Rattle.mh_runtime.specs.Asking.{IfFull, IfTypesFull};
-ghost use Rattle.mh_runtime.specs.Input.{given_by};
+ghost use Rattle.mh_runtime.specs.Input.{AreConstantsOf, given_by};
 ghost use Rattle.mh_runtime.specs.Keys.{plan_keys};
 ghost use Rattle.mh_runtime.specs.Joining.{AreAllJoined, HasRoomFor, IsUnused};
 ghost use Rattle.mh_runtime.specs.Runs.{IsBaseBy, IsRunOn, IsStopOn};
 ghost use Rattle.mh_runtime.specs.Linkers.{IsOf};
 ghost use Rattle.mh_runtime.specs.Passes.{most_sites};
-ghost use Rattle.mh_runtime.specs.Report.{IsLinkedRun, IsReport, LedgerBy, ReportsJoined};
+ghost use Rattle.mh_runtime.specs.Report.{ConstLedgerBy, IsLinkedRun, IsReport, LedgerBy, ReportsJoined, as_attempt, given_in};
 ghost use Rattle.mh_runtime.specs.Report.{StopsJoined};
 ghost use Rattle.mh_runtime.specs.RunStops.{IsStopBy};
 ghost use Rattle.mh_runtime.specs.Stops.{error_of};
@@ -34,16 +34,19 @@ use crate::ordering::by_serial;
 use crate::pass::Pass;
 use crate::plan_run::PlanRun;
 use crate::prelinking::{Prelinking, link_sites};
-use crate::recording::table;
+use crate::recording::{rows, table};
 use crate::stops::Stop;
 use crate::tables::{Seats, Tables};
+use mh_attempt::ConstantsOf;
 use mh_base::{NoMemory, Seq};
+use mh_condy::{ConstAttempt, ConstTable};
 use mh_intern::TypeSeat;
 use mh_jobs::Run;
 use mh_outside::Gate;
 use mh_plan::Plan;
-use mh_report::{Attempts, Table, ThreadAnswers};
+use mh_report::{Attempt, Attempts, ConstRows, Table, ThreadAnswers};
 use mh_threads::fork_join;
+use mh_tickets::TicketSeat;
 use std::alloc::Global;
 use std::marker::{Brand, PhantomData};
 use std::sync::Wait;
@@ -56,8 +59,13 @@ pub struct RunReport {
     pub threads: ThreadAnswers,
     /// What is recorded at each call site.
     pub table: Table,
-    /// All attempts, in the order of their serials.
+    /// All attempts to link call sites, in the order of their serials.
     pub attempts: Attempts,
+    /// What is recorded of each dynamic constant.
+    pub constants: ConstRows,
+    /// All attempts to resolve dynamic constants, in the order of their serials. The number of the
+    /// constant stands in the place of the site's.
+    pub constant_attempts: Attempts,
     /// How many forms were asked for.
     pub forms: u32,
     /// How many different types the recorded targets hold.
@@ -81,7 +89,24 @@ struct Linked {
     threads: ThreadAnswers,
     table: Table,
     attempts: Attempts,
+    constants: ConstRows,
+    constant_attempts: Attempts,
     forms: u32,
+}
+
+// Attempts to resolve constants, with the number of the constant in the place of the site's.
+fn resolving(alloc: Global, attempts: &[ConstAttempt]) -> Result<Vec<Attempt>, NoMemory>
+    ensures { IfOk result (λ all. all.items ≡ map as_attempt attempts.now) }
+{
+    let mut all = Vec::new(alloc);
+    for attempt in attempts {
+        all.push(Attempt {
+            thread: attempt.thread,
+            site: attempt.constant,
+            serial: attempt.serial,
+        })?;
+    }
+    Ok(all)
 }
 
 // What a run gave whose threads were joined, and the seat of types that holds what is recorded.
@@ -100,20 +125,28 @@ fn report<J: Run, R: Wait>(
         threads,
         stop,
     } = joined;
-    if let Some(stop) = stop {
-        return Err(stop);
-    }
     let Pass {
         links,
         forms,
         types,
     } = pass;
 
-    // What a thread has recorded is what is linked.
+    // Also where a thread has stopped, constants are what they are by the serials of all that is known.
+    links.told();
+    links.constants().told();
+    let constants = rows(rt, alloc, links.constants())?;
+    if let Some(stop) = stop {
+        return Err(stop);
+    }
+
+    // What a thread has recorded is what is linked, and it knows what that rests on.
     let _recorded = links.recorded();
+    let resolving = resolving(alloc, links.constants().attempts())?;
     let linked = Linked {
         threads,
         table: table(rt, alloc, &links)?,
+        constants,
+        constant_attempts: by_serial(resolving),
         forms: forms.len(),
         attempts: by_serial(links.into_attempts()),
     };
@@ -193,13 +226,13 @@ fn base_pass<'s, 't, J: Run + Send + Sync, R: Threads + Wait + Sync, G: Gate + S
     prelinking: &Prelinking<'s, 't, J, G>,
     pass: Pass<'s, 't, J>,
 ) -> Result<Pass<'s, 't, J>, Stop>
-    requires pass { IsUnused J.given prelinking.now.linker.now pass }
+    requires pass { IsUnused J.given prelinking.now.linker.now prelinking.now.constants.now pass }
     requires leaves { prelinking.now.linker.now.leaves.now ≡ J.given.leaves }
     requires limits { IsWithinLimits prelinking.now.plan.now }
     requires few { prelinking.now.workers ≤ most_workers }
     requires sites { length J.given.jobs ≤ most_sites }
     ensures base { IfOk result (IsBaseBy J.given prelinking.now.linker.now
-        (length prelinking.now.plan.now) prelinking.now.workers) }
+        prelinking.now.constants.now (length prelinking.now.plan.now) prelinking.now.workers) }
     ensures stop { IfErr result
         (IsStopBy J.given prelinking.now.workers prelinking.now.plan.now) }
     ensures full { IfFull (error_of result)
@@ -211,10 +244,15 @@ fn base_pass<'s, 't, J: Run + Send + Sync, R: Threads + Wait + Sync, G: Gate + S
         return Ok(pass);
     }
     let prelinked = link_sites(rt, prelinking, pass)?;
-    match prelinked.stop {
-        Some(stop) => Err(stop),
-        None => Ok(prelinked.pass),
-    }
+    let Some(stop) = prelinked.stop else {
+        return Ok(prelinked.pass);
+    };
+
+    // Constants are what they are by the serials of all that is known then.
+    let links = &prelinked.pass.links;
+    links.constants().told();
+    let _constants = rows(rt, prelinking.linker.alloc, links.constants())?;
+    Err(stop)
 }
 
 // Runs a plan with a linker that is new, and with seats that have all the room.
@@ -222,9 +260,12 @@ fn base_pass<'s, 't, J: Run + Send + Sync, R: Threads + Wait + Sync, G: Gate + S
 fn run_linked<'t, J: Run + Send + Sync, R: Threads + Wait + Sync, G: Gate + Sync>(
     rt: &R,
     linker: Linker<'t, J>,
+    constants: &ConstTable<'t, ConstantsOf<J>>,
+    asked: TicketSeat,
     seats: Seats,
     input: &Input<'_, G>,
 ) -> Result<(Linked, TypeSeat), Stop>
+    requires constants { asked ≡ serials_seat.new_seat constants.now.serials limit }
     requires leaves { linker.leaves.now ≡ J.given.leaves }
     requires calls { AreCallsOf J.given.leaves J.given.jobs input.now.plan.now }
     requires limits { IsWithinLimits input.now.plan.now }
@@ -243,11 +284,13 @@ fn run_linked<'t, J: Run + Send + Sync, R: Threads + Wait + Sync, G: Gate + Sync
 {
     let prelinking = Prelinking {
         linker: &linker,
+        constants,
         plan: input.plan,
         gate: input.gate,
         workers: input.workers,
     };
-    let pass = linker.first_pass(seats)?;
+    let asked = constants.first_pass(asked)?;
+    let pass = linker.first_pass(seats, constants, asked)?;
     let base = base_pass(rt, &prelinking, pass)?;
     run_pass::<J, Brand, R, G>(rt, &linker, base, input.plan, input.gate)
 }
@@ -264,6 +307,7 @@ fn run_named<J: Run + Send + Sync, R: Threads + Wait + Sync, G: Gate + Sync>(
     requires limits { IsWithinLimits input.now.plan.now }
     requires workers { input.now.workers ≤ most_workers }
     requires jobs { AreJobs J.given }
+    requires constants { AreConstantsOf J.given }
     requires few { length J.given.jobs ≤ most_sites }
     ensures run { IfOk result (IsReport J.given input.now.workers input.now.plan.now) }
     ensures stop { IfErr result (IsStopBy J.given input.now.workers input.now.plan.now) }
@@ -273,18 +317,29 @@ fn run_named<J: Run + Send + Sync, R: Threads + Wait + Sync, G: Gate + Sync>(
         (types_by J.given input.now.workers input.now.plan.now)) }
 {
     let (tables, seats) = Tables::new(input.alloc)?;
-    let linker = Linker::<J>::new(input.alloc, input.given, &tables)?;
-    let (run, seat) = run_linked(rt, linker, seats, input)?;
+    let given = input.given;
+    let (constants, asked) = ConstTable::<ConstantsOf<J>>::new(
+        input.alloc,
+        given.constants,
+        given.scripts,
+        given.leaves,
+    )?;
+    let linker = Linker::<J>::new(input.alloc, given, &tables)?;
+    let (run, seat) = run_linked(rt, linker, &constants, asked, seats, input)?;
     let Linked {
         threads,
         table,
         attempts,
+        constants: rows,
+        constant_attempts,
         forms,
     } = run;
     Ok(RunReport {
         threads,
         table,
         attempts,
+        constants: rows,
+        constant_attempts,
         forms,
         types: tables.types.close(seat),
     })
@@ -297,6 +352,9 @@ fn run_named<J: Run + Send + Sync, R: Threads + Wait + Sync, G: Gate + Sync>(
 /// A thread links a site at its first call of it, unless it finds it linked by another; what is
 /// recorded first stays, an error too, and each caller of the site gets it. The gate is called by a
 /// thread before and after it records.
+///
+/// An attempt to link a site resolves the dynamic constants among its static arguments first, each
+/// once over all threads. The gate is not called for them.
 ///
 /// Where there are workers, of which there are at most 16, they link all call sites before the
 /// calls, beside each other: each takes sites that no other one takes, with a pass of its own. They
@@ -319,19 +377,26 @@ pub fn run_all<R: Threads + Wait + Sync, G: Gate + Sync>(
     requires limits { IsWithinLimits plan.now }
     requires workers { workers ≤ most_workers }
     requires jobs { AreJobs (given_by input.now) }
+    requires constants { AreConstantsOf (given_by input.now) }
     requires few { length input.now.jobs.now ≤ most_sites }
     ensures ledger { IfOk result (λ run. LedgerBy workers plan.now (length input.now.jobs.now)
         (serials_of run.table) run.attempts) }
-    ensures table { IfOk result
-        (λ run. run.table ≡ recorded (given_by input.now) (serials_of run.table)) }
+    ensures constants { IfOk result (λ run. ConstLedgerBy (given_by input.now) workers plan.now
+        run.attempts (row_serials run.constants) run.constant_attempts) }
+    ensures rows { IfOk result (λ run. run.constants
+        ≡ rows (given_by input.now) (row_serials run.constants)) }
+
+    // What else is reported is said where constants are what they are by these serials.
+    ensures table { IfOk result (λ run. run.table
+        ≡ recorded (given_in input.now run) (serials_of run.table)) }
     ensures results { IfOk result (λ run. results_said run.threads
-        ≡ results_of (given_by input.now) (serials_of run.table) plan.now) }
+        ≡ results_of (given_in input.now run) (serials_of run.table) plan.now) }
     ensures keys { IfOk result (λ run. keys_said run.threads
-        ≡ plan_keys (given_by input.now) (serials_of run.table) plan.now) }
+        ≡ plan_keys (given_in input.now run) (serials_of run.table) plan.now) }
     ensures forms { IfOk result
-        (λ run. run.forms ≡ forms (given_by input.now) plan.now run.attempts) }
+        (λ run. run.forms ≡ forms (given_in input.now run) plan.now run.attempts) }
     ensures types { IfOk result
-        (λ run. run.types ≡ types (given_by input.now) (serials_of run.table)) }
+        (λ run. run.types ≡ types (given_in input.now run) (serials_of run.table)) }
     ensures stop { IfErr result (IsStopBy (given_by input.now) workers plan.now) }
     ensures full { IfFull (error_of result)
         (most_forms < draws_by (given_by input.now) workers plan.now) }
