@@ -29,14 +29,16 @@ differs b own own' asked unlike is e = sym (ap (λ o. is_same_method_type o aske
 
 pub row-at : (by : Rules) (cs classes : List Class) (own own' : MethodTy) (w w' : ℕ) (asked : MethodTy) → cs ≡ classes → own ≡ own' → w ≡ w' →
     convert_row by cs own w asked ≡ convert_row by classes own' w' asked
-row-at by cs classes own own' w w' asked c o e = ap₂ (λ (d : List Class) (t : MethodTy). convert_row by d t w asked) c o ∙ ap (λ n. convert_row by classes own' n asked) e
+row-at by cs classes own own' w w' asked c o e =
+    ap₂ (λ (d : List Class) (t : MethodTy). convert_row by d t w asked) c o ∙ ap (λ n. convert_row by classes own' n asked) e
 
 pub row-of-other : (by : Rules) (classes : List Class) (own : MethodTy) (w : ℕ) (asked : MethodTy) → is_same_method_type own asked ≡ false →
     convert_row by classes own w asked ≡ use_row_by by classes own w asked
 row-of-other by classes own w asked other = sym (ap (λ b. cond b (Ok own) (convert_row by classes own w asked)) other)
 
 -- the type that was found is the one that was asked for
-pub found-row : (by : Rules) (classes : List Class) (own : MethodTy) (w : ℕ) (asked u : MethodTy) → convert_row by classes own w asked ≡ Ok u → convert_row by classes own w u ≡ Ok u
+pub found-row : (by : Rules) (classes : List Class) (own : MethodTy) (w : ℕ) (asked u : MethodTy) → convert_row by classes own w asked ≡ Ok u →
+    convert_row by classes own w u ≡ Ok u
 found-row by classes own w asked u row = let P : MethodTy → Type 0 = λ a. convert_row by classes own w a ≡ Ok u in
     subst P (sym (convert_row-parts by classes own w asked u row).2) row
 
@@ -66,7 +68,8 @@ use-same by classes asked h same = record {
 -- and one that is converted, where it has another
 pub use-other :
     (by : Rules) (classes : List Class) (own : MethodTy) (asked u : MethodTy) (h : HandleView) (r : Result Handle HandleError) →
-    is_same_method_type h.ty asked ≡ false → convert_row by classes h.ty h.weight asked ≡ Ok u → IfOk r (IsUsedAs by classes u h) → IfOk r (IsUse by classes asked h)
+    is_same_method_type h.ty asked ≡ false → convert_row by classes h.ty h.weight asked ≡ Ok u → IfOk r (IsUsedAs by classes u h) →
+    IfOk r (IsUse by classes asked h)
 use-other by classes own asked u h (Ok new) other row used = record {
   weight = used.weight ∙ sym (ap (λ b. cond b h.weight (1 + h.weight)) other);
   sides = used.sides;

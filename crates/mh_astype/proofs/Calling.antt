@@ -108,17 +108,20 @@ module _
     kept-args : conv_all rules.AsType table.classes asked.params h.ty.params args ≡ Ok args
     kept-args =
         let p = and_parts (are_trivial table.classes asked.params h.ty.params) (is_trivial_ret table.classes h.ty.ret asked.ret) kept in
-        all-kept rules.AsType table.classes are asked.params h.ty.params args (convert_row-parts rules.AsType table.classes h.ty h.weight asked asked row).0 p.0 have
+        all-kept rules.AsType table.classes are asked.params h.ty.params args
+        (convert_row-parts rules.AsType table.classes h.ty h.weight asked asked row).0 p.0 have
 
     pub kept-typed : HaveTypes table.classes args h.ty.params
     kept-typed =
         converts-ok table.classes (conv_all rules.AsType table.classes asked.params h.ty.params args) args h.ty.params kept-args
-        (conv_all-converts rules.AsType table.classes are asked.params h.ty.params args (convert_row-parts rules.AsType table.classes h.ty h.weight asked asked row).0 have)
+        (conv_all-converts rules.AsType table.classes are asked.params h.ty.params args
+        (convert_row-parts rules.AsType table.classes h.ty h.weight asked asked row).0 have)
 
     pub kept-mean : (n : ℕ) → mean table t args n ≡ mean table (AsType t asked) args n
     kept-mean n =
         let p = and_parts (are_trivial table.classes asked.params h.ty.params) (is_trivial_ret table.classes h.ty.ret asked.ret) kept in
-        let next : MethodTy → List Value → Done = λ own vs. and_then (mean table t vs n) n (λ r k. conv_result rules.AsType table.classes own.ret asked.ret r) in
+        let next : MethodTy → List Value → Done =
+        λ own vs. and_then (mean table t vs n) n (λ r k. conv_result rules.AsType table.classes own.ret asked.ret r) in
         sym (ap (λ c. known c (λ own. or_throw (conv_all rules.AsType table.classes asked.params own.params args) (next own))) st.typed
         ∙ (or_throw-ok (conv_all rules.AsType table.classes asked.params h.ty.params args) args (next h.ty) kept-args
         ∙ run-kept rules.AsType table.classes are h.ty.ret asked.ret (mean table t args n) n p.1 (st.returns args n kept-typed)))

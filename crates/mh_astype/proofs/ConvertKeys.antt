@@ -30,7 +30,8 @@ use Rattle.mh_handle.proofs.TrivialConversions.{none-converted}
 -- ---- the row
 
 -- what may be used as another type is within the limits
-pub light : (by : Rules) (classes : List Class) (own : MethodTy) (weight : ℕ) (asked u : MethodTy) → convert_row by classes own weight asked ≡ Ok u → 1 + weight ≤ 256
+pub light : (by : Rules) (classes : List Class) (own : MethodTy) (weight : ℕ) (asked u : MethodTy) → convert_row by classes own weight asked ≡ Ok u →
+    1 + weight ≤ 256
 light by classes own weight asked u h =
     let heavy = saying internal_error_class (codes "weight") in
     let word = word_of by in

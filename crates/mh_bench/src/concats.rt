@@ -11,7 +11,7 @@ use mh_base::{Frozen, NoMemory, Seq};
 use mh_concat::{concat, read_recipe};
 use mh_form::Pieces;
 use mh_handle::{Handle, HandleError, Work};
-use mh_steps::{Joined, Step};
+use mh_steps::{Joined, Root, Step};
 use mh_values::{ClassId, Classes, LeafId, MethodTy, Str, Ty};
 use std::alloc::Global;
 use std::sync::Wait;
@@ -129,11 +129,11 @@ fn by_leaves<'t, R: Wait>(
     count: usize,
     turns: u32,
 ) -> Result<u64, HandleError>
-    requires ready { IsReady w.old 204 }
+    requires ready { IsReady w.old 219 }
     requires few { length steps.now ≤ 100 }
 {
     let subject = Subject {
-        leaf: JOIN,
+        root: Root::Leaf(JOIN),
         steps,
         call: call_on(count, 4),
     };

@@ -21,7 +21,7 @@ pub(crate) enum Measure {
     Constants(constants::Row),
 }
 
-pub(crate) static MEASURES: [(&str, Measure); 32] = [
+pub(crate) static MEASURES: [(&str, Measure); 36] = [
     (
         "run-three-names",
         Measure::Handles(rows::Row::RunThreeNames),
@@ -68,6 +68,22 @@ pub(crate) static MEASURES: [(&str, Measure); 32] = [
     (
         "concat-leaves-100",
         Measure::Handles(rows::Row::Concat(concats::Row::HundredByLeaves)),
+    ),
+    (
+        "loop-64-kept",
+        Measure::Handles(rows::Row::Branch(rows::Branch::Loop64)),
+    ),
+    (
+        "switch-first-kept",
+        Measure::Handles(rows::Row::Branch(rows::Branch::FirstCase)),
+    ),
+    (
+        "switch-last-kept",
+        Measure::Handles(rows::Row::Branch(rows::Branch::LastCase)),
+    ),
+    (
+        "guard-kept",
+        Measure::Handles(rows::Row::Branch(rows::Branch::Guard)),
     ),
     ("type-made", Measure::Types(types::Row::Made)),
     ("intern-live", Measure::Types(types::Row::Live)),

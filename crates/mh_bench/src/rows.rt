@@ -19,7 +19,7 @@ use mh_form::Machine;
 use mh_handle::{FormTable, Handle, HandleError, Work};
 use mh_intern::{TypeSeat, TypeTable};
 use mh_leaves::{Leaves, read_manifest};
-use mh_steps::{ADD, Joined, MANIFEST, Root, SAME, Start, Step, TEXT, Typed, made};
+use mh_steps::{ADD, Joined, LESS, MANIFEST, Root, SAME, SUB, Start, Step, TEXT, Typed, made};
 use mh_values::{Items, LeafId, Num, Outcome, Value, are_typed};
 use std::alloc::Global;
 use std::sync::Wait;
@@ -53,7 +53,25 @@ pub(crate) enum Row {
     ShortText,
     /// A call that joins texts.
     Concat(concats::Row),
+    /// A call of a loop or of a branch, all calls in one machine.
+    Branch(Branch),
 }
+
+/// What is called of the roots that choose or repeat.
+#[derive(Clone, Copy)]
+pub(crate) enum Branch {
+    /// 64 turns over a leaf.
+    Loop64,
+    /// The first of 16 cases.
+    FirstCase,
+    /// The last of them.
+    LastCase,
+    /// The target of a guard.
+    Guard,
+}
+
+/// The cases of a switch.
+static CASES: [LeafId; 16] = [ADD; 16];
 
 /// The first argument goes through the leaf `same`.
 const FILTERED: Step = Step::Joined(SAME, Joined::Filter(0));
@@ -109,10 +127,10 @@ pub(crate) struct Call {
     pub(crate) machines: Machines,
 }
 
-/// What is called: a leaf with the steps that adapt it, and how.
+/// What is called: a root with the steps that adapt it, and how.
 #[derive(Clone, Copy)]
 pub(crate) struct Subject<'a> {
-    pub(crate) leaf: LeafId,
+    pub(crate) root: Root,
     pub(crate) steps: &'a [Step],
     pub(crate) call: Call,
 }
@@ -288,11 +306,11 @@ pub(crate) fn calls<'t, R: Wait>(
     subject: Subject<'_>,
     turns: u32,
 ) -> Result<u64, HandleError>
-    requires ready { IsReady w.old 204 }
+    requires ready { IsReady w.old 219 }
     requires few { length subject.steps.now ≤ 100 }
 {
     let leaves = w.leaves;
-    let handle = made(w, rt, Root::Leaf(subject.leaf), subject.steps)?;
+    let handle = made(w, rt, subject.root, subject.steps)?;
     let sum = called(w.alloc, &handle, leaves, subject.call, turns);
     handle.give_back(w);
     Ok(sum?)
@@ -300,7 +318,7 @@ pub(crate) fn calls<'t, R: Wait>(
 
 /// Makes a handle, and asks so many times for its form with the first parameter bound.
 fn edits<'t, R: Wait>(w: &mut Work<'_, 't>, rt: &R, turns: u32) -> Result<u64, HandleError>
-    requires ready { IsReady w.old (204 + turns) }
+    requires ready { IsReady w.old (219 + turns) }
 {
     let handle = made(w, rt, Root::Leaf(ADD), &[FILTERED])?;
     let sum = edit_each(w, rt, &handle, turns);
@@ -310,7 +328,7 @@ fn edits<'t, R: Wait>(w: &mut Work<'_, 't>, rt: &R, turns: u32) -> Result<u64, H
 
 /// Makes a handle, and binds so many copies of it.
 fn binds<'t, R: Wait>(w: &mut Work<'_, 't>, rt: &R, turns: u32) -> Result<u64, HandleError>
-    requires ready { IsReady w.old (205 + turns) }
+    requires ready { IsReady w.old (220 + turns) }
 {
     let handle = made(w, rt, Root::Leaf(ADD), &[FILTERED])?;
     let sum = bind_each(w, rt, &handle, turns);
@@ -329,7 +347,7 @@ fn drops() -> [Step; 61]
 
 /// Makes a handle of 254 parameters.
 fn many_drops<'t, R: Wait>(w: &mut Work<'_, 't>, rt: &R) -> Result<u64, HandleError>
-    requires ready { IsReady w.old 204 }
+    requires ready { IsReady w.old 219 }
 {
     let handle = made(w, rt, Root::Leaf(SAME), &drops())?;
     let number = handle.form().number();
@@ -352,10 +370,10 @@ fn texts<'t, R: Wait>(
     machines: Machines,
     turns: u32,
 ) -> Result<u64, HandleError>
-    requires ready { IsReady w.old 204 }
+    requires ready { IsReady w.old 219 }
 {
     let subject = Subject {
-        leaf: TEXT,
+        root: Root::Leaf(TEXT),
         steps: &text_filters(),
         call: Call {
             args: Args::Texts(1, length),
@@ -372,10 +390,10 @@ fn three_names<'t, R: Wait>(
     machines: Machines,
     turns: u32,
 ) -> Result<u64, HandleError>
-    requires ready { IsReady w.old 204 }
+    requires ready { IsReady w.old 219 }
 {
     let subject = Subject {
-        leaf: ADD,
+        root: Root::Leaf(ADD),
         steps: &THREE_NAMES,
         call: Call {
             args: Args::Ints(&[7]),
@@ -392,14 +410,52 @@ fn tree<'t, R: Wait>(
     machines: Machines,
     turns: u32,
 ) -> Result<u64, HandleError>
-    requires ready { IsReady w.old 204 }
+    requires ready { IsReady w.old 219 }
 {
     let subject = Subject {
-        leaf: SAME,
+        root: Root::Leaf(SAME),
         steps: &TREE,
         call: Call {
             args: Args::Ints(&[1, 2]),
             machines,
+        },
+    };
+    calls(w, rt, subject, turns)
+}
+
+impl Branch {
+    fn root(self) -> Root {
+        match self {
+            Branch::Loop64 => Root::Counted("I:64", ADD),
+            Branch::FirstCase | Branch::LastCase => Root::Switch(ADD, &CASES),
+            Branch::Guard => Root::Guard(LESS, ADD, SUB),
+        }
+    }
+
+    fn args(self) -> Args {
+        match self {
+            Branch::Loop64 => Args::Ints(&[]),
+            Branch::FirstCase | Branch::Guard => Args::Ints(&[0, 5]),
+            Branch::LastCase => Args::Ints(&[15, 5]),
+        }
+    }
+}
+
+/// Calls such a root so many times.
+fn branches<'t, R: Wait>(
+    w: &mut Work<'_, 't>,
+    rt: &R,
+    branch: Branch,
+    turns: u32,
+) -> Result<u64, HandleError>
+    requires ready { IsReady w.old 219 }
+{
+    let subject = Subject {
+        root: branch.root(),
+        steps: &[],
+        call: Call {
+            args: branch.args(),
+            machines: Machines::Kept,
         },
     };
     calls(w, rt, subject, turns)
@@ -428,6 +484,7 @@ fn row_on<'t, R: Wait>(
         Row::LongTextKept => texts(w, rt, 4096, Machines::Kept, turns),
         Row::ShortText => texts(w, rt, 1, Machines::New, turns),
         Row::Concat(row) => concats::measured(w, rt, row, turns),
+        Row::Branch(branch) => branches(w, rt, branch, turns),
     }
 }
 

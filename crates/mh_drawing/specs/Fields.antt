@@ -76,4 +76,5 @@ abbrev mutual
 -- the same of a side part: its form, and what its fields hold
 abbrev pub bound_text : List Class → List FormView → Bound → List ℕ
 bound_text classes forms part =
-    codes "part (" ++ part_text (form_of forms (body_text part.body.now)) ++ flat_map (λ f. codes ", " ++ held_text classes forms f) part.fields.items ++ codes ")"
+    codes "part (" ++ part_text (form_of forms (body_text part.body.now))
+    ++ flat_map (λ f. codes ", " ++ held_text classes forms f) part.fields.items ++ codes ")"

@@ -44,7 +44,8 @@ pub(crate) fn common(alloc: Global, one: &[Key], other: &[Key]) -> Result<usize,
 }
 
 fn push_parting(text: &mut Vec<u8>, key: Option<&Key>) -> Result<(), NoMemory>
-    ensures { OnOk result (text.new.items ≡ text.old.items ++ parting_text (option_copied key.entry)) }
+    ensures { OnOk result (text.new.items
+        ≡ text.old.items ++ parting_text (option_copied key.entry)) }
 {
     match key {
         None => push(text, b"no further key"),

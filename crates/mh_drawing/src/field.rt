@@ -169,7 +169,8 @@ fn push_pieces(
 }
 
 fn push_form(text: &mut Vec<u8>, form: Option<&ShownForm<'_>>) -> Result<(), NoMemory>
-    ensures { OnOk result (text.new.items ≡ text.old.items ++ part_text (option_copied form.entry)) }
+    ensures { OnOk result (text.new.items
+        ≡ text.old.items ++ part_text (option_copied form.entry)) }
 {
     match form {
         None => push(text, b"another form"),

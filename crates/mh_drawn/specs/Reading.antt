@@ -50,8 +50,8 @@ no_sites = record { jobs = no_jobs; places = [] }
 -- if contracts see the file, it is a class file with few enough call sites, and their jobs and places stand after the earlier ones
 abbrev pub AddsClass : LeafTable → List Script → List ℕ → Contents → Sites → Sites → Type 0
 AddsClass leaves scripts name contents before all =
-    (c : Class) × HasMeaning class_limit (class_or_fault (most_sites - length before.jobs.sites)) contents c × (all.jobs ≡ with_class leaves scripts before.jobs c)
-    × (all.places ≡ before.places ++ places_of name c.sites)
+    (c : Class) × HasMeaning class_limit (class_or_fault (most_sites - length before.jobs.sites)) contents c
+    × (all.jobs ≡ with_class leaves scripts before.jobs c) × (all.places ≡ before.places ++ places_of name c.sites)
 
 -- the same of the files of these names, one after the other
 abbrev pub AddsClasses : LeafTable → List Script → List (List ℕ) → (List ℕ → Contents) → Sites → Sites → Type 0

@@ -34,7 +34,7 @@ picked-step classes slots (t ∷ ts) p ps (Some s) (Some ss) at rest xs more ih 
     let e : s ∷ ss ≡ xs = cc in
     ap₂ value_and_more (ap (typed_slot classes t) at) (ih ts ss rest) ∙ ap (all_typed classes (t ∷ ts)) e
 
-typed_at-picked :
+pub typed_at-picked :
     (classes : List Class) (slots : List Slot) (ts : List Ty) (ps : List ℕ) (xs : List Slot) →
     picked slots ps ≡ Some xs → typed_at classes slots ts ps ≡ all_typed classes ts xs
 typed_at-picked classes slots [] [] xs h = let e : [] ≡ xs = cc in ap (all_typed classes []) e
@@ -42,7 +42,7 @@ typed_at-picked classes slots (t ∷ ts) [] xs h = let e : [] ≡ xs = cc in ap 
 typed_at-picked classes slots ts (p ∷ ps) xs h =
     picked-step classes slots ts p ps (slice_get slots p) (picked slots ps) refl refl xs h (λ us ss e. typed_at-picked classes slots us ps ss e)
 
-called_at-picked :
+pub called_at-picked :
     (table : LeafTable) (l : LeafId) (slots : List Slot) (ps : List ℕ) (n : ℕ) (xs : List Slot) →
     picked slots ps ≡ Some xs → called_at table l slots ps n ≡ called table l xs n
 called_at-picked table l slots ps n xs h = λ i.

@@ -1,7 +1,8 @@
 //! Leaves on slots.
 
-ghost use Rattle.std.specs.Prelude.{◌≡◌, ◌≢◌, ◌<◌, ◌++◌, [], IfOk, OnOk, None, Some, length, slice_get};
-ghost use Rattle.mh_values.specs.Computation.{Stuck, raised};
+ghost use Rattle.std.specs.Prelude.{◌≡◌, ◌≢◌, ◌<◌, ◌++◌, ◌∷◌, List, [], IfOk, OnOk, None, Some, length, slice_get};
+ghost use Rattle.mh_values.specs.declared.value.Value.{Value};
+ghost use Rattle.mh_values.specs.Computation.{Gave, Stuck, raised};
 ghost use Rattle.mh_leaf.specs.declared.leaf.Leaf.{Leaf};
 ghost use Rattle.mh_leaf.specs.Outcome.{calls_of, leaf_mean};
 ghost use Rattle.mh_form.specs.Erasure.{erased_ran, typed_at, typed_slot};
@@ -10,6 +11,7 @@ ghost use Rattle.mh_form.specs.Stack.{done, on_stack};
 
 use crate::going::Going;
 use crate::invocation::Invocation;
+use crate::on_slots::on_slots;
 use crate::slots::{raised, slot_at};
 use crate::stack::Stack;
 use crate::{Operands, Slot, typed};
@@ -111,9 +113,10 @@ fn call_loaded(
     stack.finish(outcome)
 }
 
-/// Calls a leaf on the slots at these places, which are the erasures of values of its types.
-#[inline(always)]
-pub(crate) fn call_at(
+/// Calls a leaf on the slots at these places, which are the erasures of values of its types, by way
+/// of these values.
+#[inline(never)]
+fn call_on_values(
     stack: &mut Stack,
     call: &Invocation<'_>,
     id: LeafId,
@@ -133,4 +136,61 @@ pub(crate) fn call_at(
     let types = &leaves.ty(id).params;
     stack.load(types, places, leaves.classes())?;
     call_loaded(stack, call, id, types, places)
+}
+
+/// Gives what a leaf gave on the slots at these places, and notes its call.
+#[inline(always)]
+fn give_called(
+    stack: &mut Stack,
+    call: &Invocation<'_>,
+    id: LeafId,
+    places: &Operands,
+    slot: Slot,
+) -> Result<Going, NoMemory>
+    requires leaf { id.0 < length call.now.leaves.now.leaves }
+    ensures done { (leaf : Leaf) (args : List Value) →
+        slice_get call.now.leaves.now.leaves id.0 ≡ Some leaf →
+        typed_at call.now.leaves.now.classes stack.old.frame leaf.ty.params places.now
+        ≡ Some args → IfOk result (λ g. done g stack.new
+        ≡ on_stack stack.old (Gave slot (record { leaf = id; args = args } ∷ []))) }
+    ensures below { IfOk result (λ g. stack.new.below ≡ stack.old.below) }
+{
+    let leaves = call.leaves;
+    stack.note(id, &leaves.leaf(id).ty.params, places, leaves.classes())?;
+    stack.give(Ok(slot))
+}
+
+/// Calls a leaf on the slots at these places, which are the erasures of values of its types.
+#[inline(always)]
+pub(crate) fn call_at(
+    stack: &mut Stack,
+    call: &Invocation<'_>,
+    id: LeafId,
+    places: &Operands,
+) -> Result<Going, NoMemory>
+    requires { called_at call.now.leaves.now id stack.old.frame places.now
+        (raised call.now.n stack.old.calls) ≢ Stuck }
+    ensures done { IfOk result (λ g. done g stack.new ≡ on_stack stack.old (filled
+        (called_at call.now.leaves.now id stack.old.frame places.now
+        (raised call.now.n stack.old.calls)))) }
+    ensures below { IfOk result (λ g. stack.new.below ≡ stack.old.below) }
+{
+    if id.0 >= call.leaves.count() {
+        unreachable!()
+    }
+    let leaf = call.leaves.leaf(id);
+    if leaf.is_virtual {
+        return call_on_values(stack, call, id, places);
+    }
+    let before = raised(call.n, stack.calls());
+    match on_slots(
+        stack.alloc(),
+        leaf.kind,
+        stack.frame(),
+        places.as_slice(),
+        before,
+    )? {
+        Some(slot) => give_called(stack, call, id, places, slot),
+        None => call_on_values(stack, call, id, places),
+    }
 }

@@ -18,6 +18,7 @@ mod leaf;
 mod lookup;
 mod machine;
 mod name;
+mod on_slots;
 mod outcome;
 mod plain;
 mod slot;

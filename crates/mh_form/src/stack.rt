@@ -324,7 +324,8 @@ impl Stack {
     // those that it had before others were put there.
     fn push_kept(&mut self, own: usize, kept: usize) -> Result<(), NoMemory>
         requires { own ≤ length self.old.frame }
-        ensures { OnOk result (self.new ≡ with_slots self.old (take kept (take own self.old.frame))) }
+        ensures { OnOk result (self.new
+            ≡ with_slots self.old (take kept (take own self.old.frame))) }
     {
         if kept < own {
             self.push_first(kept)

@@ -87,7 +87,8 @@ module _
               ∙ (ap (conv_params es) st.shaped ∙ params-converted by table.classes asked.params h.ty.params (allowed by table are asked u h t row st)));
           begun = subst IsMade (sym snoc) (returning-made re made begin);
           runs = λ args n have low. ap (λ b. run_on table b fields (map erased args) n) snoc ∙ made-runs by table are asked u h t row st args n have low;
-          well_formed = λ args n have low stuck. ends by table are asked u h t row st args n have (sym (ap (λ b. run_on table b fields (map erased args) n) snoc ∙
+          well_formed = λ args n have low stuck. ends by table are asked u h t row st args n have
+              (sym (ap (λ b. run_on table b fields (map erased args) n) snoc ∙
               made-runs by table are asked u h t row st args n have low) ∙ stuck);
           returns = sound by table are asked u h t row st;
         }
@@ -106,11 +107,14 @@ module _
           made = recipe-made [] is;
           holds = st.holds ∙ sym (sides-converted by table t asked);
           fielded = st.fielded ∙ sym (ap (λ b. b.fields) same);
-          shaped = ap (λ b. b.params) same ∙ (st.shaped ∙ params-kept by table.classes asked.params h.ty.params (allowed by table are asked u h t row st) params);
+          shaped = ap (λ b. b.params) same
+              ∙ (st.shaped ∙ params-kept by table.classes asked.params h.ty.params (allowed by table are asked u h t row st) params);
           begun = subst IsMade (sym same) st.begun;
-          runs = λ args n have low. ap (λ b. run_on table b h.fields (map erased args) n) same ∙ kept-runs by table are asked u h t row st args n have low params
+          runs = λ args n have low. ap (λ b. run_on table b h.fields (map erased args) n) same
+              ∙ kept-runs by table are asked u h t row st args n have low params
               ret;
-          well_formed = λ args n have low stuck. ends by table are asked u h t row st args n have (sym (ap (λ b. run_on table b h.fields (map erased args) n) same
+          well_formed = λ args n have low stuck. ends by table are asked u h t row st args n have
+              (sym (ap (λ b. run_on table b h.fields (map erased args) n) same
               ∙ kept-runs by table are asked u h t row st args n have low params ret) ∙ stuck);
           returns = sound by table are asked u h t row st;
         }

@@ -53,7 +53,8 @@ module _
     type =
         type-converted by table t asked
         ∙ (ap (λ c. with_type c (λ ty. convert_row by table.classes ty (weight t) asked)) st.typed
-        ∙ (ap (λ w. convert_row by table.classes h.ty w asked) (sym st.weighed) ∙ (row ∙ ap Ok (convert_row-parts by table.classes h.ty h.weight asked u row).2)))
+        ∙ (ap (λ w. convert_row by table.classes h.ty w asked) (sym st.weighed)
+        ∙ (row ∙ ap Ok (convert_row-parts by table.classes h.ty h.weight asked u row).2)))
 
     meaning :
         (args : List Value) (n : ℕ) →
@@ -103,7 +104,8 @@ module _
         let params : length old.params ≡ length h.ty.params = ap length st.shaped ∙ length-map h.ty.params basic_of in
         let each : length es ≡ length old.params = length-entries by table.classes asked.params h.ty.params allowed ∙ sym params in
         let long : length (map erased args) ≡ length old.params =
-        length-map args erased ∙ (types-length table.classes args asked.params have ∙ (lengths by table.classes asked.params h.ty.params allowed ∙ sym params)) in
+        length-map args erased
+        ∙ (types-length table.classes args asked.params have ∙ (lengths by table.classes asked.params h.ty.params allowed ∙ sym params)) in
         let first = converting_slots es (map (converted by table.classes) convs) (map erased args) n next in
         let is : first ≡ erased_ran (mean table (converted_tree by t asked) args n) =
         arguments-converted by table.classes are asked.params h.ty.params args n next allowed have

@@ -30,7 +30,8 @@ module _
     -- whether something changes or not
     as-type :
         (number : ℕ) (trivial : Bool) → (are_trivial table.classes asked.params h.ty.params && is_trivial_ret table.classes h.ty.ret asked.ret) ≡ trivial →
-        Stands table (viewed by table are asked u h t row st number (convert_keys table.classes asked h.ty) (h.fields ++ convert_fields by table.classes asked h.ty))
+        Stands table (viewed by table are asked u h t row st number (convert_keys table.classes asked h.ty)
+        (h.fields ++ convert_fields by table.classes asked h.ty))
         (converted by t asked)
     unfolding viewed
     as-type number true is =
@@ -42,7 +43,8 @@ module _
         let last : ret_fields_of by table.classes h.ty.ret asked.ret ≡ [] =
         ap (λ b. cond b [] (map (ret_field by) (option_to_list (ret_conversion_of by table.classes h.ty.ret asked.ret)))) p.1 in
         let fields : convert_fields by table.classes asked h.ty ≡ [] = ap₂ (λ (a b : List Field). a ++ b) convs last in
-        subst (λ ks. Stands table (viewed by table are asked u h t row st number ks (h.fields ++ convert_fields by table.classes asked h.ty)) (converted by t asked))
+        subst (λ ks. Stands table (viewed by table are asked u h t row st number ks (h.fields ++ convert_fields by table.classes asked h.ty))
+        (converted by t asked))
         (sym keys)
         (subst (λ fs. Stands table (viewed by table are asked u h t row st number [] fs) (converted by t asked))
         (sym (ap (λ fs. h.fields ++ fs) fields ∙ append-nil h.fields))
@@ -57,7 +59,8 @@ module _
         ap (λ fs. map (conv_field by) (convs_of table.classes asked.params h.ty.params) ++ fs)
         (ret-one by (is_trivial_ret table.classes h.ty.ret asked.ret) (basic_ret_of asked.ret) (ret_conversion_of by table.classes h.ty.ret asked.ret)
         (back by table are asked u h t row st).0 (back by table are asked u h t row st).1) in
-        subst (λ ks. Stands table (viewed by table are asked u h t row st number ks (h.fields ++ convert_fields by table.classes asked h.ty)) (converted by t asked))
+        subst (λ ks. Stands table (viewed by table are asked u h t row st number ks (h.fields ++ convert_fields by table.classes asked h.ty))
+        (converted by t asked))
         (sym keys)
         (subst (λ fs. Stands table (viewed by table are asked u h t row st number (Convert (entries_of table.classes asked.params h.ty.params)
         (ret_entry_of table.classes h.ty.ret asked.ret) ∷

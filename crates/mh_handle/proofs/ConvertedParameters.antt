@@ -64,7 +64,8 @@ param-one : (b : Bool) (c d : Basic) (es : List (Option Basic)) (cs ds : List Ba
 param-one true c d es cs ds same h = ap₂ (λ (x : Basic) (xs : List Basic). x ∷ xs) (same refl) h
 param-one false c d es cs ds same h = ap (λ xs. d ∷ xs) h
 
-pub params-converted : (by : Rules) (classes : List Class) (ss ts : List Ty) → can_all by classes ss ts ≡ true → conv_params (entries_of classes ss ts) (map basic_of ts) ≡ map
+pub params-converted : (by : Rules) (classes : List Class) (ss ts : List Ty) → can_all by classes ss ts ≡ true →
+    conv_params (entries_of classes ss ts) (map basic_of ts) ≡ map
     basic_of ss
 params-converted by classes [] [] h = refl
 params-converted by classes [] (t ∷ ts) h = absurd cc
@@ -74,7 +75,8 @@ params-converted by classes (s ∷ ss) (t ∷ ts) h =
     (params-converted by classes ss ts (and_parts (can by classes s t) (can_all by classes ss ts) h).1)
 
 -- the same where nothing is converted
-pub params-kept : (by : Rules) (classes : List Class) (ss ts : List Ty) → can_all by classes ss ts ≡ true → are_trivial classes ss ts ≡ true → map basic_of ts ≡ map basic_of ss
+pub params-kept : (by : Rules) (classes : List Class) (ss ts : List Ty) → can_all by classes ss ts ≡ true → are_trivial classes ss ts ≡ true →
+    map basic_of ts ≡ map basic_of ss
 params-kept by classes [] [] h k = refl
 params-kept by classes [] (t ∷ ts) h k = absurd cc
 params-kept by classes (s ∷ ss) [] h k = absurd cc

@@ -58,9 +58,9 @@ fn answer_on<'t, R: Wait>(
     making: &Making,
     by: &Call<'_>,
 ) -> Result<Answer, HandleError>
-    requires ready { IsReady w.old 205 }
+    requires ready { IsReady w.old 220 }
     requires few { length making.now.steps.now ≤ 100 }
-    ensures goes_on { GoesOn 205 w.old w.new }
+    ensures goes_on { GoesOn 220 w.old w.new }
     ensures types { ExchangesAny [] [] w.old.seat.now w.new.seat.now }
 {
     let handle = made(w, rt, making.root, making.steps)?;

@@ -1,10 +1,11 @@
 use crate::calls::Way;
 use crate::trees::{Call, Making, came_of};
 use mh_base::NoMemory;
+use mh_handle::HandleError;
 use mh_leaves::{Leaves, read_manifest};
 use mh_steps::{
-    ADD, ARR, DIV, FAIL, Joined, LESS, MANIFEST, NOTHING, Root, SAME, SAW, SUB, Step, TEXT, TICK,
-    Typed,
+    ADD, ARR, DIV, FAIL, FIN, Joined, LESS, MANIFEST, NOTHING, Root, SAME, SAW, SUB, Step, TEXT,
+    TICK, Typed,
 };
 use mh_values::ClassId;
 use std::alloc::Global;
@@ -270,6 +271,92 @@ static BRANCHES: [Case; 8] = [
     },
 ];
 
+static LOOPS: [Case; 8] = [
+    Case {
+        name: "a loop of five turns",
+        making: Making {
+            root: Root::Counted("I:5", ADD),
+            steps: &[],
+        },
+        arguments: &[],
+    },
+    Case {
+        name: "a loop of 65 turns",
+        making: Making {
+            root: Root::Counted("I:65", ADD),
+            steps: &[],
+        },
+        arguments: &[],
+    },
+    Case {
+        name: "a loop around a loop",
+        making: Making {
+            root: Root::Counted("I:5", ADD),
+            steps: &[Step::Typed("(I)V", Typed::Drop(0)), Step::Doubled],
+        },
+        arguments: &[],
+    },
+    Case {
+        name: "the last of two cases",
+        making: Making {
+            root: Root::Switch(DIV, &[ADD, SUB]),
+            steps: &[],
+        },
+        arguments: &["i:1", "i:5"],
+    },
+    Case {
+        name: "no case for a number",
+        making: Making {
+            root: Root::Switch(DIV, &[ADD, SUB]),
+            steps: &[],
+        },
+        arguments: &["i:-1", "i:0"],
+    },
+    Case {
+        name: "a cleanup after an exception",
+        making: Making {
+            root: Root::TryFinally(DIV, FIN),
+            steps: &[],
+        },
+        arguments: &["i:1", "i:0"],
+    },
+    Case {
+        name: "a cleanup after a result",
+        making: Making {
+            root: Root::TryFinally(DIV, FIN),
+            steps: &[],
+        },
+        arguments: &["i:6", "i:3"],
+    },
+    Case {
+        name: "a long given for an int, explicitly",
+        making: Making {
+            root: Root::Leaf(SAME),
+            steps: &[Step::Typed("(J)I", Typed::Explicit)],
+        },
+        arguments: &["j:4294967301"],
+    },
+];
+
+static TOO_FEW_OR_MANY_CASES: [Case; 2] = [
+    Case {
+        name: "no case",
+        making: Making {
+            root: Root::Switch(ADD, &[]),
+            steps: &[],
+        },
+        arguments: &[],
+    },
+    Case {
+        name: "17 cases",
+        making: Making {
+            root: Root::Switch(ADD, &[ADD; 17]),
+            steps: &[],
+        },
+        arguments: &[],
+    },
+];
+
 /// Steps to weight 256 from a leaf.
 const STEPS_256: [Step; 8] = [
     Step::Doubled,
@@ -379,11 +466,45 @@ fn first_holding<R: Wait>(
     Ok(None)
 }
 
+/// The name of the first case that no rule refuses.
+fn first_accepted<R: Wait>(
+    rt: &R,
+    alloc: Global,
+    cases: &[Case],
+) -> Result<Option<&'static str>, NoMemory> {
+    let leaves = tree_leaves(alloc)?;
+    for case in cases {
+        let by = Call {
+            way: Way::Twice,
+            arguments: case.arguments,
+        };
+        let came = came_of(rt, alloc, &leaves, &case.making, &by)?;
+        if !matches!(came.answer, Err(HandleError::Refused(_))) {
+            return Ok(Some(case.name));
+        }
+    }
+    Ok(None)
+}
+
+#[test]
+fn a_switch_has_1_to_16_cases(rt: HostRuntime) -> Result<(), Fail> {
+    assert_eq!(rt;
+        first_accepted(&rt, rt.alloc(), &TOO_FEW_OR_MANY_CASES)?,
+        None
+    );
+    Ok(())
+}
+
 #[test]
 fn no_type_stays_held(rt: HostRuntime) -> Result<(), Fail> {
     assert_eq!(rt; first_holding(&rt, rt.alloc(), &ADAPTERS)?, None);
     assert_eq!(rt; first_holding(&rt, rt.alloc(), &ARRAYS)?, None);
     assert_eq!(rt; first_holding(&rt, rt.alloc(), &BRANCHES)?, None);
     assert_eq!(rt; first_holding(&rt, rt.alloc(), &PARTS)?, None);
+    assert_eq!(rt; first_holding(&rt, rt.alloc(), &LOOPS)?, None);
+    assert_eq!(rt;
+        first_holding(&rt, rt.alloc(), &TOO_FEW_OR_MANY_CASES)?,
+        None
+    );
     Ok(())
 }

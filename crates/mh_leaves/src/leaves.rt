@@ -1,4 +1,4 @@
-ghost use Rattle.std.specs.Prelude.{◌≡◌, ◌≢◌, ◌<◌, length, false, IfOk, OnOk, OnErr, Some, None, position, IfSome};
+ghost use Rattle.std.specs.Prelude.{◌≡◌, ◌≢◌, ◌<◌, length, false, IfOk, OnOk, OnErr, Some, None, position, IfSome, slice_get};
 
 use crate::index::Index;
 use crate::{How, Missing, Reference};
@@ -165,6 +165,15 @@ impl Leaves {
             Some(at) => Ok(LeafId(at)),
             None => Err(Missing::NoMethod),
         }
+    }
+
+    /// A leaf.
+    #[inline(always)]
+    pub fn leaf(&self, id: LeafId) -> &Leaf
+        requires { id.0 < length self.now.leaves }
+        ensures { slice_get self.now.leaves id.0 ≡ Some result.now }
+    {
+        &self.leaves[id.0 as usize]
     }
 
     /// The type of a leaf's method handle, a receiver first.

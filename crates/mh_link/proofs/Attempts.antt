@@ -72,7 +72,8 @@ handle-there classes scripts h named is =
     named-there classes scripts m (is_built_in m) named static.1
 
 -- the script that the call of a site names, if it names one, is there
-pub method-there : (leaves : LeafTable) (scripts : List Script) (class : class_file.Class) (first : ℕ) (site : SiteView) (known : Found) (call : BootstrapCall) →
+pub method-there : (leaves : LeafTable) (scripts : List Script) (class : class_file.Class) (first : ℕ) (site : SiteView) (known : Found)
+    (call : BootstrapCall) →
     call_under known (site_bootstrap leaves scripts class first site) ≡ Ok call → IsThere scripts call.method
 method-there leaves scripts class first site known call h =
     let made = call-made leaves scripts class first site known call h in handle-there leaves.classes scripts made.handle call.method made.method

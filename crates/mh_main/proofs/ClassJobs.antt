@@ -17,7 +17,8 @@ use Rattle.mh_main.proofs.ClassListing.{sites-left}
 pub jobs-left : (leaves : LeafTable) (scripts : List Script) (before mid : RunJobs) (c : Class) → mid ≡ with_class leaves scripts before c →
     most_sites - length mid.sites ≡ most_sites - length before.sites - length c.sites
 jobs-left leaves scripts before mid c is =
-    sites-left (length before.sites) (length mid.sites) (length c.sites) (ap (λ (jobs : RunJobs). length jobs.sites) is ∙ with_class-length leaves scripts before c)
+    sites-left (length before.sites) (length mid.sites) (length c.sites)
+    (ap (λ (jobs : RunJobs). length jobs.sites) is ∙ with_class-length leaves scripts before c)
 
 -- the jobs of the class files after the first one were made
 pub made-all : {E : Type 0} (r : Result RunJobs E) (leaves : LeafTable) (scripts : List Script) (name : List ℕ) (names : List (List ℕ))
@@ -38,5 +39,6 @@ made-all (Err e) leaves scripts name names files files' before mid contents m h 
 pub few_jobs : (leaves : LeafTable) (scripts : List Script) (before all : RunJobs) (c : Class) → all ≡ with_class leaves scripts before c →
     length before.sites ≤ most_sites → length c.sites ≤ most_sites - length before.sites → length all.sites ≤ most_sites
 few_jobs leaves scripts before all c is few fits =
-    let more : length all.sites ≡ length before.sites + length c.sites = ap (λ (jobs : RunJobs). length jobs.sites) is ∙ with_class-length leaves scripts before c in
+    let more : length all.sites ≡ length before.sites + length c.sites =
+    ap (λ (jobs : RunJobs). length jobs.sites) is ∙ with_class-length leaves scripts before c in
     omega arith

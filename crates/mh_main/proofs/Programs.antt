@@ -44,7 +44,8 @@ given-read : (Q : Input → Type 0) (output : Output) (names : Named) (files : L
 given-read Q output names files leaves all jobs free mean has h =
     texts-read Q output names files leaves all free mean
     (classes-read Q most_sites names.classes files has.0
-    (λ classes. plan_input output names.workers (record { leaves = leaves; scripts = all; jobs = (jobs_of leaves all classes).sites }) names.plan files) free has.1
+    (λ classes. plan_input output names.workers (record { leaves = leaves; scripts = all; jobs = (jobs_of leaves all classes).sites }) names.plan files)
+    free has.1
     (subst (λ (js : List Job). Q (plan_input output names.workers (record { leaves = leaves; scripts = all; jobs = js }) names.plan files)) has.2 h))
 
 -- the scripts that were read after the manifest

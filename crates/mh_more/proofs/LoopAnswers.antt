@@ -53,7 +53,8 @@ module _ (n i b : HandleView) (u : MethodTy) (row : counted_row n.ty n.weight i.
 
   -- the body takes its own result and the number of the turn
   pub loop-takes : length (turn_types b.ty.ret) ≤ length b.ty.params
-  loop-takes = let few = first-few b.ty.params (turn_types b.ty.ret) (counted_row-parts n.ty n.weight i.ty i.weight b.ty b.weight u row).1 in omega (arith, few, length-map b.ty.params basic_of)
+  loop-takes = let few = first-few b.ty.params (turn_types b.ty.ret) (counted_row-parts n.ty n.weight i.ty i.weight b.ty b.weight u row).1 in
+      omega (arith, few, length-map b.ty.params basic_of)
 
   -- each part takes no more arguments than the loop has
   counts-few : length n.ty.params ≤ length (map basic_of params)
@@ -82,7 +83,8 @@ module _ (n i b : HandleView) (u : MethodTy) (row : counted_row n.ty n.weight i.
           (and_from _ _ (le-leb (length n.ty.params) (length (map basic_of params)) counts-few)
           (and_from _ _ (le-leb (length i.ty.params) (length (map basic_of params)) starts-few)
           (le-leb (length (further b.ty)) (length (map basic_of params)) further-few)));
-      shaped = ap (λ k. (applied k nothing).params) is.keyed ∙ ap (λ (m : MethodTy). map basic_of m.params) (sym (is.typed ∙ (counted_row-parts n.ty n.weight i.ty i.weight b.ty b.weight u row).5));
+      shaped = ap (λ k. (applied k nothing).params) is.keyed
+          ∙ ap (λ (m : MethodTy). map basic_of m.params) (sym (is.typed ∙ (counted_row-parts n.ty n.weight i.ty i.weight b.ty b.weight u row).5));
       light = let light = limits.1 in omega (arith, light, is.weighed);
       few =
           let one = length-append n.held (i.held ++ (b.held ++ [])) in

@@ -113,7 +113,8 @@ module _
       ≡ map erased xs =
       ap₂ (λ (x y : List Slot). x ++ (slot.I (pos j) ∷ y)) (given-slots classes w turns.ty.ret typed) (take-map erased (length (further turns.ty)) args)
       ∙ sym (map-append erased (option_to_list w) (number ∷ rest)) in
-      let have_turn : HaveTypes classes xs turns.ty.params = turn-typed classes counts.ty turns.ty args j w few (counted_row-parts counts.ty counts.weight starts.ty starts.weight turns.ty turns.weight u row).1 have typed in
+      let have_turn : HaveTypes classes xs turns.ty.params = turn-typed classes counts.ty turns.ty args j w few
+      (counted_row-parts counts.ty counts.weight starts.ty starts.weight turns.ty turns.weight u row).1 have typed in
       ap (λ ys. filled (run_bound table turns_part.0.value ys k)) same
       ∙ ap filled (ap (λ x. x (map erased xs) k) (part-runs table turns turns_field turns_part) ∙ turning.runs xs k have_turn low)
 
@@ -125,9 +126,11 @@ module _
       (as_result (basic_ret_of turns.ty.ret) (turned (form_turn args) 0 left (none_as_zero (erased_option v)) k))
   turns-do args have left v k few typed low =
       turned-erased classes turns.ty.ret (tree_turn args) (form_turn args)
-      (λ j w m more given_type. turning.returns _ m (turn-typed classes counts.ty turns.ty args j w more (counted_row-parts counts.ty counts.weight starts.ty starts.weight turns.ty turns.weight u row).1 have given_type))
+      (λ j w m more given_type. turning.returns _ m (turn-typed classes counts.ty turns.ty args j w more
+      (counted_row-parts counts.ty counts.weight starts.ty starts.weight turns.ty turns.weight u row).1 have given_type))
       (turn-does args have) left 0 v k (omega (arith, few))
-      (subst (λ o. HaveTypes classes (option_to_list v) (option_to_list o)) (same_return-is starts.ty.ret turns.ty.ret (counted_row-parts counts.ty counts.weight starts.ty starts.weight turns.ty turns.weight u row).2) typed) low
+      (subst (λ o. HaveTypes classes (option_to_list v) (option_to_list o)) (same_return-is starts.ty.ret turns.ty.ret
+      (counted_row-parts counts.ty counts.weight starts.ty starts.weight turns.ty turns.weight u row).2) typed) low
 
   -- the start and the turns, after the iterations
   abbrev tree_rest : List Value → ℕ → ℕ → Done
@@ -146,8 +149,10 @@ module _
       after-part table (mean table i first k) k starts.ty.ret turns.ty.ret
       (run_bound table starts_part.0.value (take (length starts.ty.params) (map erased args)) k)
       (λ v m. turned (tree_turn args) 0 left v m) (λ v m. turned (form_turn args) 0 left v m)
-      (starting.returns first k (first-typed classes args params starts.ty.params (counted_row-parts counts.ty counts.weight starts.ty starts.weight turns.ty turns.weight u row).4 have)) low
-      (first-runs table starts i starts_field starts_part params args k starting (counted_row-parts counts.ty counts.weight starts.ty starts.weight turns.ty turns.weight u row).4 have low)
+      (starting.returns first k (first-typed classes args params starts.ty.params
+      (counted_row-parts counts.ty counts.weight starts.ty starts.weight turns.ty turns.weight u row).4 have)) low
+      (first-runs table starts i starts_field starts_part params args k starting
+      (counted_row-parts counts.ty counts.weight starts.ty starts.weight turns.ty turns.weight u row).4 have low)
       (λ v m typed small. turns-do args have left v m few typed small)
 
   -- all of the loop
@@ -163,11 +168,14 @@ module _
       after-part table (mean table n first m) m counts.ty.ret turns.ty.ret
       (run_bound table counts_part.0.value (take (length counts.ty.params) (map erased args)) m)
       (λ r k. bounded_by r (tree_rest args k)) (λ s k. bounded_slot s (form_rest args k))
-      (counting.returns first m (first-typed classes args params counts.ty.params (counted_row-parts counts.ty counts.weight starts.ty starts.weight turns.ty turns.weight u row).3 have)) low
-      (first-runs table counts n counts_field counts_part params args m counting (counted_row-parts counts.ty counts.weight starts.ty starts.weight turns.ty turns.weight u row).3 have low)
+      (counting.returns first m (first-typed classes args params counts.ty.params
+      (counted_row-parts counts.ty counts.weight starts.ty starts.weight turns.ty turns.weight u row).3 have)) low
+      (first-runs table counts n counts_field counts_part params args m counting
+      (counted_row-parts counts.ty counts.weight starts.ty starts.weight turns.ty turns.weight u row).3 have low)
       (λ r k typed small.
       bounded-erased classes r (basic_ret_of turns.ty.ret) (tree_rest args k) (form_rest args k)
-      (subst (λ o. HaveTypes classes (option_to_list r) (option_to_list o)) (same_return-is counts.ty.ret (Some int_type) (counted_row-parts counts.ty counts.weight starts.ty starts.weight turns.ty turns.weight u row).0) typed)
+      (subst (λ o. HaveTypes classes (option_to_list r) (option_to_list o)) (same_return-is counts.ty.ret (Some int_type)
+      (counted_row-parts counts.ty counts.weight starts.ty starts.weight turns.ty turns.weight u row).0) typed)
       (λ left few. rest-does args have k left few small))
 
   pub loop-stands :
@@ -179,7 +187,8 @@ module _
       (counts_field ∷ starts_field ∷ turns_field ∷ []) →
       Stands table h (tree.Counted n i b)
   loop-stands h are grows =
-      let own : h.ty ≡ taking params turns.ty = grows.typed ∙ (counted_row-parts counts.ty counts.weight starts.ty starts.weight turns.ty turns.weight u row).5 in
+      let own : h.ty ≡ taking params turns.ty =
+      grows.typed ∙ (counted_row-parts counts.ty counts.weight starts.ty starts.weight turns.ty turns.weight u row).5 in
       let own_row : counted_row counts.ty counts.weight starts.ty starts.weight turns.ty turns.weight ≡ Ok h.ty = row ∙ ap Ok (sym grows.typed) in
       let fields : h.fields ≡ field.Part counts_part.0 ∷ field.Part starts_part.0 ∷ field.Part turns_part.0 ∷ [] =
       grows.fielded ∙ (λ j. counts_part.1 j ∷ starts_part.1 j ∷ turns_part.1 j ∷ []) in

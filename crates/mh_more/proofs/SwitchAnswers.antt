@@ -81,7 +81,8 @@ switch-told f hs m tys are weighs r told =
 
 module _ (f : HandleView) (hs : List HandleView) (u : MethodTy) (row : switch_row f.ty f.weight (own_types hs) (weights_of hs) ≡ Ok u) where
   limits : (length f.ty.params ≤ 254) × (1 + f.weight + weights_of hs ≤ 256)
-  limits = limited-low (codes "switch") (1 + f.weight + weights_of hs) f.ty u (provided-parts (may_switch f.ty (own_types hs)) (illegal (codes "switch")) (limited (codes "switch") (1 + f.weight + weights_of hs) f.ty) u row).1
+  limits = limited-low (codes "switch") (1 + f.weight + weights_of hs) f.ty u
+      (provided-parts (may_switch f.ty (own_types hs)) (illegal (codes "switch")) (limited (codes "switch") (1 + f.weight + weights_of hs) f.ty) u row).1
 
   -- there are 1 to 16 cases
   counts : (nat_lt 0 (length (own_types hs)) ≡ true) × (nat_le (length (own_types hs)) most_cases ≡ true)
@@ -90,7 +91,8 @@ module _ (f : HandleView) (hs : List HandleView) (u : MethodTy) (row : switch_ro
       let few = nat_le (length (own_types hs)) most_cases in
       let same = list_all (λ c. is_same_method_type c f.ty) (own_types hs) in
       let picks = is_same_return (slice_get f.ty.params 0) (Some int_type) in
-      let r = and_parts (some && few && same) picks (provided-parts (may_switch f.ty (own_types hs)) (illegal (codes "switch")) (limited (codes "switch") (1 + f.weight + weights_of hs) f.ty) u row).0 in
+      let r = and_parts (some && few && same) picks (provided-parts (may_switch f.ty (own_types hs)) (illegal (codes "switch"))
+      (limited (codes "switch") (1 + f.weight + weights_of hs) f.ty) u row).0 in
       let s = and_parts (some && few) same r.0 in
       and_parts some few s.0
 
@@ -104,7 +106,8 @@ module _ (f : HandleView) (hs : List HandleView) (u : MethodTy) (row : switch_ro
   -- the first parameter is an int
   first-int : is_basic_at (map basic_of f.ty.params) 0 basic.I ≡ true
   first-int =
-      let first : slice_get f.ty.params 0 ≡ Some int_type = same_return-is (slice_get f.ty.params 0) (Some int_type) (switch_row-parts f.ty f.weight (own_types hs) (weights_of hs) u row).1 in
+      let first : slice_get f.ty.params 0 ≡ Some int_type =
+      same_return-is (slice_get f.ty.params 0) (Some int_type) (switch_row-parts f.ty f.weight (own_types hs) (weights_of hs) u row).1 in
       ap (λ o. option_map_or (is_same_basic basic.I) o false) (slice_get-map basic_of f.ty.params 0 ∙ ap (option_map basic_of) first)
 
   module _ (root : Root) (is : IsRoot u (1 + f.weight + weights_of hs) (switch_key f.ty (length hs)) root) where
@@ -116,7 +119,8 @@ module _ (f : HandleView) (hs : List HandleView) (u : MethodTy) (row : switch_ro
           fits = subst (λ k. IsTrue (fits k nothing)) (sym is.keyed)
               (and_from _ _ first-int
               (and_from _ _ (subst (λ k. nat_lt 0 k ≡ true) size counts.0) (subst (λ k. nat_le k most_cases ≡ true) size counts.1)));
-          shaped = ap (λ k. (applied k nothing).params) is.keyed ∙ ap (λ (m : MethodTy). map basic_of m.params) (sym (is.typed ∙ (switch_row-parts f.ty f.weight (own_types hs) (weights_of hs) u row).2));
+          shaped = ap (λ k. (applied k nothing).params) is.keyed
+              ∙ ap (λ (m : MethodTy). map basic_of m.params) (sym (is.typed ∙ (switch_row-parts f.ty f.weight (own_types hs) (weights_of hs) u row).2));
           light = let light = limits.1 in omega (arith, light, is.weighed);
           few =
               let all = length-append f.held (holds_of hs) in

@@ -42,7 +42,8 @@ module _ (t c : HandleView) (u : MethodTy) (row : tryfinally_row t.ty t.weight c
 
   -- the cleanup takes how the target ended
   pub try-takes : length (end_types t.ty.ret) ≤ length c.ty.params
-  try-takes = let few = first-few c.ty.params (end_types t.ty.ret) (tryfinally_row-parts t.ty t.weight c.ty c.weight u row).1 in omega (arith, few, length-map c.ty.params basic_of)
+  try-takes = let few = first-few c.ty.params (end_types t.ty.ret) (tryfinally_row-parts t.ty t.weight c.ty c.weight u row).1 in
+      omega (arith, few, length-map c.ty.params basic_of)
 
   -- and no more arguments than the target has
   kept-few : kept_by c.ty t.ty.ret ≤ length (map basic_of t.ty.params)
@@ -59,7 +60,8 @@ module _ (t c : HandleView) (u : MethodTy) (row : tryfinally_row t.ty t.weight c
     pub try-can : IsShaped t × IsShaped c → CanRoot (t ∷ c ∷ []) root
     try-can shaped = record {
       fits = subst (λ k. IsTrue (fits k nothing)) (sym is.keyed) (le-leb (kept_by c.ty t.ty.ret) (length (map basic_of t.ty.params)) kept-few);
-      shaped = ap (λ k. (applied k nothing).params) is.keyed ∙ ap (λ (m : MethodTy). map basic_of m.params) (sym (is.typed ∙ (tryfinally_row-parts t.ty t.weight c.ty c.weight u row).3));
+      shaped = ap (λ k. (applied k nothing).params) is.keyed
+          ∙ ap (λ (m : MethodTy). map basic_of m.params) (sym (is.typed ∙ (tryfinally_row-parts t.ty t.weight c.ty c.weight u row).3));
       light = let light = limits.1 in omega (arith, light, is.weighed);
       few =
           let all = length-append t.held (c.held ++ []) in

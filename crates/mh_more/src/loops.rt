@@ -92,7 +92,8 @@ impl<'t> Looped<'t> {
     /// Gives back the handles of a loop, and answers the refusal.
     fn refused(self, w: &mut Work<'_, 't>, error: CheckError) -> Result<Handle<'t>, HandleError>
         requires of_types { w.old.seat.now.table ≡ w.old.types.now }
-        requires held { HoldsTypes w.old (self.iterations.held ++ self.init.held ++ self.body.held) }
+        requires held { HoldsTypes w.old
+            (self.iterations.held ++ self.init.held ++ self.body.held) }
         ensures unchanged { IsUnchanged w.old w.new }
         ensures error { result ≡ Err (of_check error) }
         ensures types { Exchanges []

@@ -6,6 +6,7 @@ use Rattle.mh_intern.specs.Views.{HoldView, SeatView}
 use Rattle.mh_handle.specs.declared.error.HandleError.{HandleError}
 use Rattle.mh_handle.specs.declared.handle.Handle.{Handle}
 use Rattle.mh_handle.specs.declared.work.Work.{Work}
+use Rattle.mh_more.specs.Several.{holds_of}
 
 -- the seat has the holds that came in the place of those that are gone, and was asked for some types
 abbrev pub ExchangesAny : List HoldView → List HoldView → SeatView → SeatView → Type 0
@@ -20,3 +21,8 @@ TradesAny gone old new (Err e) = ExchangesAny gone [] old.seat.now new.seat.now
 abbrev pub TradesAnyBoth : Work → Work → Result (Handle × Handle) HandleError → Type 0
 TradesAnyBoth old new (Ok both) = ExchangesAny [] (both.0.held ++ both.1.held) old.seat.now new.seat.now
 TradesAnyBoth old new (Err e) = ExchangesAny [] [] old.seat.now new.seat.now
+
+-- the holds of all handles of a list came, if they are there
+abbrev pub TradesAnyAll : Work → Work → Result (List Handle) HandleError → Type 0
+TradesAnyAll old new (Ok hs) = ExchangesAny [] (holds_of hs) old.seat.now new.seat.now
+TradesAnyAll old new (Err e) = ExchangesAny [] [] old.seat.now new.seat.now

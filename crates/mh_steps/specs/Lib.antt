@@ -1,1 +1,2 @@
 pub mod AnyTypes
+pub mod SomeCases

@@ -3,15 +3,19 @@
 #![tactic(auto)]
 
 mod calling;
+mod leaves;
 mod literals;
 mod making;
 mod manifest;
+mod roots;
 mod start;
 mod step;
 
 pub use calling::call_typed;
 pub use literals::items_of;
 pub use making::made;
-pub use manifest::{ADD, ARR, DIV, FAIL, LESS, MANIFEST, NOTHING, SAME, SAW, SUB, TEXT, TICK, ZIN};
+pub use manifest::{
+    ADD, ARR, DIV, FAIL, FIN, LESS, MANIFEST, NOTHING, SAME, SAW, SUB, TEXT, TICK, ZIN,
+};
 pub use start::Start;
 pub use step::{Joined, Root, Step, Typed};

@@ -1,135 +1,24 @@
-//! Handles made by roots and adapters, which are given as texts.
+//! Handles made by a root and adapters, which are given as texts.
 
 ghost use Rattle.std.specs.Prelude.{◌≡◌, ◌++◌, ◌≤◌, [], length, IfOk};
 ghost use Rattle.mh_intern.specs.Exchanges.{Exchanges};
 ghost use Rattle.mh_handle.specs.Stands.{StandsForSome};
 ghost use Rattle.mh_handle.specs.Works.{HoldsTypes, IsReady, IsUnchanged, GoesOn, leaves_of};
-ghost use Rattle.mh_steps.specs.AnyTypes.{TradesAnyBoth, TradesAny};
+ghost use Rattle.mh_steps.specs.AnyTypes.{TradesAny};
 
+use crate::leaves::leaf_at;
 use crate::literals::{type_of, value_of};
+use crate::roots::rooted;
 use crate::step::{Joined, Root, Step, Typed};
 use mh_adapt::{bind, collect, drop_args, filter, filterret, fold, permute};
 use mh_astype::as_type;
 use mh_base::NoMemory;
-use mh_branch::{catch, constant, gather, guard, identity, throw};
-use mh_handle::{Handle, HandleError, Work, leaf};
+use mh_branch::gather;
+use mh_handle::{Handle, HandleError, Work};
+use mh_more::explicit;
 use mh_spread::spread;
-use mh_values::{ClassId, LeafId, MethodTy};
+use mh_values::{LeafId, MethodTy};
 use std::sync::Wait;
-
-fn leaf_at<'t, R: Wait>(w: &mut Work<'_, 't>, rt: &R, id: LeafId) -> Result<Handle<'t>, HandleError>
-    requires ready { IsReady w.old 1 }
-    ensures goes_on { GoesOn 1 w.old w.new }
-    ensures types { TradesAny [] w.old w.new result }
-    ensures stands { IfOk result (StandsForSome (leaves_of w.old)) }
-{
-    if id.0 >= w.leaves.count() {
-        return Err(HandleError::NoMemory);
-    }
-    leaf(w, rt, id)
-}
-
-/// The handles of two leaves.
-fn two_leaves<'t, R: Wait>(
-    w: &mut Work<'_, 't>,
-    rt: &R,
-    one: LeafId,
-    other: LeafId,
-) -> Result<(Handle<'t>, Handle<'t>), HandleError>
-    requires ready { IsReady w.old 2 }
-    ensures goes_on { GoesOn 2 w.old w.new }
-    ensures one { IfOk result (λ both. StandsForSome (leaves_of w.old) both.0) }
-    ensures other { IfOk result (λ both. StandsForSome (leaves_of w.old) both.1) }
-    ensures types { TradesAnyBoth w.old w.new result }
-{
-    let one = leaf_at(w, rt, one)?;
-    match leaf_at(w, rt, other) {
-        Ok(other) => Ok((one, other)),
-        Err(error) => {
-            one.give_back(w);
-            Err(error)
-        }
-    }
-}
-
-fn guarded<'t, R: Wait>(
-    w: &mut Work<'_, 't>,
-    rt: &R,
-    test: LeafId,
-    target: LeafId,
-    fallback: LeafId,
-) -> Result<Handle<'t>, HandleError>
-    requires ready { IsReady w.old 4 }
-    ensures goes_on { GoesOn 4 w.old w.new }
-    ensures types { TradesAny [] w.old w.new result }
-    ensures stands { IfOk result (StandsForSome (leaves_of w.old)) }
-{
-    let (test, target) = two_leaves(w, rt, test, target)?;
-    match leaf_at(w, rt, fallback) {
-        Ok(fallback) => guard(w, rt, test, target, fallback),
-        Err(error) => {
-            test.give_back(w);
-            target.give_back(w);
-            Err(error)
-        }
-    }
-}
-
-fn caught<'t, R: Wait>(
-    w: &mut Work<'_, 't>,
-    rt: &R,
-    target: LeafId,
-    class: ClassId,
-    handler: LeafId,
-) -> Result<Handle<'t>, HandleError>
-    requires ready { IsReady w.old 3 }
-    ensures goes_on { GoesOn 3 w.old w.new }
-    ensures types { TradesAny [] w.old w.new result }
-    ensures stands { IfOk result (StandsForSome (leaves_of w.old)) }
-{
-    let (target, handler) = two_leaves(w, rt, target, handler)?;
-    catch(w, rt, target, class, handler)
-}
-
-fn constant_of<'t, R: Wait>(
-    w: &mut Work<'_, 't>,
-    rt: &R,
-    text: &str,
-    value: &str,
-) -> Result<Handle<'t>, HandleError>
-    requires ready { IsReady w.old 1 }
-    ensures goes_on { GoesOn 1 w.old w.new }
-    ensures types { TradesAny [] w.old w.new result }
-    ensures stands { IfOk result (StandsForSome (leaves_of w.old)) }
-{
-    let classes = w.leaves.classes();
-    let ret = type_of(w.alloc, text, classes)?.ret;
-    let value = value_of(w.alloc, value, classes)?;
-    constant(w, rt, ret, value)
-}
-
-fn rooted<'t, R: Wait>(w: &mut Work<'_, 't>, rt: &R, root: Root) -> Result<Handle<'t>, HandleError>
-    requires ready { IsReady w.old 4 }
-    ensures goes_on { GoesOn 4 w.old w.new }
-    ensures types { TradesAny [] w.old w.new result }
-    ensures stands { IfOk result (StandsForSome (leaves_of w.old)) }
-{
-    let classes = w.leaves.classes();
-    match root {
-        Root::Leaf(id) => leaf_at(w, rt, id),
-        Root::Constant(text, value) => constant_of(w, rt, text, value),
-        Root::Identity(text) => {
-            let ty = type_of(w.alloc, text, classes)?.ret;
-            identity(w, rt, ty)
-        }
-        Root::Throw(text, class) => {
-            let ret = type_of(w.alloc, text, classes)?.ret;
-            throw(w, rt, ret, class)
-        }
-        Root::Guard(test, target, fallback) => guarded(w, rt, test, target, fallback),
-        Root::Catch(target, class, handler) => caught(w, rt, target, class, handler),
-    }
-}
 
 /// Want of memory, for which a handle is given back.
 fn given_back<'t>(w: &mut Work<'_, 't>, handle: Handle<'t>) -> HandleError
@@ -182,6 +71,7 @@ fn by_type<'t, R: Wait>(
         Typed::Spread(count) => spread(w, rt, target, ty.ret, count),
         Typed::Gather(count) => gather(w, rt, target, ty.ret, count),
         Typed::AsType => as_type(w, rt, target, ty),
+        Typed::Explicit => explicit(w, rt, target, ty),
     }
 }
 
@@ -289,16 +179,16 @@ fn adapted<'t, R: Wait>(
     }
 }
 
-/// The handle of a root after up to 100 steps, for which up to 204 numbers of forms may be drawn.
+/// The handle of a root after up to 100 steps, for which up to 219 numbers of forms may be drawn.
 pub fn made<'t, R: Wait>(
     w: &mut Work<'_, 't>,
     rt: &R,
     root: Root,
     steps: &[Step],
 ) -> Result<Handle<'t>, HandleError>
-    requires ready { IsReady w.old 204 }
+    requires ready { IsReady w.old 219 }
     requires few { length steps.now ≤ 100 }
-    ensures goes_on { GoesOn 204 w.old w.new }
+    ensures goes_on { GoesOn 219 w.old w.new }
     ensures types { TradesAny [] w.old w.new result }
     ensures stands { IfOk result (StandsForSome (leaves_of w.old)) }
 {

@@ -14,6 +14,7 @@ static demo/Host arr ([I)[I same
 static demo/Host zin (ZI)I tick
 static demo/Host fail (II)Z throw:java/lang/RuntimeException
 static demo/Host text (Ljava/lang/String;)Ljava/lang/String; same
+static demo/Host fin (Ljava/lang/Throwable;I)I tick
 ";
 
 /// The sum of two ints.
@@ -51,3 +52,6 @@ pub const FAIL: LeafId = LeafId(10);
 
 /// The one text that it takes.
 pub const TEXT: LeafId = LeafId(11);
+
+/// The number of leaf calls that were made before, of an exception and a result.
+pub const FIN: LeafId = LeafId(12);

@@ -12,6 +12,13 @@ pub enum Root {
     Guard(LeafId, LeafId, LeafId),
     /// A target, the class of the exceptions that it catches, and a handler.
     Catch(LeafId, ClassId, LeafId),
+    /// A fallback, and up to 17 cases, which the first argument numbers.
+    Switch(LeafId, &'static [LeafId]),
+    /// A target and its cleanup.
+    TryFinally(LeafId, LeafId),
+    /// The number of turns, and a body, which takes an int and the number of its turn. The int is 0
+    /// at first.
+    Counted(&'static str, LeafId),
 }
 
 /// One adapter more. A value is given as its literal, a type as a descriptor, and a part as a leaf,
@@ -33,6 +40,7 @@ pub enum Typed {
     Spread(u8),
     Gather(u8),
     AsType,
+    Explicit,
 }
 
 /// An adapter that runs another handle, at a position.

@@ -101,7 +101,8 @@ in_front (Ok v) (Ok vs) h k = (h, k)
 in_front (Ok v) (Err e) h k = tt
 in_front (Err e) rs h k = tt
 
-all-limits : (by : Rules) (classes : List Class) (ss ts : List Ty) (vs : List Value) → AreValuesWithinLimits vs → ConvertAllWithinLimits (conv_all by classes ss ts vs)
+all-limits : (by : Rules) (classes : List Class) (ss ts : List Ty) (vs : List Value) → AreValuesWithinLimits vs →
+    ConvertAllWithinLimits (conv_all by classes ss ts vs)
 all-limits by classes (s ∷ ss) (t ∷ ts) (v ∷ vs) h =
     in_front (conv by classes s t v) (conv_all by classes ss ts vs) (conv-limits by classes s t v h.0) (all-limits by classes ss ts vs h.1)
 all-limits by classes ss ts vs h = tt
@@ -129,6 +130,7 @@ ret-limits by classes (ret.Value c) (Some v) h = value-shown (conv by classes c.
 ret-limits by classes (ret.Value c) None h = (tt, tt)
 
 -- a converted result
-pub conv_result-limits : (by : Rules) (classes : List Class) (s t : Option Ty) (r : Option Value) → IsResultWithinLimits r → IsRunWithinLimits (conv_result by classes s t r)
+pub conv_result-limits : (by : Rules) (classes : List Class) (s t : Option Ty) (r : Option Value) → IsResultWithinLimits r →
+    IsRunWithinLimits (conv_result by classes s t r)
 conv_result-limits by classes s t r h =
     found-limits (ret_conversion_of by classes s t) (λ c. or_throw (ret_conv by classes c r) (λ v. Gave v [])) (λ c is. ret-limits by classes c r h)

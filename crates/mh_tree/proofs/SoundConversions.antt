@@ -35,12 +35,14 @@ abbrev pub ConvertAll : List Class → Result (List Value) Exc → List Ty → T
 ConvertAll classes (Ok vs) ts = HaveTypes classes vs ts
 ConvertAll classes (Err e) ts = is_subclass classes e.class throwable_class ≡ true
 
-converts-is : (by : Rules) (classes : List Class) → AreClasses classes → (s t : Ty) (v : Value) (r : Result Value Exc) → can by classes s t ≡ true → has_type classes v s ≡ true
+converts-is : (by : Rules) (classes : List Class) → AreClasses classes →
+    (s t : Ty) (v : Value) (r : Result Value Exc) → can by classes s t ≡ true → has_type classes v s ≡ true
     → conv by classes s t v ≡ r → Converts classes r t
 converts-is by classes are s t v (Ok w) allowed typed is = conv-typed by classes s t v w allowed typed is
 converts-is by classes are s t v (Err e) allowed typed is = conv-throws by classes are s t v e is
 
-pub conv-converts : (by : Rules) (classes : List Class) → AreClasses classes → (s t : Ty) (v : Value) → can by classes s t ≡ true → has_type classes v s ≡ true →
+pub conv-converts : (by : Rules) (classes : List Class) → AreClasses classes →
+    (s t : Ty) (v : Value) → can by classes s t ≡ true → has_type classes v s ≡ true →
     Converts classes (conv by classes s t v) t
 conv-converts by classes are s t v allowed typed = converts-is by classes are s t v (conv by classes s t v) allowed typed refl
 
@@ -92,7 +94,8 @@ value-result : (by : Rules) (classes : List Class) → AreClasses classes → (s
 value-result by classes are s t v true allowed there typed = value-shown classes (conv by classes s t v) t (conv-converts by classes are s t v allowed typed)
 value-result by classes are s t v false allowed there typed = absurd cc
 
-pub conv_result-returns : (by : Rules) (classes : List Class) → AreClasses classes → (s t : Option Ty) (r : Option Value) → is_some (ret_conversion_of by classes s t) ≡ true →
+pub conv_result-returns : (by : Rules) (classes : List Class) → AreClasses classes →
+    (s t : Option Ty) (r : Option Value) → is_some (ret_conversion_of by classes s t) ≡ true →
     HaveTypes classes (option_to_list r) (option_to_list s) → Returns classes (conv_result by classes s t r) t
 conv_result-returns by classes are None None None there have = tt
 conv_result-returns by classes are None None (Some v) there have = absurd have
@@ -101,7 +104,8 @@ conv_result-returns by classes are None (Some t) r there have = default-typed cl
 conv_result-returns by classes are (Some s) (Some t) (Some v) there have = value-result by classes are s t v (can by classes s t) refl there have.0
 conv_result-returns by classes are (Some s) (Some t) None there have = absurd have
 
-pub convert-sound : (by : Rules) (classes : List Class) → AreClasses classes → (body : Body) (t : MethodTy) (weight : ℕ) (asked u : MethodTy) → IsSound classes body t →
+pub convert-sound : (by : Rules) (classes : List Class) → AreClasses classes →
+    (body : Body) (t : MethodTy) (weight : ℕ) (asked u : MethodTy) → IsSound classes body t →
     convert_row by classes t weight asked ≡ Ok u →
     IsSound classes (λ args n. or_throw (conv_all by classes asked.params t.params args) (λ converted. and_then (body converted n) n
     (λ r k. conv_result by classes t.ret asked.ret r))) u

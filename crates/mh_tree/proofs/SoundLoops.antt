@@ -76,7 +76,8 @@ turns-returned classes are None next ret have h = absurd have
 turns-returned classes are (Some v) next ret have h =
     let z = is_int classes v have.0 in
     subst (λ x. Returns classes (bounded_by (Some x) next) ret) (sym z.1)
-    (bounded-returns classes are (nat_le (turns_to z.0) most_turns) (next (turns_to z.0)) ret (λ few. h (turns_to z.0) (leb-true (turns_to z.0) most_turns few)))
+    (bounded-returns classes are (nat_le (turns_to z.0) most_turns) (next (turns_to z.0)) ret
+    (λ few. h (turns_to z.0) (leb-true (turns_to z.0) most_turns few)))
 
 -- the further arguments of a turn
 further-typed : (classes : List Class) (args : List Value) (more others : List Ty) → HaveTypes classes args (unless_empty more others) →

@@ -124,7 +124,8 @@ mutual
       (guard-sound table.classes (mean table c) (mean table t) (mean table e) p.0 (weight c) q.0 (weight t) r.0 (weight e) u (mean-sound table are c p.0 p.1)
       (mean-sound table are t q.0 q.1) (mean-sound table are e r.0 r.1) r.2)
   mean-sound table are (tree.Catch t class h) u typed =
-      let q = with_type-parts (type_of table t) (λ ty. with_type (type_of table h) (λ handler. catch_row table.classes ty (weight t) class handler (weight h))) u
+      let q = with_type-parts (type_of table t)
+      (λ ty. with_type (type_of table h) (λ handler. catch_row table.classes ty (weight t) class handler (weight h))) u
       typed in
       let r = with_type-parts (type_of table h) (λ handler. catch_row table.classes q.0 (weight t) class handler (weight h)) u q.2 in
       subst (λ o. IsSound table.classes (λ args n. guarded (mean table t args n) (is_caught table.classes class) n

@@ -83,7 +83,8 @@ no_more : (calls : List LeafCall) → calls ++ [] ≡ calls
 no_more calls = append-nil calls
 
 -- what ends as it is
-kept : (by : Rules) (classes : List Class) → AreClasses classes → (s t : Option Ty) (r : Done) (n : ℕ) → is_trivial_ret classes s t ≡ true → Returns classes r s →
+kept : (by : Rules) (classes : List Class) → AreClasses classes →
+    (s t : Option Ty) (r : Done) (n : ℕ) → is_trivial_ret classes s t ≡ true → Returns classes r s →
     and_then r n (λ v k. conv_result by classes s t v) ≡ r
 kept by classes are s t (Gave v calls) n same returns =
     ap (after calls) (trivial-result by classes are s t v same (returned-typed classes v calls s returns)) ∙ ap (Gave v) (no_more calls)

@@ -84,8 +84,8 @@ held_before (Ok ty) others = ty ∷ others
 held_before (Err e) others = others
 
 abbrev mutual
-  -- The types that a tree holds beside its own. A *side part* is a filter, combiner, test, branch, case, handler, cleanup, part of a loop, or target of a catch or of a cleanup:
-  -- a part that keeps a form of its own. The list has the type of each side part, and those of that part's side parts after it.
+  -- The types that a tree holds beside its own. A *side part* is a part that keeps a form of its own: a filter, combiner, test, branch, case, handler,
+  -- cleanup, part of a loop, or target of a catch or of a cleanup. The list has the type of each side part, and those of that part's side parts after it.
   pub sides : LeafTable → Tree → List MethodTy
   sides table (tree.Bind target place value) = sides table target
   sides table (tree.Drop target place types) = sides table target

@@ -39,7 +39,8 @@ invoke_edited_with-requires g c =
     let key : c.in_ok-key.key ≡ convert_key c.args.w.now.leaves.now.classes c.args.call.now c.args.handle.now.ty =
     c.in_ok-key.ensures ∙ ap₂ (λ (cs : List Class) (own : MethodTy). convert_key cs c.args.call.now own) c.classes-classes.ensures.classes c.ty.ensures.ty in
     let fields : c.in_ok-more.more.items ≡ convert_fields rules.AsType c.args.w.now.leaves.now.classes c.args.call.now c.args.handle.now.ty =
-    c.in_ok-more.ensures ∙ ap₂ (λ (cs : List Class) (own : MethodTy). convert_fields rules.AsType cs c.args.call.now own) c.classes-classes.ensures.classes c.ty-2.ensures.ty
+    c.in_ok-more.ensures ∙ ap₂ (λ (cs : List Class) (own : MethodTy). convert_fields rules.AsType cs c.args.call.now own) c.classes-classes.ensures.classes
+    c.ty-2.ensures.ty
     in
     let made : c.in_ok-form.form.now.recipe ≡ c.args.handle.now.form.recipe ++ c.in_ok-key.key ∷ [] =
     c.in_ok-form.ensures.edits.0 ∙ ap (λ (f : FormView). f.recipe ++ c.in_ok-key.key ∷ []) c.form.ensures in
@@ -73,7 +74,8 @@ returns-clause-answer g c t st =
     let key : c.in_ok-key.key ≡ convert_key c.args.w.now.leaves.now.classes c.args.call.now c.args.handle.now.ty =
     c.in_ok-key.ensures ∙ ap₂ (λ (cs : List Class) (own : MethodTy). convert_key cs c.args.call.now own) c.classes-classes.ensures.classes c.ty.ensures.ty in
     let fields : c.in_ok-more.more.items ≡ convert_fields rules.AsType c.args.w.now.leaves.now.classes c.args.call.now c.args.handle.now.ty =
-    c.in_ok-more.ensures ∙ ap₂ (λ (cs : List Class) (own : MethodTy). convert_fields rules.AsType cs c.args.call.now own) c.classes-classes.ensures.classes c.ty-2.ensures.ty
+    c.in_ok-more.ensures ∙ ap₂ (λ (cs : List Class) (own : MethodTy). convert_fields rules.AsType cs c.args.call.now own) c.classes-classes.ensures.classes
+    c.ty-2.ensures.ty
     in
     let made : c.in_ok-form.form.now.recipe ≡ c.args.handle.now.form.recipe ++ c.in_ok-key.key ∷ [] =
     c.in_ok-form.ensures.edits.0 ∙ ap (λ (f : FormView). f.recipe ++ c.in_ok-key.key ∷ []) c.form.ensures in

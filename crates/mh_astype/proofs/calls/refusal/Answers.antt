@@ -9,4 +9,5 @@ returns-in-Ok c =
     let own = c.args.handle.now.ty in
     let weight = c.args.handle.now.weight in
     asked-row rules.AsType classes own weight c.args.call.now c.in-Ok.field-0
-    (sym (row-at rules.AsType classes classes c.ty.result.now own c.weight.result weight c.args.call.now refl c.ty.ensures.ty c.weight.ensures.weight) ∙ c.in-Ok.ensures)
+    (sym (row-at rules.AsType classes classes c.ty.result.now own c.weight.result weight c.args.call.now refl c.ty.ensures.ty c.weight.ensures.weight)
+    ∙ c.in-Ok.ensures)

@@ -26,7 +26,8 @@ grown-requires-clause-shaped g c =
 
 pub grown-requires-clause-light : goal.grown-requires-clause-light
 grown-requires-clause-light g c =
-    let most : 1 + c.args.target.weight ≤ 256 = light c.args.rules c.args.w.now.leaves.now.classes c.args.target.ty c.args.target.weight c.args.ty c.args.ty c.requires.row
+    let most : 1 + c.args.target.weight ≤ 256 =
+    light c.args.rules c.args.w.now.leaves.now.classes c.args.target.ty c.args.target.weight c.args.ty c.args.ty c.requires.row
     in
     omega (arith, c.in-Ok.ensures.adds.weight)
 
@@ -37,7 +38,8 @@ returns-in-Ok-clause-makes g c =
 
 pub returns-in-Ok-clause-used : goal.returns-in-Ok-clause-used
 returns-in-Ok-clause-used g c =
-    used-grown c.args.rules c.args.w.now.leaves.now.classes c.args.ty c.args.target c.in-Ok.by c.in-Ok.ensures.adds c.grown.result c.requires.changes c.grown.ensures.grows
+    used-grown c.args.rules c.args.w.now.leaves.now.classes c.args.ty c.args.target c.in-Ok.by c.in-Ok.ensures.adds c.grown.result c.requires.changes
+    c.grown.ensures.grows
 
 pub grown-requires-clause-few : goal.grown-requires-clause-few
 grown-requires-clause-few g c =

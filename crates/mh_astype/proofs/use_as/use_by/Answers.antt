@@ -66,7 +66,8 @@ returns-in-Ok-clause-makes g c t st =
     differs c.is_same_method_type.result c.ty.result.now c.args.target.ty c.args.ty.now c.if-is_same_method_type.false c.is_same_method_type.ensures
     c.ty.ensures.ty
     in
-    used-makes c.args.rules c.args.w.now.leaves.now c.args.ty.now c.args.target t st c.in-Ok.asked c.args.w.now c.used.new.w c.used.result other c.in-Ok.ensures.tells
+    used-makes c.args.rules c.args.w.now.leaves.now c.args.ty.now c.args.target t st c.in-Ok.asked c.args.w.now c.used.new.w c.used.result other
+    c.in-Ok.ensures.tells
     c.used.ensures.makes
 
 pub returns-in-Ok-clause-stands : goal.returns-in-Ok-clause-stands
@@ -75,7 +76,8 @@ returns-in-Ok-clause-stands g c t st =
     differs c.is_same_method_type.result c.ty.result.now c.args.target.ty c.args.ty.now c.if-is_same_method_type.false c.is_same_method_type.ensures
     c.ty.ensures.ty
     in
-    asked-stands c.args.rules c.args.w.now.leaves.now c.args.ty.now c.in-Ok.asked c.args.target t c.used.result c.in-Ok.ensures.are other c.in-Ok.ensures.tells st
+    asked-stands c.args.rules c.args.w.now.leaves.now c.args.ty.now c.in-Ok.asked c.args.target t c.used.result c.in-Ok.ensures.are other
+    c.in-Ok.ensures.tells st
     c.used.ensures.used
 
 pub returns-in-Ok-clause-used : goal.returns-in-Ok-clause-used
@@ -89,11 +91,13 @@ returns-in-Ok-clause-used g c =
 
 pub returns-then-is_same_method_type-clause-types : goal.returns-then-is_same_method_type-clause-types
 returns-then-is_same_method_type-clause-types g c =
-    trades-kept (used_types_by c.args.rules c.args.w.now.leaves.now.classes c.args.target.ty c.args.target.weight c.args.ty.now) c.args.target c.args.w.now c.requires.held
+    trades-kept (used_types_by c.args.rules c.args.w.now.leaves.now.classes c.args.target.ty c.args.target.weight c.args.ty.now) c.args.target c.args.w.now
+    c.requires.held
 
 pub returns-in-Err-clause-types : goal.returns-in-Err-clause-types
 returns-in-Err-clause-types g c =
-    trades-checked (used_types_by c.args.rules c.args.w.now.leaves.now.classes c.args.target.ty c.args.target.weight c.args.ty.now) c.args.target.held c.args.w.now
+    trades-checked (used_types_by c.args.rules c.args.w.now.leaves.now.classes c.args.target.ty c.args.target.weight c.args.ty.now) c.args.target.held
+    c.args.w.now
     c.refused.new.w c.in-Err.error c.refused.result c.refused.ensures.error c.refused.ensures.types
 
 pub returns-in-Ok-clause-types : goal.returns-in-Ok-clause-types
@@ -102,5 +106,6 @@ returns-in-Ok-clause-types g c =
     differs c.is_same_method_type.result c.ty.result.now c.args.target.ty c.args.ty.now c.if-is_same_method_type.false c.is_same_method_type.ensures
     c.ty.ensures.ty
     in
-    trades-used c.args.rules c.args.w.now.leaves.now.classes c.args.target.ty c.args.target.weight c.args.ty.now c.in-Ok.asked c.args.target.held c.args.w.now c.used.new.w
+    trades-used c.args.rules c.args.w.now.leaves.now.classes c.args.target.ty c.args.target.weight c.args.ty.now c.in-Ok.asked c.args.target.held
+    c.args.w.now c.used.new.w
     c.used.result other c.in-Ok.ensures.tells c.used.ensures.types

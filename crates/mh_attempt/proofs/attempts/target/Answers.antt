@@ -19,8 +19,10 @@ called-requires-clause-leaves g c =
 pub returns-clause-asks : goal.returns-clause-asks
 returns-clause-asks g c =
     let leaves = c.args.w.now.leaves.now in
-    same-asks (attempt_recipes leaves c.args.scripts.now c.args.job.now c.args.serial) (target_recipes leaves c.args.scripts.now c.args.serial c.in_ok-call.call)
-    c.args.w.now c.called.new.w c.called.result (job-asked leaves c.args.scripts.now c.args.job.now c.args.serial c.in_ok-call.call c.in_ok-call.ensures) c.called.ensures.asks
+    same-asks (attempt_recipes leaves c.args.scripts.now c.args.job.now c.args.serial)
+    (target_recipes leaves c.args.scripts.now c.args.serial c.in_ok-call.call)
+    c.args.w.now c.called.new.w c.called.result (job-asked leaves c.args.scripts.now c.args.job.now c.args.serial c.in_ok-call.call c.in_ok-call.ensures)
+    c.called.ensures.asks
 
 pub returns-in_err-call-clause-types : goal.returns-in_err-call-clause-types
 returns-in_err-call-clause-types g c =

@@ -8,9 +8,11 @@ pub returns : goal.returns
 returns c =
     let form = c.args.form.now in
     seven _ _ _ _ _ _ _ _
-    (codes "  ") (form_node form.number) (codes " [label=\"") (form_label form) (codes "\"") (shared_look (is_shared c.args.targets.now form.number)) (codes "];\n")
+    (codes "  ") (form_node form.number) (codes " [label=\"") (form_label form) (codes "\"")
+    (shared_look (is_shared c.args.targets.now form.number)) (codes "];\n")
     c.in_ok-push.ensures
     (c.in_ok-push_form_node.ensures ∙ ap (λ n. c.push.new.text.items ++ form_node n) c.number_of-number.ensures)
     c.in_ok-push-2.ensures c.in_ok-push_form_label.ensures c.in_ok-push-3.ensures
-    (c.in_ok-push_look.ensures ∙ ap (λ b. c.push-3.new.text.items ++ shared_look b) (c.is_shared.ensures ∙ ap (is_shared c.args.targets.now) c.number_of-number.ensures))
+    (c.in_ok-push_look.ensures
+    ∙ ap (λ b. c.push-3.new.text.items ++ shared_look b) (c.is_shared.ensures ∙ ap (is_shared c.args.targets.now) c.number_of-number.ensures))
     c.in_ok-push-4.ensures

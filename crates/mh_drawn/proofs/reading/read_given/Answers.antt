@@ -60,7 +60,8 @@ returns-clause-ok g c =
     let all = c.in_ok-scripts.scripts in
     record {
       leaves = one.ok;
-      scripts_are = of_files (λ fs. HasMeaning text_limit scripts (fs names.scripts) all) files (g.I.Inputs.contents c.read_leaves.new.inputs) one.contents two.ok;
+      scripts_are = of_files (λ fs. HasMeaning text_limit scripts (fs names.scripts) all) files
+          (g.I.Inputs.contents c.read_leaves.new.inputs) one.contents two.ok;
       sites = of_files (λ fs. AddsClasses leaves all names.classes fs no_sites c.in_ok-sites.sites) files (g.I.Inputs.contents c.read_scripts.new.inputs)
           (λ n. two.contents n ∙ one.contents n) (rw c.no_sites-none.ensures.none at (rw c.deref.ensures.value at c.in_ok-sites.ensures.ok));
     }

@@ -18,7 +18,8 @@ pub returns : goal.returns
 returns c =
     let other : is_same_method_type c.args.own.now c.args.asked.now ≡ false = sym c.is_same_method_type.ensures ∙ c.if-is_same_method_type.false in
     let row : TypeOrRefusal = astype_row c.args.classes.now c.args.own.now c.args.weight c.args.asked.now in
-    let given = convert_row-parts rules.AsType c.args.classes.now c.args.own.now c.args.weight c.args.asked.now c.in_ok-check_astype.field-0 c.in_ok-check_astype.ensures in (
+    let given = convert_row-parts rules.AsType c.args.classes.now c.args.own.now c.args.weight c.args.asked.now c.in_ok-check_astype.field-0
+    c.in_ok-check_astype.ensures in (
       ap (λ b. cond b (Ok c.args.own.now) row) other ∙ (c.in_ok-check_astype.ensures ∙ ap Ok given.2),
       sym (ap (λ b. cond b c.args.weight (1 + c.args.weight)) other),
     )

@@ -9,12 +9,12 @@ pub adapted-requires-clause-ready : goal.adapted-requires-clause-ready
 adapted-requires-clause-ready g c =
     ready-after (2 * c.loop-step.step-index) 2 (2 * c.loop-step.step-index + 2) _ _ (omega arith) c.loop-step.invariant.goes_on
     (ready-less _ 200 (2 * c.loop-step.step-index + 2) (omega (arith, c.loop-step-test.true, c.requires.few))
-    (ready-after 4 200 204 _ _ (omega arith) c.in_ok-h.ensures.goes_on c.requires.ready))
+    (ready-after 19 200 219 _ _ (omega arith) c.in_ok-h.ensures.goes_on c.requires.ready))
 
 pub returns-in_err-h-2-clause-goes_on : goal.returns-in_err-h-2-clause-goes_on
 returns-in_err-h-2-clause-goes_on g c =
-    goes_on-more (4 + (2 * c.loop-step.step-index + 2)) 204 _ _ (omega (arith, c.loop-step-test.true, c.requires.few))
-    (goes_on-both 4 (2 * c.loop-step.step-index + 2) _ _ _ c.in_ok-h.ensures.goes_on
+    goes_on-more (19 + (2 * c.loop-step.step-index + 2)) 219 _ _ (omega (arith, c.loop-step-test.true, c.requires.few))
+    (goes_on-both 19 (2 * c.loop-step.step-index + 2) _ _ _ c.in_ok-h.ensures.goes_on
     (goes_on-both (2 * c.loop-step.step-index) 2 _ _ _ c.loop-step.invariant.goes_on c.adapted.ensures.goes_on))
 
 pub loop-step-preserved : goal.loop-step-preserved
@@ -31,8 +31,8 @@ loop-step-preserved g c = record {
 
 pub returns-clause-goes_on : goal.returns-clause-goes_on
 returns-clause-goes_on g c =
-    goes_on-more (4 + 2 * c.loop-step.step-index) 204 _ _ (omega (arith, c.loop-step.invariant.few))
-    (goes_on-both 4 (2 * c.loop-step.step-index) _ _ _ c.in_ok-h.ensures.goes_on c.loop-step.invariant.goes_on)
+    goes_on-more (19 + 2 * c.loop-step.step-index) 219 _ _ (omega (arith, c.loop-step.invariant.few))
+    (goes_on-both 19 (2 * c.loop-step.step-index) _ _ _ c.in_ok-h.ensures.goes_on c.loop-step.invariant.goes_on)
 
 pub adapted-requires-clause-held : goal.adapted-requires-clause-held
 adapted-requires-clause-held g c =

@@ -81,7 +81,8 @@ returns-in_ok-made-in-Leaf-clause-asked g c =
 pub returns-in_err-made-in-Leaf-clause-asked : goal.returns-in_err-made-in-Leaf-clause-asked
 returns-in_err-made-in-Leaf-clause-asked g c =
     let error = c.in_err-made-in-Leaf.field-0.0 in
-    types-handed Handle (types_made c.args.w.now.leaves.now (c.args.self.now ∷ []) []) c.args.w.now c.leaf.new.w error c.from_residual-in_err-made-in-Leaf.result c.from_residual-in_err-made-in-Leaf.ensures.1
+    types-handed Handle (types_made c.args.w.now.leaves.now (c.args.self.now ∷ []) []) c.args.w.now c.leaf.new.w error
+    c.from_residual-in_err-made-in-Leaf.result c.from_residual-in_err-made-in-Leaf.ensures.1
     (types-leaf c.args.self.now c.in-Leaf.id c.args.w.now c.leaf.new.w (Err error) c.in-Leaf.is c.in_err-made-in-Leaf.ensures.types)
 
 pub returns-in_ok-copy-in-Held-clause-asked : goal.returns-in_ok-copy-in-Held-clause-asked

@@ -1,6 +1,6 @@
 use Rattle.std.proofs.Common.{[]}
 use Rattle.mh_steps.proofs.Adding.{adds-both, adds-held, adds-next, adds-still, adds-yet}
-use Rattle.mh_steps.proofs.making.two_leaves.Goals as goal
+use Rattle.mh_steps.proofs.leaves.two_leaves.Goals as goal
 
 pub give_back-requires-clause-held : goal.give_back-requires-clause-held
 give_back-requires-clause-held g c =

@@ -4,7 +4,7 @@ use Rattle.mh_handle.proofs.Going.{goes_on-both}
 use Rattle.mh_handle.proofs.Rooms.{ready-after}
 use Rattle.mh_steps.proofs.Adding.{adds, adds-held, types-next}
 use Rattle.mh_steps.proofs.Rooms.{some-over, stands-over}
-use Rattle.mh_steps.proofs.making.caught.Goals as goal
+use Rattle.mh_steps.proofs.roots.caught.Goals as goal
 
 pub catch-requires : goal.catch-requires
 catch-requires g c = record {

@@ -4,7 +4,7 @@ use Rattle.mh_handle.proofs.Going.{goes_on-before, goes_on-both, goes_on-more, s
 use Rattle.mh_handle.proofs.Rooms.{ready-after}
 use Rattle.mh_steps.proofs.Adding.{adds, adds-held, both-back, first-held, second-held, three, types-next}
 use Rattle.mh_steps.proofs.Rooms.{some-over, stands-over}
-use Rattle.mh_steps.proofs.making.guarded.Goals as goal
+use Rattle.mh_steps.proofs.roots.guarded.Goals as goal
 
 pub guard-requires : goal.guard-requires
 guard-requires g c =
