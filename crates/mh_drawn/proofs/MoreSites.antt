@@ -21,10 +21,12 @@ more_sites leaves scripts name c before all jobs places are few =
     let count : length all.jobs.sites ≡ length before.jobs.sites + length c.sites =
     ap (λ (js : RunJobs). length js.sites) jobs ∙ with_class-length leaves scripts before.jobs c in
     let there : length all.places ≡ length before.places + length c.sites =
-    ap length places ∙ length-append before.places (places_of name c.sites) ∙ ap (λ n. length before.places + n) (length-map c.sites (place_of name)) in
-    (omega (arith, count, few, are.0), omega (arith, there, count, are.1),
-    are_more leaves scripts c (length before.jobs.constants) before.jobs.sites all.jobs.sites
-        (ap (λ (js : RunJobs). js.sites) jobs) are.2)
+    ap length places ∙ length-append before.places (places_of name c.sites) ∙ ap (λ n. length before.places + n) (length-map c.sites (place_of name)) in (
+      omega (arith, count, few, are.0),
+      omega (arith, there, count, are.1),
+      are_more leaves scripts c (length before.jobs.constants) before.jobs.sites all.jobs.sites
+          (ap (λ (js : RunJobs). js.sites) jobs) are.2,
+    )
 
 -- a class of the bytes of a file
 meant : (room : ℕ) (contents : Contents) (bytes : List ℕ) (c : Class) → IsWhole contents bytes → length bytes ≤ class_limit → class_or_fault room bytes ≡ Ok c →

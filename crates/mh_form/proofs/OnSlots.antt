@@ -244,7 +244,7 @@ typed-fills table l leaf slots places ss n s (Some args) there plain typed picks
       refl,
       ap filled runs
           ∙ run-fills l leaf slots places args n s (lacks_receiver leaf args) (kind_on leaf.kind args n) refl (has-receiver leaf args plain) refl
-            picks' given goes',
+          picks' given goes',
     )
 
 -- a leaf without a receiver on the slots at these places
@@ -261,7 +261,7 @@ called-fills table l slots places n leaf ss s there plain picks given goes =
     let at = called_at-picked table l slots places n ss picks in
     let typed = typed_at-picked table.classes slots leaf.ty.params places ss picks in
     let all = typed-fills table l leaf slots places ss n s (all_typed table.classes leaf.ty.params ss) there plain refl
-        picks given (λ stuck. goes (at ∙ stuck)) in
+    picks given (λ stuck. goes (at ∙ stuck)) in
     (all.0, typed ∙ all.1, ap filled at ∙ all.2)
 
 -- ---- the slots are there

@@ -13,4 +13,4 @@ returns c =
     ∙ ap₂ (λ m n. c.args.text.now.items ++ apart_line c.args.sites.0 c.args.sites.1 m n) c.number_of.ensures c.number_of-2.ensures)
     (c.in_ok-push_parting.ensures
     ∙ ap₂ (λ ks ls. c.push_apart.new.text.items ++ against_text (common ks ls) ks ls)
-        (c.keys.ensures ∙ c.recipe.ensures) (c.keys-2.ensures ∙ c.recipe-2.ensures))
+    (c.keys.ensures ∙ c.recipe.ensures) (c.keys-2.ensures ∙ c.recipe-2.ensures))
