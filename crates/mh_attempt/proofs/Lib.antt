@@ -2,6 +2,7 @@ pub mod Adding
 pub mod AllMade
 pub mod AskedAfter
 pub mod AskedAmong
+pub mod AskedConstants
 pub mod AskedForms
 pub mod AskedLines
 pub mod AskedNodes

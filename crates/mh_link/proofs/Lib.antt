@@ -12,6 +12,7 @@ pub mod Places
 pub mod Depths
 pub mod DepthIs
 pub mod Resolving
+pub mod SameCalls
 pub mod NamedOwn
 pub mod Asked
 pub mod FixedPoint
@@ -29,3 +30,4 @@ mod WorkedLines
 mod WorkedNodes
 mod WorkedOperands
 mod WorkedRows
+mod WorkedSiteConstants

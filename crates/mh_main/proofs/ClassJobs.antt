@@ -32,7 +32,7 @@ made-all (Ok all) leaves scripts name names files files' before mid contents m h
     let are : AreClassesOf (most_sites - length before.sites - length c.sites) names files h.0 =
     subst (λ n. AreClassesOf n names files h.0) (jobs-left leaves scripts before mid c m.2)
     (subst (λ (f : List ℕ → Contents). AreClassesOf (most_sites - length mid.sites) names f h.0) e h.1) in
-    (c ∷ h.0, (m.1, are), h.2 ∙ ap (λ (jobs : RunJobs). fold (with_class leaves scripts) jobs h.0) m.2)
+    (c ∷ h.0, (m.1, are), h.2 ∙ ap (λ (jobs : RunJobs). fold (with_class leaves scripts) jobs h.0) m.2, (m.3, h.3))
 made-all (Err e) leaves scripts name names files files' before mid contents m h = tt
 
 -- a class's jobs after others are as few as there may be call sites

@@ -1,21 +1,28 @@
-use Rattle.std.proofs.Common.{◌≡◌, ◌∙◌, ap, refl, sym, subst, [], arith}
+use Rattle.std.proofs.Common.{◌≡◌, ◌∙◌, ap, refl, sym, subst, [], Some, arith}
+use Rattle.std.specs.Prelude.{slice_get}
+use Rattle.mh_handle.specs.Recipe.{recipe}
 use Rattle.mh_handle.proofs.Going.{goes_on-before, goes_on-more, goes_on-still}
 use Rattle.mh_jobs.specs.declared.job.Job.{Job}
-use Rattle.mh_link.specs.Sites.{types_at}
+use Rattle.mh_jobs.specs.Given.{under}
+use Rattle.mh_link.specs.Sites.{edits_at, types_at}
 use Rattle.mh_attempt.specs.declared.error.WorkError.TheVariants.{NoMemory}
 use Rattle.mh_attempt.specs.Asked.{attempt_draws}
+use Rattle.mh_attempt.specs.Constants.{given_in}
 use Rattle.mh_attempt.specs.Linkage.{LinkageView}
 use Rattle.mh_attempt.proofs.Adding.{holds-came}
 use Rattle.mh_report.specs.Results.{serial_at}
+use Rattle.mh_cells.specs.Values.{value_at}
 use Rattle.mh_runtime.specs.Asking.{call_draws}
 use Rattle.mh_runtime.specs.Attempts.{GoesOnLinking}
 use Rattle.mh_runtime.specs.Linking.{KeepsOthers, Records}
 use Rattle.mh_runtime.specs.Passes.{IsLinkageOf, LearnsSites, LinkPass}
 use Rattle.mh_runtime.proofs.AskedAnswers as answer
-use Rattle.mh_runtime.proofs.LinkSteps.{attempts-begun, attempts-learn, begun-attempts, begun-made, begun_by, goes-begun, latest-begun, learnt-not, learns-none, on-err, unlearnt-begun}
-use Rattle.mh_runtime.proofs.RecordedTypes.{attempt-keeps}
+use Rattle.mh_runtime.proofs.Asking.{drawn-from, drawn-same, drawn-to, quiet-attempt}
+use Rattle.mh_runtime.proofs.AttemptValues.{asked-of, asked-stopped, asks-one, runs-of, runs-stopped}
+use Rattle.mh_runtime.proofs.Lacking.{lacks-memory, lacks-stopped}
+use Rattle.mh_runtime.proofs.LinkSteps.{attempts-begun, attempts-learn, begun-attempts, begun-first, begun-made, begun-then, begun_by, goes-begun, latest-begun, learnt-not, learns-none, on-err, unlearnt-begun}
+use Rattle.mh_runtime.proofs.RecordedTypes.{attempt-keeps, attempt-whole, still-whole}
 use Rattle.mh_runtime.proofs.Resolving.{if-err}
-use Rattle.mh_runtime.proofs.RunningAttempts.{attempt-runs, attempt-stops}
 use Rattle.mh_runtime.proofs.RunSteps.{stops-run}
 use Rattle.mh_runtime.proofs.SeatAsked as seat
 use Rattle.mh_runtime.proofs.SeatTypes.{keeps-adds, keeps-recorded, keeps-still}
@@ -39,17 +46,23 @@ returns-in_err-serial-clause-resolves g c =
       goes_on = goes-calling 1 old new w w (subst (GoesOnLinking 1 old) (sym still) (links-none old 1))
           (goes_on-more 0 call_draws w w (omega arith) (goes_on-still w));
       linked = if-err r _ _ is;
+      value = if-err r _ _ is;
       resolved = on-err r _ c.requires.new;
       learnt = learnt-not (serial_at old.linked site) c.requires.new;
       attempts = attempts-learn site old new (subst (LearnsSites old) (sym still) (learns-none old));
       unlearnt = unlearnt-same old new (ap (λ (p : LinkPass). p.attempts) still);
       latest = if-err r _ _ is;
       failed = on-err r _ (ap (λ (p : LinkPass). p.recorded) still);
-      types = subst (λ (p : LinkPass). KeepsOthers given old.recorded p.recorded w w) (sym still)
-          (keeps-recorded given old.recorded w w (keeps-still w w refl));
-      runs = stops-run given old.attempts new.attempts [] w.pass.now w.pass.now NoMemory r is tt;
-      asked = answer.memory-on given old.attempts new.attempts [] w.seat.now w.seat.now r is
-          (rw still (seat.on-none given old.attempts w.seat.now));
+      asks = if-err r _ _ is;
+      drawn = drawn-same old new (ap (λ (p : LinkPass). p.constants) still);
+      quiet = λ same. ap (λ (p : LinkPass). p.constants) still;
+      lacks = lacks-memory w.pass.now w.seat.now r is;
+      seat = still-whole w.seat.now;
+      types = λ known agrees. subst (λ (p : LinkPass). KeepsOthers (under known given) old.recorded p.recorded w w) (sym still)
+          (keeps-recorded (under known given) old.recorded w w (keeps-still w w refl));
+      runs = λ known agrees. stops-run (under known given) old.attempts new.attempts [] w.pass.now w.pass.now NoMemory r is tt;
+      asked = λ known agrees. answer.memory-on (under known given) old.attempts new.attempts [] w.seat.now w.seat.now r is
+          (rw still (seat.on-none (under known given) old.attempts w.seat.now));
     }
 
 -- ---- the attempt was begun, and has stopped
@@ -60,37 +73,51 @@ returns-in_err-linkage-clause-resolves g c =
     let site = c.args.site in
     let serial = c.in_ok-serial.serial in
     let old = c.args.pass.now in
-    let new = c.begin.new.self in
+    let new = c.attempt.new.self in
     let w = c.args.w.now in
     let w' = c.attempt.new.w in
     let r = c.from_residual-in_err-linkage.result in
     let is = c.from_residual-in_err-linkage.ensures.1 in
-    let begins = c.in_ok-serial.ensures.begins in
+    let begins = begun-then site serial old c.begin.new.self new c.in_ok-serial.ensures.begins c.attempt.ensures.others c.attempt.ensures.resolving in
     let more = begun-attempts site serial old new begins in
+    let recorded = ap (λ (p : LinkPass). p.recorded) begins.is in
     record {
       goes_on = goes-calling 1 old new w w' (goes-begun site serial old new new begins (learns-none new)) c.in_err-linkage.ensures.goes_on;
       linked = if-err r _ _ is;
+      value = if-err r _ _ is;
       resolved = on-err r _ c.requires.new;
       learnt = learnt-not (serial_at old.linked site) c.requires.new;
       attempts = attempts-begun site serial old new new begins (learns-none new) c.requires.new;
       unlearnt = unlearnt-begun site serial old new new begins (learns-none new) c.requires.new;
       latest = if-err r _ _ is;
-      failed = on-err r _ (ap (λ (p : LinkPass). p.recorded) begins.1);
-      types = subst (λ after. KeepsOthers given old.recorded after w w') (sym (ap (λ (p : LinkPass). p.recorded) begins.1))
-          (keeps-recorded given old.recorded w w' (keeps-adds w w' c.in_err-linkage.ensures.types));
-      runs = stops-run given old.attempts new.attempts [] w.pass.now w'.pass.now c.in_err-linkage.field-0.0 r is
-          (rw more (attempt-stops given old.attempts (begun_by old site serial) c.get.result.now.site c.get.ensures.site w w' LinkageView
-          c.in_err-linkage.field-0.0 c.in_err-linkage.ensures.asks));
-      asked = answer.attempt-stops given old.attempts (begun_by old site serial) c.get.result.now.site c.get.ensures.site w w' LinkageView new.attempts
-          c.in_err-linkage.field-0.0 r more is c.in_err-linkage.ensures.asked;
+      failed = on-err r _ recorded;
+      asks = if-err r _ _ is;
+      drawn = drawn-from old c.begin.new.self new (ap (λ (p : LinkPass). p.constants) c.in_ok-serial.ensures.begins.1) c.attempt.ensures.few;
+      quiet = quiet-attempt old new (begun_by old site serial) more;
+      lacks = lacks-stopped LinkageView (edits_at (recipe given.leaves) (given_in new.constants given) c.get.result.now.site serial)
+          (types_at (given_in new.constants given) c.get.result.now.site serial) w w' c.in_err-linkage.field-0.0 r is c.in_err-linkage.ensures.asks
+          c.in_err-linkage.ensures.asked;
+      seat = let keeps = keeps-adds w w' c.in_err-linkage.ensures.types in record { table = keeps.table; whole = keeps.whole };
+      types = λ known agrees. subst (λ after. KeepsOthers (under known given) old.recorded after w w') (sym recorded)
+          (keeps-recorded (under known given) old.recorded w w' (keeps-adds w w' c.in_err-linkage.ensures.types));
+      runs = λ known agrees. stops-run (under known given) old.attempts new.attempts [] w.pass.now w'.pass.now c.in_err-linkage.field-0.0 r is
+          (rw more (runs-stopped given known c.get.result.now c.get.ensures.job old.constants new.constants agrees.nodes old.attempts
+          (begun_by old site serial) c.get.ensures.site w w' c.in_err-linkage.field-0.0 c.in_err-linkage.ensures.before c.in_err-linkage.ensures.asks));
+      asked = λ known agrees. asked-stopped given known c.get.result.now c.get.ensures.job old.constants new.constants agrees.nodes old.attempts
+          (begun_by old site serial) c.get.ensures.site w w' new.attempts c.in_err-linkage.field-0.0 r more is c.in_err-linkage.ensures.before
+          c.in_err-linkage.ensures.asked;
     }
 
 -- ---- it was made
 
 pub record-requires-clause-attempted : goal.record-requires-clause-attempted
 record-requires-clause-attempted g c =
-    begun-made c.args.site c.in_ok-serial.serial c.args.pass.now c.begin.new.self c.in_ok-linkage.linkage c.in_ok-serial.ensures.begins
-    (ap (λ (j : Job). j.site) c.in_ok-linkage.ensures.of.0 ∙ c.get.ensures.site) c.in_ok-linkage.ensures.of.1
+    begun-made c.args.site c.in_ok-serial.serial c.args.pass.now c.attempt.new.self c.in_ok-linkage.linkage
+    (begun-then c.args.site c.in_ok-serial.serial c.args.pass.now c.begin.new.self c.attempt.new.self c.in_ok-serial.ensures.begins c.attempt.ensures.others
+    c.attempt.ensures.resolving) (ap (λ (j : Job). j.site) c.in_ok-linkage.ensures.of.0 ∙ c.get.ensures.site) c.in_ok-linkage.ensures.of.1
+
+pub record-requires-clause-found : goal.record-requires-clause-found
+record-requires-clause-found g c = c.in_ok-linkage.ensures.constants.knows
 
 pub record-requires-clause-held : goal.record-requires-clause-held
 record-requires-clause-held g c = holds-came c.in_ok-linkage.linkage.held c.args.w.now c.attempt.new.w c.in_ok-linkage.ensures.types
@@ -100,7 +127,7 @@ record-requires-clause-held g c = holds-came c.in_ok-linkage.linkage.held c.args
 pub returns-in_err-linkage-2-clause-goes_on : goal.returns-in_err-linkage-2-clause-goes_on
 returns-in_err-linkage-2-clause-goes_on g c =
     goes_on-before attempt_draws c.args.w.now c.attempt.new.w c.record.new.w c.in_ok-linkage.ensures.goes_on c.in_err-linkage-2.ensures.unchanged
-    (record { seat = c.in_err-linkage-2.ensures.types.table; holds = omega (arith, c.in_err-linkage-2.ensures.types.few) })
+    (record { seat = c.in_err-linkage-2.ensures.seat.table; holds = omega (arith, c.in_err-linkage-2.ensures.room) })
 
 pub returns-in_err-linkage-2-clause-resolves : goal.returns-in_err-linkage-2-clause-resolves
 returns-in_err-linkage-2-clause-resolves g c =
@@ -108,34 +135,43 @@ returns-in_err-linkage-2-clause-resolves g c =
     let site = c.args.site in
     let serial = c.in_ok-serial.serial in
     let old = c.args.pass.now in
-    let mid = c.begin.new.self in
+    let mid = c.attempt.new.self in
     let new = c.record.new.self in
     let w = c.args.w.now in
     let v = c.attempt.new.w in
     let w' = c.record.new.w in
     let r = c.from_residual-in_err-linkage-2.result in
     let is = c.from_residual-in_err-linkage-2.ensures.1 in
-    let begins = c.in_ok-serial.ensures.begins in
+    let begins = begun-then site serial old c.begin.new.self mid c.in_ok-serial.ensures.begins c.attempt.ensures.others c.attempt.ensures.resolving in
     let learns = c.in_err-linkage-2.ensures.learns in
     let begun = begun_by old site serial in
-    let recorded = ap (λ (p : LinkPass). p.recorded) begins.1 in
+    let recorded = ap (λ (p : LinkPass). p.recorded) begins.is in
     record {
       goes_on = goes-calling 1 old new w w' (goes-begun site serial old mid new begins learns) (returns-in_err-linkage-2-clause-goes_on g c);
       linked = if-err r _ _ is;
+      value = if-err r _ _ is;
       resolved = on-err r _ c.requires.new;
       learnt = learnt-not (serial_at old.linked site) c.requires.new;
       attempts = attempts-begun site serial old mid new begins learns c.requires.new;
       unlearnt = unlearnt-begun site serial old mid new begins learns c.requires.new;
       latest = if-err r _ _ is;
       failed = on-err r _ (c.in_err-linkage-2.ensures.failed ∙ recorded);
-      types = attempt-keeps given c.in_ok-linkage.linkage old.recorded new.recorded w v w' c.in_ok-linkage.ensures.types
-          (subst (λ before. Records given c.in_ok-linkage.linkage before new.recorded v.seat.now w'.seat.now) recorded c.in_err-linkage-2.ensures.types);
-      runs = stops-run given old.attempts new.attempts [] w.pass.now w'.pass.now NoMemory r is tt;
-      asked = answer.memory-on given old.attempts new.attempts [] w.seat.now w'.seat.now r is
+      asks = if-err r _ _ is;
+      drawn = drawn-to old mid new learns.constants
+          (drawn-from old c.begin.new.self mid (ap (λ (p : LinkPass). p.constants) c.in_ok-serial.ensures.begins.1) c.attempt.ensures.few);
+      quiet = quiet-attempt old new begun (learns.attempts ∙ begun-attempts site serial old mid begins);
+      lacks = lacks-memory w'.pass.now w'.seat.now r is;
+      seat = attempt-whole c.in_ok-linkage.linkage.held w v w' c.in_ok-linkage.ensures.types c.in_err-linkage-2.ensures.seat;
+      types = λ known agrees. attempt-keeps (under known given) c.in_ok-linkage.linkage old.recorded new.recorded w v w' c.in_ok-linkage.ensures.types
+          (subst (λ before. Records (under known given) c.in_ok-linkage.linkage before new.recorded v.seat.now w'.seat.now) recorded
+          (c.in_err-linkage-2.ensures.types known agrees));
+      runs = λ known agrees. stops-run (under known given) old.attempts new.attempts [] w.pass.now w'.pass.now NoMemory r is tt;
+      asked = λ known agrees. answer.memory-on (under known given) old.attempts new.attempts [] w.seat.now w'.seat.now r is
           (rw (learns.attempts ∙ begun-attempts site serial old mid begins)
-          (answer.attempt-asks given old.attempts begun c.get.result.now.site c.get.ensures.site w w'
-          (seat.asks-still (types_at given c.get.result.now.site begun.serial) w.seat.now v.seat.now w'.seat.now c.in_ok-linkage.ensures.asked
-          c.in_err-linkage-2.ensures.asked)));
+          (asked-of given known c.get.result.now c.get.ensures.job old.constants new.constants agrees.nodes old.attempts begun c.get.ensures.site w w'
+          c.in_ok-linkage.ensures.before
+          (seat.asks-still (types_at (given_in new.constants given) c.get.result.now.site begun.serial) w.seat.now v.seat.now w'.seat.now
+          c.in_ok-linkage.ensures.asked c.in_err-linkage-2.ensures.asked)));
     }
 
 -- and it is recorded, or another one was before
@@ -143,7 +179,7 @@ returns-in_err-linkage-2-clause-resolves g c =
 pub returns-clause-goes_on : goal.returns-clause-goes_on
 returns-clause-goes_on g c =
     goes_on-before attempt_draws c.args.w.now c.attempt.new.w c.record.new.w c.in_ok-linkage.ensures.goes_on c.in_ok-linkage-2.ensures.unchanged
-    (record { seat = c.in_ok-linkage-2.ensures.types.table; holds = omega (arith, c.in_ok-linkage-2.ensures.types.few) })
+    (record { seat = c.in_ok-linkage-2.ensures.seat.table; holds = omega (arith, c.in_ok-linkage-2.ensures.room) })
 
 pub returns-clause-resolves : goal.returns-clause-resolves
 returns-clause-resolves g c =
@@ -151,14 +187,14 @@ returns-clause-resolves g c =
     let site = c.args.site in
     let serial = c.in_ok-serial.serial in
     let old = c.args.pass.now in
-    let mid = c.begin.new.self in
+    let mid = c.attempt.new.self in
     let new = c.record.new.self in
     let w = c.args.w.now in
     let v = c.attempt.new.w in
     let w' = c.record.new.w in
     let ours = c.in_ok-linkage.linkage in
     let l = c.in_ok-linkage-2.linkage in
-    let begins = c.in_ok-serial.ensures.begins in
+    let begins = begun-then site serial old c.begin.new.self mid c.in_ok-serial.ensures.begins c.attempt.ensures.others c.attempt.ensures.resolving in
     let learns = c.in_ok-linkage-2.ensures.learns in
     let begun = begun_by old site serial in
     let own = ap (λ (j : Job). j.site) c.in_ok-linkage.ensures.of.0 ∙ c.get.ensures.site in
@@ -166,19 +202,29 @@ returns-clause-resolves g c =
     record {
       goes_on = goes-calling 1 old new w w' (goes-begun site serial old mid new begins learns) (returns-clause-goes_on g c);
       linked = subst (λ s. IsLinkageOf new.linked s l.now) own c.in_ok-linkage-2.ensures.linked;
+      value = subst (λ s. value_at new.linkages s ≡ Some l.now) own c.in_ok-linkage-2.ensures.value;
       resolved = tt;
       learnt = learnt-not (serial_at old.linked site) c.requires.new;
       attempts = attempts-begun site serial old mid new begins learns c.requires.new;
       unlearnt = unlearnt-begun site serial old mid new begins learns c.requires.new;
       latest = latest-begun site serial old mid new begins learns ours l.now own c.in_ok-linkage.ensures.of.1 c.in_ok-linkage-2.ensures.recorded;
       failed = tt;
-      types = attempt-keeps given ours old.recorded new.recorded w v w' c.in_ok-linkage.ensures.types
-          (subst (λ before. Records given ours before new.recorded v.seat.now w'.seat.now) (ap (λ (p : LinkPass). p.recorded) begins.1)
-          c.in_ok-linkage-2.ensures.types);
-      runs = rw (more, c.in_ok-linkage-2.ensures.unchanged.pass)
-          (attempt-runs given old.attempts begun c.get.result.now.site c.get.ensures.site w v ours c.in_ok-linkage.ensures.asks);
-      asked = rw more
-          (answer.attempt-asks given old.attempts begun c.get.result.now.site c.get.ensures.site w w'
-          (seat.asks-still (types_at given c.get.result.now.site begun.serial) w.seat.now v.seat.now w'.seat.now c.in_ok-linkage.ensures.asked
-          c.in_ok-linkage-2.ensures.asked));
+      asks = asks-one given c.get.result.now begun old new ours.under (subst (λ s. slice_get given.jobs s ≡ Some c.get.result.now) c.get.ensures.site
+          c.get.ensures.job) more (rw learns.constants c.in_ok-linkage.ensures.constants);
+      drawn = drawn-to old mid new learns.constants
+          (drawn-from old c.begin.new.self mid (ap (λ (p : LinkPass). p.constants) c.in_ok-serial.ensures.begins.1) c.attempt.ensures.few);
+      quiet = quiet-attempt old new begun more;
+      lacks = tt;
+      seat = attempt-whole ours.held w v w' c.in_ok-linkage.ensures.types c.in_ok-linkage-2.ensures.seat;
+      types = λ known agrees. attempt-keeps (under known given) ours old.recorded new.recorded w v w' c.in_ok-linkage.ensures.types
+          (subst (λ before. Records (under known given) ours before new.recorded v.seat.now w'.seat.now) (ap (λ (p : LinkPass). p.recorded) begins.is)
+          (c.in_ok-linkage-2.ensures.types known agrees));
+      runs = λ known agrees. rw (more, c.in_ok-linkage-2.ensures.unchanged.pass)
+          (runs-of given known c.get.result.now c.get.ensures.job old.constants new.constants agrees.nodes old.attempts begun c.get.ensures.site w v ours
+          c.in_ok-linkage.ensures.before c.in_ok-linkage.ensures.asks);
+      asked = λ known agrees. rw more
+          (asked-of given known c.get.result.now c.get.ensures.job old.constants new.constants agrees.nodes old.attempts begun c.get.ensures.site w w'
+          c.in_ok-linkage.ensures.before
+          (seat.asks-still (types_at (given_in new.constants given) c.get.result.now.site begun.serial) w.seat.now v.seat.now w'.seat.now
+          c.in_ok-linkage.ensures.asked c.in_ok-linkage-2.ensures.asked));
     }
